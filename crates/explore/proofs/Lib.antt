@@ -1,0 +1,11 @@
+pub mod Conclusions
+pub mod Covering
+pub mod Lists
+pub mod Outcome
+pub mod RunLabels
+pub mod RunOrder
+pub mod SearchSteps
+pub mod Sums
+pub mod Taken
+pub mod Ties
+pub mod Visits

@@ -1,0 +1,102 @@
+use Rattle.std.proofs.Common.{◌≡◌, ◌≤◌, [], ap, sym, subst, ◌∙◌, drop, length}
+use Rattle.std.specs.Prelude.{All}
+use Rattle.std.proofs.lemmas.List.{take_rest}
+use Rattle.std.proofs.lemmas.Result.{err_from_is_err_and}
+use Rattle.summary.specs.Exploration.{Counts}
+use Rattle.explore.proofs.Visits.{IsLawful}
+use Rattle.explore.proofs.Outcome.{too_many, go_back, as_many, count_is, complete_is, summary_is, every_bound, best_is}
+use Rattle.explore.proofs.answer.explore.Given.{Over}
+use Rattle.explore.proofs.answer.explore.Goals as goal
+
+-- the laws of the bound
+lawful : (g : Over) (system : _) → IsLawful (g.Y.System.graph system) g.Y.Label.Ord.cmp g.Y.State.PartialEq.eq (g.Y.System.fits system)
+lawful g system = record {
+  total = g.met.Y.Label.Ord.total;
+  itself = g.met.Y.State.Eq.laws.refl;
+  same = g.met.Y.System.same system;
+  ascending = g.met.Y.System.ascending system;
+  first = g.met.Y.System.first_fits system;
+  after = g.met.Y.System.after_fits system;
+}
+
+pub returns-in_err-explored-clause-too_many : goal.returns-in_err-explored-clause-too_many
+returns-in_err-explored-clause-too_many g c many =
+    let system = c.args.system.now in
+    let p = err_from_is_err_and c.from_residual.result c.from_residual.ensures.1 in
+    too_many (g.Y.System.graph system) g.Y.Label.Ord.cmp g.Y.State.PartialEq.eq (g.Y.System.fits system) (lawful g system)
+    g.U.Summary.joins (g.U.Summary.reading system) g.met.U.Summary.semilattice c.args.plan.now.steps c.args.plan.now.limit
+    (c.in_err-explored.ensures.too_many (cc (p.1, p.2, many)))
+
+pub best_runs-requires-clause-as_many : goal.best_runs-requires-clause-as_many
+best_runs-requires-clause-as_many g c =
+    let system = c.args.system.now in
+    let found = c.in_ok-explored.explored in
+    as_many (g.Y.System.graph system) g.Y.Label.Ord.cmp g.Y.State.PartialEq.eq (g.Y.System.fits system) (lawful g system)
+    g.U.Summary.joins (g.U.Summary.reading system) g.met.U.Summary.semilattice c.args.plan.now.steps
+    found.visited.states.keys found.visited.steps.items found.from found.summary c.in_ok-explored.ensures.found
+
+pub best_runs-requires-clause-back : goal.best_runs-requires-clause-back
+best_runs-requires-clause-back g c =
+    let system = c.args.system.now in
+    let found = c.in_ok-explored.explored in
+    go_back (g.Y.System.graph system) g.Y.Label.Ord.cmp g.Y.State.PartialEq.eq (g.Y.System.fits system) (lawful g system)
+    g.U.Summary.joins (g.U.Summary.reading system) g.met.U.Summary.semilattice c.args.plan.now.steps
+    found.visited.states.keys found.visited.steps.items found.from found.summary c.in_ok-explored.ensures.found
+
+pub returns-clause-count : goal.returns-clause-count
+returns-clause-count g c =
+    let system = c.args.system.now in
+    let graph = g.Y.System.graph system in
+    let steps = c.args.plan.now.steps in
+    let limit = c.args.plan.now.limit in
+    let found = c.in_ok-explored.explored in
+    let counted = count_is graph g.Y.Label.Ord.cmp g.Y.State.PartialEq.eq (g.Y.System.fits system) (lawful g system)
+    g.U.Summary.joins (g.U.Summary.reading system) g.met.U.Summary.semilattice steps
+    found.visited.states.keys found.visited.steps.items found.from found.summary c.in_ok-explored.ensures.found in
+    subst (λ states. Counts graph steps (length states) × (length states ≤ limit)) (sym c.as_slice-states.ensures.keys) (counted, c.in_ok-explored.ensures.within)
+
+pub returns-clause-summary : goal.returns-clause-summary
+returns-clause-summary g c =
+    let system = c.args.system.now in
+    let found = c.in_ok-explored.explored in
+    summary_is (g.Y.System.graph system) g.Y.Label.Ord.cmp g.Y.State.PartialEq.eq (g.Y.System.fits system) (lawful g system)
+    g.U.Summary.joins (g.U.Summary.reading system) g.met.U.Summary.semilattice c.args.plan.now.steps
+    found.visited.states.keys found.visited.steps.items found.from found.summary c.in_ok-explored.ensures.found
+
+pub returns-clause-complete : goal.returns-clause-complete
+returns-clause-complete g c =
+    let system = c.args.system.now in
+    let graph = g.Y.System.graph system in
+    let found = c.in_ok-explored.explored in
+    let layer = take_rest c.as_slice-states.result.now found.from ∙ ap (drop found.from) c.as_slice-states.ensures.keys in
+    let quiet = c.in_ok-complete.ensures in
+    let exact = complete_is graph g.Y.Label.Ord.cmp g.Y.State.PartialEq.eq (g.Y.System.fits system) (lawful g system)
+    g.U.Summary.joins (g.U.Summary.reading system) g.met.U.Summary.semilattice c.args.plan.now.steps
+    found.visited.states.keys found.visited.steps.items found.from found.summary c.in_ok-explored.ensures.found in (
+      λ is. exact.0 (subst (All (λ (s : _). graph.enabled s ≡ [])) layer (quiet.0 is)),
+      λ all. quiet.1 (subst (All (λ (s : _). graph.enabled s ≡ [])) (sym layer) (exact.1 all)),
+    )
+
+pub returns-clause-best : goal.returns-clause-best
+returns-clause-best g c =
+    let system = c.args.system.now in
+    let found = c.in_ok-explored.explored in
+    record {
+      eight = c.in_ok-best.ensures.eight;
+      each = λ mark below. best_is (g.Y.System.graph system) g.Y.Label.Ord.cmp g.Y.State.PartialEq.eq (g.Y.System.fits system) (lawful g system)
+          g.U.Summary.joins (g.U.Summary.reading system) g.met.U.Summary.semilattice c.args.plan.now.steps
+          found.visited.states.keys found.visited.steps.items found.from found.summary c.in_ok-explored.ensures.found
+          mark _ (c.in_ok-best.ensures.each mark below);
+    }
+
+pub returns-clause-every_bound : goal.returns-clause-every_bound
+returns-clause-every_bound g c complete bound le =
+    let system = c.args.system.now in
+    let graph = g.Y.System.graph system in
+    let found = c.in_ok-explored.explored in
+    let layer = take_rest c.as_slice-states.result.now found.from ∙ ap (drop found.from) c.as_slice-states.ensures.keys in
+    let more = every_bound graph g.Y.Label.Ord.cmp g.Y.State.PartialEq.eq (g.Y.System.fits system) (lawful g system)
+    g.U.Summary.joins (g.U.Summary.reading system) g.met.U.Summary.semilattice c.args.plan.now.steps
+    found.visited.states.keys found.visited.steps.items found.from found.summary c.in_ok-explored.ensures.found
+    (subst (All (λ (s : _). graph.enabled s ≡ [])) layer (c.in_ok-complete.ensures.0 complete)) bound le in
+    (more.0, subst (λ states. Counts graph bound (length states)) (sym c.as_slice-states.ensures.keys) more.1)

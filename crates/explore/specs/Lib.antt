@@ -1,0 +1,5 @@
+pub mod Best
+pub mod Limits
+pub mod Ring
+pub mod Search
+pub mod Tied

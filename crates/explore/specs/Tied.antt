@@ -1,0 +1,55 @@
+-- What the code's values stand for.
+use Rattle.std.specs.Prelude.{◌≡◌, ◌≢◌, ℕ, ◌<◌, Bool, List, [], ◌∷◌, ◌++◌, length, slice_index_or, All, Option, None, Some, IfSome, if◌then◌else◌}
+use Rattle.std.specs.List.{list_any}
+use Rattle.summary.specs.Graph.{Graph}
+use Rattle.std.specs.declared.alloc.Global.{Global}
+use Rattle.std.specs.declared.vec.Vec.{Vec}
+use Rattle.summary.specs.Run.{Run, Start, Then, labels_of}
+use Rattle.summary.specs.Reading.{Join, Reading}
+use Rattle.explore.specs.declared.visited.Step.{Step}
+use Rattle.explore.specs.declared.visited.Candidate.{Candidate}
+use Rattle.explore.specs.Search.{Found}
+
+-- these states, steps, place and summary, as what was found
+abbrev pub as_found : {C L S : Type 0} → List C → List (Option (Step L)) → ℕ → S → Found C L S
+as_found states steps from summary = record { states = states; steps = steps; from = from; summary = summary }
+
+-- states, steps and summary after the candidate is placed
+pub record Places {C L S : Type 0} (j : Join S) (r : Reading C L S) (eq : C → C → Bool) (states : List C) (steps : List (Option (Step L))) (summary : S) (c : Candidate C L) (states' : List C) (steps' : List (Option (Step L))) (summary' : S) : Type 0 where
+  pub states_are : states' ≡ (if list_any (eq c.state) states then states else states ++ c.state ∷ [])
+  pub steps_are : steps' ≡ (if list_any (eq c.state) states then steps else steps ++ Some (record { before = c.before; label = c.label }) ∷ [])
+  pub summary_is : summary' ≡ (if list_any (eq c.state) states then summary else j.join summary (r.at c.state))
+
+-- the run and the last step that are kept at a place
+abbrev pub run_at : {L : Type 0} → List (Run L) → ℕ → Run L
+run_at runs place = slice_index_or runs place Start
+
+abbrev pub step_at : {L : Type 0} → List (Option (Step L)) → ℕ → Option (Step L)
+step_at steps place = slice_index_or steps place None
+
+-- each step leads back to an earlier place
+abbrev pub GoBack : {L : Type 0} → List (Option (Step L)) → Type 0
+GoBack steps = (place : ℕ) → place < length steps → IfSome (step_at steps place) (λ step. step.before < place)
+
+-- a run is the run before its last step, and that step
+abbrev pub Tells : {L : Type 0} → List (Run L) → Run L → Option (Step L) → Type 0
+Tells runs run None = run ≡ Start
+Tells runs run (Some step) = run ≡ Then (run_at runs step.before) step.label
+
+-- the steps are the last steps of these runs
+pub record AreLastSteps {L : Type 0} (runs : List (Run L)) (steps : List (Option (Step L))) : Type 0 where
+  pub as_many : length steps ≡ length runs
+  pub back : GoBack steps
+  pub tell : (place : ℕ) → place < length steps → Tells runs (run_at runs place) (step_at steps place)
+
+-- the state at the place has the mark, and none before it
+pub record IsFirstMarked {C L : Type 0} (g : Graph C L) (mark : ℕ) (states : List C) (place : ℕ) : Type 0 where
+  pub within : place < length states
+  pub marked : (d : C) → g.mark (slice_index_or states place d) ≡ Some mark
+  pub first : (k : ℕ) (d : C) → k < place → g.mark (slice_index_or states k d) ≢ Some mark
+
+-- what is answered for a mark, by the kept places: the run that is kept at the first state with it
+abbrev pub IsKept : {C L : Type 0} → Graph C L → List C → List (Option (Step L)) → ℕ → Option (Vec L Global) → Type 0
+IsKept g states steps mark None = All (λ state. g.mark state ≢ Some mark) states
+IsKept {C} {L} g states steps mark (Some labels) =
+    (place : ℕ) × IsFirstMarked g mark states place × ((runs : List (Run L)) → AreLastSteps runs steps → labels.items ≡ labels_of (run_at runs place))

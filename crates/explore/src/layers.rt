@@ -1,0 +1,197 @@
+ghost use Rattle.std.specs.Prelude.{◌≡◌, ◌≢◌, ◌+◌, ◌^◌, ◌<◌, ◌≤◌, ℕ, [], ◌∷◌, ◌++◌, length, None, All, IfOk, OnOk, IsErrOf};
+ghost use Rattle.explore.specs.Limits.{IsWithinLimits};
+ghost use Rattle.explore.specs.Search.{candidates_of, layer_candidates, with_labels, with_layer, place_all, found_after};
+ghost use Rattle.explore.specs.Tied.{as_found, Places};
+ghost use Rattle.indexmap.specs.IndexSet.{insert_key};
+
+use crate::plan::{ExploreError, Gate, Plan};
+use crate::visited::{Candidate, Step, Visited};
+use indexmap::IndexSet;
+use std::alloc::{AllocError, Global};
+use std::hash::Hash;
+use summary::{Summary, System};
+
+/// Adds a candidate for each enabled label of a state, and joins what each of these steps shows.
+fn expand_state<Y: System, U: Summary<Y>>(
+    alloc: Global,
+    system: &Y,
+    place: usize,
+    state: &Y::State,
+    candidates: &mut Vec<Candidate<Y::State, Y::Label>>,
+    summary: U,
+) -> Result<U, AllocError>
+    requires { Y.fits system.now state.now }
+    ensures candidates { OnOk result (candidates.new.items ≡ candidates.old.items ++ candidates_of (Y.graph system.now) place state.now ((Y.graph system.now).enabled state.now)) }
+    ensures summary { IfOk result (λ s. s ≡ with_labels U.joins (U.reading system.now) state.now summary ((Y.graph system.now).enabled state.now)) }
+{
+    let mut summary = summary;
+    for label in system.labels(alloc, state)? {
+        summary = summary.join(alloc, U::by(alloc, system, state, &label)?)?;
+        let after = system.next(alloc, state, &label)?;
+        candidates.push(Candidate {
+            before: place,
+            label,
+            state: after,
+        })?;
+    }
+    Ok(summary)
+}
+
+/// The candidates of a layer, whose first state is at place `from`, and the summary with what their steps show.
+fn expand_layer<Y: System, U: Summary<Y>>(
+    alloc: Global,
+    system: &Y,
+    from: usize,
+    layer: &[Y::State],
+    summary: U,
+) -> Result<(Vec<Candidate<Y::State, Y::Label>>, U), AllocError>
+    requires fits { All (Y.fits system.now) layer.now }
+    requires places { from + length layer.now < 2 ^ 64 }
+    ensures candidates { IfOk result (λ r. r.0.items ≡ layer_candidates (Y.graph system.now) from layer.now) }
+    ensures summary { IfOk result (λ r. r.1 ≡ with_layer U.joins (U.reading system.now) (Y.graph system.now) summary layer.now) }
+{
+    let mut candidates = Vec::new(alloc);
+    let mut summary = summary;
+    for (at, state) in layer.iter().enumerate() {
+        summary = expand_state(alloc, system, from + at, state, &mut candidates, summary)?;
+    }
+    Ok((candidates, summary))
+}
+
+/// Keeps the candidate's state unless it was found before, and then joins what it shows.
+fn place_one<Y: System, U: Summary<Y>>(
+    alloc: Global,
+    system: &Y,
+    limit: u64,
+    visited: &mut Visited<Y::State, Y::Label>,
+    candidate: Candidate<Y::State, Y::Label>,
+    summary: U,
+) -> Result<U, ExploreError>
+    requires { Y.fits system.now candidate.state }
+    ensures placed { IfOk result (λ s. Places U.joins (U.reading system.now) Y.State.eq visited.old.states.keys visited.old.steps.items summary candidate visited.new.states.keys visited.new.steps.items s) }
+    ensures within { OnOk result (length visited.old.states.keys ≤ limit → length visited.new.states.keys ≤ limit) }
+    ensures too_many { IsErrOf result ExploreError.TooMany → limit < length (insert_key Y.State.eq visited.old.states.keys candidate.state) }
+    ensures planned { result ≢ Err ExploreError.BadPlan }
+{
+    let Candidate {
+        before,
+        label,
+        state,
+    } = candidate;
+    let is_new = visited.states.insert(state)?;
+    if !is_new {
+        return Ok(summary);
+    }
+    let count = visited.states.len();
+    if count as u64 > limit {
+        return Err(ExploreError::TooMany);
+    }
+    visited.steps.push(Some(Step { before, label }))?;
+    let shown = U::at(alloc, system, &visited.states[count - 1])?;
+    Ok(summary.join(alloc, shown)?)
+}
+
+/// Places a layer's candidates in order. The gate hears of each piece as it begins.
+fn place_layer<Y: System, U: Summary<Y>, G: Gate>(
+    alloc: Global,
+    system: &Y,
+    plan: &Plan,
+    gate: &G,
+    layer: u64,
+    visited: &mut Visited<Y::State, Y::Label>,
+    candidates: Vec<Candidate<Y::State, Y::Label>>,
+    summary: U,
+) -> Result<U, ExploreError>
+    requires fits { All (λ c. Y.fits system.now c.state) candidates.items }
+    requires pieces { 1 ≤ plan.now.piece }
+    ensures placed { IfOk result (λ s. (from : ℕ) → as_found visited.new.states.keys visited.new.steps.items from s
+        ≡ place_all U.joins (U.reading system.now) Y.State.eq (as_found visited.old.states.keys visited.old.steps.items from summary) candidates.items) }
+    ensures within { OnOk result (length visited.old.states.keys ≤ plan.now.limit → length visited.new.states.keys ≤ plan.now.limit) }
+    ensures too_many { IsErrOf result ExploreError.TooMany → (from : ℕ) → plan.now.limit
+        < length (place_all U.joins (U.reading system.now) Y.State.eq (as_found visited.old.states.keys visited.old.steps.items from summary) candidates.items).states }
+    ensures planned { result ≢ Err ExploreError.BadPlan }
+{
+    let pieces = (candidates.len() as u64).div_ceil(plan.piece);
+    let mut summary = summary;
+    let mut placed: u64 = 0;
+    for candidate in candidates {
+        if placed % plan.piece == 0 {
+            gate.enter(0, layer, placed / plan.piece, pieces);
+        }
+        placed = placed.wrapping_add(1);
+        summary = place_one(alloc, system, plan.limit, visited, candidate, summary)?;
+    }
+    Ok(summary)
+}
+
+/// What a search found: the states, the place where the last layer begins, and the summary.
+#[derive(Drop)]
+pub struct Explored<S: Eq + Hash, L, U> {
+    pub visited: Visited<S, L>,
+    pub from: usize,
+    pub summary: U,
+}
+
+/// Searches layer by layer, up to the plan's steps.
+pub fn search<Y: System, U: Summary<Y>, G: Gate>(
+    alloc: Global,
+    system: &Y,
+    plan: &Plan,
+    gate: &G,
+) -> Result<Explored<Y::State, Y::Label, U>, ExploreError>
+    requires plan { IsWithinLimits plan.now }
+    ensures found { IfOk result (λ s. as_found s.visited.states.keys s.visited.steps.items s.from s.summary
+        ≡ found_after (Y.graph system.now) U.joins (U.reading system.now) Y.State.eq plan.now.steps) }
+    ensures fits { IfOk result (λ s. All (Y.fits system.now) s.visited.states.keys) }
+    ensures within { IfOk result (λ s. length s.visited.states.keys ≤ plan.now.limit) }
+    ensures from { IfOk result (λ s. s.from ≤ length s.visited.states.keys) }
+    ensures too_many { IsErrOf result ExploreError.TooMany → plan.now.limit
+        < length (found_after (Y.graph system.now) U.joins (U.reading system.now) Y.State.eq plan.now.steps).states }
+    ensures planned { result ≢ Err ExploreError.BadPlan }
+{
+    let (mut visited, mut summary) = begin_search(alloc, system)?;
+    let mut from = 0;
+    for layer in 0..plan.steps {
+        let (candidates, shown) = expand_layer(
+            alloc,
+            system,
+            from,
+            &visited.states.as_slice()[from..],
+            summary,
+        )?;
+        from = visited.states.len();
+        summary = place_layer(
+            alloc,
+            system,
+            plan,
+            gate,
+            layer,
+            &mut visited,
+            candidates,
+            shown,
+        )?;
+    }
+    Ok(Explored {
+        visited,
+        from,
+        summary,
+    })
+}
+
+/// The first state alone, and what it shows.
+fn begin_search<Y: System, U: Summary<Y>>(
+    alloc: Global,
+    system: &Y,
+) -> Result<(Visited<Y::State, Y::Label>, U), AllocError>
+    ensures states { IfOk result (λ r. r.0.states.keys ≡ (Y.graph system.now).first ∷ []) }
+    ensures steps { IfOk result (λ r. r.0.steps.items ≡ None ∷ []) }
+    ensures summary { IfOk result (λ r. r.1 ≡ (U.reading system.now).at (Y.graph system.now).first) }
+{
+    let first = system.start(alloc)?;
+    let summary = U::at(alloc, system, &first)?;
+    let mut states = IndexSet::new(alloc);
+    states.insert(first)?;
+    let mut steps = Vec::new(alloc);
+    steps.push(None)?;
+    Ok((Visited { states, steps }, summary))
+}

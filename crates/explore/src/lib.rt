@@ -1,0 +1,14 @@
+//! Every run of a system up to a bound, by a search that keeps each state once.
+#![tactic(auto)]
+
+mod answer;
+pub mod example;
+mod layers;
+mod plan;
+mod runs;
+#[cfg(test)]
+mod tests;
+mod visited;
+
+pub use answer::{Answer, explore};
+pub use plan::{ExploreError, Gate, NoGate, Plan};

@@ -1,0 +1,251 @@
+use super::*;
+use crate::example::{Residues, Ring, Turns};
+use std::alloc::Global;
+use std::cell::RefCell;
+use std::process::Abort;
+use std::test::Fail;
+use std::thread::Threads;
+use summary::{Both, SmallSet, Verdicts};
+
+type Shown = Both<Residues, Both<Turns, Verdicts>>;
+
+/// What an exploration of a ring answers, its sets as texts.
+struct Row {
+    size: u32,
+    steps: u64,
+    count: u64,
+    complete: bool,
+    residues: [bool; 4],
+    turns: [bool; 2],
+    best: Option<&'static [u8]>,
+}
+
+const N: bool = false;
+
+const Y: bool = true;
+
+#[rattlefmt::skip]
+const ROWS: [Row; 8] = [
+    Row { size: 10, steps: 0, count: 1, complete: false, residues: [Y, N, N, N], turns: [N, N], best: None },
+    Row { size: 10, steps: 1, count: 2, complete: false, residues: [Y, Y, N, N], turns: [Y, Y], best: None },
+    Row { size: 10, steps: 2, count: 3, complete: false, residues: [Y, Y, Y, N], turns: [Y, Y], best: None },
+    Row { size: 10, steps: 4, count: 8, complete: false, residues: [Y, Y, Y, Y], turns: [Y, Y], best: None },
+    Row { size: 10, steps: 5, count: 10, complete: false, residues: [Y, Y, Y, Y], turns: [Y, Y], best: Some(&[0, 0, 1, 1, 0]) },
+    Row { size: 10, steps: 6, count: 10, complete: true, residues: [Y, Y, Y, Y], turns: [Y, Y], best: Some(&[0, 0, 1, 1, 0]) },
+    Row { size: 1, steps: 0, count: 1, complete: false, residues: [Y, N, N, N], turns: [N, N], best: Some(&[]) },
+    Row { size: 1, steps: 1, count: 1, complete: true, residues: [Y, N, N, N], turns: [Y, Y], best: Some(&[]) },
+];
+
+/// Whether the set holds just those numbers whose place says so.
+fn is_set(set: &SmallSet, wanted: &[bool]) -> bool {
+    let mut number = 0u8;
+    for is_in in wanted {
+        if set.contains(number) != *is_in {
+            return false;
+        }
+        number = number.saturating_add(1);
+    }
+    true
+}
+
+/// Whether the run for mark 0 is the wanted one, and no other mark has one.
+fn is_best(best: &[Option<Vec<u8>>], wanted: Option<&[u8]>) -> bool {
+    match best.split_first() {
+        Some((Some(labels), others)) => {
+            wanted == Some(labels.as_slice()) && others.iter().all(|run| run.is_none())
+        }
+        Some((None, others)) => wanted.is_none() && others.iter().all(|run| run.is_none()),
+        None => false,
+    }
+}
+
+fn is_row(answer: &Answer<Shown, u8>, row: &Row) -> bool {
+    answer.count == row.count
+        && answer.complete == row.complete
+        && is_set(&answer.summary.first.residues, &row.residues)
+        && is_set(&answer.summary.second.first.taken, &row.turns)
+        && is_set(&answer.summary.second.second.marks, &[row.best.is_some()])
+        && is_best(answer.best.as_slice(), row.best)
+}
+
+fn ring(rt: &impl Abort, size: u32) -> Ring {
+    assert!(rt; 1 <= size && size <= 1_000_000);
+    Ring::new(size)
+}
+
+fn check_row<R: Threads + Sync + Abort>(
+    rt: &R,
+    alloc: Global,
+    row: &Row,
+    workers: u64,
+    piece: u64,
+) -> Result<(), Fail> {
+    let plan = Plan {
+        steps: row.steps,
+        limit: 1_000_000,
+        workers,
+        piece,
+    };
+    let answer = explore::<Ring, Shown, NoGate, R>(rt, alloc, &ring(rt, row.size), &plan, &NoGate)?;
+    let size = row.size;
+    let steps = row.steps;
+    assert!(rt;
+        is_row(&answer, row),
+        "ring {size} at {steps} steps: {answer:?}"
+    );
+    Ok(())
+}
+
+#[test]
+fn rings_are_explored(rt: HostRuntime) -> Result<(), Fail> {
+    for row in &ROWS {
+        check_row(&rt, rt.alloc(), row, 1, 256)?;
+        check_row(&rt, rt.alloc(), row, 2, 1)?;
+        check_row(&rt, rt.alloc(), row, 7, 2)?;
+        check_row(&rt, rt.alloc(), row, 64, 65_536)?;
+    }
+    Ok(())
+}
+
+/// How many states are counted, or why there is no answer.
+fn count<R: Threads + Sync + Abort>(
+    rt: &R,
+    alloc: Global,
+    size: u32,
+    plan: &Plan,
+) -> Result<u64, ExploreError> {
+    let answer = explore::<Ring, Verdicts, NoGate, R>(rt, alloc, &ring(rt, size), plan, &NoGate)?;
+    Ok(answer.count)
+}
+
+const PLAN: Plan = Plan {
+    steps: 5,
+    limit: 1_000_000,
+    workers: 1,
+    piece: 256,
+};
+
+#[test]
+fn the_limit_is_exact(rt: HostRuntime) {
+    let within = Plan { limit: 10, ..PLAN };
+    assert_eq!(rt; count(&rt, rt.alloc(), 10, &within), Ok(10));
+    let beyond = Plan { limit: 9, ..PLAN };
+    assert_eq!(rt;
+        count(&rt, rt.alloc(), 10, &beyond),
+        Err(ExploreError::TooMany)
+    );
+}
+
+#[test]
+fn a_large_ring_is_explored(rt: HostRuntime) -> Result<(), Fail> {
+    let plan = Plan { steps: 20, ..PLAN };
+    let answer = explore::<Ring, Verdicts, NoGate, HostRuntime>(
+        &rt,
+        rt.alloc(),
+        &ring(&rt, 1_000_000),
+        &plan,
+        &NoGate,
+    )?;
+    assert_eq!(rt; answer.count, 17_711);
+    assert!(rt; !answer.complete);
+    assert!(rt;
+        is_best(answer.best.as_slice(), None),
+        "no run of 20 steps ends in the last state"
+    );
+    Ok(())
+}
+
+#[rattlefmt::skip]
+const OUTSIDE: [Plan; 7] = [
+    Plan { steps: 100_001, limit: 1_000_000, workers: 1, piece: 256 },
+    Plan { steps: 5, limit: 0, workers: 1, piece: 256 },
+    Plan { steps: 5, limit: 10_000_001, workers: 1, piece: 256 },
+    Plan { steps: 5, limit: 1_000_000, workers: 0, piece: 256 },
+    Plan { steps: 5, limit: 1_000_000, workers: 65, piece: 256 },
+    Plan { steps: 5, limit: 1_000_000, workers: 1, piece: 0 },
+    Plan { steps: 5, limit: 1_000_000, workers: 1, piece: 65_537 },
+];
+
+#[rattlefmt::skip]
+const WITHIN: [Plan; 2] = [
+    Plan { steps: 0, limit: 1, workers: 1, piece: 1 },
+    Plan { steps: 100_000, limit: 10_000_000, workers: 64, piece: 65_536 },
+];
+
+#[test]
+fn plans_outside_the_limits_are_refused(rt: HostRuntime) {
+    for plan in &OUTSIDE {
+        assert_eq!(rt;
+            count(&rt, rt.alloc(), 10, plan),
+            Err(ExploreError::BadPlan),
+            "{plan:?}"
+        );
+    }
+    for plan in &WITHIN {
+        assert_eq!(rt; count(&rt, rt.alloc(), 1, plan), Ok(1), "{plan:?}");
+    }
+}
+
+/// A gate that notes the calls that it hears.
+#[derive(Drop)]
+struct Notes {
+    calls: RefCell<Vec<[u64; 4]>>,
+}
+
+impl Gate for Notes {
+    fn enter(&self, worker: u64, layer: u64, piece: u64, pieces: u64) {
+        if let Ok(mut calls) = self.calls.try_borrow_mut() {
+            let _ = calls.push([worker, layer, piece, pieces]);
+        }
+    }
+}
+
+fn check_gate<R: Threads + Sync + Abort>(
+    rt: &R,
+    alloc: Global,
+    piece: u64,
+    calls: &[[u64; 4]],
+) -> Result<(), Fail> {
+    let plan = Plan {
+        steps: 3,
+        piece,
+        ..PLAN
+    };
+    let notes = Notes {
+        calls: RefCell::new(Vec::new(alloc)),
+    };
+    explore::<Ring, Verdicts, Notes, R>(rt, alloc, &ring(rt, 10), &plan, &notes)?;
+    let heard = notes.calls.into_inner();
+    assert!(rt; heard.as_slice() == calls, "pieces of {piece}: {heard:?}");
+    Ok(())
+}
+
+#[test]
+fn the_gate_hears_each_piece(rt: HostRuntime) -> Result<(), Fail> {
+    // The layers are 0, then 1, then 2: one state each, with two candidates.
+    check_gate(
+        &rt,
+        rt.alloc(),
+        1,
+        &[
+            [0, 0, 0, 2],
+            [0, 0, 1, 2],
+            [0, 1, 0, 2],
+            [0, 1, 1, 2],
+            [0, 2, 0, 2],
+            [0, 2, 1, 2],
+        ],
+    )?;
+    check_gate(
+        &rt,
+        rt.alloc(),
+        2,
+        &[[0, 0, 0, 1], [0, 1, 0, 1], [0, 2, 0, 1]],
+    )?;
+    check_gate(
+        &rt,
+        rt.alloc(),
+        65_536,
+        &[[0, 0, 0, 1], [0, 1, 0, 1], [0, 2, 0, 1]],
+    )
+}
