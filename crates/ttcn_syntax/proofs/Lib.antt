@@ -1,0 +1,13 @@
+pub mod Cuts
+pub mod Decimals
+pub mod Ends
+pub mod ExpressionLemmas
+pub mod Found
+pub mod Fronts
+pub mod Insides
+pub mod Marks
+pub mod Numbers
+pub mod Once
+pub mod Readings
+pub mod Runs
+pub mod WordSearch

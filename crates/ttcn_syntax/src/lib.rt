@@ -1,0 +1,27 @@
+//! The language: its tokens and where they stand in a text, and the tree that they spell.
+#![tactic(auto)]
+
+mod boxed;
+mod error;
+mod lexer;
+mod name;
+mod piece;
+mod place;
+mod reading;
+mod seq;
+mod token;
+mod tree;
+mod words;
+
+pub use boxed::Boxed;
+pub use error::LexError;
+pub use lexer::{LONGEST_TEXT, lex};
+pub use name::Name;
+pub use piece::Piece;
+pub use place::Span;
+pub use reading::LARGEST_INTEGER;
+pub use seq::Seq;
+pub use std::alloc::AllocError as Memory;
+pub use token::{Spanned, Symbol, Token, Word};
+pub use tree::{Expr, Link, Operator, Sign};
+pub use words::LeftOutWord;

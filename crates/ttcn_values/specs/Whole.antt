@@ -1,0 +1,11 @@
+-- What a checked operation leaves.
+use Rattle.std.specs.Prelude.{ℤ, Option, Some, None, Result, Ok, Err}
+use Rattle.ttcn_values.specs.declared.fault.Fault.{Fault}
+use Rattle.ttcn_values.specs.declared.fault.Fault.TheVariants.{Dynamic}
+use Rattle.ttcn_values.specs.declared.value.Value.{Value}
+use Rattle.ttcn_values.specs.declared.value.Value.TheVariants.{Integer}
+
+-- a number as a value: a dynamic error where there is none
+abbrev pub fitting : Option ℤ → Result Value Fault
+fitting (Some z) = Ok (Integer z)
+fitting None = Err Dynamic

@@ -1,0 +1,37 @@
+//! What an expression gives.
+ghost use Rattle.std.specs.Prelude.{◌≡◌};
+ghost use Rattle.ttcn_syntax.specs.Expression.{expression};
+ghost use Rattle.ttcn_values.specs.Entries.{find};
+ghost use Rattle.ttcn_values.specs.Evaluation.{value_of};
+
+use crate::operators::{apply, is_decided, negate, number, sign};
+use crate::{Fault, Frame, Value};
+use ttcn_syntax::Expr;
+
+/// The value of an expression where the names of the frame have their values.
+pub fn eval(expr: &Expr, frame: &Frame) -> Result<Value, Fault>
+    ensures { result ≡ value_of (find frame.now) (expression expr.now) }
+{
+    match expr {
+        Expr::Int(digits) => number(*digits),
+        Expr::Bool(truth) => Ok(Value::Boolean(*truth)),
+        Expr::Name(name) => match frame.get(name) {
+            Some(value) => Ok(value),
+            None => Err(Fault::Dynamic),
+        },
+        Expr::Not(operand) => negate(eval(operand.get(), frame)?),
+        Expr::Signed(mark, operand) => sign(*mark, eval(operand.get(), frame)?),
+        Expr::Chain(first, links) => {
+            let mut value = eval(first.get(), frame)?;
+            for link in links.as_slice() {
+                if !is_decided(link.operator, value) {
+                    value = apply(link.operator, value, eval(&link.operand, frame)?)?;
+                }
+            }
+            Ok(value)
+        }
+    }
+}
+
+#[cfg(test)]
+mod tests;

@@ -1,0 +1,282 @@
+use crate::{Fault, Frame, Value, eval};
+use std::alloc::Global;
+use std::test::Fail;
+use ttcn_syntax::{Boxed, Expr, Link, Memory, Name, Operator, Seq, Sign};
+
+const MAX: i64 = 9_223_372_036_854_775_807;
+
+const MIN: i64 = -9_223_372_036_854_775_808;
+
+/// An integer as a module writes it; the least one has no number of its own.
+fn whole(alloc: Global, integer: i64) -> Result<Expr, Memory> {
+    if integer >= 0 {
+        Ok(Expr::Int(integer.unsigned_abs()))
+    } else if integer == MIN {
+        operation(
+            alloc,
+            whole_above_min(alloc, -MAX)?,
+            Operator::Subtract,
+            Expr::Int(1),
+        )
+    } else {
+        whole_above_min(alloc, integer)
+    }
+}
+
+fn whole_above_min(alloc: Global, integer: i64) -> Result<Expr, Memory> {
+    Ok(Expr::Signed(
+        Sign::Minus,
+        Boxed::new(alloc, Expr::Int(integer.unsigned_abs()))?,
+    ))
+}
+
+fn operation(alloc: Global, left: Expr, operator: Operator, right: Expr) -> Result<Expr, Memory> {
+    let mut links = Seq::new(alloc);
+    links.push(Link {
+        operator,
+        operand: right,
+    })?;
+    Ok(Expr::Chain(Boxed::new(alloc, left)?, links))
+}
+
+/// `1 / 0 == 1`
+fn faulty(alloc: Global) -> Result<Expr, Memory> {
+    let quotient = operation(alloc, Expr::Int(1), Operator::Divide, Expr::Int(0))?;
+    operation(alloc, quotient, Operator::Equal, Expr::Int(1))
+}
+
+fn integer(value: i64) -> Result<Value, Fault> {
+    Ok(Value::Integer(value))
+}
+
+fn boolean(value: bool) -> Result<Value, Fault> {
+    Ok(Value::Boolean(value))
+}
+
+const DYNAMIC: Result<Value, Fault> = Err(Fault::Dynamic);
+
+#[test]
+fn arithmetic(rt: HostRuntime) -> Result<(), Fail> {
+    let alloc = rt.alloc();
+    let frame = Frame::new(alloc);
+    let rows = [
+        (-7, Operator::Divide, 2, integer(-3)),
+        (7, Operator::Divide, -2, integer(-3)),
+        (-7, Operator::Rem, 2, integer(-1)),
+        (7, Operator::Rem, -2, integer(1)),
+        (-7, Operator::Mod, 2, integer(1)),
+        (7, Operator::Mod, -2, integer(1)),
+        (-6, Operator::Mod, 3, integer(0)),
+        (MIN, Operator::Rem, -1, integer(0)),
+        (MIN, Operator::Mod, -1, integer(0)),
+        (-1, Operator::Mod, MIN, integer(MAX)),
+        (MIN, Operator::Divide, -1, DYNAMIC),
+        (MIN, Operator::Divide, 1, integer(MIN)),
+        (1, Operator::Divide, 0, DYNAMIC),
+        (1, Operator::Rem, 0, DYNAMIC),
+        (1, Operator::Mod, 0, DYNAMIC),
+        (MAX, Operator::Add, 1, DYNAMIC),
+        (MAX, Operator::Add, 0, integer(MAX)),
+        (MIN, Operator::Add, -1, DYNAMIC),
+        (2, Operator::Add, 3, integer(5)),
+        (MIN, Operator::Subtract, 1, DYNAMIC),
+        (0, Operator::Subtract, MIN, DYNAMIC),
+        (2, Operator::Subtract, 3, integer(-1)),
+        (MIN, Operator::Multiply, -1, DYNAMIC),
+        (4_611_686_018_427_387_904, Operator::Multiply, 2, DYNAMIC),
+        (
+            4_611_686_018_427_387_904,
+            Operator::Multiply,
+            -2,
+            integer(MIN),
+        ),
+        (-3, Operator::Multiply, 7, integer(-21)),
+    ];
+    for (left, operator, right, expected) in rows {
+        let expression = operation(alloc, whole(alloc, left)?, operator, whole(alloc, right)?)?;
+        assert_eq!(rt;
+            eval(&expression, &frame),
+            expected,
+            "{left} {operator:?} {right}"
+        );
+    }
+    Ok(())
+}
+
+#[test]
+fn comparisons(rt: HostRuntime) -> Result<(), Fail> {
+    let alloc = rt.alloc();
+    let frame = Frame::new(alloc);
+    let rows = [
+        (Operator::Equal, [false, true, false]),
+        (Operator::NotEqual, [true, false, true]),
+        (Operator::Less, [true, false, false]),
+        (Operator::LessEqual, [true, true, false]),
+        (Operator::Greater, [false, false, true]),
+        (Operator::GreaterEqual, [false, true, true]),
+    ];
+    for (operator, answers) in rows {
+        for (right, expected) in [(1, answers[0]), (-1, answers[1]), (-2, answers[2])] {
+            let expression = operation(alloc, whole(alloc, -1)?, operator, whole(alloc, right)?)?;
+            assert_eq!(rt;
+                eval(&expression, &frame),
+                boolean(expected),
+                "-1 {operator:?} {right}"
+            );
+        }
+    }
+    Ok(())
+}
+
+#[test]
+fn booleans(rt: HostRuntime) -> Result<(), Fail> {
+    let alloc = rt.alloc();
+    let frame = Frame::new(alloc);
+    let rows = [
+        (Operator::And, [false, false, false, true]),
+        (Operator::Or, [false, true, true, true]),
+        (Operator::Xor, [false, true, true, false]),
+        (Operator::Equal, [true, false, false, true]),
+        (Operator::NotEqual, [false, true, true, false]),
+    ];
+    for (operator, answers) in rows {
+        let cases = [
+            (false, false, answers[0]),
+            (false, true, answers[1]),
+            (true, false, answers[2]),
+            (true, true, answers[3]),
+        ];
+        for (left, right, expected) in cases {
+            let expression = operation(alloc, Expr::Bool(left), operator, Expr::Bool(right))?;
+            assert_eq!(rt;
+                eval(&expression, &frame),
+                boolean(expected),
+                "{left} {operator:?} {right}"
+            );
+        }
+    }
+    Ok(())
+}
+
+#[test]
+fn a_side_that_decides(rt: HostRuntime) -> Result<(), Fail> {
+    let alloc = rt.alloc();
+    let frame = Frame::new(alloc);
+    let rows = [
+        (false, Operator::And, boolean(false)),
+        (true, Operator::And, DYNAMIC),
+        (true, Operator::Or, boolean(true)),
+        (false, Operator::Or, DYNAMIC),
+        (false, Operator::Xor, DYNAMIC),
+        (true, Operator::Equal, DYNAMIC),
+    ];
+    for (left, operator, expected) in rows {
+        let expression = operation(alloc, Expr::Bool(left), operator, faulty(alloc)?)?;
+        assert_eq!(rt;
+            eval(&expression, &frame),
+            expected,
+            "{left} {operator:?} (1 / 0 == 1)"
+        );
+    }
+    Ok(())
+}
+
+#[test]
+fn operators_before_one_operand(rt: HostRuntime) -> Result<(), Fail> {
+    let alloc = rt.alloc();
+    let frame = Frame::new(alloc);
+    let not = |operand: Expr| Boxed::new(alloc, operand).map(Expr::Not);
+    assert_eq!(rt; eval(&not(Expr::Bool(true))?, &frame), boolean(false));
+    assert_eq!(rt; eval(&not(Expr::Bool(false))?, &frame), boolean(true));
+    assert_eq!(rt; eval(&not(Expr::Int(1))?, &frame), DYNAMIC);
+    assert_eq!(rt; eval(&not(faulty(alloc)?)?, &frame), DYNAMIC);
+    let rows = [
+        (Sign::Minus, 5, integer(-5)),
+        (Sign::Minus, -5, integer(5)),
+        (Sign::Minus, MIN, DYNAMIC),
+        (Sign::Plus, MIN, integer(MIN)),
+        (Sign::Plus, 5, integer(5)),
+    ];
+    for (sign, operand, expected) in rows {
+        let expression = Expr::Signed(sign, Boxed::new(alloc, whole(alloc, operand)?)?);
+        assert_eq!(rt; eval(&expression, &frame), expected, "{sign:?} {operand}");
+    }
+    let signed_truth = Expr::Signed(Sign::Plus, Boxed::new(alloc, Expr::Bool(true))?);
+    assert_eq!(rt; eval(&signed_truth, &frame), DYNAMIC);
+    Ok(())
+}
+
+#[test]
+fn numbers_of_the_text(rt: HostRuntime) -> Result<(), Fail> {
+    let frame = Frame::new(rt.alloc());
+    assert_eq!(rt;
+        eval(&Expr::Int(9_223_372_036_854_775_807), &frame),
+        integer(MAX)
+    );
+    assert_eq!(rt;
+        eval(&Expr::Int(9_223_372_036_854_775_808), &frame),
+        DYNAMIC
+    );
+    Ok(())
+}
+
+#[test]
+fn operands_of_other_types(rt: HostRuntime) -> Result<(), Fail> {
+    let alloc = rt.alloc();
+    let frame = Frame::new(alloc);
+    for operator in [
+        Operator::Add,
+        Operator::Equal,
+        Operator::Xor,
+        Operator::Less,
+    ] {
+        let expression = operation(alloc, Expr::Bool(true), operator, Expr::Int(1))?;
+        assert_eq!(rt; eval(&expression, &frame), DYNAMIC, "true {operator:?} 1");
+    }
+    let order = operation(alloc, Expr::Bool(false), Operator::Less, Expr::Bool(true))?;
+    assert_eq!(rt; eval(&order, &frame), DYNAMIC);
+    let both = operation(alloc, Expr::Int(1), Operator::And, Expr::Int(1))?;
+    assert_eq!(rt; eval(&both, &frame), DYNAMIC);
+    Ok(())
+}
+
+#[test]
+fn names(rt: HostRuntime) -> Result<(), Fail> {
+    let alloc = rt.alloc();
+    let mut frame = Frame::new(alloc);
+    let name = Expr::Name(Name::new(alloc, b"x")?);
+    assert_eq!(rt; eval(&name, &frame), DYNAMIC);
+    frame.put(Name::new(alloc, b"x")?, Value::Integer(7))?;
+    assert_eq!(rt; eval(&name, &frame), integer(7));
+    let sum = operation(alloc, name, Operator::Add, Expr::Int(1))?;
+    assert_eq!(rt; eval(&sum, &frame), integer(8));
+    frame.put(Name::new(alloc, b"x")?, Value::Boolean(true))?;
+    assert_eq!(rt; eval(&sum, &frame), DYNAMIC);
+    Ok(())
+}
+
+/// The links of `.. - 1 - 1 - 1`.
+fn subtractions(alloc: Global, count: u32) -> Result<Seq<Link>, Memory> {
+    let mut links = Seq::new(alloc);
+    for _place in 0..count {
+        links.push(Link {
+            operator: Operator::Subtract,
+            operand: Expr::Int(1),
+        })?;
+    }
+    Ok(links)
+}
+
+#[test]
+fn chains_are_read_from_left_to_right(rt: HostRuntime) -> Result<(), Fail> {
+    let alloc = rt.alloc();
+    let frame = Frame::new(alloc);
+    let short = Expr::Chain(Boxed::new(alloc, Expr::Int(1))?, subtractions(alloc, 2)?);
+    assert_eq!(rt; eval(&short, &frame), integer(-1));
+    let long = Expr::Chain(
+        Boxed::new(alloc, Expr::Int(100_000))?,
+        subtractions(alloc, 99_999)?,
+    );
+    assert_eq!(rt; eval(&long, &frame), integer(1));
+    Ok(())
+}
