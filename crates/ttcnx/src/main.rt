@@ -1,0 +1,23 @@
+//! Explores the runs of test cases written in TTCN-3, up to a bound.
+#![tactic(auto)]
+
+mod command;
+mod configuration;
+mod fault;
+mod label;
+mod machine;
+mod module;
+mod parse;
+mod program;
+mod report;
+mod rules;
+mod run;
+#[cfg(test)]
+mod tests;
+mod verdict;
+
+use std::process::ExitCode;
+
+fn main(rt: HostRuntime) -> ExitCode {
+    ExitCode::from(program::run(&rt))
+}

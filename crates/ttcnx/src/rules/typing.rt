@@ -1,0 +1,69 @@
+//! The type of an expression, or the least rule that it breaks.
+use super::Rule;
+use super::scope::Scope;
+use crate::module::BasicType;
+use ttcn_syntax::{Expr, Operator};
+
+/// What an expression's value is, or the least rule that is broken in it.
+pub(super) type Typing = Result<BasicType, Rule>;
+
+pub(super) fn type_of(scope: &Scope, expr: &Expr) -> Typing {
+    match expr {
+        Expr::Int(_) => Ok(BasicType::Integer),
+        Expr::Bool(_) => Ok(BasicType::Boolean),
+        Expr::Name(name) => scope.variable(name).ok_or(Rule::UnknownName),
+        Expr::Not(operand) => of_operand(BasicType::Boolean, type_of(scope, operand.get())),
+        Expr::Signed(_, operand) => of_operand(BasicType::Integer, type_of(scope, operand.get())),
+        Expr::Chain(first, links) => {
+            let mut left = type_of(scope, first.get());
+            for link in links.as_slice() {
+                left = of_operation(link.operator, left, type_of(scope, &link.operand));
+            }
+            left
+        }
+    }
+}
+
+/// The type of an operand that must be of the type `wanted`.
+fn of_operand(wanted: BasicType, operand: Typing) -> Typing {
+    match operand {
+        Ok(found) if found != wanted => Err(Rule::OperandType),
+        _ => operand,
+    }
+}
+
+fn of_operation(operator: Operator, left: Typing, right: Typing) -> Typing {
+    match (left, right) {
+        (Ok(left), Ok(right)) => of_operands(operator, left, right),
+        (Err(left), Err(right)) => Err(left.min(right)),
+        (Err(rule), Ok(_)) | (Ok(_), Err(rule)) => Err(rule),
+    }
+}
+
+fn of_operands(operator: Operator, left: BasicType, right: BasicType) -> Typing {
+    if left != right || !takes(operator, left) {
+        return Err(Rule::OperandType);
+    }
+    Ok(result_of(operator))
+}
+
+/// Whether an operator has operands of this type.
+fn takes(operator: Operator, operand: BasicType) -> bool {
+    match operator {
+        Operator::Or | Operator::Xor | Operator::And => operand == BasicType::Boolean,
+        Operator::Equal | Operator::NotEqual => true,
+        _ => operand == BasicType::Integer,
+    }
+}
+
+fn result_of(operator: Operator) -> BasicType {
+    match operator {
+        Operator::Add
+        | Operator::Subtract
+        | Operator::Multiply
+        | Operator::Divide
+        | Operator::Mod
+        | Operator::Rem => BasicType::Integer,
+        _ => BasicType::Boolean,
+    }
+}

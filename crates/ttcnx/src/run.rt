@@ -1,0 +1,121 @@
+//! From the text of a module to the report on one of its test cases.
+ghost use Rattle.std.specs.Prelude.{◌≡◌, ◌<◌, ◌↔◌, ℕ, List, IfOk, IsErrOf, string_bytes};
+ghost use Rattle.std.specs.List.{filter_map, zip};
+ghost use Rattle.explore.specs.Limits.{IsWithinLimits};
+ghost use Rattle.summary.specs.Exploration.{Counts};
+ghost use Rattle.ttcnx.specs.Machine.{graph_of};
+ghost use Rattle.ttcnx.specs.Tells.{Tells, all_verdicts, outcome_of};
+ghost use Rattle.ttcnx.specs.declared.module.Statement.{Statement};
+
+use crate::fault::Fault;
+use crate::label::Label;
+use crate::machine::Machine;
+use crate::module::{Definition, Kind, Module};
+use crate::parse::parse;
+use crate::report::{Outcome, Report};
+use crate::rules::check;
+use crate::verdict::Verdict;
+use explore::{Answer, Gate, Plan, explore};
+use std::alloc::{AllocError, Global};
+use std::thread::Threads;
+use summary::Verdicts;
+use ttcn_syntax::lex;
+
+/// Explores the runs of the test case of this name. Refusals come in the order of the work: the plan, the text,
+/// its tokens, its rules, the name, the number of configurations.
+pub fn run_text<G: Gate, R: Threads + Sync>(
+    rt: &R,
+    alloc: Global,
+    text: &[u8],
+    name: &str,
+    plan: &Plan,
+    gate: &G,
+) -> Result<Report, Fault>
+    ensures bad_plan { IsErrOf result Fault.BadPlan ↔ (IsWithinLimits plan.now → ⊥) }
+    ensures told { IfOk result (λ report. (body : List Statement) × Tells (graph_of body) name.now plan.now report) }
+    ensures too_many { IsErrOf result Fault.TooMany → (body : List Statement) × (count : ℕ)
+        × Counts (graph_of body) plan.now.steps count × (plan.now.limit < count) }
+{
+    if !plan.is_within_limits() {
+        return Err(Fault::BadPlan);
+    }
+    let machine = machine_of(alloc, text, name)?;
+    let answer: Answer<Verdicts, Label> = explore(rt, alloc, &machine, plan, gate)?;
+    Ok(report_of(alloc, name, plan.steps, answer)?)
+}
+
+/// The steps of the test case of this name.
+fn machine_of(alloc: Global, text: &[u8], name: &str) -> Result<Machine, Fault>
+    ensures planned { IsErrOf result Fault.BadPlan → ⊥ }
+    ensures few { IsErrOf result Fault.TooMany → ⊥ }
+{
+    let tokens = lex(alloc, text)?;
+    let module = parse(alloc, tokens.as_slice())?;
+    check(alloc, &module)?;
+    testcase_of(module, name).ok_or(Fault::NoSuchTestCase)
+}
+
+fn testcase_of(module: Module, name: &str) -> Option<Machine> {
+    let Module { definitions } = module;
+    for definition in definitions {
+        let Definition {
+            name: found,
+            kind,
+            ..
+        } = definition;
+        if let Kind::Testcase(behaviour) = kind {
+            if found.as_bytes() == name.as_bytes() {
+                return Some(Machine {
+                    body: behaviour.body,
+                });
+            }
+        }
+    }
+    None
+}
+
+fn report_of(
+    alloc: Global,
+    name: &str,
+    steps: u64,
+    answer: Answer<Verdicts, Label>,
+) -> Result<Report, AllocError>
+    ensures testcase { IfOk result (λ report. string_bytes report.testcase ≡ name.now) }
+    ensures steps { IfOk result (λ report. report.steps ≡ steps) }
+    ensures configurations { IfOk result (λ report. report.configurations ≡ answer.count) }
+    ensures complete { IfOk result (λ report. report.complete ≡ answer.complete) }
+    ensures outcomes { IfOk result (λ report. report.outcomes.items
+        ≡ filter_map (λ pair. outcome_of pair.0 pair.1) (zip all_verdicts answer.best.items)) }
+{
+    let Answer {
+        summary: _,
+        count,
+        complete,
+        best,
+    } = answer;
+    Ok(Report {
+        testcase: String::from_str(alloc, name)?,
+        steps,
+        configurations: count,
+        complete,
+        outcomes: outcomes_of(alloc, best)?,
+    })
+}
+
+/// The verdicts that a run ends with, from the best on.
+fn outcomes_of(alloc: Global, best: Vec<Option<Vec<Label>>>) -> Result<Vec<Outcome>, AllocError>
+    ensures { IfOk result (λ outcomes. outcomes.items
+        ≡ filter_map (λ pair. outcome_of pair.0 pair.1) (zip all_verdicts best.items)) }
+{
+    Verdict::ALL
+        .iter()
+        .zip(best)
+        .filter_map(|(verdict, run)| outcome_of(*verdict, run))
+        .collect(alloc)
+}
+
+fn outcome_of(verdict: Verdict, run: Option<Vec<Label>>) -> Option<Outcome>
+    ensures { result ≡ outcome_of verdict run }
+{
+    Some(Outcome { verdict, run: run? })
+}

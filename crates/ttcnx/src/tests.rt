@@ -1,0 +1,47 @@
+//! From texts to what the program prints.
+mod large;
+mod lines;
+mod refusals;
+mod rows;
+
+use crate::fault::{fault_line, status};
+use crate::report::to_text;
+use crate::run::run_text;
+use explore::{NoGate, Plan};
+use std::alloc::{AllocError, Global};
+use std::thread::Threads;
+
+/// A test case that sets the verdict pass.
+const X1: &str =
+    "module M {\ntype component C {}\ntestcase T() runs on C { setverdict(pass) }\n}\n";
+
+/// The same with another body.
+fn with_body(alloc: Global, body: &str) -> Result<String, AllocError> {
+    format!(in alloc;
+        "module M {{\ntype component C {{}}\ntestcase T() runs on C {{ {body} }}\n}}\n"
+    )
+}
+
+/// The program's plan where nothing but the number of steps is told.
+fn plan(steps: u64) -> Plan {
+    Plan {
+        steps,
+        limit: 1_000_000,
+        workers: 1,
+        piece: 256,
+    }
+}
+
+/// What the program prints for a text and a test case, with the status that it exits with.
+fn told<R: AllocGlobal + Threads + Sync>(
+    rt: &R,
+    text: &str,
+    testcase: &str,
+    plan: Plan,
+) -> Result<(String, u8), AllocError> {
+    let alloc = rt.alloc();
+    match run_text(rt, alloc, text.as_bytes(), testcase, &plan, &NoGate) {
+        Ok(report) => Ok((to_text(alloc, &report)?, 0)),
+        Err(fault) => Ok((fault_line(alloc, &fault)?, status(&fault))),
+    }
+}
