@@ -1,8 +1,7 @@
 -- The steps of one component (ES 201 873-4).
-use Rattle.std.specs.Prelude.{◌≡◌, ℕ, ◌+◌, ◌≤◌, List, [], ◌∷◌, length, Option, Some, None, Result, Ok, Err, slice_get}
+use Rattle.std.specs.Prelude.{ℕ, ◌+◌, ◌≤◌, List, [], ◌∷◌, length, Option, Some, None, Result, Ok, Err, slice_get}
 use Rattle.summary.specs.Graph.{Graph}
 use Rattle.ttcn_syntax.specs.Expression.{expression}
-use Rattle.ttcn_syntax.specs.declared.tree.Expr.{Expr}
 use Rattle.ttcn_values.specs.Entries.{find, put, without}
 use Rattle.ttcn_values.specs.Evaluation.{value_of}
 use Rattle.ttcn_values.specs.declared.fault.Fault.{Fault}
@@ -15,7 +14,6 @@ use Rattle.ttcnx.specs.declared.label.Label.TheVariants.{Mtc}
 use Rattle.ttcnx.specs.declared.module.Action.{Action}
 use Rattle.ttcnx.specs.declared.module.Action.TheVariants.{Declare, Assign, Log, Setverdict}
 use Rattle.ttcnx.specs.declared.module.Statement.{Statement}
-use Rattle.ttcnx.specs.declared.verdict.Verdict.{Verdict}
 use Rattle.ttcnx.specs.declared.verdict.Verdict.TheVariants.{Error}
 use Rattle.ttcnx.specs.declared.verdict.Verdict.TheVariants as verdicts
 use Rattle.ttcnx.specs.Verdict.{mark_of, worse_of}

@@ -1,4 +1,4 @@
-use Rattle.std.proofs.Common.{◌≡◌, ◌≤◌, ℕ, Bool, ◌∙◌, sym, subst}
+use Rattle.std.proofs.Common.{◌≤◌, ℕ, Bool, ◌∙◌, sym, subst}
 use Rattle.std.specs.Prelude.{IsTrue, ◌↔◌}
 use Rattle.summary.specs.Exploration.{Counts, IsComplete}
 use Rattle.ttcnx.specs.Machine.{graph_of}
