@@ -97,6 +97,7 @@ fn plan(run: &ArgMatches<'_>) -> Option<Plan>
 fn command<'a>(alloc: Global) -> Result<Command<'a>, AllocError> {
     Command::new(alloc, "ttcnx")
         .about("Explores test cases written in TTCN-3")
+        .bin_name("ttcnx")?
         .no_binary_name(true)
         .subcommand_required(true)
         .subcommand(run_command(alloc)?)
