@@ -10,4 +10,5 @@ pub mod Numbers
 pub mod Once
 pub mod Readings
 pub mod Runs
+pub mod SomeReading
 pub mod WordSearch

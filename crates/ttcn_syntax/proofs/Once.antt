@@ -1,4 +1,4 @@
--- A text has one cut, or one leftmost fault.
+-- A text has one cut, or one leftmost fault, and not both.
 use Rattle.std.proofs.Common.{◌≡◌, ◌≢◌, ℕ, ◌<◌, false, List, [], ◌∷◌, ◌++◌, length, take, drop, refl, ap, arith, sym, ◌∙◌, inl, inr, length-append, append_assoc, append-nil}
 use Rattle.std.specs.List.{prefix_len}
 use Rattle.std.proofs.lemmas.Bool.Decides.{eqb_tells}
@@ -23,6 +23,7 @@ use Rattle.ttcn_syntax.proofs.Insides.{comment_goes_on}
 use Rattle.ttcn_syntax.proofs.Marks.{mark_single, other_single}
 use Rattle.ttcn_syntax.proofs.Numbers.{end_of, number_ends, chosen_is, chosen_float, exponent_begins}
 use Rattle.ttcn_syntax.proofs.Runs.{run_reaches, run_ends, passes-head}
+use Rattle.ttcn_syntax.proofs.SomeReading.{reading_of}
 use Rattle.ttcn_syntax.proofs.WordSearch.{word_one, word_not_left_out}
 
 -- ---- the longest piece is what the code reads
@@ -329,6 +330,7 @@ not_both (Cut.with_token l g c) (Cut.past_token k h d) b e = let s = same_longes
 
 pub reads_once : (text : List ℕ) → HasOneReading text
 reads_once text = record {
+  some_reading = reading_of text;
   one_cut = λ tokens others c d. one_cut c d refl refl;
   one_fault = λ fault other s r. one_fault s r refl refl;
   not_both = λ tokens fault c s. not_both c s refl refl;

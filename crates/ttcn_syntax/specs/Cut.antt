@@ -1,6 +1,6 @@
 -- How a text is cut into tokens (ES 201 873-1, annex A, with this tool's choice of words and symbols).
 -- At each place stands the longest piece that fits: a token, blanks, a comment, or a fault.
-use Rattle.std.specs.Prelude.{◌≡◌, ◌≢◌, ℕ, ◌+◌, ◌-◌, ◌*◌, ◌<◌, ◌≤◌, true, false, List, [], ◌∷◌, ◌++◌, length}
+use Rattle.std.specs.Prelude.{◌≡◌, ◌≢◌, ℕ, ◌+◌, ◌-◌, ◌*◌, ◌<◌, ◌≤◌, ◌⊎◌, true, false, List, [], ◌∷◌, ◌++◌, length}
 use Rattle.std.specs.List.{AllPass, fold}
 use Rattle.ttcn_syntax.specs.declared.piece.Piece.{Piece}
 use Rattle.ttcn_syntax.specs.declared.token.Symbol.{Symbol}
@@ -148,8 +148,9 @@ IsCut text tokens = Cut [] text tokens
 abbrev pub IsLeftmostFault : List ℕ → LexError → Type 0
 IsLeftmostFault text fault = Stops [] text fault
 
--- a text has at most one cut or one leftmost fault, and not both
+-- a text has one cut or one leftmost fault, and not both
 pub record HasOneReading (text : List ℕ) : Type 0 where
+  pub some_reading : ((tokens : List Spanned) × IsCut text tokens) ⊎ ((fault : LexError) × IsLeftmostFault text fault)
   pub one_cut : (tokens others : List Spanned) → IsCut text tokens → IsCut text others → tokens ≡ others
   pub one_fault : (fault other : LexError) → IsLeftmostFault text fault → IsLeftmostFault text other
       → fault ≡ other

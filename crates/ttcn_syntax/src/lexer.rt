@@ -33,7 +33,6 @@ fn place_behind(place: Span, bytes: &[u8]) -> Span
 }
 
 /// Cuts the text into its tokens, each with its place.
-#[tactic(auto, using(crate::proofs::Once::reads_once))]
 pub fn lex(alloc: Global, text: &[u8]) -> Result<Vec<Spanned>, LexError>
     ensures too_long { (result ≡ Err LexError.TextTooLong) ↔ (1048576 < length text.now) }
     ensures tokens { IfOk result (λ tokens. IsCut text.now tokens.items) }

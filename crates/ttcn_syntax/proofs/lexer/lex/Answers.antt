@@ -1,6 +1,7 @@
 use Rattle.std.proofs.Common.{◌≡◌, ◌+◌, ◌-◌, arith, inl, inr, refl}
 use Rattle.std.proofs.lemmas.Result.{err_from_is_err_and}
 use Rattle.ttcn_syntax.proofs.Cuts.{read_gap, read_token, read_all, read_fault, other_fault, rest_is, piece_within, part_within, nothing_read}
+use Rattle.ttcn_syntax.proofs.Once.{reads_once}
 use Rattle.ttcn_syntax.proofs.lexer.lex.Goals as goal
 use Rattle.ttcn_syntax.proofs.lexer.lex.Goals.{in-Some+in_ok-push, in_default}
 
@@ -46,3 +47,15 @@ loop-at-preserved c =
 
 pub returns-clause-tokens : goal.returns-clause-tokens
 returns-clause-tokens c = read_all c.args.text.now c.loop-at.at c.loop-at.place c.loop-at.tokens.items c.loop-at.invariant c.loop-at-test.false
+
+pub returns-then-text-gt-LONGEST_TEXT-clause-one : goal.returns-then-text-gt-LONGEST_TEXT-clause-one
+returns-then-text-gt-LONGEST_TEXT-clause-one c = reads_once c.args.text.now
+
+pub returns-in_err-token-clause-one : goal.returns-in_err-token-clause-one
+returns-in_err-token-clause-one c = reads_once c.args.text.now
+
+pub returns-in_err-push-clause-one : goal.returns-in_err-push-clause-one
+returns-in_err-push-clause-one c = reads_once c.args.text.now
+
+pub returns-clause-one : goal.returns-clause-one
+returns-clause-one c = reads_once c.args.text.now
