@@ -48,8 +48,26 @@ pub record IsFirstMarked {C L : Type 0} (g : Graph C L) (mark : ℕ) (states : L
   pub marked : (d : C) → g.mark (slice_index_or states place d) ≡ Some mark
   pub first : (k : ℕ) (d : C) → k < place → g.mark (slice_index_or states k d) ≢ Some mark
 
+-- the place of the first state with the mark, or none exactly where no state has it
+abbrev pub IsPlaceOf : {C L : Type 0} → Graph C L → List C → ℕ → Option ℕ → Type 0
+IsPlaceOf g states mark None = All (λ state. g.mark state ≢ Some mark) states
+IsPlaceOf g states mark (Some place) = IsFirstMarked g mark states place
+
+-- one such place for each of the eight marks, in their order
+pub record AreFirstMarked {C L : Type 0} (g : Graph C L) (states : List C) (places : List (Option ℕ)) : Type 0 where
+  pub eight : length places ≡ 8
+  pub each : (mark : ℕ) → mark < 8 → IsPlaceOf g states mark (slice_index_or places mark None)
+
 -- what is answered for a mark, by the kept places: the run that is kept at the first state with it
 abbrev pub IsKept : {C L : Type 0} → Graph C L → List C → List (Option (Step L)) → ℕ → Option (Vec L Global) → Type 0
 IsKept g states steps mark None = All (λ state. g.mark state ≢ Some mark) states
 IsKept {C} {L} g states steps mark (Some labels) =
     (place : ℕ) × IsFirstMarked g mark states place × ((runs : List (Run L)) → AreLastSteps runs steps → labels.items ≡ labels_of (run_at runs place))
+
+-- the labels of the run that is kept at the place, where there is one
+abbrev pub IsRunKept : {L : Type 0} → List (Option (Step L)) → Option ℕ → Option (Vec L Global) → Type 0
+IsRunKept steps None None = Unit {0}
+IsRunKept steps None (Some labels) = ⊥
+IsRunKept steps (Some place) None = ⊥
+IsRunKept {L} steps (Some place) (Some labels) =
+    (runs : List (Run L)) → AreLastSteps runs steps → labels.items ≡ labels_of (run_at runs place)

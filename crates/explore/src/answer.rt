@@ -1,14 +1,14 @@
-ghost use Rattle.std.specs.Prelude.{◌≡◌, ◌↔◌, ℕ, ◌<◌, ◌≤◌, length, None, All, IfOk, OnOk, IsTrue, IsErrOf, slice_index_or};
+ghost use Rattle.std.specs.Prelude.{◌≡◌, ◌↔◌, ℕ, ◌<◌, ◌≤◌, length, None, All, IfOk, IfSome, OnOk, IsTrue, IsErrOf, slice_index_or};
 ghost use Rattle.summary.specs.Exploration.{Counts, IsComplete};
 ghost use Rattle.summary.specs.Reading.{sum_of};
 ghost use Rattle.explore.specs.Best.{AreBest};
 ghost use Rattle.explore.specs.Limits.{IsWithinLimits};
-ghost use Rattle.explore.specs.Tied.{GoBack, IsKept};
+ghost use Rattle.explore.specs.Tied.{GoBack, IsKept, IsRunKept};
 
 use crate::layers::search;
 use crate::plan::{ExploreError, Gate, Plan};
 use crate::runs::{first_marked, is_quiet, run_to};
-use crate::visited::Visited;
+use crate::visited::{Step, Visited};
 use std::alloc::{AllocError, Global};
 use std::thread::Threads;
 use summary::{Summary, System};
@@ -83,27 +83,27 @@ fn best_runs<Y: System>(
     ensures each { IfOk result (λ best. (mark : ℕ) → mark < 8
         → IsKept (Y.graph system.now) visited.now.states.keys visited.now.steps.items mark (slice_index_or best.items mark None)) }
 {
+    let places = first_marked(system, visited.states.as_slice());
     let mut best = Vec::new(alloc);
-    for mark in 0..8u8 {
-        best.push(best_run(alloc, system, visited, mark)?)?;
+    for place in &places {
+        best.push(run_kept(alloc, system, visited.steps.as_slice(), *place)?)?;
     }
     Ok(best)
 }
 
-/// The labels of the run that is kept at the first state with a mark.
-fn best_run<Y: System>(
+/// The labels of the run that is kept at a place, where there is one.
+fn run_kept<Y: System>(
     alloc: Global,
     system: &Y,
-    visited: &Visited<Y::State, Y::Label>,
-    mark: u8,
+    steps: &[Option<Step<Y::Label>>],
+    place: Option<usize>,
 ) -> Result<Option<Vec<Y::Label>>, AllocError>
-    requires fits { All (Y.fits system.now) visited.now.states.keys }
-    requires as_many { length visited.now.steps.items ≡ length visited.now.states.keys }
-    requires back { GoBack visited.now.steps.items }
-    ensures { IfOk result (IsKept (Y.graph system.now) visited.now.states.keys visited.now.steps.items mark) }
+    requires place { IfSome place (λ place. place < length steps.now) }
+    requires back { GoBack steps.now }
+    ensures { IfOk result (IsRunKept steps.now place) }
 {
-    match first_marked(system, visited.states.as_slice(), mark) {
+    match place {
         None => Ok(None),
-        Some(place) => Ok(Some(run_to(alloc, system, visited.steps.as_slice(), place)?)),
+        Some(place) => Ok(Some(run_to(alloc, system, steps, place)?)),
     }
 }

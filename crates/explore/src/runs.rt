@@ -1,6 +1,6 @@
 ghost use Rattle.std.specs.Prelude.{◌≡◌, ◌≢◌, ◌↔◌, ℕ, ◌<◌, [], List, length, Some, All, IfOk, IfSome, IfNone, IsTrue, MatchOption, slice_index_or};
 ghost use Rattle.summary.specs.Run.{Run, labels_of};
-ghost use Rattle.explore.specs.Tied.{GoBack, AreLastSteps, run_at, IsFirstMarked};
+ghost use Rattle.explore.specs.Tied.{GoBack, AreLastSteps, run_at, AreFirstMarked};
 
 use crate::visited::Step;
 use std::alloc::{AllocError, Global};
@@ -23,17 +23,21 @@ pub fn is_quiet<Y: System>(
     Ok(true)
 }
 
-/// The place of the first state with a mark.
-pub fn first_marked<Y: System>(system: &Y, states: &[Y::State], mark: u8) -> Option<usize>
+/// For each of the eight marks the place of the first state with it, if a state has it.
+pub fn first_marked<Y: System>(system: &Y, states: &[Y::State]) -> [Option<usize>; 8]
     requires { All (Y.fits system.now) states.now }
-    ensures { MatchOption result (All (λ state. (Y.graph system.now).mark state ≢ Some mark) states.now) (IsFirstMarked (Y.graph system.now) mark states.now) }
+    ensures { AreFirstMarked (Y.graph system.now) states.now result }
 {
+    let mut places = [None; 8];
     for (place, state) in states.iter().enumerate() {
-        if system.mark(state) == Some(mark) {
-            return Some(place);
+        if let Some(mark) = system.mark(state) {
+            let mark = usize::from(mark);
+            if places[mark].is_none() {
+                places[mark] = Some(place);
+            }
         }
     }
-    None
+    places
 }
 
 /// The labels of the run that is kept at a place, the first step's first.
