@@ -1,4 +1,4 @@
-ghost use Rattle.std.specs.Prelude.{◌≡◌, ◌≢◌, ◌↔◌, ℕ, ◌<◌, [], List, length, Some, All, IfOk, IfSome, IfNone, IsTrue, MatchOption, slice_index_or};
+ghost use Rattle.std.specs.Prelude.{◌≡◌, ◌↔◌, ◌<◌, [], List, length, All, IfOk, IsTrue};
 ghost use Rattle.summary.specs.Run.{Run, labels_of};
 ghost use Rattle.explore.specs.Tied.{GoBack, AreLastSteps, run_at, AreFirstMarked};
 
