@@ -1,5 +1,6 @@
 pub mod Conclusions
 pub mod Covering
+pub mod FirstPlaces
 pub mod Lists
 pub mod Outcome
 pub mod RunLabels
