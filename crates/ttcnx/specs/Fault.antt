@@ -71,7 +71,7 @@ abbrev pub parse_fault : ParseError → Fault
 parse_fault (parsing.TooDeep place) = Refused TooDeep place
 parse_fault (parsing.LeftOut place) = Refused LeftOut place
 parse_fault (parsing.Unexpected place) = Refused Unexpected place
-parse_fault (parsing.Memory error) = Memory
+parse_fault parsing.Memory = Memory
 
 -- the refusal that a broken rule leads to
 abbrev pub rule_refusal : Rule → Refusal

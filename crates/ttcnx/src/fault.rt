@@ -167,7 +167,7 @@ impl From<ParseError> for Fault {
             ParseError::TooDeep(place) => Fault::Refused(Refusal::TooDeep, place),
             ParseError::LeftOut(place) => Fault::Refused(Refusal::LeftOut, place),
             ParseError::Unexpected(place) => Fault::Refused(Refusal::Unexpected, place),
-            ParseError::Memory(_) => Fault::Memory,
+            ParseError::Memory => Fault::Memory,
         }
     }
 }

@@ -5,7 +5,7 @@ use ttcn_syntax::{Expr, Name, Seq, Span};
 /// The definitions of a module, in the order of the text.
 #[derive(Debug, Drop)]
 pub struct Module {
-    pub definitions: Vec<Definition>,
+    pub definitions: Seq<Definition>,
 }
 
 #[derive(Debug, Drop)]

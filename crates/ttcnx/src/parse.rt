@@ -1,4 +1,9 @@
 //! The parser: from the tokens of a text to the tree of its module.
+ghost use Rattle.std.specs.Prelude.{◌≡◌, [], length, IfOk, IfErr};
+ghost use Rattle.ttcnx.specs.Reader as spec;
+ghost use Rattle.ttcnx.specs.Reader.{Reads};
+ghost use Rattle.ttcnx.specs.Refused.{HasOneTree, IsRead, IsRefused};
+
 mod expression;
 mod parser;
 mod statement;
@@ -6,16 +11,16 @@ mod words;
 
 use crate::module::{Behaviour, Definition, Kind, Module};
 use parser::Parser;
-use std::alloc::{AllocError, Global};
+use std::alloc::{AllocError, AllocFailed, Global};
 use thiserror::Error;
-use ttcn_syntax::{Name, Span, Spanned, Symbol, Word};
+use ttcn_syntax::{Name, Seq, Span, Spanned, Symbol, Word};
 use words::{first_left_out, first_too_deep};
 
 /// How deep brackets may nest.
 pub const DEPTH: u32 = 200;
 
 /// Why tokens spell no module, with the place of the token that shows it.
-#[derive(Debug, Drop, Error)]
+#[derive(Clone, Copy, Debug, PartialEq, Eq, Error)]
 pub enum ParseError {
     #[error("the brackets nest deeper than 200")]
     TooDeep(Span),
@@ -23,12 +28,38 @@ pub enum ParseError {
     LeftOut(Span),
     #[error("no module has this token here")]
     Unexpected(Span),
-    #[error(transparent)]
-    Memory(#[from(alloc)] AllocError),
+    #[error("no memory")]
+    Memory,
 }
 
-/// The module that the tokens spell.
-pub fn parse(alloc: Global, tokens: &[Spanned]) -> Result<Module, ParseError> {
+impl From<AllocError> for ParseError {
+    ghost use Rattle.ttcnx.specs.declared.parse.ParseError.TheVariants.{Memory};
+
+    ghost from_gives = { λ _ e. e ≡ Memory };
+
+    fn from(_error: AllocError) -> ParseError {
+        ParseError::Memory
+    }
+}
+
+impl<T: Drop> From<AllocFailed<T>> for ParseError {
+    ghost use Rattle.ttcnx.specs.declared.parse.ParseError.TheVariants.{Memory};
+
+    ghost from_gives = { λ _ e. e ≡ Memory };
+
+    fn from(_error: AllocFailed<T>) -> ParseError {
+        ParseError::Memory
+    }
+}
+
+/// The module that the tokens spell. Brackets that nest too deep are refused before what is left out, and that before
+/// what no module has.
+#[tactic(auto, using(crate::proofs::Parsing::one_tree, crate::proofs::Parses::parses, crate::proofs::Parses::refuses))]
+pub fn parse(alloc: Global, tokens: &[Spanned]) -> Result<Module, ParseError>
+    ensures read { IfOk result (λ tree. IsRead tokens.now tree) }
+    ensures refused { IfErr result (λ error. IsRefused tokens.now error) }
+    ensures one { HasOneTree tokens.now }
+{
     if let Some(place) = first_too_deep(tokens) {
         return Err(ParseError::TooDeep(place));
     }
@@ -39,29 +70,44 @@ pub fn parse(alloc: Global, tokens: &[Spanned]) -> Result<Module, ParseError> {
 }
 
 impl Parser<'_> {
-    fn module(&mut self) -> Result<Module, ParseError> {
+    #[tactic(auto, unfolding(crate::specs::Reader::whole, crate::specs::Reader::at_end))]
+    fn module(&mut self) -> Result<Module, ParseError>
+        ensures { Reads (spec.whole spec.depth_limit self.old) result self.new }
+    {
         self.word(Word::Module)?;
         self.name()?;
         self.symbol(Symbol::LeftBrace)?;
         self.skip_semicolons();
+        let definitions = self.definitions()?;
+        self.symbol(Symbol::RightBrace)?;
+        self.skip_semicolons();
+        if self.left() > 0 {
+            return Err(self.unexpected());
+        }
+        Ok(Module {
+            definitions: Seq::from_vec(definitions),
+        })
+    }
+
+    fn definitions(&mut self) -> Result<Vec<Definition>, ParseError>
+        ensures { spec.ReadsItems (spec.definitions_from spec.depth_limit (length self.old) [] self.old) result self.new }
+    {
         let mut definitions = Vec::new(self.alloc);
-        for _turn in 0..self.rest.len() {
+        for _turn in 0..self.left() {
             if self.is_at(Symbol::RightBrace) {
-                break;
+                return Ok(definitions);
             }
             definitions.push(self.definition()?)?;
             self.skip_semicolons();
         }
-        self.symbol(Symbol::RightBrace)?;
-        self.skip_semicolons();
-        if !self.rest.is_empty() {
-            return Err(self.unexpected());
-        }
-        Ok(Module { definitions })
+        Ok(definitions)
     }
 
-    fn definition(&mut self) -> Result<Definition, ParseError> {
-        let place = self.place();
+    #[tactic(auto, unfolding(crate::specs::Reader::definition))]
+    fn definition(&mut self) -> Result<Definition, ParseError>
+        ensures { Reads (spec.definition spec.depth_limit self.old) result self.new }
+    {
+        let place = self.here()?;
         if self.take_word(Word::Type) {
             let name = self.component()?;
             let kind = Kind::Component;
@@ -74,7 +120,10 @@ impl Parser<'_> {
     }
 
     /// A component type behind its word `type`.
-    fn component(&mut self) -> Result<Name, ParseError> {
+    #[tactic(auto, unfolding(crate::specs::Reader::component_name))]
+    fn component(&mut self) -> Result<Name, ParseError>
+        ensures { Reads (spec.component_name self.old) result self.new }
+    {
         self.word(Word::Component)?;
         let name = self.name()?;
         self.symbol(Symbol::LeftBrace)?;
@@ -83,7 +132,10 @@ impl Parser<'_> {
     }
 
     /// What follows the name of a test case.
-    fn behaviour(&mut self) -> Result<Behaviour, ParseError> {
+    #[tactic(auto, unfolding(crate::specs::Reader::behaviour))]
+    fn behaviour(&mut self) -> Result<Behaviour, ParseError>
+        ensures { Reads (spec.behaviour spec.depth_limit self.old) result self.new }
+    {
         self.symbol(Symbol::LeftParen)?;
         self.symbol(Symbol::RightParen)?;
         self.word(Word::Runs)?;

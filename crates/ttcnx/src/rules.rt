@@ -2,6 +2,13 @@
 mod scope;
 mod typing;
 
+ghost use Rattle.std.specs.Prelude.{◌≡◌, ◌∷◌, [], ℕ, List, IfErr, OnOk, is_none};
+ghost use Rattle.std.specs.Option.{option_or};
+ghost use Rattle.ttcn_syntax.specs.Expression.{expression};
+ghost use Rattle.ttcnx.specs.Checking.{found, known, lesser, noted, visible};
+ghost use Rattle.ttcnx.specs.Rules.{IsRefusal, at_new_name, at_value, broken_rules, in_action, in_kind, number_of, unless};
+ghost use Rattle.ttcnx.specs.Scopes.{declares, defines, role_of};
+
 use crate::module::{Action, BasicType, Behaviour, Definition, Kind, Module, Statement};
 use crate::verdict::Verdict;
 use scope::{Role, Scope};
@@ -25,29 +32,62 @@ pub enum Rule {
     VerdictError,
 }
 
+impl Rule {
+    /// The number of the rule among the rules.
+    fn number(self) -> u8
+        ensures { result ≡ number_of self }
+    {
+        self as u8
+    }
+
+    /// The rule of the lesser number.
+    fn lesser(self, other: Rule) -> Rule
+        ensures { result ≡ lesser self other }
+    {
+        if other.number() < self.number() {
+            other
+        } else {
+            self
+        }
+    }
+}
+
 /// Why a module isn't well typed: the least rule that is broken, and the first place that breaks it.
 #[derive(Debug, Drop, Error)]
 pub enum CheckError {
     #[error("a rule is broken")]
     Broken(Rule, Span),
     #[error(transparent)]
-    Memory(#[from(alloc)] AllocError),
+    Memory(AllocError),
 }
 
-/// Tests all rules on the module.
-pub fn check(alloc: Global, module: &Module) -> Result<(), CheckError> {
+impl From<AllocError> for CheckError {
+    ghost use Rattle.ttcnx.specs.declared.rules.CheckError.TheVariants.{Memory};
+
+    ghost from_gives = { λ refused error. error ≡ Memory refused };
+
+    fn from(refused: AllocError) -> CheckError {
+        CheckError::Memory(refused)
+    }
+}
+
+/// Tests all rules at each place of the module.
+pub fn check(alloc: Global, module: &Module) -> Result<(), CheckError>
+    // It is accepted where no rule is broken ..
+    ensures kept { OnOk result (broken_rules «module».now.definitions ≡ []) }
+    // .. and else refused by the least rule that is broken, unless memory runs out.
+    ensures refused { IfErr result (λ error. IsRefusal (broken_rules «module».now.definitions) error) }
+{
     let mut checker = Checker {
         alloc,
         scope: Scope::new(alloc),
         least: None,
     };
-    for definition in &module.definitions {
+    for definition in module.definitions.as_slice() {
         checker.define(definition)?;
     }
-    for definition in &module.definitions {
-        if let Kind::Testcase(behaviour) = &definition.kind {
-            checker.behaviour(definition.place, behaviour)?;
-        }
+    for definition in module.definitions.as_slice() {
+        checker.definition(definition)?;
     }
     match checker.least {
         Some((rule, place)) => Err(CheckError::Broken(rule, place)),
@@ -55,7 +95,7 @@ pub fn check(alloc: Global, module: &Module) -> Result<(), CheckError> {
     }
 }
 
-/// The names that are visible at a place, and the least rule that was found broken before it.
+/// The names that are visible at a place, and the least rule that was found broken so far.
 #[derive(Drop)]
 struct Checker {
     alloc: Global,
@@ -65,80 +105,130 @@ struct Checker {
 
 impl Checker {
     /// Keeps the least rule, and of its places the first.
-    fn note(&mut self, rule: Rule, place: Span) {
-        if self.least.is_none_or(|(least, _)| rule < least) {
+    fn note(&mut self, rule: Rule, place: Span)
+        ensures rules { found self.new.least ≡ noted (found self.old.least) (rule ∷ []) }
+        ensures scope { self.new.scope ≡ self.old.scope }
+    {
+        let is_less = match self.least {
+            Some((least, _)) => rule.number() < least.number(),
+            None => true,
+        };
+        if is_less {
             self.least = Some((rule, place));
         }
     }
 
-    fn define(&mut self, definition: &Definition) -> Result<(), AllocError> {
-        if self.scope.has(&definition.name) {
-            self.note(Rule::DuplicateName, definition.place);
-            return Ok(());
+    /// Notes the rule if it is broken.
+    fn demand(&mut self, kept: bool, rule: Rule, place: Span)
+        ensures rules { found self.new.least ≡ noted (found self.old.least) (unless kept rule) }
+        ensures scope { self.new.scope ≡ self.old.scope }
+    {
+        if !kept {
+            self.note(rule, place);
         }
-        let role = match definition.kind {
-            Kind::Component => Role::Component,
-            Kind::Testcase(_) => Role::Testcase,
-        };
-        let name = definition.name.try_clone(self.alloc)?;
-        self.scope.define(name, role)
     }
 
-    fn behaviour(&mut self, place: Span, behaviour: &Behaviour) -> Result<(), AllocError> {
-        if !self.scope.is_component(&behaviour.runs_on) {
-            self.note(Rule::UnknownName, place);
+    /// Adds a definition to the scope.
+    fn define(&mut self, definition: &Definition) -> Result<(), AllocError>
+        ensures rules { OnOk result (found self.new.least ≡ noted (found self.old.least) (unless (is_none (known self.old.scope definition.now.name)) Rule.DuplicateName)) }
+        ensures known { OnOk result ((name : List ℕ) → known self.new.scope name ≡ option_or (defines definition.now name) (known self.old.scope name)) }
+    {
+        let name = definition.name.try_clone(self.alloc)?;
+        let before = self.scope.define(name, role_of(&definition.kind))?;
+        self.demand(before.is_none(), Rule::DuplicateName, definition.place);
+        Ok(())
+    }
+
+    /// Tests the rules inside a definition.
+    fn definition(&mut self, definition: &Definition) -> Result<(), AllocError>
+        ensures rules { OnOk result (found self.new.least ≡ noted (found self.old.least) (in_kind (known self.old.scope) definition.now.kind)) }
+        ensures known { OnOk result (self.new.scope.definitions ≡ self.old.scope.definitions) }
+    {
+        match &definition.kind {
+            Kind::Component => Ok(()),
+            Kind::Testcase(behaviour) => self.behaviour(definition.place, behaviour),
         }
-        self.scope.leave_block(self.alloc);
+    }
+
+    fn behaviour(&mut self, place: Span, behaviour: &Behaviour) -> Result<(), AllocError>
+        ensures rules { OnOk result (found self.new.least ≡ noted (found self.old.least) (in_kind (known self.old.scope) (Kind.Testcase behaviour.now))) }
+        ensures known { OnOk result (self.new.scope.definitions ≡ self.old.scope.definitions) }
+    {
+        let runs = self.scope.is_component(&behaviour.runs_on);
+        self.demand(runs, Rule::UnknownName, place);
+        self.scope.leave_body();
         for statement in behaviour.body.as_slice() {
-            self.statement(statement)?;
+            self.action(&statement.action, statement.place);
+            self.declare(&statement.action)?;
         }
         Ok(())
     }
 
-    fn statement(&mut self, statement: &Statement) -> Result<(), AllocError> {
-        let place = statement.place;
-        match &statement.action {
-            Action::Declare(basic_type, name, value) => {
-                if let Some(value) = value {
-                    self.value(*basic_type, value, place);
-                }
-                self.declare(name, *basic_type, place)
+    /// Tests the rules in a statement.
+    fn action(&mut self, action: &Action, place: Span)
+        ensures rules { found self.new.least ≡ noted (found self.old.least) (in_action (known self.old.scope) (visible self.old.scope) action.now) }
+        ensures scope { self.new.scope ≡ self.old.scope }
+    {
+        match action {
+            Action::Declare(_, name, None) => self.new_name(name, place),
+            Action::Declare(basic_type, name, Some(value)) => {
+                self.new_name(name, place);
+                self.value(Some(*basic_type), value, place);
             }
             Action::Assign(name, value) => {
-                match self.scope.variable(name) {
-                    Some(basic_type) => self.value(basic_type, value, place),
-                    None => self.note(Rule::UnknownName, place),
-                }
-                Ok(())
+                let target = self.scope.variable(name);
+                self.demand(target.is_some(), Rule::UnknownName, place);
+                self.value(target, value, place);
             }
-            Action::Setverdict(Verdict::Error) => {
-                self.note(Rule::VerdictError, place);
-                Ok(())
+            Action::Log => (),
+            Action::Setverdict(verdict) => {
+                let kept = *verdict != Verdict::Error;
+                self.demand(kept, Rule::VerdictError, place);
             }
-            Action::Setverdict(_) | Action::Log => Ok(()),
         }
     }
 
-    /// A value that goes into a variable of the type.
-    fn value(&mut self, target: BasicType, value: &Expr, place: Span) {
-        match type_of(&self.scope, value) {
-            Ok(found) if found == target => (),
-            Ok(_) => self.note(Rule::ValueType, place),
-            Err(rule) => self.note(rule, place),
+    /// The name of a new variable.
+    fn new_name(&mut self, name: &Name, place: Span)
+        ensures rules { found self.new.least ≡ noted (found self.old.least) (at_new_name (known self.old.scope) (visible self.old.scope) name.now) }
+        ensures scope { self.new.scope ≡ self.old.scope }
+    {
+        let is_free = self.scope.is_free(name);
+        self.demand(is_free, Rule::DuplicateName, place);
+    }
+
+    /// A value that goes into a variable of the type, which may be unknown.
+    fn value(&mut self, target: Option<BasicType>, value: &Expr, place: Span)
+        ensures rules { found self.new.least ≡ noted (found self.old.least) (at_value (visible self.old.scope) target (expression value.now)) }
+        ensures scope { self.new.scope ≡ self.old.scope }
+    {
+        match (target, type_of(&self.scope, value)) {
+            (_, Err(rule)) => self.note(rule, place),
+            (Some(target), Ok(found)) => self.demand(target == found, Rule::ValueType, place),
+            (None, Ok(_)) => (),
         }
     }
 
-    fn declare(
-        &mut self,
-        name: &Name,
-        basic_type: BasicType,
-        place: Span,
-    ) -> Result<(), AllocError> {
-        if self.scope.has(name) {
-            self.note(Rule::DuplicateName, place);
-            return Ok(());
+    /// Adds the variable that a statement declares, if it declares one, to the scope.
+    fn declare(&mut self, action: &Action) -> Result<(), AllocError>
+        ensures rules { OnOk result (self.new.least ≡ self.old.least) }
+        ensures known { OnOk result (self.new.scope.definitions ≡ self.old.scope.definitions) }
+        ensures visible { OnOk result ((name : List ℕ) → visible self.new.scope name ≡ option_or (declares action.now name) (visible self.old.scope name)) }
+    {
+        if let Action::Declare(basic_type, name, _) = action {
+            let name = name.try_clone(self.alloc)?;
+            self.scope.declare(name, *basic_type)?;
         }
-        let name = name.try_clone(self.alloc)?;
-        self.scope.declare(name, basic_type)
+        Ok(())
+    }
+}
+
+/// What a definition is.
+fn role_of(kind: &Kind) -> Role
+    ensures { result ≡ role_of kind.now }
+{
+    match kind {
+        Kind::Component => Role::Component,
+        Kind::Testcase(_) => Role::Testcase,
     }
 }

@@ -1,16 +1,15 @@
 //! From the text of a module to the report on one of its test cases.
-ghost use Rattle.std.specs.Prelude.{◌≡◌, ◌<◌, ◌↔◌, ℕ, List, IfOk, IsErrOf, string_bytes};
+ghost use Rattle.std.specs.Prelude.{◌≡◌, ◌<◌, ◌⊎◌, ◌↔◌, length, Result, Err, IfOk, IfErr, IsErrOf, string_bytes};
 ghost use Rattle.std.specs.List.{filter_map, zip};
 ghost use Rattle.explore.specs.Limits.{IsWithinLimits};
-ghost use Rattle.summary.specs.Exploration.{Counts};
-ghost use Rattle.ttcnx.specs.Machine.{graph_of};
-ghost use Rattle.ttcnx.specs.Tells.{Tells, all_verdicts, outcome_of};
-ghost use Rattle.ttcnx.specs.declared.module.Statement.{Statement};
+ghost use Rattle.ttcnx.specs.Answer.{HasOneAnswer, IsAnswer, OfTestCase, OfText, body_of};
+ghost use Rattle.ttcnx.specs.Fault.{lexical_fault};
+ghost use Rattle.ttcnx.specs.Tells.{all_verdicts, outcome_of};
 
 use crate::fault::Fault;
 use crate::label::Label;
 use crate::machine::Machine;
-use crate::module::{Definition, Kind, Module};
+use crate::module::{Definition, Kind, Module, Statement};
 use crate::parse::parse;
 use crate::report::{Outcome, Report};
 use crate::rules::check;
@@ -19,10 +18,11 @@ use explore::{Answer, Gate, Plan, explore};
 use std::alloc::{AllocError, Global};
 use std::thread::Threads;
 use summary::Verdicts;
-use ttcn_syntax::lex;
+use ttcn_syntax::{LexError, Seq, lex};
 
-/// Explores the runs of the test case of this name. Refusals come in the order of the work: the plan, the text,
-/// its tokens, its rules, the name, the number of configurations.
+#[tactic(auto, using(crate::proofs::OneAnswer::one_answer))]
+/// Explores the runs of the test case of this name. Refusals come in the order of the work: the plan, the text, its
+/// tokens, its module, the name, the number of configurations.
 pub fn run_text<G: Gate, R: Threads + Sync>(
     rt: &R,
     alloc: Global,
@@ -31,10 +31,15 @@ pub fn run_text<G: Gate, R: Threads + Sync>(
     plan: &Plan,
     gate: &G,
 ) -> Result<Report, Fault>
+    ensures answer { (result ≡ Err Fault.Memory) ⊎ IsAnswer text.now name.now plan.now result }
+
+    // A text, a name and a plan have one answer: so each answer is given exactly where it is said to be.
+    ensures one { HasOneAnswer text.now name.now plan.now }
+
+    // These two are decided before memory is asked for.
     ensures bad_plan { IsErrOf result Fault.BadPlan ↔ (IsWithinLimits plan.now → ⊥) }
-    ensures told { IfOk result (λ report. (body : List Statement) × Tells (graph_of body) name.now plan.now report) }
-    ensures too_many { IsErrOf result Fault.TooMany → (body : List Statement) × (count : ℕ)
-        × Counts (graph_of body) plan.now.steps count × (plan.now.limit < count) }
+    ensures too_long { IsWithinLimits plan.now → 1048576 < length text.now
+        → result ≡ Err (lexical_fault LexError.TextTooLong) }
 {
     if !plan.is_within_limits() {
         return Err(Fault::BadPlan);
@@ -46,28 +51,36 @@ pub fn run_text<G: Gate, R: Threads + Sync>(
 
 /// The steps of the test case of this name.
 fn machine_of(alloc: Global, text: &[u8], name: &str) -> Result<Machine, Fault>
+    // What is answered for the test case's statements is answered for the text.
+    ensures machine { IfOk result (λ machine. (plan : Plan) (answer : Result Report Fault)
+        → OfTestCase machine.body name.now plan answer → OfText text.now name.now plan answer) }
+    ensures refused { IfErr result (λ fault. (fault ≡ Fault.Memory) ⊎ ((plan : Plan) → OfText text.now name.now plan (Err fault))) }
     ensures planned { IsErrOf result Fault.BadPlan → ⊥ }
-    ensures few { IsErrOf result Fault.TooMany → ⊥ }
+    ensures too_long { 1048576 < length text.now → result ≡ Err (lexical_fault LexError.TextTooLong) }
 {
     let tokens = lex(alloc, text)?;
     let module = parse(alloc, tokens.as_slice())?;
     check(alloc, &module)?;
-    testcase_of(module, name).ok_or(Fault::NoSuchTestCase)
+    match body_of(module, name) {
+        Some(body) => Ok(Machine { body }),
+        None => Err(Fault::NoSuchTestCase),
+    }
 }
 
-fn testcase_of(module: Module, name: &str) -> Option<Machine> {
+/// The statements of the test case of this name.
+fn body_of(module: Module, name: &str) -> Option<Seq<Statement>>
+    ensures { result ≡ body_of «module».definitions name.now }
+{
     let Module { definitions } = module;
-    for definition in definitions {
+    for definition in definitions.into_vec() {
         let Definition {
             name: found,
             kind,
             ..
         } = definition;
-        if let Kind::Testcase(behaviour) = kind {
-            if found.as_bytes() == name.as_bytes() {
-                return Some(Machine {
-                    body: behaviour.body,
-                });
+        if found.as_bytes() == name.as_bytes() {
+            if let Kind::Testcase(behaviour) = kind {
+                return Some(behaviour.body);
             }
         }
     }

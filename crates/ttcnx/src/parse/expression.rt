@@ -1,6 +1,9 @@
 //! Expressions, by the levels at which their operators bind.
-ghost use Rattle.std.specs.Prelude.{◌≤◌, ◌+◌, IfSome};
+ghost use Rattle.std.specs.Prelude.{◌≡◌, ◌≤◌, ◌+◌, [], Some};
+ghost use Rattle.ttcnx.specs.Grammar.{level_of};
 ghost use Rattle.ttcnx.specs.Level.{rank_of};
+ghost use Rattle.ttcnx.specs.Reader as spec;
+ghost use Rattle.ttcnx.specs.Reader.{Reads};
 
 use super::parser::Parser;
 use super::{DEPTH, ParseError};
@@ -20,100 +23,100 @@ pub(super) enum Level {
     Sign,
 }
 
-impl Level {
-    /// The level of the operands, if operators stand between them.
-    fn tighter(self) -> Option<Level>
-        ensures { IfSome result (λ level. rank_of level + 2 ≤ rank_of self) }
-    {
-        match self {
-            Level::Or => Some(Level::Xor),
-            Level::Xor => Some(Level::And),
-            Level::And => Some(Level::Not),
-            Level::Equality => Some(Level::Order),
-            Level::Order => Some(Level::Sum),
-            Level::Sum => Some(Level::Product),
-            Level::Product => Some(Level::Sign),
-            Level::Not | Level::Sign => None,
+/// The level at which an operator binds.
+fn level_of(operator: Operator) -> Level
+    ensures { result ≡ level_of operator }
+{
+    match operator {
+        Operator::Or => Level::Or,
+        Operator::Xor => Level::Xor,
+        Operator::And => Level::And,
+        Operator::Equal | Operator::NotEqual => Level::Equality,
+        Operator::Less | Operator::Greater | Operator::LessEqual | Operator::GreaterEqual => {
+            Level::Order
         }
-    }
-
-    /// The operator of this level that the token is.
-    fn operator(self, token: &Token) -> Option<Operator> {
-        match (self, token) {
-            (Level::Or, Token::Word(Word::Or)) => Some(Operator::Or),
-            (Level::Xor, Token::Word(Word::Xor)) => Some(Operator::Xor),
-            (Level::And, Token::Word(Word::And)) => Some(Operator::And),
-            (Level::Equality, Token::Symbol(symbol)) => equality(*symbol),
-            (Level::Order, Token::Symbol(symbol)) => order(*symbol),
-            (Level::Sum, Token::Symbol(Symbol::Plus)) => Some(Operator::Add),
-            (Level::Sum, Token::Symbol(Symbol::Minus)) => Some(Operator::Subtract),
-            (Level::Product, token) => product(token),
-            _ => None,
-        }
+        Operator::Add | Operator::Subtract => Level::Sum,
+        Operator::Multiply | Operator::Divide | Operator::Mod | Operator::Rem => Level::Product,
     }
 }
 
-fn equality(symbol: Symbol) -> Option<Operator> {
-    match symbol {
-        Symbol::Equal => Some(Operator::Equal),
-        Symbol::NotEqual => Some(Operator::NotEqual),
+/// The operator that the token is.
+fn operator_of(token: &Token) -> Option<Operator>
+    ensures { result ≡ spec.operator_of token.now }
+{
+    match token {
+        Token::Word(word) => word_operator(*word),
+        Token::Symbol(symbol) => symbol_operator(*symbol),
         _ => None,
     }
 }
 
-fn order(symbol: Symbol) -> Option<Operator> {
+fn word_operator(word: Word) -> Option<Operator>
+    ensures { result ≡ spec.word_operator word }
+{
+    match word {
+        Word::Or => Some(Operator::Or),
+        Word::Xor => Some(Operator::Xor),
+        Word::And => Some(Operator::And),
+        Word::Mod => Some(Operator::Mod),
+        Word::Rem => Some(Operator::Rem),
+        _ => None,
+    }
+}
+
+fn symbol_operator(symbol: Symbol) -> Option<Operator>
+    ensures { result ≡ spec.symbol_operator symbol }
+{
     match symbol {
+        Symbol::Equal => Some(Operator::Equal),
+        Symbol::NotEqual => Some(Operator::NotEqual),
         Symbol::Less => Some(Operator::Less),
         Symbol::Greater => Some(Operator::Greater),
         Symbol::LessEqual => Some(Operator::LessEqual),
         Symbol::GreaterEqual => Some(Operator::GreaterEqual),
-        _ => None,
-    }
-}
-
-fn product(token: &Token) -> Option<Operator> {
-    match token {
-        Token::Symbol(Symbol::Star) => Some(Operator::Multiply),
-        Token::Symbol(Symbol::Slash) => Some(Operator::Divide),
-        Token::Word(Word::Mod) => Some(Operator::Mod),
-        Token::Word(Word::Rem) => Some(Operator::Rem),
+        Symbol::Plus => Some(Operator::Add),
+        Symbol::Minus => Some(Operator::Subtract),
+        Symbol::Star => Some(Operator::Multiply),
+        Symbol::Slash => Some(Operator::Divide),
         _ => None,
     }
 }
 
 impl Parser<'_> {
-    pub(super) fn expression(&mut self) -> Result<Expr, ParseError> {
+    #[tactic(auto, unfolding(crate::specs::Reader::expression))]
+    pub(super) fn expression(&mut self) -> Result<Expr, ParseError>
+        ensures { Reads (spec.expression spec.depth_limit self.old) result self.new }
+    {
         self.operand(Level::Or, DEPTH)
     }
 
-    /// An operand of a level, within brackets that may still nest as deep as told.
+    /// An operand of a level, within which so many brackets may still nest.
     #[cycle(expression)]
-    fn operand(&mut self, level: Level, depth: u32) -> Result<Expr, ParseError> {
+    fn operand(&mut self, level: Level, depth: u32) -> Result<Expr, ParseError>
+        ensures { Reads (spec.operand_of (spec.inner depth) level self.old) result self.new }
+    {
         match level {
+            Level::Or => self.chain(level, Level::Xor, depth),
+            Level::Xor => self.chain(level, Level::And, depth),
+            Level::And => self.chain(level, Level::Not, depth),
             Level::Not => self.negation(depth),
+            Level::Equality => self.chain(level, Level::Order, depth),
+            Level::Order => self.chain(level, Level::Sum, depth),
+            Level::Sum => self.chain(level, Level::Product, depth),
+            Level::Product => self.chain(level, Level::Sign, depth),
             Level::Sign => self.signed(depth),
-            _ => match level.tighter() {
-                Some(tighter) => self.chain(level, tighter, depth),
-                None => Err(self.unexpected()),
-            },
         }
     }
 
-    /// Operands with operators of one level between them; of comparisons by order there is one at most.
+    /// Operands with operators of one level between them.
     #[cycle(expression)]
-    fn chain(&mut self, level: Level, tighter: Level, depth: u32) -> Result<Expr, ParseError> {
+    #[tactic(auto, unfolding(crate::specs::Reader::chain))]
+    fn chain(&mut self, level: Level, tighter: Level, depth: u32) -> Result<Expr, ParseError>
+        requires { rank_of tighter + 2 ≤ rank_of level }
+        ensures { Reads (spec.chain level (spec.operand_of (spec.inner depth) tighter) self.old) result self.new }
+    {
         let first = self.operand(tighter, depth)?;
-        let mut links = Vec::new(self.alloc);
-        for _turn in 0..self.rest.len() {
-            let Some(operator) = self.take_operator(level) else {
-                break;
-            };
-            let operand = self.operand(tighter, depth)?;
-            links.push(Link { operator, operand })?;
-            if level == Level::Order {
-                break;
-            }
-        }
+        let links = self.links(level, tighter, depth)?;
         if links.is_empty() {
             return Ok(first);
         }
@@ -121,14 +124,53 @@ impl Parser<'_> {
         Ok(Expr::Chain(first, Seq::from_vec(links)))
     }
 
-    fn take_operator(&mut self, level: Level) -> Option<Operator> {
-        let operator = level.operator(self.token()?)?;
+    /// Operators of a level, each with the operand behind it.
+    #[cycle(expression)]
+    fn links(&mut self, level: Level, tighter: Level, depth: u32) -> Result<Vec<Link>, ParseError>
+        requires { rank_of tighter + 2 ≤ rank_of level }
+        ensures { spec.ReadsItems (spec.links_from (spec.operand_of (spec.inner depth) tighter) level (spec.most_links level self.old) [] self.old) result self.new }
+    {
+        let mut links = Vec::new(self.alloc);
+        for _turn in 0..self.most_links(level) {
+            let Some(operator) = self.take_operator(level) else {
+                return Ok(links);
+            };
+            let operand = self.operand(tighter, depth)?;
+            links.push(Link { operator, operand })?;
+        }
+        Ok(links)
+    }
+
+    /// Of comparisons by order there is one at most.
+    #[tactic(auto, unfolding(crate::specs::Reader::most_links, crate::specs::Reader::same_level))]
+    fn most_links(&self, level: Level) -> usize
+        ensures { result ≡ spec.most_links level self.now }
+    {
+        if level == Level::Order {
+            1
+        } else {
+            self.left()
+        }
+    }
+
+    /// Takes the operator, if one of the level comes next.
+    #[tactic(auto, unfolding(crate::specs::Reader::eat_operator, crate::specs::Reader::same_level))]
+    fn take_operator(&mut self, level: Level) -> Option<Operator>
+        ensures { spec.eat_operator level self.old ≡ Some (result, self.new) }
+    {
+        let operator = operator_of(self.token()?)?;
+        if level_of(operator) != level {
+            return None;
+        }
         self.advance();
         Some(operator)
     }
 
     #[cycle(expression)]
-    fn negation(&mut self, depth: u32) -> Result<Expr, ParseError> {
+    #[tactic(auto, unfolding(crate::specs::Reader::negation))]
+    fn negation(&mut self, depth: u32) -> Result<Expr, ParseError>
+        ensures { Reads (spec.at_not (spec.inner depth) self.old) result self.new }
+    {
         if self.take_word(Word::Not) {
             let operand = self.operand(Level::Equality, depth)?;
             return Ok(Expr::Not(Boxed::new(self.alloc, operand)?));
@@ -137,7 +179,10 @@ impl Parser<'_> {
     }
 
     #[cycle(expression)]
-    fn signed(&mut self, depth: u32) -> Result<Expr, ParseError> {
+    #[tactic(auto, unfolding(crate::specs::Reader::signed))]
+    fn signed(&mut self, depth: u32) -> Result<Expr, ParseError>
+        ensures { Reads (spec.signed (spec.inner depth) self.old) result self.new }
+    {
         let sign = if self.take_symbol(Symbol::Plus) {
             Sign::Plus
         } else if self.take_symbol(Symbol::Minus) {
@@ -150,26 +195,34 @@ impl Parser<'_> {
     }
 
     #[cycle(expression)]
-    fn primary(&mut self, depth: u32) -> Result<Expr, ParseError> {
+    #[tactic(auto, unfolding(crate::specs::Reader::primary))]
+    fn primary(&mut self, depth: u32) -> Result<Expr, ParseError>
+        ensures { Reads (spec.primary (spec.inner depth) self.old) result self.new }
+    {
         let expr = match self.token() {
             Some(Token::Int(number)) => Expr::Int(*number),
             Some(Token::Word(Word::True)) => Expr::Bool(true),
             Some(Token::Word(Word::False)) => Expr::Bool(false),
             Some(Token::Id(name)) => Expr::Name(name.try_clone(self.alloc)?),
-            Some(Token::Symbol(Symbol::LeftParen)) => return self.bracketed(depth),
+            Some(Token::Symbol(Symbol::LeftParen)) => {
+                self.advance();
+                return self.bracketed(depth);
+            }
             _ => return Err(self.unexpected()),
         };
         self.advance();
         Ok(expr)
     }
 
-    /// An expression in brackets, which leave no trace in the tree.
+    /// An expression behind its opening bracket. Brackets leave no trace in the tree.
     #[cycle(expression)]
-    fn bracketed(&mut self, depth: u32) -> Result<Expr, ParseError> {
+    #[tactic(auto, unfolding(crate::specs::Reader::bracketed))]
+    fn bracketed(&mut self, depth: u32) -> Result<Expr, ParseError>
+        ensures { Reads (spec.bracketed (spec.inner depth) self.old) result self.new }
+    {
         if depth == 0 {
             return Err(self.unexpected());
         }
-        self.advance();
         let expr = self.operand(Level::Or, depth - 1)?;
         self.symbol(Symbol::RightParen)?;
         Ok(expr)

@@ -1,4 +1,9 @@
 //! The type of an expression, or the least rule that it breaks.
+ghost use Rattle.std.specs.Prelude.{◌≡◌};
+ghost use Rattle.ttcn_syntax.specs.Expression.{expression};
+ghost use Rattle.ttcnx.specs.Checking.{joins, judged, visible, wants};
+ghost use Rattle.ttcnx.specs.Types.{result_of, takes};
+
 use super::Rule;
 use super::scope::Scope;
 use crate::module::BasicType;
@@ -7,7 +12,9 @@ use ttcn_syntax::{Expr, Operator};
 /// What an expression's value is, or the least rule that is broken in it.
 pub(super) type Typing = Result<BasicType, Rule>;
 
-pub(super) fn type_of(scope: &Scope, expr: &Expr) -> Typing {
+pub(super) fn type_of(scope: &Scope, expr: &Expr) -> Typing
+    ensures { result ≡ judged (visible scope.now) (expression expr.now) }
+{
     match expr {
         Expr::Int(_) => Ok(BasicType::Integer),
         Expr::Bool(_) => Ok(BasicType::Boolean),
@@ -25,30 +32,30 @@ pub(super) fn type_of(scope: &Scope, expr: &Expr) -> Typing {
 }
 
 /// The type of an operand that must be of the type `wanted`.
-fn of_operand(wanted: BasicType, operand: Typing) -> Typing {
+fn of_operand(wanted: BasicType, operand: Typing) -> Typing
+    ensures { result ≡ wants wanted operand }
+{
     match operand {
         Ok(found) if found != wanted => Err(Rule::OperandType),
         _ => operand,
     }
 }
 
-fn of_operation(operator: Operator, left: Typing, right: Typing) -> Typing {
+fn of_operation(operator: Operator, left: Typing, right: Typing) -> Typing
+    ensures { result ≡ joins operator left right }
+{
     match (left, right) {
-        (Ok(left), Ok(right)) => of_operands(operator, left, right),
-        (Err(left), Err(right)) => Err(left.min(right)),
+        (Ok(left), Ok(right)) if left == right && takes(operator, left) => Ok(result_of(operator)),
+        (Ok(_), Ok(_)) => Err(Rule::OperandType),
+        (Err(left), Err(right)) => Err(left.lesser(right)),
         (Err(rule), Ok(_)) | (Ok(_), Err(rule)) => Err(rule),
     }
 }
 
-fn of_operands(operator: Operator, left: BasicType, right: BasicType) -> Typing {
-    if left != right || !takes(operator, left) {
-        return Err(Rule::OperandType);
-    }
-    Ok(result_of(operator))
-}
-
 /// Whether an operator has operands of this type.
-fn takes(operator: Operator, operand: BasicType) -> bool {
+fn takes(operator: Operator, operand: BasicType) -> bool
+    ensures { result ≡ takes operator operand }
+{
     match operator {
         Operator::Or | Operator::Xor | Operator::And => operand == BasicType::Boolean,
         Operator::Equal | Operator::NotEqual => true,
@@ -56,7 +63,9 @@ fn takes(operator: Operator, operand: BasicType) -> bool {
     }
 }
 
-fn result_of(operator: Operator) -> BasicType {
+fn result_of(operator: Operator) -> BasicType
+    ensures { result ≡ result_of operator }
+{
     match operator {
         Operator::Add
         | Operator::Subtract

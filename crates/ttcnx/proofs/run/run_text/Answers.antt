@@ -1,26 +1,58 @@
-use Rattle.std.proofs.Common.{◌≤◌, ℕ, Bool, ◌∙◌, sym, subst}
-use Rattle.std.specs.Prelude.{IsTrue, ◌↔◌}
+use Rattle.std.proofs.Common.{◌≡◌, ◌≤◌, ℕ, Bool, ◌∙◌, sym, subst, ap, inl, inr, rules, arith}
+use Rattle.std.specs.Prelude.{◌⊎◌, IsTrue, ◌↔◌, Ok, Err}
+use Rattle.std.proofs.lemmas.Grind.{common_steps}
+use Rattle.explore.specs.Limits.{IsWithinLimits}
 use Rattle.summary.specs.Exploration.{Counts, IsComplete}
+use Rattle.ttcnx.specs.Answer.{Answer, IsAnswer, OfTestCase, beyond, told, within}
+use Rattle.ttcnx.specs.Fault.{explore_fault}
 use Rattle.ttcnx.specs.Machine.{graph_of}
+use Rattle.ttcnx.specs.Tells.{Tells}
 use Rattle.ttcnx.specs.Verdict.{mark_of}
+use Rattle.ttcnx.specs.declared.fault.Fault.TheVariants.{Memory}
 use Rattle.ttcnx.proofs.Outcomes.{kept, mark_below_8, outcomes_of-kept}
+use Rattle.ttcnx.proofs.Stages.{as_error, refusal_answers, search_answers}
 use Rattle.ttcnx.proofs.run.run_text.Goals as goal
 
-pub returns-clause-told : goal.returns-clause-told
-returns-clause-told g c =
+pub returns-then-not-is_within_limits-clause-answer : goal.returns-then-not-is_within_limits-clause-answer
+returns-then-not-is_within_limits-clause-answer g c =
+    let out : IsWithinLimits c.args.plan.now → ⊥ = search rules in
+    inr (beyond out)
+
+pub returns-in_err-machine-clause-answer : goal.returns-in_err-machine-clause-answer
+returns-in_err-machine-clause-answer g c =
+    let fine : IsWithinLimits c.args.plan.now = search rules in
+    let why = c.in_err-machine.field-0.0 in
+    as_error c.from_residual.result why (λ r. (r ≡ Err Memory) ⊎ IsAnswer c.args.text.now c.args.name.now c.args.plan.now r)
+    c.from_residual.ensures.0 c.from_residual.ensures.1
+    (refusal_answers c.args.text.now c.args.name.now c.args.plan.now why fine c.in_err-machine.ensures.refused)
+
+pub returns-in_err-answer-clause-answer : goal.returns-in_err-answer-clause-answer
+returns-in_err-answer-clause-answer g c =
+    let fine : IsWithinLimits c.args.plan.now = search rules in
+    let error = c.in_err-answer.field-0.0 in
+    let found = c.in_err-answer.ensures in
+    let body = c.in_ok-machine.machine.body in
+    as_error c.from_residual-in_err-answer.result (explore_fault error) (λ r. (r ≡ Err Memory) ⊎ IsAnswer c.args.text.now c.args.name.now c.args.plan.now r)
+    c.from_residual-in_err-answer.ensures.0 c.from_residual-in_err-answer.ensures.1
+    (search_answers c.args.text.now c.args.name.now c.args.plan.now body error fine
+    (λ is. found.bad_plan.0 (ap Err is)) (λ is. found.too_many (ap Err is))
+    (λ answer. c.in_ok-machine.ensures.machine c.args.plan.now answer))
+
+pub returns-clause-answer : goal.returns-clause-answer
+returns-clause-answer g c =
+    let fine : IsWithinLimits c.args.plan.now = search rules in
     let body = c.in_ok-machine.machine.body in
     let report = c.in_ok-report_of.ensures in
     let found = c.in_ok-answer.ensures in
-    let answer = c.in_ok-answer.answer in (
-      body,
-      record {
-        testcase = report.testcase;
-        steps = report.steps;
-        configurations = subst (λ (n : ℕ). Counts (graph_of body) c.args.plan.now.steps n) (sym report.configurations) found.count.0;
-        within = subst (λ (n : ℕ). n ≤ c.args.plan.now.limit) (sym report.configurations) found.count.1;
-        complete = subst (λ (b : Bool). IsTrue b ↔ IsComplete (graph_of body) c.args.plan.now.steps) (sym report.complete) found.complete;
-        run_of = kept answer.best.items;
-        best = λ verdict. found.best.each (mark_of verdict) (mark_below_8 verdict);
-        outcomes = report.outcomes ∙ outcomes_of-kept answer.best.items found.best.eight;
-      },
-    )
+    let answer = c.in_ok-answer.answer in
+    let tells : Tells (graph_of body) c.args.name.now c.args.plan.now c.in_ok-report_of.field-0 = record {
+      testcase = report.testcase;
+      steps = report.steps;
+      configurations = subst (λ (n : ℕ). Counts (graph_of body) c.args.plan.now.steps n) (sym report.configurations) found.count.0;
+      within = subst (λ (n : ℕ). n ≤ c.args.plan.now.limit) (sym report.configurations) found.count.1;
+      complete = subst (λ (b : Bool). IsTrue b ↔ IsComplete (graph_of body) c.args.plan.now.steps) (sym report.complete) found.complete;
+      run_of = kept answer.best.items;
+      best = λ verdict. found.best.each (mark_of verdict) (mark_below_8 verdict);
+      outcomes = report.outcomes ∙ outcomes_of-kept answer.best.items found.best.eight;
+    } in
+    inr (within fine (c.in_ok-machine.ensures.machine c.args.plan.now (Ok c.in_ok-report_of.field-0) (told tells)))
