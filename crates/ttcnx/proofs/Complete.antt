@@ -1,14 +1,11 @@
 -- What is spelled is what the parser reads.
-use Rattle.std.proofs.Common.{◌≡◌, ℕ, zero, suc, ◌+◌, ◌-◌, ◌<◌, ◌≤◌, Bool, true, false, List, [], ◌∷◌, ◌++◌, length, append-nil, append_assoc, refl, sym, ap, ◌∙◌, arith, rules, inl, inr, lit<}
-use Rattle.std.specs.Prelude.{◌⊎◌, if◌then◌else◌, Option, Some, None}
+use Rattle.std.proofs.Common.{◌≡◌, ℕ, zero, suc, ◌<◌, ◌≤◌, true, false, List, [], ◌∷◌, ◌++◌, length, refl, sym, ap, ◌∙◌, arith, rules, inl, inr, lit<}
+use Rattle.std.specs.Prelude.{Option, Some, None}
 use denote.Enum.Bare.{same_true, true_same}
-use Rattle.ttcn_syntax.specs.declared.token.Token.{Token}
 use Rattle.ttcn_syntax.specs.declared.token.Token.TheVariants as token
 use Rattle.ttcn_syntax.specs.declared.token.Spanned.{Spanned}
 use Rattle.ttcn_syntax.specs.declared.token.Symbol.TheVariants as mark
-use Rattle.ttcn_syntax.specs.declared.token.Word.{Word}
 use Rattle.ttcn_syntax.specs.declared.token.Word.TheVariants as word
-use Rattle.ttcn_syntax.specs.declared.place.Span.{Span}
 use Rattle.ttcn_syntax.specs.declared.tree.Expr.{Expr}
 use Rattle.ttcn_syntax.specs.declared.tree.Expr.TheVariants as expr
 use Rattle.ttcn_syntax.specs.declared.tree.Link.{Link}
@@ -18,21 +15,13 @@ use Rattle.ttcn_syntax.specs.declared.tree.Sign.TheVariants as sign
 use Rattle.ttcnx.specs.contracts.parse.expression.Level as a_level
 use Rattle.ttcnx.specs.declared.parse.expression.Level.{Level}
 use Rattle.ttcnx.specs.declared.parse.expression.Level.TheVariants as level
-use Rattle.ttcnx.specs.declared.module.BasicType.{BasicType}
-use Rattle.ttcnx.specs.declared.module.BasicType.TheVariants.{Integer, Boolean}
-use Rattle.ttcnx.specs.declared.module.Definition.{Definition}
-use Rattle.ttcnx.specs.declared.module.Module.{Module}
-use Rattle.ttcnx.specs.declared.module.Statement.{Statement}
-use Rattle.ttcnx.specs.declared.verdict.Verdict.{Verdict}
-use Rattle.ttcnx.specs.declared.verdict.Verdict.TheVariants as verdict
 use Rattle.ttcnx.specs.Level.{rank_of}
 use Rattle.ttcnx.specs.Grammar.{Is, Joins, Phrase, Spells, level_of, link, written, type_word, verdict_word, or_joins, xor_joins, and_joins, equality_joins, order_joins, sum_joins, product_joins}
 use Rattle.ttcnx.specs.Grammar as spelled
-use Rattle.ttcnx.specs.Reader.{Parsed, Parser, a_verdict, action, after_operator, after_semicolons, and_then, assignment, at_end, at_equality, at_level, at_or, at_order, at_product, at_sum, basic_type, behaviour, behind, behind_operator, block, bracketed, chain, component_name, declarations, declarations_from, definition, definitions_from, eat_operator, expect, expression, head_token, here, initial, inner, is_symbol, is_word, links_from, log, most_links, name, negation, next_operator, operand_of, operator_in, operator_of, primary, primary_by, same_level, same_symbol, same_word, sees, sees_word, setverdict, signed, statement, statements_from, text, texts, texts_from, tree_of, whole}
-use Rattle.ttcnx.proofs.Depth.{Inside, Within, over_close, over_open, over_plain}
-use Rattle.ttcnx.proofs.Spellings.{after, over_operator, shrinks}
+use Rattle.ttcnx.specs.Reader.{Parser, at_equality, at_level, at_order, at_product, at_sum, behind, bracketed, chain, eat_operator, head_token, links_from, most_links, negation, next_operator, operand_of, operator_in, operator_of, primary, same_level, same_symbol, sees, sees_word, signed}
+use Rattle.ttcnx.proofs.Spellings.{shrinks}
 use Rattle.ttcnx.proofs.Sound.{either, some_is}
-use Rattle.ttcnx.proofs.Tokens.{expect_here, expect_word_here, name_here, no_semicolon, over_semicolon, sees_by, sees_here, sees_word_by, sees_word_here, sees_word_is}
+use Rattle.ttcnx.proofs.Tokens.{expect_here, sees_by, sees_here, sees_word_here, sees_word_is}
 
 -- ---- what may follow
 

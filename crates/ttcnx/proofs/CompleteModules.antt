@@ -1,16 +1,13 @@
 -- What is spelled is what the parser reads: statements, definitions and modules.
-use Rattle.std.proofs.Common.{◌≡◌, ℕ, zero, suc, ◌+◌, ◌-◌, ◌<◌, ◌≤◌, Bool, true, false, List, [], ◌∷◌, ◌++◌, length, append-nil, append_assoc, refl, sym, ap, ◌∙◌, arith, rules, inl, inr}
-use Rattle.std.specs.Prelude.{◌⊎◌, if◌then◌else◌, Option, Some, None}
-use Rattle.ttcn_syntax.specs.declared.token.Token.{Token}
+use Rattle.std.proofs.Common.{◌≡◌, ℕ, zero, suc, ◌<◌, ◌≤◌, true, false, List, [], ◌∷◌, ◌++◌, length, append-nil, refl, sym, ap, ◌∙◌, arith}
+use Rattle.std.specs.Prelude.{Option, Some, None}
 use Rattle.ttcn_syntax.specs.declared.token.Token.TheVariants as token
 use Rattle.ttcn_syntax.specs.declared.token.Spanned.{Spanned}
 use Rattle.ttcn_syntax.specs.declared.token.Symbol.TheVariants as mark
 use Rattle.ttcn_syntax.specs.declared.token.Word.TheVariants as word
 use Rattle.ttcn_syntax.specs.declared.place.Span.{Span}
 use Rattle.ttcn_syntax.specs.declared.tree.Expr.{Expr}
-use Rattle.ttcn_syntax.specs.declared.tree.Expr.TheVariants as expr
 use Rattle.ttcn_syntax.specs.declared.tree.Link.{Link}
-use Rattle.ttcn_syntax.specs.declared.tree.Sign.TheVariants as sign
 use Rattle.ttcnx.specs.declared.parse.expression.Level.{Level}
 use Rattle.ttcnx.specs.declared.parse.expression.Level.TheVariants as level
 use Rattle.ttcnx.specs.declared.module.Action.{Action}
@@ -18,18 +15,16 @@ use Rattle.ttcnx.specs.declared.module.Action.TheVariants.{Declare, Assign, Log,
 use Rattle.ttcnx.specs.declared.module.BasicType.{BasicType}
 use Rattle.ttcnx.specs.declared.module.BasicType.TheVariants.{Integer, Boolean}
 use Rattle.ttcnx.specs.declared.module.Definition.{Definition}
-use Rattle.ttcnx.specs.declared.module.Module.{Module}
 use Rattle.ttcnx.specs.declared.module.Statement.{Statement}
 use Rattle.ttcnx.specs.declared.verdict.Verdict.{Verdict}
 use Rattle.ttcnx.specs.declared.verdict.Verdict.TheVariants as verdict
 use Rattle.ttcnx.specs.Grammar.{Is, IsModule, Joins, Phrase, Spells, component, statement_at, testcase, type_word, verdict_word}
 use Rattle.ttcnx.specs.Grammar as spelled
-use Rattle.ttcnx.specs.Reader.{Parsed, Parser, a_verdict, action, after_semicolons, and_then, assignment, at_end, basic_type, behaviour, behind, block, component_name, declarations, declarations_from, definition, definitions_from, expect, expect_word, expression, head_token, here, initial, inner, links_from, log, name, operand_of, operator_in, primary, same_symbol, same_word, sees, sees_word, setverdict, statement, statements_from, text, texts, texts_from, whole}
-use Rattle.ttcnx.proofs.Depth.{Inside, Within, over_close, over_open, over_plain}
-use Rattle.ttcnx.proofs.Spellings.{after, over_operator, shrinks}
-use Rattle.ttcnx.proofs.Sound.{either}
-use Rattle.ttcnx.proofs.Tokens.{expect_here, expect_word_here, name_here, no_semicolon, over_semicolon, sees_by, sees_here, sees_is, sees_word_by, sees_word_here}
-use Rattle.ttcnx.proofs.Complete.{Follows, alone_reads, affirmed_reads, bracketed_reads, chain_reads, enough, follows_all, follows_tighter, joins_chain, joins_one, link_reads, links_follow, links_short, minus_reads, negated_reads, no_links, plus_reads, primary_begins, unsigned_reads}
+use Rattle.ttcnx.specs.Reader.{a_verdict, action, after_semicolons, assignment, at_end, basic_type, behaviour, behind, block, component_name, declarations, declarations_from, definition, definitions_from, expression, head_token, here, initial, inner, links_from, log, operand_of, operator_in, primary, same_symbol, same_word, sees, sees_word, setverdict, statement, statements_from, text, texts, texts_from, whole}
+use Rattle.ttcnx.proofs.Depth.{Within}
+use Rattle.ttcnx.proofs.Spellings.{shrinks}
+use Rattle.ttcnx.proofs.Tokens.{expect_here, expect_word_here, name_here, over_semicolon, sees_by, sees_here, sees_is, sees_word_by, sees_word_here}
+use Rattle.ttcnx.proofs.Complete.{Follows}
 
 -- ---- what may follow
 

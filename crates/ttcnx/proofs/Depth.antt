@@ -1,5 +1,5 @@
 -- How many brackets may still nest in a list of tokens.
-use Rattle.std.proofs.Common.{◌≡◌, ℕ, zero, suc, ◌+◌, ◌-◌, ◌<◌, ◌≤◌, Bool, true, false, List, [], ◌∷◌, length, length-take, take, inl, inr, refl, sym, ap, ◌∙◌, arith, rules}
+use Rattle.std.proofs.Common.{◌≡◌, ℕ, zero, suc, ◌+◌, ◌<◌, ◌≤◌, Bool, true, false, List, [], ◌∷◌, length, length-take, take, inl, inr, refl, ap, ◌∙◌, arith}
 use Rattle.std.specs.Prelude.{◌⊎◌}
 use Rattle.std.specs.List.{count_by}
 use Rattle.std.proofs.lemmas.Grind.{common_steps}

@@ -1,10 +1,9 @@
 -- A text, the name of a test case and a plan have one answer.
-use Rattle.std.proofs.Common.{◌≡◌, ℕ, zero, suc, ◌+◌, ◌<◌, ◌≤◌, Bool, true, false, List, [], ◌∷◌, ◌++◌, length, refl, sym, ap, subst, ◌∙◌, arith, inl, inr}
-use Rattle.std.specs.Prelude.{◌⊎◌, ◌≢◌, ◌↔◌, Result, Ok, Err, Option, Some, None, IsTrue, AllPairs, Contains, codes, string_bytes}
-use Rattle.std.specs.List.{All, cons_option, filter_map, flat_map}
+use Rattle.std.proofs.Common.{◌≡◌, ℕ, suc, ◌≤◌, Bool, true, false, List, [], ◌∷◌, ◌++◌, length, refl, sym, ap, subst, ◌∙◌, arith, inl, inr}
+use Rattle.std.specs.Prelude.{◌≢◌, ◌↔◌, Option, Some, None, IsTrue, Contains, codes, string_bytes}
+use Rattle.std.specs.List.{cons_option, filter_map, flat_map}
 use Rattle.std.specs.Fmt.{decimal}
 use Rattle.std.specs.Cmp.{IsTotalOrder}
-use Rattle.std.specs.Cmp.Lexicographic.{slice_cmp}
 use Rattle.std.specs.declared.cmp.Ordering.{Ordering}
 use Rattle.std.specs.declared.cmp.Ordering.TheVariants.{Less, Equal}
 use Rattle.std.specs.Ordering.{ordering_reverse}
@@ -12,31 +11,25 @@ use Rattle.std.specs.declared.alloc.Global.{Global}
 use Rattle.std.specs.declared.vec.Vec.{Vec}
 use Rattle.std.proofs.lemmas.Cmp.{lists_total, tied_itself}
 use Rattle.summary.specs.Graph.{Graph}
-use Rattle.summary.specs.Run.{Run, Before, NoLater, labels_of, steps_of}
-use Rattle.summary.specs.Exploration.{Counts, HasMark, IsBest, IsComplete}
+use Rattle.summary.specs.Run.{Run, Before, NoLater, labels_of}
+use Rattle.summary.specs.Exploration.{Counts, IsBest}
 use Rattle.explore.specs.Best.{IsBestOf}
-use Rattle.explore.specs.Limits.{IsWithinLimits}
 use Rattle.explore.specs.declared.plan.Plan.{Plan}
-use Rattle.explore.proofs.Lists.{In, Ordered, Each, contains_in, each_in, in_contains, ordered_from_pairs}
+use Rattle.explore.proofs.Lists.{In, Ordered, contains_in, each_in, in_contains, ordered_from_pairs}
 use Rattle.explore.proofs.RunOrder.{before_trans}
-use Rattle.ttcn_syntax.specs.Cut.{HasOneReading, IsCut, IsLeftmostFault}
-use Rattle.ttcn_syntax.specs.declared.error.LexError.{LexError}
 use Rattle.ttcn_syntax.specs.declared.token.Spanned.{Spanned}
 use Rattle.ttcn_syntax.proofs.Once.{reads_once}
-use Rattle.ttcnx.specs.Answer.{Answer, HasOneAnswer, IsAnswer, OfModule, OfTestCase, OfText, OfTokens, SameAnswer, SameFault, beyond, body_of, broken, cut, left_out, named, nameless, read, refused, too_deep, too_long, too_many, told, uncut, unexpected, within}
+use Rattle.ttcnx.specs.Answer.{Answer, HasOneAnswer, OfModule, OfTestCase, OfText, OfTokens, SameAnswer, SameFault, beyond, broken, cut, left_out, named, nameless, read, too_deep, too_long, too_many, told, uncut, unexpected, within}
 use Rattle.ttcnx.specs.Fault.{lexical_fault, rule_refusal}
 use Rattle.ttcnx.specs.Machine.{graph_of}
-use Rattle.ttcnx.specs.Refused.{HasLeftOut, IsRead, IsTooDeep, IsUnread}
 use Rattle.ttcnx.specs.Report.{header_text, line, outcome_text, report_text, step_line, yes_or_no}
 use Rattle.ttcnx.specs.Rules.{IsLeast, broken_rules, number_of}
-use Rattle.ttcnx.specs.Tells.{Tells, all_verdicts, outcome_of, outcomes_of}
+use Rattle.ttcnx.specs.Tells.{Tells, all_verdicts, outcome_of}
 use Rattle.ttcnx.specs.Verdict.{mark_of, word_of}
 use Rattle.ttcnx.specs.contracts.label.LabelOrd.TheImpl as label
 use Rattle.ttcnx.specs.declared.configuration.Configuration.{Configuration}
 use Rattle.ttcnx.specs.declared.fault.Fault.{Fault}
 use Rattle.ttcnx.specs.declared.fault.Fault.TheVariants as fault
-use Rattle.ttcnx.specs.declared.fault.Refusal.{Refusal}
-use Rattle.ttcnx.specs.declared.fault.Refusal.TheVariants as refusal
 use Rattle.ttcnx.specs.declared.label.Label.{Label}
 use Rattle.ttcnx.specs.declared.label.Label.TheVariants.{Mtc}
 use Rattle.ttcnx.specs.declared.module.Module.{Module}

@@ -1,9 +1,8 @@
 -- What the parser answers, from what its functions read.
-use Rattle.std.proofs.Common.{◌≡◌, List, [], sym, ◌∙◌}
+use Rattle.std.proofs.Common.{◌≡◌, List}
 use Rattle.std.specs.Prelude.{Some, None}
 use Rattle.ttcn_syntax.specs.declared.token.Spanned.{Spanned}
 use Rattle.ttcnx.specs.declared.module.Module.{Module}
-use Rattle.ttcnx.specs.Grammar.{IsModule}
 use Rattle.ttcnx.specs.Reader.{depth_limit, whole}
 use Rattle.ttcnx.specs.Refused.{HasLeftOut, IsRead, IsTooDeep, IsUnread}
 use Rattle.ttcnx.proofs.Depth.{within_limit}

@@ -1,29 +1,24 @@
 -- A list of tokens spells what the parser reads of it, and nothing else.
-use Rattle.std.proofs.Common.{◌≡◌, ℕ, zero, suc, ◌+◌, ◌-◌, ◌<◌, ◌≤◌, Bool, true, false, List, [], ◌∷◌, ◌++◌, length, append-nil, append_assoc, refl, sym, ap, ◌∙◌, arith, rules}
-use Rattle.std.specs.Prelude.{Option, Some, None}
+use Rattle.std.proofs.Common.{◌≡◌, ℕ, zero, suc, ◌<◌, ◌≤◌, false, List, [], ◌∷◌, ◌++◌, length, append-nil, append_assoc, refl, sym, ap, ◌∙◌, arith}
+use Rattle.std.specs.Prelude.{Some}
 use Rattle.ttcn_syntax.specs.declared.token.Token.{Token}
 use Rattle.ttcn_syntax.specs.declared.token.Token.TheVariants as token
 use Rattle.ttcn_syntax.specs.declared.token.Spanned.{Spanned}
 use Rattle.ttcn_syntax.specs.declared.token.Symbol.TheVariants as mark
 use Rattle.ttcn_syntax.specs.declared.tree.Expr.{Expr}
-use Rattle.ttcn_syntax.specs.declared.tree.Expr.TheVariants as expr
 use Rattle.ttcn_syntax.specs.declared.tree.Link.{Link}
-use Rattle.ttcnx.specs.declared.parse.expression.Level.{Level}
 use Rattle.ttcnx.specs.declared.parse.expression.Level.TheVariants as level
 use Rattle.ttcnx.specs.declared.module.Action.TheVariants.{Declare}
-use Rattle.ttcnx.specs.declared.module.Definition.{Definition}
 use Rattle.ttcnx.specs.declared.module.Module.{Module}
-use Rattle.ttcnx.specs.declared.module.Statement.{Statement}
-use Rattle.ttcnx.specs.Level.{rank_of}
 use Rattle.ttcnx.specs.Grammar.{Is, IsModule, Joins, Phrase, Spells, component, link, statement_at, testcase}
 use Rattle.ttcnx.specs.Grammar as spelled
-use Rattle.ttcnx.specs.Reader.{Parser, after_semicolons, at_or, bracketed, declarations_from, definitions_from, inner, links_from, most_links, operand_of, operator_in, head_token, primary, primary_by, same_symbol, sees, statements_from, texts_from, whole}
+use Rattle.ttcnx.specs.Reader.{Parser, at_or, bracketed, declarations_from, definitions_from, inner, links_from, most_links, operand_of, primary, primary_by, same_symbol, sees, statements_from, texts_from, whole}
 use Rattle.ttcnx.specs.Refused.{HasOneTree}
 use Rattle.ttcnx.proofs.Depth.{Within, over_close, over_open, over_plain, relax, within_length}
 use Rattle.ttcnx.proofs.Spellings.{after, over_operator, shrinks}
 use Rattle.ttcnx.proofs.Tokens.{no_semicolon, read_is, sees_by, sees_here}
 use Rattle.ttcnx.proofs.Complete.{Follows, alone_reads, affirmed_reads, bracketed_reads, chain_reads, enough, follows_all, follows_tighter, joins_chain, joins_one, link_reads, links_follow, links_short, minus_reads, negated_reads, no_links, plus_reads, primary_begins, unsigned_reads}
-use Rattle.ttcnx.proofs.CompleteModules.{Claim, Quiet, Stops, action_assigns, action_begins, action_logs, action_sets, assignment_reads, block_reads, brace_is_no_semicolon, component_reads, definition_begins, definitions_begin, expression_reads, last_name_reads, last_read, last_text_reads, log_nothing_reads, log_texts_reads, module_reads, next_definition_read, next_name_reads, next_read, next_text_reads, no_definition_read, no_value_reads, none_read, other_reads, quiet_comma, semicolon_read, setverdict_reads, statement_begins, statements_begin, stops_brace, stops_semicolon, testcase_reads, texts_begin, value_reads, variables_read}
+use Rattle.ttcnx.proofs.CompleteModules.{Claim, action_assigns, action_begins, action_logs, action_sets, assignment_reads, block_reads, brace_is_no_semicolon, component_reads, definition_begins, definitions_begin, expression_reads, last_name_reads, last_read, last_text_reads, log_nothing_reads, log_texts_reads, module_reads, next_definition_read, next_name_reads, next_read, next_text_reads, no_definition_read, no_value_reads, none_read, other_reads, quiet_comma, semicolon_read, setverdict_reads, statement_begins, statements_begin, stops_brace, stops_semicolon, testcase_reads, texts_begin, value_reads, variables_read}
 
 -- a number of turns above 0
 by_turns : (P : ℕ → Type 0) (n : ℕ) → 0 < n → ((m : ℕ) → n ≡ suc m → P (suc m)) → P n

@@ -1,5 +1,5 @@
 -- What the parser reads is spelled.
-use Rattle.std.proofs.Common.{◌≡◌, ℕ, zero, suc, ◌+◌, ◌-◌, ◌<◌, ◌≤◌, Bool, true, false, List, [], ◌∷◌, ◌++◌, length, append-nil, append_assoc, refl, sym, ap, ◌∙◌, arith, rules, inl, inr}
+use Rattle.std.proofs.Common.{◌≡◌, ℕ, zero, suc, ◌≤◌, Bool, true, false, List, [], ◌∷◌, ◌++◌, length, append-nil, append_assoc, refl, sym, ap, ◌∙◌, arith, rules, inl, inr}
 use Rattle.std.specs.Prelude.{◌⊎◌, if◌then◌else◌, Option, Some, None}
 use denote.Enum.Bare.{same_true, true_same}
 use Rattle.ttcn_syntax.specs.declared.token.Token.{Token}
@@ -9,20 +9,15 @@ use Rattle.ttcn_syntax.specs.declared.token.Symbol.{Symbol}
 use Rattle.ttcn_syntax.specs.declared.token.Symbol.TheVariants as mark
 use Rattle.ttcn_syntax.specs.declared.token.Word.{Word}
 use Rattle.ttcn_syntax.specs.declared.token.Word.TheVariants as word
-use Rattle.ttcn_syntax.specs.declared.place.Span.{Span}
 use Rattle.ttcn_syntax.specs.declared.tree.Expr.{Expr}
-use Rattle.ttcn_syntax.specs.declared.tree.Expr.TheVariants as expr
 use Rattle.ttcn_syntax.specs.declared.tree.Link.{Link}
 use Rattle.ttcn_syntax.specs.declared.tree.Operator.{Operator}
-use Rattle.ttcn_syntax.specs.declared.tree.Operator.TheVariants as operator
-use Rattle.ttcn_syntax.specs.declared.tree.Sign.TheVariants as sign
 use Rattle.ttcnx.specs.contracts.parse.expression.Level as a_level
 use Rattle.ttcnx.specs.declared.parse.expression.Level.{Level}
 use Rattle.ttcnx.specs.declared.parse.expression.Level.TheVariants as level
 use Rattle.ttcnx.specs.Grammar.{Is, Joins, Phrase, Spells, level_of, link, written, or_joins, xor_joins, and_joins, equality_joins, order_joins, sum_joins, product_joins}
 use Rattle.ttcnx.specs.Grammar as spelled
-use Rattle.ttcnx.specs.Reader.{Parsed, Parser, after_operator, after_semicolons, and_then, at_level, behind, behind_operator, bracketed, chain, eat_operator, expect, inner, links_from, most_links, negation, next_operator, operand_of, operator_in, operator_of, primary, primary_by, same_level, sees, sees_word, signed, symbol_operator, tree_of, word_operator, at_and, at_equality, at_not, at_or, at_order, at_product, at_sum, at_xor}
-use Rattle.ttcnx.proofs.Spellings.{shrinks}
+use Rattle.ttcnx.specs.Reader.{Parsed, Parser, after_operator, after_semicolons, at_level, behind, behind_operator, bracketed, chain, eat_operator, expect, inner, links_from, most_links, negation, next_operator, operator_of, primary, primary_by, same_level, sees, sees_word, signed, symbol_operator, tree_of, word_operator, at_and, at_equality, at_not, at_or, at_order, at_product, at_sum, at_xor}
 use Rattle.ttcnx.proofs.Tokens.{Begins, expect_is, first_step, read_is, sees_is, sees_word_is}
 
 -- what the parser reads is spelled by the tokens that it takes

@@ -1,28 +1,25 @@
 -- What the parser reads is spelled: statements, definitions and modules.
-use Rattle.std.proofs.Common.{◌≡◌, ℕ, zero, suc, ◌+◌, ◌-◌, ◌<◌, ◌≤◌, Bool, true, false, List, [], ◌∷◌, ◌++◌, length, append-nil, append_assoc, refl, sym, ap, ◌∙◌, arith, rules, inl, inr}
-use Rattle.std.specs.Prelude.{◌⊎◌, if◌then◌else◌, Option, Some, None}
+use Rattle.std.proofs.Common.{◌≡◌, ℕ, zero, suc, Bool, true, false, List, [], ◌∷◌, ◌++◌, length, append-nil, append_assoc, refl, sym, ap, ◌∙◌, inl, inr}
+use Rattle.std.specs.Prelude.{if◌then◌else◌, Option, Some}
 use Rattle.ttcn_syntax.specs.declared.token.Token.{Token}
 use Rattle.ttcn_syntax.specs.declared.token.Token.TheVariants as token
 use Rattle.ttcn_syntax.specs.declared.token.Spanned.{Spanned}
 use Rattle.ttcn_syntax.specs.declared.token.Symbol.TheVariants as mark
-use Rattle.ttcn_syntax.specs.declared.token.Word.{Word}
 use Rattle.ttcn_syntax.specs.declared.token.Word.TheVariants as word
 use Rattle.ttcn_syntax.specs.declared.place.Span.{Span}
 use Rattle.ttcn_syntax.specs.declared.tree.Expr.{Expr}
 use Rattle.ttcnx.specs.declared.parse.expression.Level.TheVariants as level
 use Rattle.ttcnx.specs.declared.module.Action.{Action}
-use Rattle.ttcnx.specs.declared.module.Action.TheVariants.{Declare, Assign, Log, Setverdict}
+use Rattle.ttcnx.specs.declared.module.Action.TheVariants.{Declare}
 use Rattle.ttcnx.specs.declared.module.BasicType.{BasicType}
-use Rattle.ttcnx.specs.declared.module.BasicType.TheVariants.{Integer, Boolean}
 use Rattle.ttcnx.specs.declared.module.Behaviour.{Behaviour}
 use Rattle.ttcnx.specs.declared.module.Definition.{Definition}
 use Rattle.ttcnx.specs.declared.module.Module.{Module}
 use Rattle.ttcnx.specs.declared.module.Statement.{Statement}
 use Rattle.ttcnx.specs.declared.verdict.Verdict.{Verdict}
-use Rattle.ttcnx.specs.declared.verdict.Verdict.TheVariants as verdict
 use Rattle.ttcnx.specs.Grammar.{Is, IsModule, Phrase, Spells, component, statement_at, testcase, type_word, verdict_word}
 use Rattle.ttcnx.specs.Grammar as spelled
-use Rattle.ttcnx.specs.Reader.{Parsed, Parser, a_verdict, action, after_semicolons, and_then, assignment, at_end, basic_type, behaviour, behind, block, component_name, declarations, declarations_from, definition, definitions_from, expect, expect_word, expression, here, initial, inner, log, name, pure, sees, sees_word, setverdict, statement, statements_from, text, text_of, texts, texts_from, type_of_word, verdict_of, whole}
+use Rattle.ttcnx.specs.Reader.{Parsed, a_verdict, action, after_semicolons, assignment, at_end, basic_type, behaviour, behind, block, component_name, declarations, declarations_from, definition, definitions_from, expect, expect_word, expression, here, initial, inner, log, name, pure, sees, sees_word, setverdict, statement, statements_from, text, text_of, texts, texts_from, type_of_word, verdict_of, whole}
 use Rattle.ttcnx.proofs.Tokens.{Begins, over_semicolon, expect_is, expect_word_is, first_step, name_is, read_is, sees_is, sees_word_is, taken_is}
 use Rattle.ttcnx.proofs.Sound.{Sound, either, give, some_is, sound_inner, sound_or, sound_semicolons}
 

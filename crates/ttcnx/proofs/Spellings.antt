@@ -1,19 +1,10 @@
 -- What a spelling leaves of its tokens.
-use Rattle.std.proofs.Common.{◌≡◌, ℕ, suc, ◌+◌, ◌-◌, ◌<◌, ◌≤◌, Bool, true, false, List, [], ◌∷◌, length, refl, sym, ap, ◌∙◌, arith, rules}
+use Rattle.std.proofs.Common.{◌≡◌, ℕ, suc, ◌≤◌, true, false, List, ◌∷◌, length, refl, arith}
 use Rattle.ttcn_syntax.specs.declared.token.Token.{Token}
-use Rattle.ttcn_syntax.specs.declared.token.Token.TheVariants as token
 use Rattle.ttcn_syntax.specs.declared.token.Spanned.{Spanned}
-use Rattle.ttcn_syntax.specs.declared.token.Symbol.TheVariants as mark
-use Rattle.ttcn_syntax.specs.declared.token.Word.TheVariants as word
-use Rattle.ttcn_syntax.specs.declared.tree.Link.{Link}
 use Rattle.ttcn_syntax.specs.declared.tree.Operator.{Operator}
 use Rattle.ttcn_syntax.specs.declared.tree.Operator.TheVariants as operator
-use Rattle.ttcnx.specs.declared.module.Statement.{Statement}
-use Rattle.ttcnx.specs.declared.module.Definition.{Definition}
-use Rattle.ttcnx.specs.declared.module.Action.{Action}
-use Rattle.ttcnx.specs.declared.parse.expression.Level.{Level}
 use Rattle.ttcnx.specs.Grammar.{Is, Phrase, Spells, written, no_semicolon, semicolon, number, true_word, false_word, variable, bracketed, unsigned, plus, minus, affirmed, negated, alone, joined, no_link, next_link, no_value, with_value, last_name, next_name, last_text, next_text, log_nothing, log_texts, set_verdict, assignment, variables, other_statement, no_statement, last_statement, next_statement, braces, component_type, test_case, no_definition, next_definition, whole_module}
-use Rattle.ttcnx.specs.Grammar as grammar
 use Rattle.ttcnx.specs.Refused.{closes, opens}
 use Rattle.ttcnx.proofs.Depth.{Within, over_close, over_open, over_plain}
 

@@ -1,5 +1,5 @@
 -- What each stage of the work answers.
-use Rattle.std.proofs.Common.{◌≡◌, ℕ, ◌<◌, ◌≤◌, List, [], length, refl, sym, ap, subst, ◌∙◌, arith, inl, inr}
+use Rattle.std.proofs.Common.{◌≡◌, ℕ, ◌<◌, ◌≤◌, List, [], length, refl, sym, ap, subst, inl, inr}
 use Rattle.std.specs.Prelude.{◌⊎◌, ◌↔◌, Result, Ok, Err, IfErr, Some, None}
 use Rattle.std.specs.Result.{IsErr, IsErrAnd}
 use Rattle.std.proofs.lemmas.Bool.{cases_lt}
@@ -12,7 +12,7 @@ use Rattle.ttcn_syntax.specs.Cut.{IsCut, IsLeftmostFault, Stops, at_fault, past_
 use Rattle.ttcn_syntax.specs.declared.error.LexError.{LexError}
 use Rattle.ttcn_syntax.specs.declared.error.LexError.TheVariants as lexical
 use Rattle.ttcn_syntax.specs.declared.token.Spanned.{Spanned}
-use Rattle.ttcnx.specs.Answer.{Answer, IsAnswer, OfModule, OfTestCase, OfText, OfTokens, body_of, broken, cut, left_out, named, nameless, read, too_deep, too_long, too_many, uncut, unexpected, within}
+use Rattle.ttcnx.specs.Answer.{Answer, IsAnswer, OfTestCase, OfText, body_of, broken, cut, left_out, named, nameless, read, too_deep, too_long, too_many, uncut, unexpected, within}
 use Rattle.ttcnx.specs.Fault.{check_fault, explore_fault, lexical_fault, parse_fault}
 use Rattle.ttcnx.specs.Machine.{graph_of}
 use Rattle.ttcnx.specs.Refused.{IsRead, IsRefused}

@@ -1,6 +1,6 @@
 -- What the parser's functions compute, each from the tokens that are left. The definition that counts is `Spells`,
 -- in `Grammar`.
-use Rattle.std.specs.Prelude.{◌≡◌, ℕ, zero, suc, Bool, true, false, ◌&&◌, if◌then◌else◌, List, [], ◌∷◌, ◌++◌, length, drop, Option, Some, None, Result, Ok, Err}
+use Rattle.std.specs.Prelude.{◌≡◌, ℕ, zero, suc, Bool, true, false, if◌then◌else◌, List, [], ◌∷◌, ◌++◌, length, drop, Option, Some, None, Result, Ok, Err}
 use Rattle.std.specs.Borrow.{Bor}
 use Rattle.std.specs.declared.alloc.Global.{Global}
 use Rattle.std.specs.declared.vec.Vec.{Vec}
@@ -21,9 +21,8 @@ use Rattle.ttcn_syntax.specs.declared.tree.Expr.TheVariants as expr
 use Rattle.ttcn_syntax.specs.declared.tree.Link.{Link}
 use Rattle.ttcn_syntax.specs.declared.tree.Operator.{Operator}
 use Rattle.ttcn_syntax.specs.declared.tree.Operator.TheVariants as operator
-use Rattle.ttcn_syntax.specs.declared.tree.Sign.{Sign}
 use Rattle.ttcn_syntax.specs.declared.tree.Sign.TheVariants as sign
-use Rattle.ttcnx.specs.Grammar.{level_of, link, component, testcase, statement_at}
+use Rattle.ttcnx.specs.Grammar.{level_of, link, component, statement_at}
 use Rattle.ttcnx.specs.declared.parse.ParseError.{ParseError}
 use Rattle.ttcnx.specs.declared.parse.ParseError.TheVariants.{TooDeep, LeftOut, Unexpected, Memory}
 use Rattle.ttcnx.specs.declared.parse.expression.Level.{Level}
@@ -34,7 +33,7 @@ use Rattle.ttcnx.specs.declared.module.BasicType.{BasicType}
 use Rattle.ttcnx.specs.declared.module.BasicType.TheVariants.{Integer, Boolean}
 use Rattle.ttcnx.specs.declared.module.Behaviour.{Behaviour}
 use Rattle.ttcnx.specs.declared.module.Definition.{Definition}
-use Rattle.ttcnx.specs.declared.module.Kind.TheVariants.{Component, Testcase}
+use Rattle.ttcnx.specs.declared.module.Kind.TheVariants.{Testcase}
 use Rattle.ttcnx.specs.declared.module.Module.{Module}
 use Rattle.ttcnx.specs.declared.module.Statement.{Statement}
 use Rattle.ttcnx.specs.declared.verdict.Verdict.{Verdict}

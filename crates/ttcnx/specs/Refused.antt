@@ -1,10 +1,9 @@
 -- What is refused of a list of tokens, before and while it is read as a module.
-use Rattle.std.specs.Prelude.{◌≡◌, ℕ, ◌+◌, ◌<◌, Bool, true, false, not, IsTrue, List, [], ◌∷◌, take}
+use Rattle.std.specs.Prelude.{◌≡◌, ℕ, ◌+◌, ◌<◌, Bool, true, false, not, List, take}
 use Rattle.std.specs.List.{count_by}
 use Rattle.ttcn_syntax.specs.declared.token.Token.{Token}
 use Rattle.ttcn_syntax.specs.declared.token.Token.TheVariants as token
 use Rattle.ttcn_syntax.specs.declared.token.Spanned.{Spanned}
-use Rattle.ttcn_syntax.specs.declared.token.Symbol.{Symbol}
 use Rattle.ttcn_syntax.specs.declared.token.Symbol.TheVariants as mark
 use Rattle.ttcn_syntax.specs.declared.token.Word.{Word}
 use Rattle.ttcn_syntax.specs.declared.token.Word.TheVariants as word

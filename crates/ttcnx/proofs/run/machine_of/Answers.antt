@@ -1,4 +1,4 @@
-use Rattle.std.proofs.Common.{sym, subst, ◌∙◌, inr}
+use Rattle.std.proofs.Common.{sym, subst}
 use Rattle.ttcn_syntax.specs.Cut.{IsCut}
 use Rattle.ttcnx.specs.Fault.{check_fault, lexical_fault, parse_fault}
 use Rattle.ttcnx.proofs.Stages.{Refuses, checking_refuses, cut_is_short, from_error, lexing_refuses, naming_finds, naming_refuses, parsing_refuses}

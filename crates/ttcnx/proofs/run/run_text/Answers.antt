@@ -1,9 +1,8 @@
-use Rattle.std.proofs.Common.{◌≡◌, ◌≤◌, ℕ, Bool, ◌∙◌, sym, subst, ap, inl, inr, rules, arith}
+use Rattle.std.proofs.Common.{◌≡◌, ◌≤◌, ℕ, Bool, ◌∙◌, sym, subst, ap, inr, rules}
 use Rattle.std.specs.Prelude.{◌⊎◌, IsTrue, ◌↔◌, Ok, Err}
-use Rattle.std.proofs.lemmas.Grind.{common_steps}
 use Rattle.explore.specs.Limits.{IsWithinLimits}
 use Rattle.summary.specs.Exploration.{Counts, IsComplete}
-use Rattle.ttcnx.specs.Answer.{Answer, IsAnswer, OfTestCase, beyond, told, within}
+use Rattle.ttcnx.specs.Answer.{IsAnswer, beyond, told, within}
 use Rattle.ttcnx.specs.Fault.{explore_fault}
 use Rattle.ttcnx.specs.Machine.{graph_of}
 use Rattle.ttcnx.specs.Tells.{Tells}

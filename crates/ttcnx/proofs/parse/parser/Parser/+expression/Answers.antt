@@ -1,6 +1,6 @@
 use Rattle.std.proofs.Common.{rules, arith}
 use Rattle.std.proofs.lemmas.Grind.{common_steps}
-use Rattle.ttcnx.specs.Reader.{bracketed, eat_operator, inner, links_from, operand_of}
+use Rattle.ttcnx.specs.Reader.{bracketed, inner, links_from, operand_of}
 use Rattle.ttcnx.proofs.Turns.{last_turn, next_turn, positive}
 use Rattle.ttcnx.proofs.parse.parser.Parser.+expression.Goals as goal
 
