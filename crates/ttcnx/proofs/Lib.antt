@@ -6,6 +6,7 @@ pub mod OneAnswer
 pub mod Outcomes
 pub mod Parses
 pub mod Parsing
+pub mod Positions
 pub mod ScopeLemmas
 pub mod SiteLemmas
 pub mod Sound

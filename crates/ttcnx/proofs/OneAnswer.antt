@@ -21,13 +21,12 @@ use Rattle.ttcn_syntax.specs.declared.token.Spanned.{Spanned}
 use Rattle.ttcn_syntax.proofs.Once.{reads_once}
 use Rattle.ttcnx.specs.Answer.{Answer, HasOneAnswer, OfModule, OfTestCase, OfText, OfTokens, SameAnswer, SameFault, beyond, broken, cut, left_out, named, nameless, read, too_deep, too_long, too_many, told, uncut, unexpected, within}
 use Rattle.ttcnx.specs.Fault.{lexical_fault, rule_refusal}
-use Rattle.ttcnx.specs.Machine.{graph_of}
+use Rattle.ttcnx.specs.Steps.{Situation, graph_of}
 use Rattle.ttcnx.specs.Report.{header_text, line, outcome_text, report_text, step_line, yes_or_no}
 use Rattle.ttcnx.specs.Rules.{IsLeast, broken_rules, number_of}
 use Rattle.ttcnx.specs.Tells.{Tells, all_verdicts, outcome_of}
 use Rattle.ttcnx.specs.Verdict.{mark_of, word_of}
 use Rattle.ttcnx.specs.contracts.label.LabelOrd.TheImpl as label
-use Rattle.ttcnx.specs.declared.configuration.Configuration.{Configuration}
 use Rattle.ttcnx.specs.declared.fault.Fault.{Fault}
 use Rattle.ttcnx.specs.declared.fault.Fault.TheVariants as fault
 use Rattle.ttcnx.specs.declared.label.Label.{Label}
@@ -147,7 +146,7 @@ congr Mtc Mtc Mtc h = refl
 label_total : IsTotalOrder (label.ghosts).cmp
 label_total = record { antisymm = antisymm; trans = trans; congr = congr }
 
-module _ (g : Graph Configuration Label) (n : ℕ) where
+module _ (g : Graph Situation Label) (n : ℕ) where
   best_alike : (verdict : Verdict) (a b : Option (Vec Label Global)) → IsBestOf g (label.ghosts).cmp n (mark_of verdict) a
       → IsBestOf g (label.ghosts).cmp n (mark_of verdict) b → told_of verdict a ≡ told_of verdict b
   unfolding run_text
@@ -173,7 +172,7 @@ headers_alike a b name steps configurations complete =
     ∙ ap (λ x. header_of (string_bytes b.testcase) b.steps x a.complete) configurations
     ∙ ap (λ x. header_of (string_bytes b.testcase) b.steps b.configurations x) complete
 
-one_report : (g : Graph Configuration Label) (name : List ℕ) (plan : Plan) (a b : Report) → Tells g name plan a → Tells g name plan b
+one_report : (g : Graph Situation Label) (name : List ℕ) (plan : Plan) (a b : Report) → Tells g name plan a → Tells g name plan b
     → report_text a ≡ report_text b
 one_report g name plan a b h k =
     let header = headers_alike a b (h.testcase ∙ sym k.testcase) (h.steps ∙ sym k.steps)

@@ -14,7 +14,7 @@ use Rattle.ttcn_syntax.specs.declared.error.LexError.TheVariants as lexical
 use Rattle.ttcn_syntax.specs.declared.token.Spanned.{Spanned}
 use Rattle.ttcnx.specs.Answer.{Answer, IsAnswer, OfTestCase, OfText, body_of, broken, cut, left_out, named, nameless, read, too_deep, too_long, too_many, uncut, unexpected, within}
 use Rattle.ttcnx.specs.Fault.{check_fault, explore_fault, lexical_fault, parse_fault}
-use Rattle.ttcnx.specs.Machine.{graph_of}
+use Rattle.ttcnx.specs.Steps.{graph_of}
 use Rattle.ttcnx.specs.Refused.{IsRead, IsRefused}
 use Rattle.ttcnx.specs.Rules.{IsRefusal, broken_rules}
 use Rattle.ttcnx.specs.declared.fault.Fault.{Fault}

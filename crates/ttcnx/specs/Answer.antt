@@ -11,7 +11,7 @@ use Rattle.ttcn_syntax.specs.declared.error.LexError.{LexError}
 use Rattle.ttcn_syntax.specs.declared.place.Span.{Span}
 use Rattle.ttcn_syntax.specs.declared.token.Spanned.{Spanned}
 use Rattle.ttcnx.specs.Fault.{lexical_fault, rule_refusal}
-use Rattle.ttcnx.specs.Machine.{graph_of}
+use Rattle.ttcnx.specs.Steps.{graph_of}
 use Rattle.ttcnx.specs.Refused.{HasLeftOut, IsRead, IsTooDeep, IsUnread}
 use Rattle.ttcnx.specs.Report.{report_text}
 use Rattle.ttcnx.specs.Rules.{IsLeast, broken_rules}

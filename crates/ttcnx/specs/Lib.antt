@@ -11,6 +11,7 @@ pub mod Report
 pub mod Rules
 pub mod Same
 pub mod Scopes
+pub mod Steps
 pub mod Tells
 pub mod Types
 pub mod Verdict

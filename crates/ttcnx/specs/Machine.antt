@@ -1,4 +1,5 @@
--- The steps of one component (ES 201 873-4).
+-- The steps of a test case as the machine takes them, by a position in its statements. The definition that counts is in
+-- `Steps`.
 use Rattle.std.specs.Prelude.{ℕ, ◌+◌, ◌≤◌, List, [], ◌∷◌, length, Option, Some, None, Result, Ok, Err, slice_get}
 use Rattle.summary.specs.Graph.{Graph}
 use Rattle.ttcn_syntax.specs.Expression.{expression}
@@ -61,8 +62,8 @@ StandsIn body (Ended verdict) = Unit {0}
 StandsIn body (Running c) = c.position ≤ length body
 
 -- the steps of a test case from its beginning on
-abbrev pub graph_of : List Statement → Graph Configuration Label
-graph_of body = record {
+abbrev pub positions_of : List Statement → Graph Configuration Label
+positions_of body = record {
   first = Running (record { position = 0; verdict = verdicts.None; frame = [] });
   enabled = steps_at;
   after = λ c label. after_step body c;

@@ -9,7 +9,7 @@ use Rattle.explore.specs.Best.{IsBestOf}
 use Rattle.explore.specs.declared.plan.Plan.{Plan}
 use Rattle.ttcnx.specs.Verdict.{mark_of}
 use Rattle.ttcnx.specs.contracts.label.LabelOrd.TheImpl as label
-use Rattle.ttcnx.specs.declared.configuration.Configuration.{Configuration}
+use Rattle.ttcnx.specs.Steps.{Situation}
 use Rattle.ttcnx.specs.declared.label.Label.{Label}
 use Rattle.ttcnx.specs.declared.report.Outcome.{Outcome}
 use Rattle.ttcnx.specs.declared.report.Report.{Report}
@@ -31,7 +31,7 @@ outcomes_of run_of = filter_map (λ verdict. outcome_of verdict (run_of verdict)
 
 -- the report tells of the runs of at most the plan's steps: how many configurations they reach, whether there are no
 -- others, and for each verdict that a run ends with the least of the shortest such runs
-pub record Tells (g : Graph Configuration Label) (name : List ℕ) (plan : Plan) (report : Report) : Type 0 where
+pub record Tells (g : Graph Situation Label) (name : List ℕ) (plan : Plan) (report : Report) : Type 0 where
   pub testcase : string_bytes report.testcase ≡ name
   pub steps : report.steps ≡ plan.steps
   pub configurations : Counts g plan.steps report.configurations

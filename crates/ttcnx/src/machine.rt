@@ -4,7 +4,7 @@ ghost use Rattle.ttcn_syntax.specs.Expression.{expression};
 ghost use Rattle.ttcn_values.specs.Entries.{find};
 ghost use Rattle.ttcn_values.specs.Evaluation.{value_of};
 ghost use Rattle.ttcnx.specs.Same.{after_stands, marks_are_small, same_configurations, steps_ascend, zero_below};
-ghost use Rattle.ttcnx.specs.Machine.{StandsIn, graph_of, performed, stored};
+ghost use Rattle.ttcnx.specs.Machine.{StandsIn, positions_of, performed, stored};
 
 use crate::configuration::{Component, Configuration};
 use crate::label::Label;
@@ -26,7 +26,7 @@ impl System for Machine {
 
     type Label = Label;
 
-    ghost graph = { λ machine. graph_of machine.body };
+    ghost graph = { λ machine. positions_of machine.body };
 
     ghost fits = { λ machine. StandsIn machine.body };
 

@@ -1,5 +1,5 @@
 //! Want of memory. Under `rt try --test --fail-alloc N` the Nth request for memory of each test is refused, and these
-//! tests pass at each N. Under `--fail-alloc 'N..'` all from the Nth on are refused, and the last one passes.
+//! tests pass at each N.
 use crate::{Board, Memory, NoSeat, Seen};
 use std::alloc::Global;
 use std::test::Fail;

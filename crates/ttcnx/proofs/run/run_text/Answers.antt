@@ -4,13 +4,18 @@ use Rattle.explore.specs.Limits.{IsWithinLimits}
 use Rattle.summary.specs.Exploration.{Counts, IsComplete}
 use Rattle.ttcnx.specs.Answer.{IsAnswer, beyond, told, within}
 use Rattle.ttcnx.specs.Fault.{explore_fault}
-use Rattle.ttcnx.specs.Machine.{graph_of}
+use Rattle.ttcnx.specs.Steps.{graph_of}
 use Rattle.ttcnx.specs.Tells.{Tells}
 use Rattle.ttcnx.specs.Verdict.{mark_of}
 use Rattle.ttcnx.specs.declared.fault.Fault.TheVariants.{Memory}
 use Rattle.ttcnx.proofs.Outcomes.{kept, mark_below_8, outcomes_of-kept}
+use Rattle.ttcnx.proofs.Positions.{best_there, complete_there, counts_there}
+use Rattle.ttcnx.specs.contracts.label.LabelOrd.TheImpl as label
 use Rattle.ttcnx.proofs.Stages.{as_error, refusal_answers, search_answers}
 use Rattle.ttcnx.proofs.run.run_text.Goals as goal
+
+complete_so : {P Q R : Type 0} → (P ↔ Q) → (Q ↔ R) → P ↔ R
+complete_so h k = ((λ p. k.0 (h.0 p)), (λ r. h.1 (k.1 r)))
 
 pub returns-then-not-is_within_limits-clause-answer : goal.returns-then-not-is_within_limits-clause-answer
 returns-then-not-is_within_limits-clause-answer g c =
@@ -34,7 +39,8 @@ returns-in_err-answer-clause-answer g c =
     as_error c.from_residual-in_err-answer.result (explore_fault error) (λ r. (r ≡ Err Memory) ⊎ IsAnswer c.args.text.now c.args.name.now c.args.plan.now r)
     c.from_residual-in_err-answer.ensures.0 c.from_residual-in_err-answer.ensures.1
     (search_answers c.args.text.now c.args.name.now c.args.plan.now body error fine
-    (λ is. found.bad_plan.0 (ap Err is)) (λ is. found.too_many (ap Err is))
+    (λ is. found.bad_plan.0 (ap Err is))
+    (λ is. let more = found.too_many (ap Err is) in (more.0, counts_there body c.args.plan.now.steps more.0 more.1, more.2))
     (λ answer. c.in_ok-machine.ensures.machine c.args.plan.now answer))
 
 pub returns-clause-answer : goal.returns-clause-answer
@@ -47,11 +53,14 @@ returns-clause-answer g c =
     let tells : Tells (graph_of body) c.args.name.now c.args.plan.now c.in_ok-report_of.field-0 = record {
       testcase = report.testcase;
       steps = report.steps;
-      configurations = subst (λ (n : ℕ). Counts (graph_of body) c.args.plan.now.steps n) (sym report.configurations) found.count.0;
+      configurations = subst (λ (n : ℕ). Counts (graph_of body) c.args.plan.now.steps n) (sym report.configurations)
+          (counts_there body c.args.plan.now.steps answer.count found.count.0);
       within = subst (λ (n : ℕ). n ≤ c.args.plan.now.limit) (sym report.configurations) found.count.1;
-      complete = subst (λ (b : Bool). IsTrue b ↔ IsComplete (graph_of body) c.args.plan.now.steps) (sym report.complete) found.complete;
+      complete = subst (λ (b : Bool). IsTrue b ↔ IsComplete (graph_of body) c.args.plan.now.steps) (sym report.complete)
+          (complete_so found.complete (complete_there body c.args.plan.now.steps));
       run_of = kept answer.best.items;
-      best = λ verdict. found.best.each (mark_of verdict) (mark_below_8 verdict);
+      best = λ verdict. best_there body (label.ghosts).cmp c.args.plan.now.steps (mark_of verdict) (kept answer.best.items verdict)
+          (found.best.each (mark_of verdict) (mark_below_8 verdict));
       outcomes = report.outcomes ∙ outcomes_of-kept answer.best.items found.best.eight;
     } in
     inr (within fine (c.in_ok-machine.ensures.machine c.args.plan.now (Ok c.in_ok-report_of.field-0) (told tells)))
