@@ -20,9 +20,9 @@ use std::thread::Threads;
 use summary::Verdicts;
 use ttcn_syntax::{LexError, Seq, lex};
 
-#[tactic(auto, using(crate::proofs::OneAnswer::one_answer))]
 /// Explores the runs of the test case of this name. Refusals come in the order of the work: the plan, the text, its
 /// tokens, its module, the name, the number of configurations.
+#[tactic(auto, using(crate::proofs::OneAnswer::one_answer))]
 pub fn run_text<G: Gate, R: Threads + Sync>(
     rt: &R,
     alloc: Global,
