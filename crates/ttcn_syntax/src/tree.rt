@@ -1,53 +1,22 @@
-//! The tree of a module, of which there are expressions so far.
-use crate::{Boxed, Name, Seq};
+//! The tree of a module: what the text says, in the standard's terms (ES 201 873-1).
+//!
+//! Parentheses leave no trace in it, nor do `language`, `control` and `with`. What a text may write without end is a
+//! list; only what stands within brackets nests.
+mod definition;
+mod expression;
+mod statement;
+mod template;
+mod value;
 
-/// The sign before an operand.
-#[derive(Clone, Copy, Debug, PartialEq, Eq)]
-pub enum Sign {
-    Plus,
-    Minus,
-}
-
-/// The operators between two operands.
-#[derive(Clone, Copy, Debug, PartialEq, Eq)]
-pub enum Operator {
-    Or,
-    Xor,
-    And,
-    Equal,
-    NotEqual,
-    Less,
-    Greater,
-    LessEqual,
-    GreaterEqual,
-    Add,
-    Subtract,
-    Multiply,
-    Divide,
-    Mod,
-    Rem,
-}
-
-/// An expression. Operands joined by operators of one binding level are one chain, read from left to right.
-#[cycle(expression)]
-#[derive(Debug, Drop, PartialEq, Eq)]
-pub enum Expr {
-    Int(u64),
-    Bool(bool),
-    Name(Name),
-    Not(Boxed<Expr>),
-    Signed(Sign, Boxed<Expr>),
-    /// The first operand, and the operators with the operands behind them.
-    Chain(Boxed<Expr>, Seq<Link>),
-}
-
-/// An operator and the operand behind it.
-#[cycle(expression)]
-#[derive(Debug, Drop, PartialEq, Eq)]
-pub struct Link {
-    pub operator: Operator,
-    pub operand: Expr,
-}
-
-#[cfg(test)]
-mod tests;
+pub use definition::{
+    Altstep, ComponentType, Definition, DefinitionKind, Direction, EnumNumber, EnumeratedType,
+    Enumerator, Field, Function, Member, MemberVariable, Module, Parameter, PortMessages, PortType,
+    RecordType, TemplateDefinition, Testcase,
+};
+pub use expression::{ComponentRef, Expr, Link, Reference};
+pub use statement::{
+    Action, Alternative, Assignment, Branch, Conditional, Constant, Constants, Event, ForStart,
+    LogItem, PortRef, PortSelector, Receive, Send, Statement, Timer, Variable, Variables, Verdict,
+};
+pub use template::{Bound, FieldTemplate, MessageTemplate, Template, TemplateBody};
+pub use value::{Call, FieldValue, Rhs, TypeName, Value};

@@ -1,7 +1,7 @@
 -- The value of an expression (ES 201 873-1, 7.1).
 use Rattle.std.specs.Prelude.{ℕ, pos, List, Option, Some, None, Result, Ok, Err, if◌then◌else◌}
 use Rattle.ttcn_syntax.specs.Expression.{Expression, integer, boolean, name, negation, signed, operation}
-use Rattle.ttcn_syntax.specs.declared.tree.Operator.{Operator}
+use Rattle.ttcn_syntax.specs.declared.operator.Operator.{Operator}
 use Rattle.ttcn_values.specs.Integers.{in_range}
 use Rattle.ttcn_values.specs.Operators.{negated, under_sign, applied, decides}
 use Rattle.ttcn_values.specs.declared.fault.Fault.{Fault}

@@ -2,10 +2,10 @@
 use Rattle.std.specs.Prelude.{ℤ, ◌+ℤ◌, ◌-ℤ◌, ◌*ℤ◌, neg_ℤ, Bool, false, ◌&&◌, ◌||◌, not, Result, Ok, Err, int_lt, int_div}
 use Rattle.std.specs.Ordering.{int_eq}
 use mathlib.Core.Bool.{beq}
-use Rattle.ttcn_syntax.specs.declared.tree.Operator.{Operator}
-use Rattle.ttcn_syntax.specs.declared.tree.Operator.TheVariants.{Or, Xor, And, Equal, NotEqual, Less, Greater, LessEqual, GreaterEqual, Add, Subtract, Multiply, Divide, Mod, Rem}
-use Rattle.ttcn_syntax.specs.declared.tree.Sign.{Sign}
-use Rattle.ttcn_syntax.specs.declared.tree.Sign.TheVariants.{Plus, Minus}
+use Rattle.ttcn_syntax.specs.declared.operator.Operator.{Operator}
+use Rattle.ttcn_syntax.specs.declared.operator.Operator.TheVariants.{Or, Xor, And, Equal, NotEqual, Less, Greater, LessEqual, GreaterEqual, Add, Subtract, Multiply, Divide, Mod, Rem}
+use Rattle.ttcn_syntax.specs.declared.operator.Sign.{Sign}
+use Rattle.ttcn_syntax.specs.declared.operator.Sign.TheVariants.{Plus, Minus}
 use Rattle.ttcn_values.specs.Integers.{in_range, divided_by, remainder, modulus}
 use Rattle.ttcn_values.specs.declared.fault.Fault.{Fault}
 use Rattle.ttcn_values.specs.declared.fault.Fault.TheVariants.{Dynamic}

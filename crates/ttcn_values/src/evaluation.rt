@@ -6,22 +6,22 @@ ghost use Rattle.ttcn_values.specs.Evaluation.{value_of};
 
 use crate::operators::{apply, is_decided, negate, number, sign};
 use crate::{Fault, Frame, Value};
-use ttcn_syntax::Expr;
+use ttcn_syntax::BasicExpr;
 
 /// The value of an expression where the names of the frame have their values.
-pub fn eval(expr: &Expr, frame: &Frame) -> Result<Value, Fault>
+pub fn eval(expr: &BasicExpr, frame: &Frame) -> Result<Value, Fault>
     ensures { result ≡ value_of (find frame.now) (expression expr.now) }
 {
     match expr {
-        Expr::Int(digits) => number(*digits),
-        Expr::Bool(truth) => Ok(Value::Boolean(*truth)),
-        Expr::Name(name) => match frame.get(name) {
+        BasicExpr::Int(digits) => number(*digits),
+        BasicExpr::Bool(truth) => Ok(Value::Boolean(*truth)),
+        BasicExpr::Name(name) => match frame.get(name) {
             Some(value) => Ok(value),
             None => Err(Fault::Dynamic),
         },
-        Expr::Not(operand) => negate(eval(operand.get(), frame)?),
-        Expr::Signed(mark, operand) => sign(*mark, eval(operand.get(), frame)?),
-        Expr::Chain(first, links) => {
+        BasicExpr::Not(operand) => negate(eval(operand.get(), frame)?),
+        BasicExpr::Signed(mark, operand) => sign(*mark, eval(operand.get(), frame)?),
+        BasicExpr::Chain(first, links) => {
             let mut value = eval(first.get(), frame)?;
             for link in links.as_slice() {
                 if !is_decided(link.operator, value) {

@@ -2,23 +2,25 @@
 use Rattle.std.proofs.Common.{◌≡◌, ℕ, zero, suc, ◌<◌, ◌≤◌, true, false, List, [], ◌∷◌, ◌++◌, length, refl, sym, ap, ◌∙◌, arith, rules, inl, inr, lit<}
 use Rattle.std.specs.Prelude.{Option, Some, None}
 use denote.Enum.Bare.{same_true, true_same}
+use Rattle.ttcn_syntax.specs.Operators.{Joins, level_of, operator_of, written, and_joins, equality_joins, or_joins, order_joins, product_joins, sum_joins, xor_joins}
+use Rattle.ttcn_syntax.specs.contracts.operator.Level as a_level
 use Rattle.ttcn_syntax.specs.declared.token.Token.TheVariants as token
 use Rattle.ttcn_syntax.specs.declared.token.Spanned.{Spanned}
 use Rattle.ttcn_syntax.specs.declared.token.Symbol.TheVariants as mark
 use Rattle.ttcn_syntax.specs.declared.token.Word.TheVariants as word
-use Rattle.ttcn_syntax.specs.declared.tree.Expr.{Expr}
-use Rattle.ttcn_syntax.specs.declared.tree.Expr.TheVariants as expr
-use Rattle.ttcn_syntax.specs.declared.tree.Link.{Link}
-use Rattle.ttcn_syntax.specs.declared.tree.Operator.{Operator}
-use Rattle.ttcn_syntax.specs.declared.tree.Operator.TheVariants as operator
-use Rattle.ttcn_syntax.specs.declared.tree.Sign.TheVariants as sign
-use Rattle.ttcnx.specs.contracts.parse.expression.Level as a_level
-use Rattle.ttcnx.specs.declared.parse.expression.Level.{Level}
-use Rattle.ttcnx.specs.declared.parse.expression.Level.TheVariants as level
+use Rattle.ttcn_syntax.specs.declared.basic.BasicExpr.{BasicExpr}
+use Rattle.ttcn_syntax.specs.declared.basic.BasicExpr.TheVariants as expr
+use Rattle.ttcn_syntax.specs.declared.basic.BasicLink.{BasicLink}
+use Rattle.ttcn_syntax.specs.declared.operator.Level.{Level}
+use Rattle.ttcn_syntax.specs.declared.operator.Level.TheVariants as level
+use Rattle.ttcn_syntax.specs.declared.operator.Operator.{Operator}
+use Rattle.ttcn_syntax.specs.declared.operator.Operator.TheVariants as operator
+use Rattle.ttcn_syntax.specs.declared.operator.Sign.TheVariants as sign
+use Rattle.ttcn_parse.specs.Groups.{Is}
 use Rattle.ttcnx.specs.Level.{rank_of}
-use Rattle.ttcnx.specs.Grammar.{Is, Joins, Phrase, Spells, level_of, link, written, type_word, verdict_word, or_joins, xor_joins, and_joins, equality_joins, order_joins, sum_joins, product_joins}
+use Rattle.ttcnx.specs.Grammar.{Phrase, Spells, link, type_word, verdict_word}
 use Rattle.ttcnx.specs.Grammar as spelled
-use Rattle.ttcnx.specs.Reader.{Parser, at_equality, at_level, at_order, at_product, at_sum, behind, bracketed, chain, eat_operator, head_token, links_from, most_links, negation, next_operator, operand_of, operator_in, operator_of, primary, same_level, same_symbol, sees, sees_word, signed}
+use Rattle.ttcnx.specs.Reader.{Parser, at_equality, at_level, at_order, at_product, at_sum, behind, bracketed, chain, eat_operator, head_token, links_from, most_links, negation, next_operator, operand_of, operator_in, primary, same_level, same_symbol, sees, sees_word, signed}
 use Rattle.ttcnx.proofs.Spellings.{shrinks}
 use Rattle.ttcnx.proofs.Sound.{either, some_is}
 use Rattle.ttcnx.proofs.Tokens.{expect_here, sees_by, sees_here, sees_word_here, sees_word_is}
@@ -66,7 +68,7 @@ operator_here : (o : Operator) (k : Spanned) → Is k (written o) → operator_o
 operator_here o k is = ap operator_of is ∙ written_operator o
 
 -- behind an operand come the operators of its level
-pub links_follow : {outer inner : Level} {ls : List Link} {ts rest : List Spanned} → Spells (spelled.links outer ls) ts rest
+pub links_follow : {outer inner : Level} {ls : List BasicLink} {ts rest : List Spanned} → Spells (spelled.links outer ls) ts rest
     → Joins outer inner → Follows outer rest → Follows inner ts
 links_follow spelled.no_link j f = follows_tighter _ j f
 links_follow {outer = outer} (spelled.next_link {k = k} i o is at more others) j f = λ found h.
@@ -89,7 +91,7 @@ no_operator outer (Some o) f =
     ]
 
 -- where none follows, none is read
-pub no_links : (p : Parser Expr) (outer : Level) (n : ℕ) (found : List Link) (rest : List Spanned) → Follows outer rest
+pub no_links : (p : Parser BasicExpr) (outer : Level) (n : ℕ) (found : List BasicLink) (rest : List Spanned) → Follows outer rest
     → links_from p outer n found rest ≡ Some (found, rest)
 unfolding links_from eat_operator
 no_links p outer zero found rest f = refl
@@ -97,7 +99,7 @@ no_links p outer (suc n) found rest f = rw (no_operator outer (operator_in (head
 
 -- ---- where the tokens begin otherwise
 
-pub primary_begins : {e : Expr} {ts rest : List Spanned} → Spells (spelled.primary e) ts rest → (sees mark.Plus ts ≡ false) × (sees mark.Minus ts ≡ false)
+pub primary_begins : {e : BasicExpr} {ts rest : List Spanned} → Spells (spelled.primary e) ts rest → (sees mark.Plus ts ≡ false) × (sees mark.Minus ts ≡ false)
 unfolding same_symbol
 primary_begins (spelled.number {k = k} {rest = rest} is) = (sees_by mark.Plus k rest _ is, sees_by mark.Minus k rest _ is)
 primary_begins (spelled.true_word {k = k} {rest = rest} is) = (sees_by mark.Plus k rest _ is, sees_by mark.Minus k rest _ is)
@@ -105,15 +107,15 @@ primary_begins (spelled.false_word {k = k} {rest = rest} is) = (sees_by mark.Plu
 primary_begins (spelled.variable {k = k} {rest = rest} is) = (sees_by mark.Plus k rest _ is, sees_by mark.Minus k rest _ is)
 primary_begins (spelled.bracketed {k = k} {ts = ts} is s c) = (sees_by mark.Plus k ts _ is, sees_by mark.Minus k ts _ is)
 
-chain_none : (outer : Level) (p : Parser Expr) (ts : List Spanned) → p ts ≡ None → chain outer p ts ≡ None
+chain_none : (outer : Level) (p : Parser BasicExpr) (ts : List Spanned) → p ts ≡ None → chain outer p ts ≡ None
 unfolding chain
 chain_none outer p ts h = rw h refl
 
-signed_none : (p : Parser Expr) (k : Spanned) (ts : List Spanned) → Is k (token.Word word.Not) → signed p (k ∷ ts) ≡ None
+signed_none : (p : Parser BasicExpr) (k : Spanned) (ts : List Spanned) → Is k (token.Word word.Not) → signed p (k ∷ ts) ≡ None
 unfolding signed sees primary
 signed_none p k ts is = rw is refl
 
-not_first : (p : Parser Expr) (ts : List Spanned) → sees_word word.Not ts ≡ true → at_equality p ts ≡ None
+not_first : (p : Parser BasicExpr) (ts : List Spanned) → sees_word word.Not ts ≡ true → at_equality p ts ≡ None
 not_first p ts h =
     let begins = sees_word_is word.Not ts h in
     let none : signed p ts ≡ None = rw begins.all (signed_none p begins.first (behind ts) begins.is) in
@@ -131,7 +133,7 @@ joins_one order_joins order_joins = refl
 joins_one sum_joins sum_joins = refl
 joins_one product_joins product_joins = refl
 
-pub joins_chain : {outer inner : Level} (p : Parser Expr) → Joins outer inner → operand_of p outer ≡ chain outer (operand_of p inner)
+pub joins_chain : {outer inner : Level} (p : Parser BasicExpr) → Joins outer inner → operand_of p outer ≡ chain outer (operand_of p inner)
 joins_chain p or_joins = refl
 joins_chain p xor_joins = refl
 joins_chain p and_joins = refl
@@ -140,32 +142,32 @@ joins_chain p order_joins = refl
 joins_chain p sum_joins = refl
 joins_chain p product_joins = refl
 
-pub bracketed_reads : (p : Parser Expr) (ts rest : List Spanned) (c : Spanned) (e : Expr) → p ts ≡ Some (e, c ∷ rest)
+pub bracketed_reads : (p : Parser BasicExpr) (ts rest : List Spanned) (c : Spanned) (e : BasicExpr) → p ts ≡ Some (e, c ∷ rest)
     → Is c (token.Symbol mark.RightParen) → bracketed p ts ≡ Some (e, rest)
 unfolding bracketed
 bracketed_reads p ts rest c e h is = rw h (rw (expect_here mark.RightParen c rest is) refl)
 
-pub plus_reads : (p : Parser Expr) (k : Spanned) (ts rest : List Spanned) (e : Expr) → Is k (token.Symbol mark.Plus) → primary p ts ≡ Some (e, rest)
+pub plus_reads : (p : Parser BasicExpr) (k : Spanned) (ts rest : List Spanned) (e : BasicExpr) → Is k (token.Symbol mark.Plus) → primary p ts ≡ Some (e, rest)
     → signed p (k ∷ ts) ≡ Some (expr.Signed sign.Plus e, rest)
 unfolding signed
 plus_reads p k ts rest e is h = rw (sees_here mark.Plus k ts is) (rw h refl)
 
-pub minus_reads : (p : Parser Expr) (k : Spanned) (ts rest : List Spanned) (e : Expr) → Is k (token.Symbol mark.Minus) → primary p ts ≡ Some (e, rest)
+pub minus_reads : (p : Parser BasicExpr) (k : Spanned) (ts rest : List Spanned) (e : BasicExpr) → Is k (token.Symbol mark.Minus) → primary p ts ≡ Some (e, rest)
     → signed p (k ∷ ts) ≡ Some (expr.Signed sign.Minus e, rest)
 unfolding signed same_symbol
 minus_reads p k ts rest e is h = rw (sees_by mark.Plus k ts _ is) (rw (sees_here mark.Minus k ts is) (rw h refl))
 
-pub unsigned_reads : (p : Parser Expr) (ts : List Spanned) (x : Expr × List Spanned) → (sees mark.Plus ts ≡ false) × (sees mark.Minus ts ≡ false)
+pub unsigned_reads : (p : Parser BasicExpr) (ts : List Spanned) (x : BasicExpr × List Spanned) → (sees mark.Plus ts ≡ false) × (sees mark.Minus ts ≡ false)
     → primary p ts ≡ Some x → signed p ts ≡ Some x
 unfolding signed
 unsigned_reads p ts x begins h = rw begins.0 (rw begins.1 h)
 
-pub negated_reads : (p : Parser Expr) (k : Spanned) (ts rest : List Spanned) (e : Expr) → Is k (token.Word word.Not) → p ts ≡ Some (e, rest)
+pub negated_reads : (p : Parser BasicExpr) (k : Spanned) (ts rest : List Spanned) (e : BasicExpr) → Is k (token.Word word.Not) → p ts ≡ Some (e, rest)
     → negation p (k ∷ ts) ≡ Some (expr.Not e, rest)
 unfolding negation
 negated_reads p k ts rest e is h = rw (sees_word_here word.Not k ts is) (rw h refl)
 
-pub affirmed_reads : (p : Parser Expr) (ts : List Spanned) (x : Expr × List Spanned) → at_equality p ts ≡ Some x
+pub affirmed_reads : (p : Parser BasicExpr) (ts : List Spanned) (x : BasicExpr × List Spanned) → at_equality p ts ≡ Some x
     → negation (at_equality p) ts ≡ Some x
 unfolding negation
 affirmed_reads p ts x h =
@@ -174,30 +176,30 @@ affirmed_reads p ts x h =
       | inr other ↦ rw other h
     ]
 
-pub alone_reads : (outer : Level) (p : Parser Expr) (ts rest : List Spanned) (e : Expr) → p ts ≡ Some (e, rest) → Follows outer rest
+pub alone_reads : (outer : Level) (p : Parser BasicExpr) (ts rest : List Spanned) (e : BasicExpr) → p ts ≡ Some (e, rest) → Follows outer rest
     → chain outer p ts ≡ Some (e, rest)
 unfolding chain
 alone_reads outer p ts rest e h f = rw h (rw (no_links p outer (most_links outer rest) [] rest f) refl)
 
-pub chain_reads : (outer : Level) (p : Parser Expr) (ts middle rest : List Spanned) (e : Expr) (l : Link) (ls : List Link) → p ts ≡ Some (e, middle)
+pub chain_reads : (outer : Level) (p : Parser BasicExpr) (ts middle rest : List Spanned) (e : BasicExpr) (l : BasicLink) (ls : List BasicLink) → p ts ≡ Some (e, middle)
     → links_from p outer (most_links outer middle) [] middle ≡ Some (l ∷ ls, rest) → chain outer p ts ≡ Some (expr.Chain e (l ∷ ls), rest)
 unfolding chain
 chain_reads outer p ts middle rest e l ls h more = rw h (rw more refl)
 
-pub link_reads : (outer : Level) (p : Parser Expr) (n : ℕ) (found : List Link) (k : Spanned) (ts middle : List Spanned) (x : List Link × List Spanned)
-    (o : Operator) (e : Expr) → Is k (written o) → level_of o ≡ outer → p ts ≡ Some (e, middle)
+pub link_reads : (outer : Level) (p : Parser BasicExpr) (n : ℕ) (found : List BasicLink) (k : Spanned) (ts middle : List Spanned) (x : List BasicLink × List Spanned)
+    (o : Operator) (e : BasicExpr) → Is k (written o) → level_of o ≡ outer → p ts ≡ Some (e, middle)
     → links_from p outer n (found ++ link o e ∷ []) middle ≡ Some x → links_from p outer (suc n) found (k ∷ ts) ≡ Some x
 unfolding links_from eat_operator same_level
 link_reads outer p n found k ts middle x o e is at h more =
     let next : next_operator outer (k ∷ ts) ≡ Some o = rw (operator_here o k is) (rw (true_same a_level.the_type (level_of o) outer at) refl) in
     rw next (rw h more)
 
-pub links_short : {outer : Level} {ls : List Link} {ts rest : List Spanned} → Spells (spelled.links outer ls) ts rest → length ls ≤ length ts
+pub links_short : {outer : Level} {ls : List BasicLink} {ts rest : List Spanned} → Spells (spelled.links outer ls) ts rest → length ls ≤ length ts
 links_short spelled.no_link = omega arith
 links_short (spelled.next_link j o is at s more) = omega (arith, links_short more, shrinks s)
 
 -- as many turns as links are enough
-pub enough : (outer : Level) (ts : List Spanned) (ls : List Link) → (outer ≡ level.Order → length ls ≤ 1) → length ls ≤ length ts
+pub enough : (outer : Level) (ts : List Spanned) (ls : List BasicLink) → (outer ≡ level.Order → length ls ≤ 1) → length ls ≤ length ts
     → length ls ≤ most_links outer ts
 unfolding most_links same_level
 enough outer ts ls once short =

@@ -1,15 +1,17 @@
 -- What is spelled is what the parser reads: statements, definitions and modules.
 use Rattle.std.proofs.Common.{◌≡◌, ℕ, zero, suc, ◌<◌, ◌≤◌, true, false, List, [], ◌∷◌, ◌++◌, length, append-nil, refl, sym, ap, ◌∙◌, arith}
 use Rattle.std.specs.Prelude.{Option, Some, None}
+use Rattle.ttcn_syntax.specs.Operators.{Joins}
 use Rattle.ttcn_syntax.specs.declared.token.Token.TheVariants as token
 use Rattle.ttcn_syntax.specs.declared.token.Spanned.{Spanned}
 use Rattle.ttcn_syntax.specs.declared.token.Symbol.TheVariants as mark
 use Rattle.ttcn_syntax.specs.declared.token.Word.TheVariants as word
 use Rattle.ttcn_syntax.specs.declared.place.Span.{Span}
-use Rattle.ttcn_syntax.specs.declared.tree.Expr.{Expr}
-use Rattle.ttcn_syntax.specs.declared.tree.Link.{Link}
-use Rattle.ttcnx.specs.declared.parse.expression.Level.{Level}
-use Rattle.ttcnx.specs.declared.parse.expression.Level.TheVariants as level
+use Rattle.ttcn_syntax.specs.declared.basic.BasicExpr.{BasicExpr}
+use Rattle.ttcn_syntax.specs.declared.basic.BasicLink.{BasicLink}
+use Rattle.ttcn_syntax.specs.declared.operator.Level.{Level}
+use Rattle.ttcn_syntax.specs.declared.operator.Level.TheVariants as level
+use Rattle.ttcn_parse.specs.Groups.{Is}
 use Rattle.ttcnx.specs.declared.module.Action.{Action}
 use Rattle.ttcnx.specs.declared.module.Action.TheVariants.{Declare, Assign, Log, Setverdict}
 use Rattle.ttcnx.specs.declared.module.BasicType.{BasicType}
@@ -18,7 +20,7 @@ use Rattle.ttcnx.specs.declared.module.Definition.{Definition}
 use Rattle.ttcnx.specs.declared.module.Statement.{Statement}
 use Rattle.ttcnx.specs.declared.verdict.Verdict.{Verdict}
 use Rattle.ttcnx.specs.declared.verdict.Verdict.TheVariants as verdict
-use Rattle.ttcnx.specs.Grammar.{Is, IsModule, Joins, Phrase, Spells, component, statement_at, testcase, type_word, verdict_word}
+use Rattle.ttcnx.specs.Grammar.{IsModule, Phrase, Spells, component, statement_at, testcase, type_word, verdict_word}
 use Rattle.ttcnx.specs.Grammar as spelled
 use Rattle.ttcnx.specs.Reader.{a_verdict, action, after_semicolons, assignment, at_end, basic_type, behaviour, behind, block, component_name, declarations, declarations_from, definition, definitions_from, expression, head_token, here, initial, inner, links_from, log, operand_of, operator_in, primary, same_symbol, same_word, sees, sees_word, setverdict, statement, statements_from, text, texts, texts_from, whole}
 use Rattle.ttcnx.proofs.Depth.{Within}
@@ -69,7 +71,7 @@ brace_is_no_semicolon ts h =
 
 -- ---- single steps
 
-pub expression_reads : (depth : ℕ) (ts rest : List Spanned) (e : Expr) → operand_of (inner depth) level.Or ts ≡ Some (e, rest) → expression depth ts ≡ Some (e, rest)
+pub expression_reads : (depth : ℕ) (ts rest : List Spanned) (e : BasicExpr) → operand_of (inner depth) level.Or ts ≡ Some (e, rest) → expression depth ts ≡ Some (e, rest)
 unfolding expression
 expression_reads depth ts rest e h = h
 
@@ -77,19 +79,19 @@ pub no_value_reads : (depth : ℕ) (ts : List Spanned) → Quiet ts → initial 
 unfolding initial
 no_value_reads depth ts q = rw q.no_value refl
 
-pub value_reads : (depth : ℕ) (k : Spanned) (ts rest : List Spanned) (e : Expr) → Is k (token.Symbol mark.Assign) → expression depth ts ≡ Some (e, rest)
+pub value_reads : (depth : ℕ) (k : Spanned) (ts rest : List Spanned) (e : BasicExpr) → Is k (token.Symbol mark.Assign) → expression depth ts ≡ Some (e, rest)
     → initial depth (k ∷ ts) ≡ Some (Some e, rest)
 unfolding initial
 value_reads depth k ts rest e is h = rw (sees_here mark.Assign k ts is) (rw h refl)
 
 pub last_name_reads : (depth : ℕ) (place : Span) (kind : BasicType) (n : ℕ) (found : List Statement) (k : Spanned) (ts rest : List Spanned)
-    (bytes : List ℕ) (value : Option Expr) → Is k (token.Id bytes) → initial depth ts ≡ Some (value, rest) → sees mark.Comma rest ≡ false
+    (bytes : List ℕ) (value : Option BasicExpr) → Is k (token.Id bytes) → initial depth ts ≡ Some (value, rest) → sees mark.Comma rest ≡ false
     → declarations_from depth place kind (suc n) found (k ∷ ts) ≡ Some (found ++ statement_at place (Declare kind bytes value) ∷ [], rest)
 unfolding declarations_from
 last_name_reads depth place kind n found k ts rest bytes value is h other = rw (name_here bytes k ts is) (rw h (rw other refl))
 
 pub next_name_reads : (depth : ℕ) (place : Span) (kind : BasicType) (n : ℕ) (found : List Statement) (k c : Spanned) (ts middle : List Spanned)
-    (bytes : List ℕ) (value : Option Expr) (x : List Statement × List Spanned) → Is k (token.Id bytes) → initial depth ts ≡ Some (value, c ∷ middle)
+    (bytes : List ℕ) (value : Option BasicExpr) (x : List Statement × List Spanned) → Is k (token.Id bytes) → initial depth ts ≡ Some (value, c ∷ middle)
     → Is c (token.Symbol mark.Comma)
     → declarations_from depth place kind n (found ++ statement_at place (Declare kind bytes value) ∷ []) middle ≡ Some x
     → declarations_from depth place kind (suc n) found (k ∷ ts) ≡ Some x
@@ -139,7 +141,7 @@ unfolding setverdict
 setverdict_reads o w c rest v is_o is_w is_c =
     rw (expect_here mark.LeftParen o (w ∷ (c ∷ rest)) is_o) (rw (verdict_here w (c ∷ rest) v is_w) (rw (expect_here mark.RightParen c rest is_c) refl))
 
-pub assignment_reads : (depth : ℕ) (k a : Spanned) (ts rest : List Spanned) (bytes : List ℕ) (e : Expr) → Is k (token.Id bytes) → Is a (token.Symbol mark.Assign)
+pub assignment_reads : (depth : ℕ) (k a : Spanned) (ts rest : List Spanned) (bytes : List ℕ) (e : BasicExpr) → Is k (token.Id bytes) → Is a (token.Symbol mark.Assign)
     → expression depth ts ≡ Some (e, rest) → assignment depth (k ∷ (a ∷ ts)) ≡ Some (Assign bytes e, rest)
 unfolding assignment
 assignment_reads depth k a ts rest bytes e is_k is_a h =
@@ -295,7 +297,7 @@ abbrev pub Claim : Phrase → List Spanned → List Spanned → Type 0
 Claim spelled.semicolons ts rest = sees mark.Semicolon rest ≡ false → after_semicolons ts ≡ rest
 Claim (spelled.primary e) ts rest = (d : ℕ) → Within ts d → primary (inner d) ts ≡ Some (e, rest)
 Claim (spelled.operand l e) ts rest = (d : ℕ) → Within ts d → Follows l rest → operand_of (inner d) l ts ≡ Some (e, rest)
-Claim (spelled.links l ls) ts rest = (i : Level) → Joins l i → (d : ℕ) → Within ts d → Follows l rest → (n : ℕ) → length ls ≤ n → (found : List Link)
+Claim (spelled.links l ls) ts rest = (i : Level) → Joins l i → (d : ℕ) → Within ts d → Follows l rest → (n : ℕ) → length ls ≤ n → (found : List BasicLink)
     → links_from (operand_of (inner d) i) l n found ts ≡ Some (found ++ ls, rest)
 Claim (spelled.initial v) ts rest = (d : ℕ) → Within ts d → Quiet rest → initial d ts ≡ Some (v, rest)
 Claim (spelled.declarations place kind ss) ts rest = (d : ℕ) → Within ts d → Stops rest → (n : ℕ) → length ts ≤ n → (found : List Statement)

@@ -9,8 +9,7 @@ use Rattle.ttcn_syntax.specs.declared.token.Token.{Token}
 use Rattle.ttcn_syntax.specs.declared.token.Token.TheVariants as token
 use Rattle.ttcn_syntax.specs.declared.token.Spanned.{Spanned}
 use Rattle.ttcn_syntax.specs.declared.token.Symbol.TheVariants as mark
-use Rattle.ttcnx.specs.Grammar.{Is}
-use Rattle.ttcnx.specs.Refused.{IsTooDeep, closed, closes, opened, opens}
+use Rattle.ttcn_parse.specs.Groups.{Is, IsTooDeep, closed, closes, opened, opens}
 
 -- what one token leaves of the depth for those behind it
 abbrev pub Onward : Bool → Bool → ℕ → (ℕ → Type 0) → Type 0

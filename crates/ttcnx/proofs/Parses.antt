@@ -2,9 +2,10 @@
 use Rattle.std.proofs.Common.{◌≡◌, List}
 use Rattle.std.specs.Prelude.{Some, None}
 use Rattle.ttcn_syntax.specs.declared.token.Spanned.{Spanned}
+use Rattle.ttcn_parse.specs.Groups.{IsTooDeep}
 use Rattle.ttcnx.specs.declared.module.Module.{Module}
 use Rattle.ttcnx.specs.Reader.{depth_limit, whole}
-use Rattle.ttcnx.specs.Refused.{HasLeftOut, IsRead, IsTooDeep, IsUnread}
+use Rattle.ttcnx.specs.Refused.{HasLeftOut, IsRead, IsUnread}
 use Rattle.ttcnx.proofs.Depth.{within_limit}
 use Rattle.ttcnx.proofs.Parsing.{module_is_read}
 use Rattle.ttcnx.proofs.SoundModules.{sound_module}

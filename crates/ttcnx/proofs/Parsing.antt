@@ -5,12 +5,13 @@ use Rattle.ttcn_syntax.specs.declared.token.Token.{Token}
 use Rattle.ttcn_syntax.specs.declared.token.Token.TheVariants as token
 use Rattle.ttcn_syntax.specs.declared.token.Spanned.{Spanned}
 use Rattle.ttcn_syntax.specs.declared.token.Symbol.TheVariants as mark
-use Rattle.ttcn_syntax.specs.declared.tree.Expr.{Expr}
-use Rattle.ttcn_syntax.specs.declared.tree.Link.{Link}
-use Rattle.ttcnx.specs.declared.parse.expression.Level.TheVariants as level
+use Rattle.ttcn_syntax.specs.declared.basic.BasicExpr.{BasicExpr}
+use Rattle.ttcn_syntax.specs.declared.basic.BasicLink.{BasicLink}
+use Rattle.ttcn_syntax.specs.declared.operator.Level.TheVariants as level
+use Rattle.ttcn_parse.specs.Groups.{Is}
 use Rattle.ttcnx.specs.declared.module.Action.TheVariants.{Declare}
 use Rattle.ttcnx.specs.declared.module.Module.{Module}
-use Rattle.ttcnx.specs.Grammar.{Is, IsModule, Joins, Phrase, Spells, component, link, statement_at, testcase}
+use Rattle.ttcnx.specs.Grammar.{IsModule, Phrase, Spells, component, link, statement_at, testcase}
 use Rattle.ttcnx.specs.Grammar as spelled
 use Rattle.ttcnx.specs.Reader.{Parser, at_or, bracketed, declarations_from, definitions_from, inner, links_from, most_links, operand_of, primary, primary_by, same_symbol, sees, statements_from, texts_from, whole}
 use Rattle.ttcnx.specs.Refused.{HasOneTree}
@@ -25,11 +26,11 @@ by_turns : (P : ℕ → Type 0) (n : ℕ) → 0 < n → ((m : ℕ) → n ≡ suc
 by_turns P zero some f = absurd (omega (arith, some))
 by_turns P (suc m) some f = f m refl
 
-primary_at : (p : Parser Expr) (k : Spanned) (ts : List Spanned) (t : Token) → Is k t → primary p (k ∷ ts) ≡ primary_by p (Some t) ts
+primary_at : (p : Parser BasicExpr) (k : Spanned) (ts : List Spanned) (t : Token) → Is k t → primary p (k ∷ ts) ≡ primary_by p (Some t) ts
 unfolding primary
 primary_at p k ts t is = rw is refl
 
-bracketed_at : (d i : ℕ) (ts rest : List Spanned) (c : Spanned) (e : Expr) → d ≡ suc i → at_or (inner i) ts ≡ Some (e, c ∷ rest)
+bracketed_at : (d i : ℕ) (ts rest : List Spanned) (c : Spanned) (e : BasicExpr) → d ≡ suc i → at_or (inner i) ts ≡ Some (e, c ∷ rest)
     → Is c (token.Symbol mark.RightParen) → bracketed (inner d) ts ≡ Some (e, rest)
 unfolding inner
 bracketed_at d i ts rest c e deeper h is = rw deeper (bracketed_reads (at_or (inner i)) ts rest c e h is)
@@ -44,7 +45,7 @@ paren_is_no_comma c rest is = sees_by mark.Comma c rest _ is
 follows_not : (rest : List Spanned) → Follows level.Not rest → Follows level.Equality rest
 follows_not rest f o h = omega (arith, f o h)
 
-one_link : (l : Link) (ls : List Link) → ls ≡ [] → length (l ∷ ls) ≤ 1
+one_link : (l : BasicLink) (ls : List BasicLink) → ls ≡ [] → length (l ∷ ls) ≤ 1
 one_link l ls is = rw is (omega arith)
 
 -- behind a bracket the same depth is enough

@@ -2,6 +2,8 @@
 use Rattle.std.proofs.Common.{◌≡◌, ℕ, zero, suc, ◌≤◌, Bool, true, false, List, [], ◌∷◌, ◌++◌, length, append-nil, append_assoc, refl, sym, ap, ◌∙◌, arith, rules, inl, inr}
 use Rattle.std.specs.Prelude.{◌⊎◌, if◌then◌else◌, Option, Some, None}
 use denote.Enum.Bare.{same_true, true_same}
+use Rattle.ttcn_syntax.specs.Operators.{Joins, level_of, operator_of, symbol_operator, word_operator, written, and_joins, equality_joins, or_joins, order_joins, product_joins, sum_joins, xor_joins}
+use Rattle.ttcn_syntax.specs.contracts.operator.Level as a_level
 use Rattle.ttcn_syntax.specs.declared.token.Token.{Token}
 use Rattle.ttcn_syntax.specs.declared.token.Token.TheVariants as token
 use Rattle.ttcn_syntax.specs.declared.token.Spanned.{Spanned}
@@ -9,15 +11,15 @@ use Rattle.ttcn_syntax.specs.declared.token.Symbol.{Symbol}
 use Rattle.ttcn_syntax.specs.declared.token.Symbol.TheVariants as mark
 use Rattle.ttcn_syntax.specs.declared.token.Word.{Word}
 use Rattle.ttcn_syntax.specs.declared.token.Word.TheVariants as word
-use Rattle.ttcn_syntax.specs.declared.tree.Expr.{Expr}
-use Rattle.ttcn_syntax.specs.declared.tree.Link.{Link}
-use Rattle.ttcn_syntax.specs.declared.tree.Operator.{Operator}
-use Rattle.ttcnx.specs.contracts.parse.expression.Level as a_level
-use Rattle.ttcnx.specs.declared.parse.expression.Level.{Level}
-use Rattle.ttcnx.specs.declared.parse.expression.Level.TheVariants as level
-use Rattle.ttcnx.specs.Grammar.{Is, Joins, Phrase, Spells, level_of, link, written, or_joins, xor_joins, and_joins, equality_joins, order_joins, sum_joins, product_joins}
+use Rattle.ttcn_syntax.specs.declared.basic.BasicExpr.{BasicExpr}
+use Rattle.ttcn_syntax.specs.declared.basic.BasicLink.{BasicLink}
+use Rattle.ttcn_syntax.specs.declared.operator.Level.{Level}
+use Rattle.ttcn_syntax.specs.declared.operator.Level.TheVariants as level
+use Rattle.ttcn_syntax.specs.declared.operator.Operator.{Operator}
+use Rattle.ttcn_parse.specs.Groups.{Is}
+use Rattle.ttcnx.specs.Grammar.{Phrase, Spells, link}
 use Rattle.ttcnx.specs.Grammar as spelled
-use Rattle.ttcnx.specs.Reader.{Parsed, Parser, after_operator, after_semicolons, at_level, behind, behind_operator, bracketed, chain, eat_operator, expect, inner, links_from, most_links, negation, next_operator, operator_of, primary, primary_by, same_level, sees, sees_word, signed, symbol_operator, tree_of, word_operator, at_and, at_equality, at_not, at_or, at_order, at_product, at_sum, at_xor}
+use Rattle.ttcnx.specs.Reader.{Parsed, Parser, after_operator, after_semicolons, at_level, behind, behind_operator, bracketed, chain, eat_operator, expect, inner, links_from, most_links, negation, next_operator, primary, primary_by, same_level, sees, sees_word, signed, tree_of, at_and, at_equality, at_not, at_or, at_order, at_product, at_sum, at_xor}
 use Rattle.ttcnx.proofs.Tokens.{Begins, expect_is, first_step, read_is, sees_is, sees_word_is}
 
 -- what the parser reads is spelled by the tokens that it takes
@@ -59,8 +61,8 @@ sound_semicolons (k ∷ ts) = semicolons_step (sees mark.Semicolon (k ∷ ts)) k
 
 -- ---- operands
 
-primary_step : (p : Parser Expr) → Sound (spelled.operand level.Or) p → (k : Spanned) (ts : List Spanned) (t : Token) → Is k t
-    → (x : Expr × List Spanned) → primary_by p (Some t) ts ≡ Some x → Spells (spelled.primary x.0) (k ∷ ts) x.1
+primary_step : (p : Parser BasicExpr) → Sound (spelled.operand level.Or) p → (k : Spanned) (ts : List Spanned) (t : Token) → Is k t
+    → (x : BasicExpr × List Spanned) → primary_by p (Some t) ts ≡ Some x → Spells (spelled.primary x.0) (k ∷ ts) x.1
 unfolding bracketed
 primary_step p sound k ts (token.Int n) is x h = give (λ e rest. Spells (spelled.primary e) (k ∷ ts) rest) h (spelled.number is)
 primary_step p sound k ts (token.Word word.True) is x h = give (λ e rest. Spells (spelled.primary e) (k ∷ ts) rest) h (spelled.true_word is)
@@ -74,12 +76,12 @@ primary_step p sound k ts (token.Symbol mark.LeftParen) is x h =
     give (λ e rest. Spells (spelled.primary e) (k ∷ ts) rest) end.2 (spelled.bracketed is body close.is)
 primary_step p sound k ts _ is x h = cc
 
-pub sound_primary : (p : Parser Expr) → Sound (spelled.operand level.Or) p → Sound spelled.primary (primary p)
+pub sound_primary : (p : Parser BasicExpr) → Sound (spelled.operand level.Or) p → Sound spelled.primary (primary p)
 unfolding primary
 sound_primary p sound [] x h = cc
 sound_primary p sound (k ∷ ts) x h = primary_step p sound k ts k.token refl x h
 
-pub sound_signed : (p : Parser Expr) → Sound (spelled.operand level.Or) p → Sound (spelled.operand level.Sign) (signed p)
+pub sound_signed : (p : Parser BasicExpr) → Sound (spelled.operand level.Or) p → Sound (spelled.operand level.Sign) (signed p)
 unfolding signed
 sound_signed p sound ts x h =
     elim (either (sees mark.Plus ts)) [
@@ -104,7 +106,7 @@ sound_signed p sound ts x h =
           ])
     ]
 
-pub sound_negation : (p : Parser Expr) → Sound (spelled.operand level.Equality) p → Sound (spelled.operand level.Not) (negation p)
+pub sound_negation : (p : Parser BasicExpr) → Sound (spelled.operand level.Equality) p → Sound (spelled.operand level.Not) (negation p)
 unfolding negation
 sound_negation p sound ts x h =
     elim (either (sees_word word.Not ts)) [
@@ -177,8 +179,8 @@ pub record Added {A : Type 0} (phrase : List A → Phrase) (most : ℕ) (found :
   pub few : length items ≤ most
   pub spelling : Spells (phrase items) ts x.1
 
-no_link_added : (outer : Level) (n : ℕ) (found : List Link) (ts : List Spanned) (x : List Link × List Spanned)
-    → ◌≡◌ {A = Parsed (List Link)} (Some (found, ts)) (Some x) → Added (spelled.links outer) n found ts x
+no_link_added : (outer : Level) (n : ℕ) (found : List BasicLink) (ts : List Spanned) (x : List BasicLink × List Spanned)
+    → ◌≡◌ {A = Parsed (List BasicLink)} (Some (found, ts)) (Some x) → Added (spelled.links outer) n found ts x
 no_link_added outer n found ts x h =
     let parts = read_is h in
     record {
@@ -188,8 +190,8 @@ no_link_added outer n found ts x h =
       spelling = rw (sym parts.1) (spelled.no_link);
     }
 
-link_added : {outer inner : Level} → Joins outer inner → (n : ℕ) (found : List Link) (ts middle : List Spanned) (x : List Link × List Spanned)
-    (o : Operator) (e : Expr) → Joined outer o ts → Spells (spelled.operand inner e) (behind ts) middle
+link_added : {outer inner : Level} → Joins outer inner → (n : ℕ) (found : List BasicLink) (ts middle : List Spanned) (x : List BasicLink × List Spanned)
+    (o : Operator) (e : BasicExpr) → Joined outer o ts → Spells (spelled.operand inner e) (behind ts) middle
     → Added (spelled.links outer) n (found ++ link o e ∷ []) middle x → Added (spelled.links outer) (suc n) found ts x
 link_added j n found ts middle x o e here operand more =
     record {
@@ -199,9 +201,9 @@ link_added j n found ts middle x o e here operand more =
       spelling = rw here.begins.all (spelled.next_link j o here.begins.is here.level operand more.spelling);
     }
 
-links_step : (outer inner : Level) → Joins outer inner → (p : Parser Expr) → Sound (spelled.operand inner) p
-    → (n : ℕ) (found : List Link) (ts : List Spanned) (x : List Link × List Spanned)
-    → ((found : List Link) (ts : List Spanned) (x : List Link × List Spanned) → links_from p outer n found ts ≡ Some x → Added (spelled.links outer) n found ts x)
+links_step : (outer inner : Level) → Joins outer inner → (p : Parser BasicExpr) → Sound (spelled.operand inner) p
+    → (n : ℕ) (found : List BasicLink) (ts : List Spanned) (x : List BasicLink × List Spanned)
+    → ((found : List BasicLink) (ts : List Spanned) (x : List BasicLink × List Spanned) → links_from p outer n found ts ≡ Some x → Added (spelled.links outer) n found ts x)
     → (o : Option Operator) → next_operator outer ts ≡ o
     → after_operator p (links_from p outer n) found o (behind_operator o ts) ≡ Some x
     → Added (spelled.links outer) (suc n) found ts x
@@ -211,8 +213,8 @@ links_step outer inner j p sound n found ts x others (Some o) next h =
     link_added j n found ts operand.0.1 x o operand.0.0 (operator_is outer ts o next) (sound (behind ts) operand.0 operand.1)
     (others (found ++ link o operand.0.0 ∷ []) operand.0.1 x operand.2)
 
-pub sound_links : (outer inner : Level) → Joins outer inner → (p : Parser Expr) → Sound (spelled.operand inner) p
-    → (n : ℕ) (found : List Link) (ts : List Spanned) (x : List Link × List Spanned) → links_from p outer n found ts ≡ Some x
+pub sound_links : (outer inner : Level) → Joins outer inner → (p : Parser BasicExpr) → Sound (spelled.operand inner) p
+    → (n : ℕ) (found : List BasicLink) (ts : List Spanned) (x : List BasicLink × List Spanned) → links_from p outer n found ts ≡ Some x
     → Added (spelled.links outer) n found ts x
 unfolding links_from eat_operator
 sound_links outer inner j p sound zero found ts x h = no_link_added outer 0 found ts x h
@@ -234,14 +236,14 @@ most_of_order outer ts is = rw (true_same a_level.the_type outer level.Order is)
 one_of_order : (outer : Level) (ts : List Spanned) (n : ℕ) → n ≤ most_links outer ts → outer ≡ level.Order → n ≤ 1
 one_of_order outer ts n few is = rw (most_of_order outer ts is) at few
 
-chain_step : {outer inner : Level} → Joins outer inner → (first : Expr) (ls : List Link) (ts middle rest : List Spanned)
+chain_step : {outer inner : Level} → Joins outer inner → (first : BasicExpr) (ls : List BasicLink) (ts middle rest : List Spanned)
     → Spells (spelled.operand inner first) ts middle → Spells (spelled.links outer ls) middle rest
     → (outer ≡ level.Order → length ls ≤ 1) → Spells (spelled.operand outer (tree_of first ls)) ts rest
 chain_step j first [] ts middle rest operand more few = spelled.alone j (rw (no_more more) at operand)
 chain_step j first (l ∷ ls) ts middle rest operand more few =
     spelled.joined j operand more (λ is. one_at_most ls (omega (arith, few is)))
 
-pub sound_chain : {outer inner : Level} → Joins outer inner → (p : Parser Expr) → Sound (spelled.operand inner) p
+pub sound_chain : {outer inner : Level} → Joins outer inner → (p : Parser BasicExpr) → Sound (spelled.operand inner) p
     → Sound (spelled.operand outer) (chain outer p)
 unfolding chain
 sound_chain {outer = outer} {inner = tighter} j p sound ts x h =
@@ -254,7 +256,7 @@ sound_chain {outer = outer} {inner = tighter} j p sound ts x h =
 
 -- ---- expressions
 
-module _ (p : Parser Expr) (sound : Sound (spelled.operand level.Or) p) where
+module _ (p : Parser BasicExpr) (sound : Sound (spelled.operand level.Or) p) where
   sound_product : Sound (spelled.operand level.Product) (at_product p)
   sound_product = sound_chain product_joins (signed p) (sound_signed p sound)
 

@@ -7,8 +7,9 @@ use Rattle.ttcn_syntax.specs.declared.token.Spanned.{Spanned}
 use Rattle.ttcn_syntax.specs.declared.token.Symbol.TheVariants as mark
 use Rattle.ttcn_syntax.specs.declared.token.Word.TheVariants as word
 use Rattle.ttcn_syntax.specs.declared.place.Span.{Span}
-use Rattle.ttcn_syntax.specs.declared.tree.Expr.{Expr}
-use Rattle.ttcnx.specs.declared.parse.expression.Level.TheVariants as level
+use Rattle.ttcn_syntax.specs.declared.basic.BasicExpr.{BasicExpr}
+use Rattle.ttcn_syntax.specs.declared.operator.Level.TheVariants as level
+use Rattle.ttcn_parse.specs.Groups.{Is}
 use Rattle.ttcnx.specs.declared.module.Action.{Action}
 use Rattle.ttcnx.specs.declared.module.Action.TheVariants.{Declare}
 use Rattle.ttcnx.specs.declared.module.BasicType.{BasicType}
@@ -17,7 +18,7 @@ use Rattle.ttcnx.specs.declared.module.Definition.{Definition}
 use Rattle.ttcnx.specs.declared.module.Module.{Module}
 use Rattle.ttcnx.specs.declared.module.Statement.{Statement}
 use Rattle.ttcnx.specs.declared.verdict.Verdict.{Verdict}
-use Rattle.ttcnx.specs.Grammar.{Is, IsModule, Phrase, Spells, component, statement_at, testcase, type_word, verdict_word}
+use Rattle.ttcnx.specs.Grammar.{IsModule, Phrase, Spells, component, statement_at, testcase, type_word, verdict_word}
 use Rattle.ttcnx.specs.Grammar as spelled
 use Rattle.ttcnx.specs.Reader.{Parsed, a_verdict, action, after_semicolons, assignment, at_end, basic_type, behaviour, behind, block, component_name, declarations, declarations_from, definition, definitions_from, expect, expect_word, expression, here, initial, inner, log, name, pure, sees, sees_word, setverdict, statement, statements_from, text, text_of, texts, texts_from, type_of_word, verdict_of, whole}
 use Rattle.ttcnx.proofs.Tokens.{Begins, over_semicolon, expect_is, expect_word_is, first_step, name_is, read_is, sees_is, sees_word_is, taken_is}
@@ -51,7 +52,7 @@ sound_initial depth ts x h =
 
 more_names : (depth : ℕ) (place : Span) (kind : BasicType) (n : ℕ) (found : List Statement) (ts : List Spanned) (x : List Statement × List Spanned)
     → ((found : List Statement) (ts : List Spanned) → declarations_from depth place kind n found ts ≡ Some x → Added (spelled.declarations place kind) found ts x)
-    → (k : Spanned) (bytes : List ℕ) (value : Option Expr) (middle rest : List Spanned) → Is k (token.Id bytes) → ts ≡ k ∷ middle
+    → (k : Spanned) (bytes : List ℕ) (value : Option BasicExpr) (middle rest : List Spanned) → Is k (token.Id bytes) → ts ≡ k ∷ middle
     → Spells (spelled.initial value) middle rest → (b : Bool) → sees mark.Comma rest ≡ b
     → (if b then declarations_from depth place kind n (found ++ statement_at place (Declare kind bytes value) ∷ [])
     else pure (found ++ statement_at place (Declare kind bytes value) ∷ [])) (if b then behind rest else rest) ≡ Some x

@@ -1,11 +1,12 @@
 -- What a spelling leaves of its tokens.
 use Rattle.std.proofs.Common.{◌≡◌, ℕ, suc, ◌≤◌, true, false, List, ◌∷◌, length, refl, arith}
+use Rattle.ttcn_syntax.specs.Operators.{written}
 use Rattle.ttcn_syntax.specs.declared.token.Token.{Token}
 use Rattle.ttcn_syntax.specs.declared.token.Spanned.{Spanned}
-use Rattle.ttcn_syntax.specs.declared.tree.Operator.{Operator}
-use Rattle.ttcn_syntax.specs.declared.tree.Operator.TheVariants as operator
-use Rattle.ttcnx.specs.Grammar.{Is, Phrase, Spells, written, no_semicolon, semicolon, number, true_word, false_word, variable, bracketed, unsigned, plus, minus, affirmed, negated, alone, joined, no_link, next_link, no_value, with_value, last_name, next_name, last_text, next_text, log_nothing, log_texts, set_verdict, assignment, variables, other_statement, no_statement, last_statement, next_statement, braces, component_type, test_case, no_definition, next_definition, whole_module}
-use Rattle.ttcnx.specs.Refused.{closes, opens}
+use Rattle.ttcn_syntax.specs.declared.operator.Operator.{Operator}
+use Rattle.ttcn_syntax.specs.declared.operator.Operator.TheVariants as operator
+use Rattle.ttcn_parse.specs.Groups.{Is, closes, opens}
+use Rattle.ttcnx.specs.Grammar.{Phrase, Spells, no_semicolon, semicolon, number, true_word, false_word, variable, bracketed, unsigned, plus, minus, affirmed, negated, alone, joined, no_link, next_link, no_value, with_value, last_name, next_name, last_text, next_text, log_nothing, log_texts, set_verdict, assignment, variables, other_statement, no_statement, last_statement, next_statement, braces, component_type, test_case, no_definition, next_definition, whole_module}
 use Rattle.ttcnx.proofs.Depth.{Within, over_close, over_open, over_plain}
 
 -- a token that is no bracket

@@ -10,7 +10,7 @@ use Rattle.ttcn_syntax.specs.declared.token.Spanned.{Spanned}
 use Rattle.ttcn_syntax.specs.declared.token.Symbol.{Symbol}
 use Rattle.ttcn_syntax.specs.declared.token.Symbol.TheVariants as mark
 use Rattle.ttcn_syntax.specs.declared.token.Word.{Word}
-use Rattle.ttcnx.specs.Grammar.{Is}
+use Rattle.ttcn_parse.specs.Groups.{Is}
 use Rattle.ttcnx.specs.Reader.{Parsed, Parser, and_then, taken, after_semicolons, behind, expect, expect_word, head_token, is_symbol, is_word, name, name_of, same_symbol, same_word, sees, sees_word}
 
 -- ---- what the code's loops want

@@ -4,10 +4,10 @@ use Rattle.std.specs.Prelude.{◌⊎◌}
 use Rattle.std.specs.Option.{ok_or}
 use denote.Enum.Bare.{sameb}
 use Rattle.ttcn_syntax.specs.Expression.{Expression, integer, boolean, name, negation, signed, operation, chained, expression, operand}
-use Rattle.ttcn_syntax.specs.declared.tree.Expr.{Expr}
-use Rattle.ttcn_syntax.specs.declared.tree.Expr.TheVariants.{Chain}
-use Rattle.ttcn_syntax.specs.declared.tree.Link.{Link, out-Link}
-use Rattle.ttcn_syntax.specs.declared.tree.Operator.{Operator}
+use Rattle.ttcn_syntax.specs.declared.basic.BasicExpr.{BasicExpr}
+use Rattle.ttcn_syntax.specs.declared.basic.BasicExpr.TheVariants.{Chain}
+use Rattle.ttcn_syntax.specs.declared.basic.BasicLink.{BasicLink, out-BasicLink}
+use Rattle.ttcn_syntax.specs.declared.operator.Operator.{Operator}
 use Rattle.ttcn_syntax.proofs.ExpressionLemmas.{expression-Chain, operand-out}
 use Rattle.ttcnx.specs.Checking.{joins, judged, noted, wants}
 use Rattle.ttcnx.specs.Rules.{IsLeast, at_value, in_expression, unless}
@@ -30,27 +30,27 @@ judged-chained variables first [] = refl
 judged-chained variables first (link ∷ links) = judged-chained variables (operation link.0 first link.1) links
 
 -- all links are left behind the first operand
-pub linked-first : (variables : Variables) (first : Expr) (links : List Link) (left : Result BasicType Rule) → left ≡ judged variables (expression first) →
+pub linked-first : (variables : Variables) (first : BasicExpr) (links : List BasicLink) (left : Result BasicType Rule) → left ≡ judged variables (expression first) →
     judged variables (expression (Chain first links)) ≡ linked variables left (map operand (drop 0 links))
 linked-first variables first links left is =
     ap (judged variables) (expression-Chain first links) ∙ judged-chained variables (expression first) (map operand links) ∙ ap (λ l. linked variables l (map operand links)) (sym is)
 
 -- one link
-linked-more : (variables : Variables) (left : Result BasicType Rule) (links : List Link) (i : ℕ) (link : Link) → i < length links → link ≡ get_or links i link →
-    linked variables left (map operand (drop i links)) ≡ linked variables (joins (out-Link link).operator left (judged variables (expression (out-Link link).operand))) (map operand (drop (i + 1) links))
+linked-more : (variables : Variables) (left : Result BasicType Rule) (links : List BasicLink) (i : ℕ) (link : BasicLink) → i < length links → link ≡ get_or links i link →
+    linked variables left (map operand (drop i links)) ≡ linked variables (joins (out-BasicLink link).operator left (judged variables (expression (out-BasicLink link).operand))) (map operand (drop (i + 1) links))
 linked-more variables left links i link within is =
     ap (λ l. linked variables left (map operand l)) (drop-cons links i link within) ∙
     ap (λ (x : Operator × Expression). linked variables (joins x.0 left (judged variables x.1)) (map operand (drop (suc i) links))) (ap operand (sym is) ∙ operand-out link) ∙
-    ap (λ k. linked variables (joins (out-Link link).operator left (judged variables (expression (out-Link link).operand))) (map operand (drop k links))) (sym (add-one i))
+    ap (λ k. linked variables (joins (out-BasicLink link).operator left (judged variables (expression (out-BasicLink link).operand))) (map operand (drop k links))) (sym (add-one i))
 
 -- one link less is left behind it
-pub linked-next : (variables : Variables) (whole left right next : Result BasicType Rule) (links : List Link) (i : ℕ) (link : Link) →
+pub linked-next : (variables : Variables) (whole left right next : Result BasicType Rule) (links : List BasicLink) (i : ℕ) (link : BasicLink) →
     whole ≡ linked variables left (map operand (drop i links)) → i < length links → link ≡ get_or links i link →
-    right ≡ judged variables (expression (out-Link link).operand) → next ≡ joins (out-Link link).operator left right →
+    right ≡ judged variables (expression (out-BasicLink link).operand) → next ≡ joins (out-BasicLink link).operator left right →
     whole ≡ linked variables next (map operand (drop (i + 1) links))
 linked-next variables whole left right next links i link so_far within is right_is next_is =
     so_far ∙ linked-more variables left links i link within is ∙
-    ap (λ l. linked variables l (map operand (drop (i + 1) links))) (sym (next_is ∙ ap (joins (out-Link link).operator left) right_is))
+    ap (λ l. linked variables l (map operand (drop (i + 1) links))) (sym (next_is ∙ ap (joins (out-BasicLink link).operator left) right_is))
 
 -- ---- what the checker makes of an expression
 

@@ -10,9 +10,10 @@ use Rattle.ttcn_syntax.specs.Cut.{IsCut, IsLeftmostFault}
 use Rattle.ttcn_syntax.specs.declared.error.LexError.{LexError}
 use Rattle.ttcn_syntax.specs.declared.place.Span.{Span}
 use Rattle.ttcn_syntax.specs.declared.token.Spanned.{Spanned}
+use Rattle.ttcn_parse.specs.Groups.{IsTooDeep}
 use Rattle.ttcnx.specs.Fault.{lexical_fault, rule_refusal}
 use Rattle.ttcnx.specs.Steps.{graph_of}
-use Rattle.ttcnx.specs.Refused.{HasLeftOut, IsRead, IsTooDeep, IsUnread}
+use Rattle.ttcnx.specs.Refused.{HasLeftOut, IsRead, IsUnread}
 use Rattle.ttcnx.specs.Report.{report_text}
 use Rattle.ttcnx.specs.Rules.{IsLeast, broken_rules}
 use Rattle.ttcnx.specs.Tells.{Tells}

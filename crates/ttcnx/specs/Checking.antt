@@ -4,7 +4,7 @@ use Rattle.std.specs.BTreeMap.{get}
 use Rattle.std.specs.Cmp.Lexicographic.{slice_cmp}
 use Rattle.std.specs.Ordering.{nat_cmp}
 use Rattle.ttcn_syntax.specs.Expression.{Expression, integer, boolean, name, negation, signed, operation}
-use Rattle.ttcn_syntax.specs.declared.tree.Operator.{Operator}
+use Rattle.ttcn_syntax.specs.declared.operator.Operator.{Operator}
 use Rattle.ttcn_syntax.specs.declared.place.Span.{Span}
 use Rattle.ttcnx.specs.Rules.{number_of}
 use Rattle.ttcnx.specs.Scopes.{Definitions, Variables}

@@ -1,21 +1,21 @@
 -- The grammar of the part of the language that is read today (ES 201 873-1, annex A), production by production.
 -- A spelling goes from the front of a list of tokens to the tokens that are left behind it.
 use Rattle.std.specs.Prelude.{◌≡◌, ℕ, List, [], ◌∷◌, ◌++◌, Option, Some, None, true, false}
-use Rattle.ttcn_syntax.specs.declared.token.Token.{Token}
+use Rattle.ttcn_syntax.specs.Operators.{Joins, level_of, written}
 use Rattle.ttcn_syntax.specs.declared.token.Token.TheVariants as token
 use Rattle.ttcn_syntax.specs.declared.token.Spanned.{Spanned}
 use Rattle.ttcn_syntax.specs.declared.token.Symbol.TheVariants as mark
 use Rattle.ttcn_syntax.specs.declared.token.Word.{Word}
 use Rattle.ttcn_syntax.specs.declared.token.Word.TheVariants as word
 use Rattle.ttcn_syntax.specs.declared.place.Span.{Span}
-use Rattle.ttcn_syntax.specs.declared.tree.Expr.{Expr}
-use Rattle.ttcn_syntax.specs.declared.tree.Expr.TheVariants as expr
-use Rattle.ttcn_syntax.specs.declared.tree.Link.{Link, roll-Link}
-use Rattle.ttcn_syntax.specs.declared.tree.Operator.{Operator}
-use Rattle.ttcn_syntax.specs.declared.tree.Operator.TheVariants as operator
-use Rattle.ttcn_syntax.specs.declared.tree.Sign.TheVariants as sign
-use Rattle.ttcnx.specs.declared.parse.expression.Level.{Level}
-use Rattle.ttcnx.specs.declared.parse.expression.Level.TheVariants as level
+use Rattle.ttcn_syntax.specs.declared.basic.BasicExpr.{BasicExpr}
+use Rattle.ttcn_syntax.specs.declared.basic.BasicExpr.TheVariants as expr
+use Rattle.ttcn_syntax.specs.declared.basic.BasicLink.{BasicLink, roll-BasicLink}
+use Rattle.ttcn_syntax.specs.declared.operator.Level.{Level}
+use Rattle.ttcn_syntax.specs.declared.operator.Level.TheVariants as level
+use Rattle.ttcn_syntax.specs.declared.operator.Operator.{Operator}
+use Rattle.ttcn_syntax.specs.declared.operator.Sign.TheVariants as sign
+use Rattle.ttcn_parse.specs.Groups.{Is}
 use Rattle.ttcnx.specs.declared.module.Action.{Action}
 use Rattle.ttcnx.specs.declared.module.Action.TheVariants.{Declare, Assign, Log, Setverdict}
 use Rattle.ttcnx.specs.declared.module.BasicType.{BasicType}
@@ -26,52 +26,6 @@ use Rattle.ttcnx.specs.declared.module.Module.{Module}
 use Rattle.ttcnx.specs.declared.module.Statement.{Statement}
 use Rattle.ttcnx.specs.declared.verdict.Verdict.{Verdict}
 use Rattle.ttcnx.specs.declared.verdict.Verdict.TheVariants as verdict
-
--- how an operator is written
-abbrev pub written : Operator → Token
-written operator.Or = token.Word word.Or
-written operator.Xor = token.Word word.Xor
-written operator.And = token.Word word.And
-written operator.Equal = token.Symbol mark.Equal
-written operator.NotEqual = token.Symbol mark.NotEqual
-written operator.Less = token.Symbol mark.Less
-written operator.Greater = token.Symbol mark.Greater
-written operator.LessEqual = token.Symbol mark.LessEqual
-written operator.GreaterEqual = token.Symbol mark.GreaterEqual
-written operator.Add = token.Symbol mark.Plus
-written operator.Subtract = token.Symbol mark.Minus
-written operator.Multiply = token.Symbol mark.Star
-written operator.Divide = token.Symbol mark.Slash
-written operator.Mod = token.Word word.Mod
-written operator.Rem = token.Word word.Rem
-
--- the level at which an operator binds
-abbrev pub level_of : Operator → Level
-level_of operator.Or = level.Or
-level_of operator.Xor = level.Xor
-level_of operator.And = level.And
-level_of operator.Equal = level.Equality
-level_of operator.NotEqual = level.Equality
-level_of operator.Less = level.Order
-level_of operator.Greater = level.Order
-level_of operator.LessEqual = level.Order
-level_of operator.GreaterEqual = level.Order
-level_of operator.Add = level.Sum
-level_of operator.Subtract = level.Sum
-level_of operator.Multiply = level.Product
-level_of operator.Divide = level.Product
-level_of operator.Mod = level.Product
-level_of operator.Rem = level.Product
-
--- operators of the first level stand between operands of the second
-pub data Joins : Level → Level → Type 0 where
-  or_joins : Joins level.Or level.Xor
-  xor_joins : Joins level.Xor level.And
-  and_joins : Joins level.And level.Not
-  equality_joins : Joins level.Equality level.Order
-  order_joins : Joins level.Order level.Sum
-  sum_joins : Joins level.Sum level.Product
-  product_joins : Joins level.Product level.Sign
 
 -- how a verdict is written
 abbrev pub verdict_word : Verdict → Word
@@ -87,8 +41,8 @@ type_word Integer = word.Integer
 type_word Boolean = word.Boolean
 
 -- an operator with the operand behind it
-abbrev pub link : Operator → Expr → Link
-link o e = roll-Link (record { operator = o; operand = e })
+abbrev pub link : Operator → BasicExpr → BasicLink
+link o e = roll-BasicLink (record { operator = o; operand = e })
 
 -- the definition of a component type, or of a test case, that begins at a place
 abbrev pub component : Span → List ℕ → Definition
@@ -107,13 +61,13 @@ pub data Phrase : Type 0 where
   -- any number of semicolons
   semicolons : Phrase
   -- an operand without operators
-  primary : Expr → Phrase
+  primary : BasicExpr → Phrase
   -- operands of a level, with its operators between them; at the loosest level, an expression
-  operand : Level → Expr → Phrase
+  operand : Level → BasicExpr → Phrase
   -- operators of a level, each with the operand behind it
-  links : Level → List Link → Phrase
+  links : Level → List BasicLink → Phrase
   -- the value that a declaration may give
-  initial : Option Expr → Phrase
+  initial : Option BasicExpr → Phrase
   -- names of one declaration, which stands at a place, with commas between them
   declarations : Span → BasicType → List Statement → Phrase
   -- texts with commas between them
@@ -131,16 +85,12 @@ pub data Phrase : Type 0 where
   -- a whole module
   whole : Module → Phrase
 
--- the token of this place in the list is that token
-abbrev pub Is : Spanned → Token → Type 0
-Is k t = k.token ≡ t
-
 pub data Spells : Phrase → List Spanned → List Spanned → Type 0 where
   -- {';'}
   no_semicolon : {ts : List Spanned} → Spells semicolons ts ts
   semicolon : {k : Spanned} {ts rest : List Spanned} → Is k (token.Symbol mark.Semicolon)
       → Spells semicolons ts rest → Spells semicolons (k ∷ ts) rest
-  -- Prim = Int | 'true' | 'false' | Id | '(' Expr ')'
+  -- Prim = Int | 'true' | 'false' | Id | '(' BasicExpr ')'
   number : {k : Spanned} {rest : List Spanned} {n : ℕ} → Is k (token.Int n)
       → Spells (primary (expr.Int n)) (k ∷ rest) rest
   true_word : {k : Spanned} {rest : List Spanned} → Is k (token.Word word.True)
@@ -149,43 +99,43 @@ pub data Spells : Phrase → List Spanned → List Spanned → Type 0 where
       → Spells (primary (expr.Bool false)) (k ∷ rest) rest
   variable : {k : Spanned} {rest : List Spanned} {name : List ℕ} → Is k (token.Id name)
       → Spells (primary (expr.Name name)) (k ∷ rest) rest
-  bracketed : {k c : Spanned} {ts rest : List Spanned} {e : Expr} → Is k (token.Symbol mark.LeftParen)
+  bracketed : {k c : Spanned} {ts rest : List Spanned} {e : BasicExpr} → Is k (token.Symbol mark.LeftParen)
       → Spells (operand level.Or e) ts (c ∷ rest) → Is c (token.Symbol mark.RightParen)
       → Spells (primary e) (k ∷ ts) rest
   -- Un = ['+' | '-'] Prim
-  unsigned : {ts rest : List Spanned} {e : Expr} → Spells (primary e) ts rest
+  unsigned : {ts rest : List Spanned} {e : BasicExpr} → Spells (primary e) ts rest
       → Spells (operand level.Sign e) ts rest
-  plus : {k : Spanned} {ts rest : List Spanned} {e : Expr} → Is k (token.Symbol mark.Plus)
+  plus : {k : Spanned} {ts rest : List Spanned} {e : BasicExpr} → Is k (token.Symbol mark.Plus)
       → Spells (primary e) ts rest → Spells (operand level.Sign (expr.Signed sign.Plus e)) (k ∷ ts) rest
-  minus : {k : Spanned} {ts rest : List Spanned} {e : Expr} → Is k (token.Symbol mark.Minus)
+  minus : {k : Spanned} {ts rest : List Spanned} {e : BasicExpr} → Is k (token.Symbol mark.Minus)
       → Spells (primary e) ts rest → Spells (operand level.Sign (expr.Signed sign.Minus e)) (k ∷ ts) rest
   -- Not = ['not'] Eq
-  affirmed : {ts rest : List Spanned} {e : Expr} → Spells (operand level.Equality e) ts rest
+  affirmed : {ts rest : List Spanned} {e : BasicExpr} → Spells (operand level.Equality e) ts rest
       → Spells (operand level.Not e) ts rest
-  negated : {k : Spanned} {ts rest : List Spanned} {e : Expr} → Is k (token.Word word.Not)
+  negated : {k : Spanned} {ts rest : List Spanned} {e : BasicExpr} → Is k (token.Word word.Not)
       → Spells (operand level.Equality e) ts rest → Spells (operand level.Not (expr.Not e)) (k ∷ ts) rest
-  -- Expr = Xor {'or' Xor}, Xor = And {'xor' And}, And = Not {'and' Not}, Eq = Rel {('==' | '!=') Rel},
+  -- BasicExpr = Xor {'or' Xor}, Xor = And {'xor' And}, And = Not {'and' Not}, Eq = Rel {('==' | '!=') Rel},
   -- Rel = Add [('<' | '>' | '<=' | '>=') Add], Add = Mul {('+' | '-') Mul}, Mul = Un {('*' | '/' | 'mod' | 'rem') Un}
-  alone : {outer inner : Level} {ts rest : List Spanned} {e : Expr} → Joins outer inner
+  alone : {outer inner : Level} {ts rest : List Spanned} {e : BasicExpr} → Joins outer inner
       → Spells (operand inner e) ts rest → Spells (operand outer e) ts rest
-  joined : {outer inner : Level} {ts middle rest : List Spanned} {e : Expr} {l : Link} {ls : List Link}
+  joined : {outer inner : Level} {ts middle rest : List Spanned} {e : BasicExpr} {l : BasicLink} {ls : List BasicLink}
       → Joins outer inner → Spells (operand inner e) ts middle → Spells (links outer (l ∷ ls)) middle rest
       → (outer ≡ level.Order → ls ≡ []) → Spells (operand outer (expr.Chain e (l ∷ ls))) ts rest
   no_link : {outer : Level} {ts : List Spanned} → Spells (links outer []) ts ts
-  next_link : {outer inner : Level} {k : Spanned} {ts middle rest : List Spanned} {e : Expr} {ls : List Link}
+  next_link : {outer inner : Level} {k : Spanned} {ts middle rest : List Spanned} {e : BasicExpr} {ls : List BasicLink}
       → Joins outer inner → (o : Operator) → Is k (written o) → level_of o ≡ outer
       → Spells (operand inner e) ts middle → Spells (links outer ls) middle rest
       → Spells (links outer (link o e ∷ ls)) (k ∷ ts) rest
-  -- [':=' Expr]
+  -- [':=' BasicExpr]
   no_value : {ts : List Spanned} → Spells (initial None) ts ts
-  with_value : {k : Spanned} {ts rest : List Spanned} {e : Expr} → Is k (token.Symbol mark.Assign)
+  with_value : {k : Spanned} {ts rest : List Spanned} {e : BasicExpr} → Is k (token.Symbol mark.Assign)
       → Spells (operand level.Or e) ts rest → Spells (initial (Some e)) (k ∷ ts) rest
-  -- Id [':=' Expr] {',' Id [':=' Expr]}: a statement for each name
+  -- Id [':=' BasicExpr] {',' Id [':=' BasicExpr]}: a statement for each name
   last_name : {k : Spanned} {ts rest : List Spanned} {place : Span} {kind : BasicType} {name : List ℕ}
-      {value : Option Expr} → Is k (token.Id name) → Spells (initial value) ts rest
+      {value : Option BasicExpr} → Is k (token.Id name) → Spells (initial value) ts rest
       → Spells (declarations place kind (statement_at place (Declare kind name value) ∷ [])) (k ∷ ts) rest
   next_name : {k c : Spanned} {ts middle rest : List Spanned} {place : Span} {kind : BasicType} {name : List ℕ}
-      {value : Option Expr} {others : List Statement} → Is k (token.Id name)
+      {value : Option BasicExpr} {others : List Statement} → Is k (token.Id name)
       → Spells (initial value) ts (c ∷ middle) → Is c (token.Symbol mark.Comma)
       → Spells (declarations place kind others) middle rest
       → Spells (declarations place kind (statement_at place (Declare kind name value) ∷ others)) (k ∷ ts) rest
@@ -204,8 +154,8 @@ pub data Spells : Phrase → List Spanned → List Spanned → Type 0 where
   set_verdict : {k o w c : Spanned} {rest : List Spanned} (v : Verdict) → Is k (token.Word word.Setverdict)
       → Is o (token.Symbol mark.LeftParen) → Is w (token.Word (verdict_word v)) → Is c (token.Symbol mark.RightParen)
       → Spells (action (Setverdict v)) (k ∷ (o ∷ (w ∷ (c ∷ rest)))) rest
-  -- Id ':=' Expr
-  assignment : {k a : Spanned} {ts rest : List Spanned} {name : List ℕ} {e : Expr} → Is k (token.Id name)
+  -- Id ':=' BasicExpr
+  assignment : {k a : Spanned} {ts rest : List Spanned} {name : List ℕ} {e : BasicExpr} → Is k (token.Id name)
       → Is a (token.Symbol mark.Assign) → Spells (operand level.Or e) ts rest
       → Spells (action (Assign name e)) (k ∷ (a ∷ ts)) rest
   -- Stmt = 'var' Type Id .. | 'log' .. | 'setverdict' .. | Id ..: it stands where its first token does

@@ -1,6 +1,6 @@
 use Rattle.std.specs.Prelude.{ℕ}
-use Rattle.ttcnx.specs.declared.parse.expression.Level.{Level}
-use Rattle.ttcnx.specs.declared.parse.expression.Level.TheVariants.{Or, Xor, And, Not, Equality, Order, Sum, Product, Sign}
+use Rattle.ttcn_syntax.specs.declared.operator.Level.{Level}
+use Rattle.ttcn_syntax.specs.declared.operator.Level.TheVariants.{Or, Xor, And, Not, Equality, Order, Sum, Product, Sign}
 
 -- how many steps a level is above the operands that have no operator
 abbrev pub rank_of : Level → ℕ

@@ -5,9 +5,10 @@ use Rattle.std.specs.Borrow.{Bor}
 use Rattle.std.specs.declared.alloc.Global.{Global}
 use Rattle.std.specs.declared.vec.Vec.{Vec}
 use denote.Enum.Bare.{sameb}
+use Rattle.ttcn_syntax.specs.Operators.{level_of, operator_of}
+use Rattle.ttcn_syntax.specs.contracts.operator.Level as a_level
 use Rattle.ttcn_syntax.specs.contracts.token.Symbol as a_symbol
 use Rattle.ttcn_syntax.specs.contracts.token.Word as a_word
-use Rattle.ttcnx.specs.contracts.parse.expression.Level as a_level
 use Rattle.ttcn_syntax.specs.declared.token.Token.{Token}
 use Rattle.ttcn_syntax.specs.declared.token.Token.TheVariants as token
 use Rattle.ttcn_syntax.specs.declared.token.Spanned.{Spanned}
@@ -16,17 +17,16 @@ use Rattle.ttcn_syntax.specs.declared.token.Symbol.TheVariants as mark
 use Rattle.ttcn_syntax.specs.declared.token.Word.{Word}
 use Rattle.ttcn_syntax.specs.declared.token.Word.TheVariants as word
 use Rattle.ttcn_syntax.specs.declared.place.Span.{Span}
-use Rattle.ttcn_syntax.specs.declared.tree.Expr.{Expr}
-use Rattle.ttcn_syntax.specs.declared.tree.Expr.TheVariants as expr
-use Rattle.ttcn_syntax.specs.declared.tree.Link.{Link}
-use Rattle.ttcn_syntax.specs.declared.tree.Operator.{Operator}
-use Rattle.ttcn_syntax.specs.declared.tree.Operator.TheVariants as operator
-use Rattle.ttcn_syntax.specs.declared.tree.Sign.TheVariants as sign
-use Rattle.ttcnx.specs.Grammar.{level_of, link, component, statement_at}
+use Rattle.ttcn_syntax.specs.declared.basic.BasicExpr.{BasicExpr}
+use Rattle.ttcn_syntax.specs.declared.basic.BasicExpr.TheVariants as expr
+use Rattle.ttcn_syntax.specs.declared.basic.BasicLink.{BasicLink}
+use Rattle.ttcn_syntax.specs.declared.operator.Level.{Level}
+use Rattle.ttcn_syntax.specs.declared.operator.Level.TheVariants as level
+use Rattle.ttcn_syntax.specs.declared.operator.Operator.{Operator}
+use Rattle.ttcn_syntax.specs.declared.operator.Sign.TheVariants as sign
+use Rattle.ttcnx.specs.Grammar.{link, component, statement_at}
 use Rattle.ttcnx.specs.declared.parse.ParseError.{ParseError}
 use Rattle.ttcnx.specs.declared.parse.ParseError.TheVariants.{TooDeep, LeftOut, Unexpected, Memory}
-use Rattle.ttcnx.specs.declared.parse.expression.Level.{Level}
-use Rattle.ttcnx.specs.declared.parse.expression.Level.TheVariants as level
 use Rattle.ttcnx.specs.declared.module.Action.{Action}
 use Rattle.ttcnx.specs.declared.module.Action.TheVariants.{Declare, Assign, Log, Setverdict}
 use Rattle.ttcnx.specs.declared.module.BasicType.{BasicType}
@@ -171,32 +171,6 @@ skip_semicolons = λ ts. Some (tt, after_semicolons ts)
 
 -- ---- expressions
 
-abbrev pub word_operator : Word → Option Operator
-word_operator word.Or = Some operator.Or
-word_operator word.Xor = Some operator.Xor
-word_operator word.And = Some operator.And
-word_operator word.Mod = Some operator.Mod
-word_operator word.Rem = Some operator.Rem
-word_operator _ = None
-
-abbrev pub symbol_operator : Symbol → Option Operator
-symbol_operator mark.Equal = Some operator.Equal
-symbol_operator mark.NotEqual = Some operator.NotEqual
-symbol_operator mark.Less = Some operator.Less
-symbol_operator mark.Greater = Some operator.Greater
-symbol_operator mark.LessEqual = Some operator.LessEqual
-symbol_operator mark.GreaterEqual = Some operator.GreaterEqual
-symbol_operator mark.Plus = Some operator.Add
-symbol_operator mark.Minus = Some operator.Subtract
-symbol_operator mark.Star = Some operator.Multiply
-symbol_operator mark.Slash = Some operator.Divide
-symbol_operator _ = None
-
-abbrev pub operator_of : Token → Option Operator
-operator_of (token.Word w) = word_operator w
-operator_of (token.Symbol s) = symbol_operator s
-operator_of _ = None
-
 -- the operator, if it is of the level
 abbrev pub at_level : Level → Option Operator → Option Operator
 at_level outer None = None
@@ -221,33 +195,33 @@ eat_operator outer = λ ts. Some (next_operator outer ts, behind_operator (next_
 unfoldable pub most_links : Level → List Spanned → ℕ
 most_links outer ts = if same_level outer level.Order then 1 else length ts
 
-abbrev pub after_operator : Parser Expr → (List Link → Parser (List Link)) → List Link → Option Operator → Parser (List Link)
+abbrev pub after_operator : Parser BasicExpr → (List BasicLink → Parser (List BasicLink)) → List BasicLink → Option Operator → Parser (List BasicLink)
 after_operator operand others found None = pure found
 after_operator operand others found (Some o) = operand >>= (λ e. others (found ++ link o e ∷ []))
 
-unfoldable pub links_from : Parser Expr → Level → ℕ → List Link → Parser (List Link)
+unfoldable pub links_from : Parser BasicExpr → Level → ℕ → List BasicLink → Parser (List BasicLink)
 links_from operand outer zero found = pure found
 links_from operand outer (suc n) found =
     eat_operator outer >>= after_operator operand (links_from operand outer n) found
 
-abbrev pub tree_of : Expr → List Link → Expr
+abbrev pub tree_of : BasicExpr → List BasicLink → BasicExpr
 tree_of first [] = first
 tree_of first (l ∷ ls) = expr.Chain first (l ∷ ls)
 
-unfoldable pub chain : Level → Parser Expr → Parser Expr
+unfoldable pub chain : Level → Parser BasicExpr → Parser BasicExpr
 chain outer operand = do
   first ← operand
   links ← λ ts. links_from operand outer (most_links outer ts) [] ts
   pure (tree_of first links)
 
 -- within brackets, an expression by `inner`
-unfoldable pub bracketed : Parser Expr → Parser Expr
+unfoldable pub bracketed : Parser BasicExpr → Parser BasicExpr
 bracketed inner = do
   e ← inner
   expect mark.RightParen
   pure e
 
-abbrev pub primary_by : Parser Expr → Option Token → Parser Expr
+abbrev pub primary_by : Parser BasicExpr → Option Token → Parser BasicExpr
 primary_by inner (Some (token.Int n)) = pure (expr.Int n)
 primary_by inner (Some (token.Word word.True)) = pure (expr.Bool true)
 primary_by inner (Some (token.Word word.False)) = pure (expr.Bool false)
@@ -255,46 +229,46 @@ primary_by inner (Some (token.Id bytes)) = pure (expr.Name bytes)
 primary_by inner (Some (token.Symbol mark.LeftParen)) = bracketed inner
 primary_by inner _ = refuse
 
-unfoldable pub primary : Parser Expr → Parser Expr
+unfoldable pub primary : Parser BasicExpr → Parser BasicExpr
 primary inner ts = primary_by inner (head_token ts) (behind ts)
 
-unfoldable pub signed : Parser Expr → Parser Expr
+unfoldable pub signed : Parser BasicExpr → Parser BasicExpr
 signed inner = do
   plus ← eat mark.Plus
   if plus then (do e ← primary inner; pure (expr.Signed sign.Plus e)) else (do
     minus ← eat mark.Minus
     if minus then (do e ← primary inner; pure (expr.Signed sign.Minus e)) else primary inner)
 
-unfoldable pub negation : Parser Expr → Parser Expr
+unfoldable pub negation : Parser BasicExpr → Parser BasicExpr
 negation operand = do
   found ← eat_word word.Not
   if found then (do e ← operand; pure (expr.Not e)) else operand
 
-abbrev pub at_product : Parser Expr → Parser Expr
+abbrev pub at_product : Parser BasicExpr → Parser BasicExpr
 at_product inner = chain level.Product (signed inner)
 
-abbrev pub at_sum : Parser Expr → Parser Expr
+abbrev pub at_sum : Parser BasicExpr → Parser BasicExpr
 at_sum inner = chain level.Sum (at_product inner)
 
-abbrev pub at_order : Parser Expr → Parser Expr
+abbrev pub at_order : Parser BasicExpr → Parser BasicExpr
 at_order inner = chain level.Order (at_sum inner)
 
-abbrev pub at_equality : Parser Expr → Parser Expr
+abbrev pub at_equality : Parser BasicExpr → Parser BasicExpr
 at_equality inner = chain level.Equality (at_order inner)
 
-abbrev pub at_not : Parser Expr → Parser Expr
+abbrev pub at_not : Parser BasicExpr → Parser BasicExpr
 at_not inner = negation (at_equality inner)
 
-abbrev pub at_and : Parser Expr → Parser Expr
+abbrev pub at_and : Parser BasicExpr → Parser BasicExpr
 at_and inner = chain level.And (at_not inner)
 
-abbrev pub at_xor : Parser Expr → Parser Expr
+abbrev pub at_xor : Parser BasicExpr → Parser BasicExpr
 at_xor inner = chain level.Xor (at_and inner)
 
-abbrev pub at_or : Parser Expr → Parser Expr
+abbrev pub at_or : Parser BasicExpr → Parser BasicExpr
 at_or inner = chain level.Or (at_xor inner)
 
-abbrev pub operand_of : Parser Expr → Level → Parser Expr
+abbrev pub operand_of : Parser BasicExpr → Level → Parser BasicExpr
 operand_of inner level.Or = at_or inner
 operand_of inner level.Xor = at_xor inner
 operand_of inner level.And = at_and inner
@@ -306,7 +280,7 @@ operand_of inner level.Product = at_product inner
 operand_of inner level.Sign = signed inner
 
 -- an expression in brackets, where so many may still nest
-unfoldable pub inner : ℕ → Parser Expr
+unfoldable pub inner : ℕ → Parser BasicExpr
 inner zero = refuse
 inner (suc depth) = at_or (inner depth)
 
@@ -314,12 +288,12 @@ abbrev pub depth_limit : ℕ
 depth_limit = 200
 
 -- an expression, where so many brackets may still nest
-unfoldable pub expression : ℕ → Parser Expr
+unfoldable pub expression : ℕ → Parser BasicExpr
 expression depth = at_or (inner depth)
 
 -- ---- statements
 
-unfoldable pub initial : ℕ → Parser (Option Expr)
+unfoldable pub initial : ℕ → Parser (Option BasicExpr)
 initial depth = do
   found ← eat mark.Assign
   if found then (do e ← expression depth; pure (Some e)) else pure None

@@ -1,41 +1,16 @@
 -- What is refused of a list of tokens, before and while it is read as a module.
-use Rattle.std.specs.Prelude.{◌≡◌, ℕ, ◌+◌, ◌<◌, Bool, true, false, not, List, take}
+use Rattle.std.specs.Prelude.{◌≡◌, ◌<◌, Bool, true, false, not, List}
 use Rattle.std.specs.List.{count_by}
 use Rattle.ttcn_syntax.specs.declared.token.Token.{Token}
 use Rattle.ttcn_syntax.specs.declared.token.Token.TheVariants as token
 use Rattle.ttcn_syntax.specs.declared.token.Spanned.{Spanned}
-use Rattle.ttcn_syntax.specs.declared.token.Symbol.TheVariants as mark
 use Rattle.ttcn_syntax.specs.declared.token.Word.{Word}
 use Rattle.ttcn_syntax.specs.declared.token.Word.TheVariants as word
+use Rattle.ttcn_parse.specs.Groups.{IsTooDeep}
 use Rattle.ttcnx.specs.Grammar.{IsModule}
 use Rattle.ttcnx.specs.declared.module.Module.{Module}
 use Rattle.ttcnx.specs.declared.parse.ParseError.{ParseError}
 use Rattle.ttcnx.specs.declared.parse.ParseError.TheVariants.{TooDeep, LeftOut, Unexpected, Memory}
-
--- a bracket that opens, of any of the three kinds
-abbrev pub opens : Token → Bool
-opens (token.Symbol mark.LeftBrace) = true
-opens (token.Symbol mark.LeftParen) = true
-opens (token.Symbol mark.LeftBracket) = true
-opens _ = false
-
--- a bracket that closes
-abbrev pub closes : Token → Bool
-closes (token.Symbol mark.RightBrace) = true
-closes (token.Symbol mark.RightParen) = true
-closes (token.Symbol mark.RightBracket) = true
-closes _ = false
-
--- how many of the tokens open a bracket, and how many close one
-abbrev pub opened : List Spanned → ℕ
-opened = count_by (λ k. opens k.token)
-
-abbrev pub closed : List Spanned → ℕ
-closed = count_by (λ k. closes k.token)
-
--- brackets nest deeper than 200: some front of the tokens opens over 200 more than it closes
-abbrev pub IsTooDeep : List Spanned → Type 0
-IsTooDeep tokens = (n : ℕ) × (200 + closed (take n tokens) < opened (take n tokens))
 
 -- the words that today's part of the language uses
 abbrev pub is_used : Word → Bool

@@ -1,8 +1,8 @@
 -- The types of expressions (ES 201 873-1, 7.1).
 use Rattle.std.specs.Prelude.{Bool, true, false, ◌&&◌, Option, Some, None, if◌then◌else◌}
 use Rattle.ttcn_syntax.specs.Expression.{Expression, integer, boolean, name, negation, signed, operation}
-use Rattle.ttcn_syntax.specs.declared.tree.Operator.{Operator}
-use Rattle.ttcn_syntax.specs.declared.tree.Operator.TheVariants.{Or, Xor, And, Equal, NotEqual, Less, Greater, LessEqual, GreaterEqual, Add, Subtract, Multiply, Divide, Mod, Rem}
+use Rattle.ttcn_syntax.specs.declared.operator.Operator.{Operator}
+use Rattle.ttcn_syntax.specs.declared.operator.Operator.TheVariants.{Or, Xor, And, Equal, NotEqual, Less, Greater, LessEqual, GreaterEqual, Add, Subtract, Multiply, Divide, Mod, Rem}
 use Rattle.ttcnx.specs.Scopes.{Variables}
 use Rattle.ttcnx.specs.declared.module.BasicType.{BasicType}
 use Rattle.ttcnx.specs.declared.module.BasicType.TheVariants.{Integer, Boolean}

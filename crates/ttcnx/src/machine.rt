@@ -12,7 +12,7 @@ use crate::module::{Action, Statement};
 use crate::verdict::Verdict;
 use std::alloc::Global;
 use summary::{Memory, System};
-use ttcn_syntax::{Expr, Name, Seq};
+use ttcn_syntax::{BasicExpr, Name, Seq};
 use ttcn_values::{Fault, Frame, eval};
 
 /// A test case that runs on its main test component alone: its statements.
@@ -112,7 +112,7 @@ fn store(
     alloc: Global,
     component: &Component,
     name: &Name,
-    value: &Expr,
+    value: &BasicExpr,
 ) -> Result<Configuration, Memory>
     requires { component.now.position < 2 ^ 63 }
     ensures { IfOk result (λ after. after ≡ stored component.now name.now (value_of (find component.now.frame) (expression value.now))) }

@@ -1,6 +1,6 @@
 //! The tree of a module: its definitions, and the statements of its test cases.
 use crate::verdict::Verdict;
-use ttcn_syntax::{Expr, Name, Seq, Span};
+use ttcn_syntax::{BasicExpr, Name, Seq, Span};
 
 /// The definitions of a module, in the order of the text.
 #[derive(Debug, Drop)]
@@ -38,8 +38,8 @@ pub struct Statement {
 /// What a statement does. A declaration of several names is several statements.
 #[derive(Debug, Drop)]
 pub enum Action {
-    Declare(BasicType, Name, Option<Expr>),
-    Assign(Name, Expr),
+    Declare(BasicType, Name, Option<BasicExpr>),
+    Assign(Name, BasicExpr),
     Log,
     Setverdict(Verdict),
 }

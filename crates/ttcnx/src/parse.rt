@@ -13,11 +13,9 @@ use crate::module::{Behaviour, Definition, Kind, Module};
 use parser::Parser;
 use std::alloc::{AllocError, AllocFailed, Global};
 use thiserror::Error;
+use ttcn_parse::first_too_deep;
 use ttcn_syntax::{Name, Seq, Span, Spanned, Symbol, Word};
-use words::{first_left_out, first_too_deep};
-
-/// How deep brackets may nest.
-pub const DEPTH: u32 = 200;
+use words::first_left_out;
 
 /// Why tokens spell no module, with the place of the token that shows it.
 #[derive(Clone, Copy, Debug, PartialEq, Eq, Error)]

@@ -14,7 +14,7 @@ use crate::verdict::Verdict;
 use scope::{Role, Scope};
 use std::alloc::{AllocError, Global};
 use thiserror::Error;
-use ttcn_syntax::{Expr, Name, Span};
+use ttcn_syntax::{BasicExpr, Name, Span};
 use typing::type_of;
 
 /// The rules, from the least number on.
@@ -198,7 +198,7 @@ impl Checker {
     }
 
     /// A value that goes into a variable of the type, which may be unknown.
-    fn value(&mut self, target: Option<BasicType>, value: &Expr, place: Span)
+    fn value(&mut self, target: Option<BasicType>, value: &BasicExpr, place: Span)
         ensures rules { found self.new.least ≡ noted (found self.old.least) (at_value (visible self.old.scope) target (expression value.now)) }
         ensures scope { self.new.scope ≡ self.old.scope }
     {

@@ -1,48 +1,58 @@
 use crate::{Fault, Frame, Value, eval};
 use std::alloc::Global;
 use std::test::Fail;
-use ttcn_syntax::{Boxed, Expr, Link, Memory, Name, Operator, Seq, Sign};
+use ttcn_syntax::{BasicExpr, BasicLink, Boxed, Memory, Name, Operator, Seq, Sign};
 
 const MAX: i64 = 9_223_372_036_854_775_807;
 
 const MIN: i64 = -9_223_372_036_854_775_808;
 
 /// An integer as a module writes it; the least one has no number of its own.
-fn whole(alloc: Global, integer: i64) -> Result<Expr, Memory> {
+fn whole(alloc: Global, integer: i64) -> Result<BasicExpr, Memory> {
     if integer >= 0 {
-        Ok(Expr::Int(integer.unsigned_abs()))
+        Ok(BasicExpr::Int(integer.unsigned_abs()))
     } else if integer == MIN {
         operation(
             alloc,
             whole_above_min(alloc, -MAX)?,
             Operator::Subtract,
-            Expr::Int(1),
+            BasicExpr::Int(1),
         )
     } else {
         whole_above_min(alloc, integer)
     }
 }
 
-fn whole_above_min(alloc: Global, integer: i64) -> Result<Expr, Memory> {
-    Ok(Expr::Signed(
+fn whole_above_min(alloc: Global, integer: i64) -> Result<BasicExpr, Memory> {
+    Ok(BasicExpr::Signed(
         Sign::Minus,
-        Boxed::new(alloc, Expr::Int(integer.unsigned_abs()))?,
+        Boxed::new(alloc, BasicExpr::Int(integer.unsigned_abs()))?,
     ))
 }
 
-fn operation(alloc: Global, left: Expr, operator: Operator, right: Expr) -> Result<Expr, Memory> {
+fn operation(
+    alloc: Global,
+    left: BasicExpr,
+    operator: Operator,
+    right: BasicExpr,
+) -> Result<BasicExpr, Memory> {
     let mut links = Seq::new(alloc);
-    links.push(Link {
+    links.push(BasicLink {
         operator,
         operand: right,
     })?;
-    Ok(Expr::Chain(Boxed::new(alloc, left)?, links))
+    Ok(BasicExpr::Chain(Boxed::new(alloc, left)?, links))
 }
 
 /// `1 / 0 == 1`
-fn faulty(alloc: Global) -> Result<Expr, Memory> {
-    let quotient = operation(alloc, Expr::Int(1), Operator::Divide, Expr::Int(0))?;
-    operation(alloc, quotient, Operator::Equal, Expr::Int(1))
+fn faulty(alloc: Global) -> Result<BasicExpr, Memory> {
+    let quotient = operation(
+        alloc,
+        BasicExpr::Int(1),
+        Operator::Divide,
+        BasicExpr::Int(0),
+    )?;
+    operation(alloc, quotient, Operator::Equal, BasicExpr::Int(1))
 }
 
 fn integer(value: i64) -> Result<Value, Fault> {
@@ -147,7 +157,12 @@ fn booleans(rt: HostRuntime) -> Result<(), Fail> {
             (true, true, answers[3]),
         ];
         for (left, right, expected) in cases {
-            let expression = operation(alloc, Expr::Bool(left), operator, Expr::Bool(right))?;
+            let expression = operation(
+                alloc,
+                BasicExpr::Bool(left),
+                operator,
+                BasicExpr::Bool(right),
+            )?;
             assert_eq!(rt;
                 eval(&expression, &frame),
                 boolean(expected),
@@ -171,7 +186,7 @@ fn a_side_that_decides(rt: HostRuntime) -> Result<(), Fail> {
         (true, Operator::Equal, DYNAMIC),
     ];
     for (left, operator, expected) in rows {
-        let expression = operation(alloc, Expr::Bool(left), operator, faulty(alloc)?)?;
+        let expression = operation(alloc, BasicExpr::Bool(left), operator, faulty(alloc)?)?;
         assert_eq!(rt;
             eval(&expression, &frame),
             expected,
@@ -185,10 +200,10 @@ fn a_side_that_decides(rt: HostRuntime) -> Result<(), Fail> {
 fn operators_before_one_operand(rt: HostRuntime) -> Result<(), Fail> {
     let alloc = rt.alloc();
     let frame = Frame::new(alloc);
-    let not = |operand: Expr| Boxed::new(alloc, operand).map(Expr::Not);
-    assert_eq!(rt; eval(&not(Expr::Bool(true))?, &frame), boolean(false));
-    assert_eq!(rt; eval(&not(Expr::Bool(false))?, &frame), boolean(true));
-    assert_eq!(rt; eval(&not(Expr::Int(1))?, &frame), DYNAMIC);
+    let not = |operand: BasicExpr| Boxed::new(alloc, operand).map(BasicExpr::Not);
+    assert_eq!(rt; eval(&not(BasicExpr::Bool(true))?, &frame), boolean(false));
+    assert_eq!(rt; eval(&not(BasicExpr::Bool(false))?, &frame), boolean(true));
+    assert_eq!(rt; eval(&not(BasicExpr::Int(1))?, &frame), DYNAMIC);
     assert_eq!(rt; eval(&not(faulty(alloc)?)?, &frame), DYNAMIC);
     let rows = [
         (Sign::Minus, 5, integer(-5)),
@@ -198,10 +213,10 @@ fn operators_before_one_operand(rt: HostRuntime) -> Result<(), Fail> {
         (Sign::Plus, 5, integer(5)),
     ];
     for (sign, operand, expected) in rows {
-        let expression = Expr::Signed(sign, Boxed::new(alloc, whole(alloc, operand)?)?);
+        let expression = BasicExpr::Signed(sign, Boxed::new(alloc, whole(alloc, operand)?)?);
         assert_eq!(rt; eval(&expression, &frame), expected, "{sign:?} {operand}");
     }
-    let signed_truth = Expr::Signed(Sign::Plus, Boxed::new(alloc, Expr::Bool(true))?);
+    let signed_truth = BasicExpr::Signed(Sign::Plus, Boxed::new(alloc, BasicExpr::Bool(true))?);
     assert_eq!(rt; eval(&signed_truth, &frame), DYNAMIC);
     Ok(())
 }
@@ -210,11 +225,11 @@ fn operators_before_one_operand(rt: HostRuntime) -> Result<(), Fail> {
 fn numbers_of_the_text(rt: HostRuntime) -> Result<(), Fail> {
     let frame = Frame::new(rt.alloc());
     assert_eq!(rt;
-        eval(&Expr::Int(9_223_372_036_854_775_807), &frame),
+        eval(&BasicExpr::Int(9_223_372_036_854_775_807), &frame),
         integer(MAX)
     );
     assert_eq!(rt;
-        eval(&Expr::Int(9_223_372_036_854_775_808), &frame),
+        eval(&BasicExpr::Int(9_223_372_036_854_775_808), &frame),
         DYNAMIC
     );
     Ok(())
@@ -230,12 +245,17 @@ fn operands_of_other_types(rt: HostRuntime) -> Result<(), Fail> {
         Operator::Xor,
         Operator::Less,
     ] {
-        let expression = operation(alloc, Expr::Bool(true), operator, Expr::Int(1))?;
+        let expression = operation(alloc, BasicExpr::Bool(true), operator, BasicExpr::Int(1))?;
         assert_eq!(rt; eval(&expression, &frame), DYNAMIC, "true {operator:?} 1");
     }
-    let order = operation(alloc, Expr::Bool(false), Operator::Less, Expr::Bool(true))?;
+    let order = operation(
+        alloc,
+        BasicExpr::Bool(false),
+        Operator::Less,
+        BasicExpr::Bool(true),
+    )?;
     assert_eq!(rt; eval(&order, &frame), DYNAMIC);
-    let both = operation(alloc, Expr::Int(1), Operator::And, Expr::Int(1))?;
+    let both = operation(alloc, BasicExpr::Int(1), Operator::And, BasicExpr::Int(1))?;
     assert_eq!(rt; eval(&both, &frame), DYNAMIC);
     Ok(())
 }
@@ -244,11 +264,11 @@ fn operands_of_other_types(rt: HostRuntime) -> Result<(), Fail> {
 fn names(rt: HostRuntime) -> Result<(), Fail> {
     let alloc = rt.alloc();
     let mut frame = Frame::new(alloc);
-    let name = Expr::Name(Name::new(alloc, b"x")?);
+    let name = BasicExpr::Name(Name::new(alloc, b"x")?);
     assert_eq!(rt; eval(&name, &frame), DYNAMIC);
     frame.put(Name::new(alloc, b"x")?, Value::Integer(7))?;
     assert_eq!(rt; eval(&name, &frame), integer(7));
-    let sum = operation(alloc, name, Operator::Add, Expr::Int(1))?;
+    let sum = operation(alloc, name, Operator::Add, BasicExpr::Int(1))?;
     assert_eq!(rt; eval(&sum, &frame), integer(8));
     frame.put(Name::new(alloc, b"x")?, Value::Boolean(true))?;
     assert_eq!(rt; eval(&sum, &frame), DYNAMIC);
@@ -256,12 +276,12 @@ fn names(rt: HostRuntime) -> Result<(), Fail> {
 }
 
 /// The links of `.. - 1 - 1 - 1`.
-fn subtractions(alloc: Global, count: u32) -> Result<Seq<Link>, Memory> {
+fn subtractions(alloc: Global, count: u32) -> Result<Seq<BasicLink>, Memory> {
     let mut links = Seq::new(alloc);
     for _place in 0..count {
-        links.push(Link {
+        links.push(BasicLink {
             operator: Operator::Subtract,
-            operand: Expr::Int(1),
+            operand: BasicExpr::Int(1),
         })?;
     }
     Ok(links)
@@ -271,10 +291,13 @@ fn subtractions(alloc: Global, count: u32) -> Result<Seq<Link>, Memory> {
 fn chains_are_read_from_left_to_right(rt: HostRuntime) -> Result<(), Fail> {
     let alloc = rt.alloc();
     let frame = Frame::new(alloc);
-    let short = Expr::Chain(Boxed::new(alloc, Expr::Int(1))?, subtractions(alloc, 2)?);
+    let short = BasicExpr::Chain(
+        Boxed::new(alloc, BasicExpr::Int(1))?,
+        subtractions(alloc, 2)?,
+    );
     assert_eq!(rt; eval(&short, &frame), integer(-1));
-    let long = Expr::Chain(
-        Boxed::new(alloc, Expr::Int(100_000))?,
+    let long = BasicExpr::Chain(
+        Boxed::new(alloc, BasicExpr::Int(100_000))?,
         subtractions(alloc, 99_999)?,
     );
     assert_eq!(rt; eval(&long, &frame), integer(1));

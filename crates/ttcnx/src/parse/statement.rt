@@ -7,7 +7,7 @@ use super::ParseError;
 use super::parser::Parser;
 use crate::module::{Action, BasicType, Statement};
 use crate::verdict::Verdict;
-use ttcn_syntax::{Expr, Seq, Span, Symbol, Token, Word};
+use ttcn_syntax::{BasicExpr, Seq, Span, Symbol, Token, Word};
 
 impl Parser<'_> {
     /// A block. A statement is followed by a semicolon, except before the closing brace.
@@ -101,7 +101,7 @@ impl Parser<'_> {
     }
 
     #[tactic(auto, unfolding(crate::specs::Reader::initial))]
-    fn initial_value(&mut self) -> Result<Option<Expr>, ParseError>
+    fn initial_value(&mut self) -> Result<Option<BasicExpr>, ParseError>
         ensures { Reads (spec.initial spec.depth_limit self.old) result self.new }
     {
         if self.take_symbol(Symbol::Assign) {

@@ -7,21 +7,24 @@ ghost use Rattle.ttcnx.specs.Types.{result_of, takes};
 use super::Rule;
 use super::scope::Scope;
 use crate::module::BasicType;
-use ttcn_syntax::{Expr, Operator};
+use ttcn_syntax::{BasicExpr, Operator};
 
 /// What an expression's value is, or the least rule that is broken in it.
 pub(super) type Typing = Result<BasicType, Rule>;
 
-pub(super) fn type_of(scope: &Scope, expr: &Expr) -> Typing
+pub(super) fn type_of(scope: &Scope, expr: &BasicExpr) -> Typing
     ensures { result ≡ judged (visible scope.now) (expression expr.now) }
 {
     match expr {
-        Expr::Int(_) => Ok(BasicType::Integer),
-        Expr::Bool(_) => Ok(BasicType::Boolean),
-        Expr::Name(name) => scope.variable(name).ok_or(Rule::UnknownName),
-        Expr::Not(operand) => of_operand(BasicType::Boolean, type_of(scope, operand.get())),
-        Expr::Signed(_, operand) => of_operand(BasicType::Integer, type_of(scope, operand.get())),
-        Expr::Chain(first, links) => {
+        BasicExpr::Int(_) => Ok(BasicType::Integer),
+        BasicExpr::Bool(_) => Ok(BasicType::Boolean),
+        BasicExpr::Name(name) => scope.variable(name).ok_or(Rule::UnknownName),
+        BasicExpr::Not(operand) => of_operand(BasicType::Boolean, type_of(scope, operand.get())),
+        BasicExpr::Signed(_, operand) => of_operand(
+            BasicType::Integer,
+            type_of(scope, operand.get()),
+        ),
+        BasicExpr::Chain(first, links) => {
             let mut left = type_of(scope, first.get());
             for link in links.as_slice() {
                 left = of_operation(link.operator, left, type_of(scope, &link.operand));

@@ -1,26 +1,26 @@
-use crate::{Boxed, Expr, Link, Memory, Name, Operator, Seq, Sign};
+use crate::{BasicExpr, BasicLink, Boxed, Memory, Name, Operator, Seq, Sign};
 use std::alloc::Global;
 use std::hash::{DefaultHasher, Hash, Hasher};
 use std::test::Fail;
 
 /// `1 + x - 1 + x ..`, of this many links.
-fn chain(alloc: Global, links: u32) -> Result<Expr, Memory> {
+fn chain(alloc: Global, links: u32) -> Result<BasicExpr, Memory> {
     let mut all = Seq::new(alloc);
     for place in 0..links {
         let link = if place % 2 == 0 {
-            Link {
+            BasicLink {
                 operator: Operator::Add,
-                operand: Expr::Name(Name::new(alloc, b"x")?),
+                operand: BasicExpr::Name(Name::new(alloc, b"x")?),
             }
         } else {
-            Link {
+            BasicLink {
                 operator: Operator::Subtract,
-                operand: Expr::Int(1),
+                operand: BasicExpr::Int(1),
             }
         };
         all.push(link)?;
     }
-    Ok(Expr::Chain(Boxed::new(alloc, Expr::Int(1))?, all))
+    Ok(BasicExpr::Chain(Boxed::new(alloc, BasicExpr::Int(1))?, all))
 }
 
 #[test]
@@ -36,14 +36,16 @@ fn a_long_chain_is_built_compared_and_dropped(rt: HostRuntime) -> Result<(), Fai
 #[test]
 fn trees_are_equal_by_their_parts(rt: HostRuntime) -> Result<(), Fail> {
     let alloc = rt.alloc();
-    let minus_one = Expr::Signed(Sign::Minus, Boxed::new(alloc, Expr::Int(1))?);
-    let plus_one = Expr::Signed(Sign::Plus, Boxed::new(alloc, Expr::Int(1))?);
+    let minus_one = BasicExpr::Signed(Sign::Minus, Boxed::new(alloc, BasicExpr::Int(1))?);
+    let plus_one = BasicExpr::Signed(Sign::Plus, Boxed::new(alloc, BasicExpr::Int(1))?);
     assert!(rt; minus_one != plus_one);
-    let not_true = Expr::Not(Boxed::new(alloc, Expr::Bool(true))?);
-    let not_false = Expr::Not(Boxed::new(alloc, Expr::Bool(false))?);
+    let not_true = BasicExpr::Not(Boxed::new(alloc, BasicExpr::Bool(true))?);
+    let not_false = BasicExpr::Not(Boxed::new(alloc, BasicExpr::Bool(false))?);
     assert!(rt; not_true != not_false);
-    assert!(rt; not_true == Expr::Not(Boxed::new(alloc, Expr::Bool(true))?));
-    assert!(rt; Expr::Name(Name::new(alloc, b"x")?) != Expr::Name(Name::new(alloc, b"y")?));
+    assert!(rt; not_true == BasicExpr::Not(Boxed::new(alloc, BasicExpr::Bool(true))?));
+    assert!(rt;
+        BasicExpr::Name(Name::new(alloc, b"x")?) != BasicExpr::Name(Name::new(alloc, b"y")?)
+    );
     Ok(())
 }
 

@@ -1,6 +1,6 @@
 use Rattle.std.proofs.Common.{◌≡◌, ◌≤◌, ◌+◌, ℕ, take}
-use Rattle.ttcnx.specs.Refused.{closed, opened}
-use Rattle.ttcnx.proofs.parse.words.first_too_deep.Given as goal
+use Rattle.ttcn_parse.specs.Groups.{closed, opened}
+use Rattle.ttcn_parse.proofs.limits.first_too_deep.Given as goal
 
 -- the brackets of the tokens so far are counted, and no front so far is too deep
 abbrev pub invariant-loop-spanned : goal.invariant-loop-spanned

@@ -1,0 +1,60 @@
+-- Brackets: how deep they nest, and groups of tokens in which they are balanced.
+use Rattle.std.specs.Prelude.{◌≡◌, ℕ, ◌+◌, ◌<◌, Bool, true, false, List, ◌∷◌, Option, Some, None, take}
+use Rattle.std.specs.List.{count_by}
+use Rattle.ttcn_syntax.specs.declared.token.Spanned.{Spanned}
+use Rattle.ttcn_syntax.specs.declared.token.Symbol.{Symbol}
+use Rattle.ttcn_syntax.specs.declared.token.Symbol.TheVariants as mark
+use Rattle.ttcn_syntax.specs.declared.token.Token.{Token}
+use Rattle.ttcn_syntax.specs.declared.token.Token.TheVariants as token
+
+-- the token of this place in the list is that token
+abbrev pub Is : Spanned → Token → Type 0
+Is k t = k.token ≡ t
+
+-- ---- depth
+
+-- a bracket that opens, of any of the three kinds
+abbrev pub opens : Token → Bool
+opens (token.Symbol mark.LeftBrace) = true
+opens (token.Symbol mark.LeftParen) = true
+opens (token.Symbol mark.LeftBracket) = true
+opens _ = false
+
+-- a bracket that closes
+abbrev pub closes : Token → Bool
+closes (token.Symbol mark.RightBrace) = true
+closes (token.Symbol mark.RightParen) = true
+closes (token.Symbol mark.RightBracket) = true
+closes _ = false
+
+-- how many of the tokens open a bracket, and how many close one
+abbrev pub opened : List Spanned → ℕ
+opened = count_by (λ k. opens k.token)
+
+abbrev pub closed : List Spanned → ℕ
+closed = count_by (λ k. closes k.token)
+
+-- brackets nest deeper than 200: some front of the tokens opens over 200 more than it closes
+abbrev pub IsTooDeep : List Spanned → Type 0
+IsTooDeep tokens = (n : ℕ) × (200 + closed (take n tokens) < opened (take n tokens))
+
+-- ---- groups
+
+-- the bracket that closes what this one opens
+abbrev pub partner : Symbol → Option Symbol
+partner mark.LeftBrace = Some mark.RightBrace
+partner mark.LeftParen = Some mark.RightParen
+partner mark.LeftBracket = Some mark.RightBracket
+partner _ = None
+
+-- any number of tokens in which each bracket has its partner, at the front of the tokens
+pub data Balanced : List Spanned → List Spanned → Type 0 where
+  nothing : {ts : List Spanned} → Balanced ts ts
+  plain : {k : Spanned} {ts rest : List Spanned} → opens k.token ≡ false → closes k.token ≡ false → Balanced ts rest → Balanced (k ∷ ts) rest
+  pair : {k c : Spanned} {opening closing : Symbol} {ts middle rest : List Spanned} → Is k (token.Symbol opening)
+      → partner opening ≡ Some closing → Balanced ts (c ∷ middle) → Is c (token.Symbol closing) → Balanced middle rest → Balanced (k ∷ ts) rest
+
+-- braces with balanced brackets inside
+pub data Group : List Spanned → List Spanned → Type 0 where
+  braces : {k c : Spanned} {ts rest : List Spanned} → Is k (token.Symbol mark.LeftBrace) → Balanced ts (c ∷ rest)
+      → Is c (token.Symbol mark.RightBrace) → Group (k ∷ ts) rest

@@ -1,0 +1,45 @@
+//! Expressions (section 7).
+use crate::{Boxed, Name, Operator, Seq, Sign};
+
+/// A name, and the fields behind it that lead into a record: `r.f.g`.
+#[derive(Debug, Drop, PartialEq, Eq)]
+pub struct Reference {
+    pub name: Name,
+    pub fields: Seq<Name>,
+}
+
+/// A component, by `self`, by `mtc`, or by what a name stands for.
+#[derive(Debug, Drop, PartialEq, Eq)]
+pub enum ComponentRef {
+    /// `self`
+    Itself,
+    Mtc,
+    Named(Reference),
+}
+
+/// An expression. Operands joined by operators of one binding level are one chain, read from left to right.
+#[cycle(expression)]
+#[derive(Debug, Drop, PartialEq, Eq)]
+pub enum Expr {
+    Int(u64),
+    Bool(bool),
+    Null,
+    /// `self`, `mtc`, or what a name stands for: a variable of any type, a constant, a template ..
+    Reference(ComponentRef),
+    /// `c.running`: of a component or a timer.
+    Running(ComponentRef),
+    /// `ispresent(r.f)`
+    Ispresent(Reference),
+    Not(Boxed<Expr>),
+    Signed(Sign, Boxed<Expr>),
+    /// The first operand, and the operators with the operands behind them.
+    Chain(Boxed<Expr>, Seq<Link>),
+}
+
+/// An operator and the operand behind it.
+#[cycle(expression)]
+#[derive(Debug, Drop, PartialEq, Eq)]
+pub struct Link {
+    pub operator: Operator,
+    pub operand: Expr,
+}

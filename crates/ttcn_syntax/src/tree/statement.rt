@@ -1,0 +1,181 @@
+//! Statements (sections 11, 19 to 24).
+use crate::{
+    Call, ComponentRef, Expr, MessageTemplate, Name, Reference, Rhs, Seq, Span, TypeName, Value,
+};
+
+/// A statement, and where its first token stands.
+#[cycle(statement)]
+#[derive(Debug, Drop, PartialEq, Eq)]
+pub struct Statement {
+    pub place: Span,
+    pub action: Action,
+}
+
+/// What a statement does.
+#[cycle(statement)]
+#[derive(Debug, Drop, PartialEq, Eq)]
+pub enum Action {
+    Variables(Variables),
+    Constants(Constants),
+    Timers(Seq<Timer>),
+    Assign(Assignment),
+    /// `f(1)`: of a function or an altstep.
+    Call(Call),
+    /// A receive, timeout or done outside an `alt`.
+    Event(Event),
+    Alt(Seq<Branch>),
+    Repeat,
+    /// The conditions with their blocks, and the block of the last `else`.
+    If(Seq<Conditional>, Option<Seq<Statement>>),
+    While(Expr, Seq<Statement>),
+    DoWhile(Seq<Statement>, Expr),
+    For(ForStart, Expr, Assignment, Seq<Statement>),
+    Return(Option<Value>),
+    /// `stop`
+    Stop,
+    Log(Seq<LogItem>),
+    Setverdict(Verdict, Seq<LogItem>),
+    Connect(PortRef, PortRef),
+    Send(Send),
+    /// `c.start(f(1))`
+    StartComponent(ComponentRef, Call),
+    /// `t.start`, with a duration or without.
+    StartTimer(Name),
+    /// `c.stop`: of a component or a timer.
+    StopOf(ComponentRef),
+    Activate(Call),
+    Deactivate(Option<Reference>),
+}
+
+/// The variables of one declaration.
+#[derive(Debug, Drop, PartialEq, Eq)]
+pub struct Variables {
+    pub type_name: TypeName,
+    pub variables: Seq<Variable>,
+}
+
+#[derive(Debug, Drop, PartialEq, Eq)]
+pub struct Variable {
+    pub name: Name,
+    pub value: Option<Rhs>,
+}
+
+/// The constants of one declaration.
+#[derive(Debug, Drop, PartialEq, Eq)]
+pub struct Constants {
+    pub type_name: TypeName,
+    pub constants: Seq<Constant>,
+}
+
+#[derive(Debug, Drop, PartialEq, Eq)]
+pub struct Constant {
+    pub name: Name,
+    pub value: Value,
+}
+
+/// A timer of a declaration. Its duration has no value here.
+#[derive(Debug, Drop, PartialEq, Eq)]
+pub struct Timer {
+    pub name: Name,
+}
+
+#[derive(Debug, Drop, PartialEq, Eq)]
+pub struct Assignment {
+    pub target: Reference,
+    pub value: Rhs,
+}
+
+/// What a `for` begins with.
+#[derive(Debug, Drop, PartialEq, Eq)]
+pub enum ForStart {
+    Variables(Variables),
+    Assign(Assignment),
+}
+
+/// A condition, and the block that it guards.
+#[cycle(statement)]
+#[derive(Debug, Drop, PartialEq, Eq)]
+pub struct Conditional {
+    pub condition: Expr,
+    pub block: Seq<Statement>,
+}
+
+/// A branch of an `alt` or an altstep, and where its `[` stands.
+#[cycle(statement)]
+#[derive(Debug, Drop, PartialEq, Eq)]
+pub struct Branch {
+    pub place: Span,
+    pub alternative: Alternative,
+}
+
+/// What a branch waits for, and the block behind it.
+#[cycle(statement)]
+#[derive(Debug, Drop, PartialEq, Eq)]
+pub enum Alternative {
+    /// A guard, an event, and a block.
+    Event(Option<Expr>, Event, Option<Seq<Statement>>),
+    /// A guard, a call of an altstep, and a block.
+    Call(Option<Expr>, Call, Option<Seq<Statement>>),
+    /// `[else]`
+    Else(Seq<Statement>),
+}
+
+/// What a component can wait for.
+#[derive(Debug, Drop, PartialEq, Eq)]
+pub enum Event {
+    Receive(Receive),
+    /// `t.timeout`
+    Timeout(Name),
+    /// `c.done`
+    Done(ComponentRef),
+    /// `all component.done`
+    AllDone,
+}
+
+/// A receive: the message's template and sender, and where message and sender go.
+#[derive(Debug, Drop, PartialEq, Eq)]
+pub struct Receive {
+    pub port: PortSelector,
+    pub message: Option<MessageTemplate>,
+    pub from: Option<ComponentRef>,
+    pub value: Option<Reference>,
+    pub sender: Option<Reference>,
+}
+
+#[derive(Debug, Drop, PartialEq, Eq)]
+pub enum PortSelector {
+    Named(Name),
+    /// `any port`
+    Any,
+}
+
+#[derive(Debug, Drop, PartialEq, Eq)]
+pub struct Send {
+    pub port: Name,
+    pub message: MessageTemplate,
+    pub to: Option<ComponentRef>,
+}
+
+/// A component's port: `c:p`.
+#[derive(Debug, Drop, PartialEq, Eq)]
+pub struct PortRef {
+    pub component: ComponentRef,
+    pub port: Name,
+}
+
+/// An argument of `log`, or a reason of a verdict.
+#[derive(Debug, Drop, PartialEq, Eq)]
+pub enum LogItem {
+    Text,
+    Expr(Expr),
+}
+
+/// The verdicts, from the best to the worst.
+#[derive(Clone, Copy, Debug, PartialEq, Eq)]
+pub enum Verdict {
+    None,
+    Pass,
+    Inconc,
+    Fail,
+    Error,
+}
