@@ -54,7 +54,8 @@ fn is_closing(token: &Token) -> bool
     matches!(token, Token::Symbol(symbol) if closes(*symbol))
 }
 
-fn closes(symbol: Symbol) -> bool
+/// The symbol is a bracket that closes.
+pub(crate) fn closes(symbol: Symbol) -> bool
     ensures { result ≡ spec.closes (variant.Symbol symbol) }
 {
     matches!(
@@ -154,7 +155,7 @@ impl Behind {
 }
 
 /// The bracket that closes what this one opens.
-fn partner(symbol: Symbol) -> Option<Symbol>
+pub(crate) fn partner(symbol: Symbol) -> Option<Symbol>
     ensures { result ≡ spec.partner symbol }
 {
     match symbol {
