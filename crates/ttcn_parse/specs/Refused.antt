@@ -1,4 +1,4 @@
--- Which module tokens are read as, and why they are refused.
+-- What holds of every list of tokens and the grammar.
 use Rattle.std.specs.Prelude.{◌≡◌, List}
 use Rattle.ttcn_syntax.specs.declared.token.Spanned.{Spanned}
 use Rattle.ttcn_syntax.specs.declared.tree.definition.Module.{Module}
