@@ -7,6 +7,7 @@ pub mod CompleteLists
 pub mod CompleteStatements
 pub mod CompleteTemplates
 pub mod Follow
+pub mod Parses
 pub mod Places
 pub mod Readers
 pub mod Sound

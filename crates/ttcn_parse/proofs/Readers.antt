@@ -1,6 +1,7 @@
 -- The readers that go down a bracket at a time.
-use Rattle.std.proofs.Common.{◌≡◌, ◌∙◌, Bool, true, false, ℕ, zero, suc, ◌-◌, ◌<◌, List, [], ◌∷◌, ◌++◌, length, reverse, refl, ap, arith}
+use Rattle.std.proofs.Common.{◌≡◌, ◌∙◌, Bool, true, false, ℕ, zero, suc, ◌+◌, ◌-◌, ◌<◌, List, [], ◌∷◌, ◌++◌, length, reverse, refl, ap, sym, arith}
 use Rattle.std.proofs.lemmas.List.{length-reverse, reverse-append}
+use Rattle.ttcn_parse.proofs.Turns.{next_turn}
 use Rattle.std.specs.Prelude.{None, Option, Some, if◌then◌else◌}
 use Rattle.ttcn_syntax.specs.declared.token.Spanned.{Spanned}
 use Rattle.ttcn_syntax.specs.declared.token.Symbol.{Symbol}
@@ -18,7 +19,7 @@ use Rattle.ttcn_parse.specs.declared.heads.Head.TheVariants as head
 use Rattle.ttcn_parse.specs.declared.heads.Wait.{Wait}
 use Rattle.ttcn_parse.specs.declared.heads.Wait.TheVariants as wait
 use Rattle.ttcn_parse.specs.Grammar.{branch_at, statement_at}
-use Rattle.ttcn_parse.specs.Reader.{Parsed, Parser, a_block, action_behind, action_by, action_in, after_semicolons, alt_by, alternative_by, alternative_of, an_event, and_then, assignment, at_last, balanced_from, behind, block_by, block_if_any, block_in, branch_by, branch_head, call, calls, control, def_altstep, def_function, def_testcase, definition_with, do_by, expect, expect_word, expression, for_by, for_head, for_start_, for_step, go_on, guard, guarded_by, head_by, head_token, here, if_by, in_brackets, items, language, module_end, module_head, name, over_token, parameters, pure, sees, result_type, runs_on, runs_on_if_any, sees_word, shape_below, shape_by, shape_in, signature, statement_by, statement_head, system_type, testcase_name, the_branches, value_below, value_by, value_in, waits_for, while_by, whole, with_, ◌>>=◌}
+use Rattle.ttcn_parse.specs.Reader.{Parsed, Parser, a_block, action_behind, action_by, action_in, after_semicolons, alt_by, at_brace, alternative_by, alternative_of, an_event, and_then, assignment, at_last, balanced_from, behind, block_by, block_if_any, block_in, branch_by, branch_head, call, calls, control, def_altstep, def_function, def_testcase, definition_with, do_by, do_condition, end_item, ended, expect, expect_word, expression, for_by, for_head, for_start_, for_step, go_on, guard, guarded_by, head_by, head_token, here, if_by, in_brackets, items, items_from, language, may_end, module_end, module_head, name, over_token, parameters, pure, sees, result_type, runs_on, runs_on_if_any, sees_word, shape_below, shape_by, shape_in, signature, statement_by, statement_head, system_type, testcase_name, the_branches, value_below, value_by, value_in, waits_for, while_by, whole, with_, ◌>>=◌}
 
 pub value_in_step : (depth : ℕ) (ts : List Spanned) → value_in depth ts ≡ value_by (value_below depth) (head_token ts) ts
 unfolding value_in value_below
@@ -67,6 +68,31 @@ again : {A B C : Type 0} (o : Parsed A) (g : A → Parser B) (f : B → Parser C
 again (Some p) g f = refl
 again None g f = refl
 
+-- ---- what ends where it may
+
+end_split : {A B : Type 0} (k : A → Parser B) (before r : List Spanned) (a : A) (b : Bool)
+    → and_then (if b then Some (tt {0}, after_semicolons r) else None) (λ _ rest. k a rest)
+    ≡ and_then (if b then Some (a, r) else None) (λ a rest. k a (after_semicolons rest))
+end_split k before r a true = refl
+end_split k before r a false = refl
+
+ended_split : {A B : Type 0} (o : Parsed A) (k : A → Parser B) (ts : List Spanned)
+    → and_then o (λ a r. and_then (end_item ts r) (λ _ rest. k a rest))
+    ≡ and_then (and_then o (λ a r. if may_end ts r then Some (a, r) else None)) (λ a rest. k a (after_semicolons rest))
+unfolding end_item
+ended_split (Some p) k ts = end_split k ts p.1 p.0 (may_end ts p.1)
+ended_split None k ts = refl
+
+-- one turn of a loop over items that end where they may
+pub item_turn : {A : Type 0} {x : Parsed (List A)} (p : Parser A) (found : List A) (ts : List Spanned) (n at : ℕ) → at < n
+    → x ≡ items_from at_brace (ended p) (n - at) found ts
+    → x ≡ (if at_brace ts then Some (found, ts) else and_then (p ts) (λ a r. and_then (end_item ts r) (λ _ rest.
+    items_from at_brace (ended p) (n - (at + 1)) (found ++ a ∷ []) rest)))
+unfolding items_from ended
+item_turn p found ts n at below e = next_turn (λ left. items_from at_brace (ended p) left found ts) n at below e
+    ∙ ap (λ o. if at_brace ts then Some (found, ts) else o)
+    (sym (ended_split (p ts) (λ a. items_from at_brace (ended p) (n - (at + 1)) (found ++ a ∷ [])) ts))
+
 -- ---- statements and branches up to their first block
 
 whole_again : (blocks : Parser (List Statement)) (o : Parsed Action) → and_then (and_then o (λ a r. Some (head.Whole a, r))) (action_behind blocks) ≡ o
@@ -83,7 +109,7 @@ for_split blocks ts = piece_within (expect_word word.For ts) _ _ _ _ (λ _ r. pi
 
 head_split_by : (blocks : Parser (List Statement)) (ts : List Spanned) (t : Option Token)
     → and_then (head_by t ts) (action_behind blocks) ≡ action_by blocks t ts
-unfolding alt_by if_by do_by while_by
+unfolding alt_by if_by do_by do_condition while_by
 head_split_by blocks ts (Some (token.Word word.Alt)) = piece (expect_word word.Alt ts) _ _ _ (λ _ r. refl)
 head_split_by blocks ts (Some (token.Word word.If)) = piece (expect_word word.If ts) _ _ _ (λ _ r. refl)
 head_split_by blocks ts (Some (token.Word word.Do)) = piece (expect_word word.Do ts) _ _ _ (λ _ r. refl)

@@ -263,6 +263,10 @@ may_end before ts = sees mark.Semicolon ts || (sees mark.RightBrace ts || sees m
 unfoldable pub ended : {A : Type 0} → Parser A → Parser A
 ended p = λ ts. and_then (p ts) (λ a rest. if may_end ts rest then Some (a, rest) else None)
 
+-- the end of what was taken from these tokens, with the semicolons behind it
+unfoldable pub end_item : List Spanned → Parser (Unit {0})
+end_item before = λ ts. if may_end before ts then Some (tt, after_semicolons ts) else None
+
 -- ---- references
 
 abbrev pub field_of : Bool → Option Token → Option (List ℕ)
@@ -1237,6 +1241,13 @@ head_by t = do
 unfoldable pub statement_head : Parser Head
 statement_head ts = head_by (head_token ts) ts
 
+-- the condition behind the block of a `do`
+unfoldable pub do_condition : List Statement → Parser Action
+do_condition ss = do
+  expect_word word.While
+  e ← in_brackets
+  pure (action.DoWhile ss e)
+
 -- the blocks behind it
 abbrev pub action_behind : Parser (List Statement) → Head → Parser Action
 action_behind blocks (head.Whole a) = pure a
@@ -1250,9 +1261,7 @@ action_behind blocks head.If = do
   pure (action.If cs last)
 action_behind blocks head.Do = do
   ss ← blocks
-  expect_word word.While
-  e ← in_brackets
-  pure (action.DoWhile ss e)
+  do_condition ss
 action_behind blocks (head.While e) = do
   ss ← blocks
   pure (action.While e ss)

@@ -12,8 +12,25 @@ use ttcn_syntax::{
 };
 
 impl Parser<'_> {
+    #[tactic(auto, unfolding(crate::specs::Reader::definition, crate::specs::Reader::a_kind))]
+    pub(crate) fn definition(&mut self) -> Result<Definition, ParseError>
+        ensures { Reads (spec.definition self.old) result self.new }
+    {
+        let place = self.here()?;
+        let kind = match self.token() {
+            Some(Token::Word(Word::Type)) => self.type_definition()?,
+            Some(Token::Word(Word::Const)) => DefinitionKind::Constants(self.constants()?),
+            Some(Token::Word(Word::Template)) => self.template_definition()?,
+            Some(Token::Word(Word::Function)) => self.function()?,
+            Some(Token::Word(Word::Altstep)) => self.altstep()?,
+            Some(Token::Word(Word::Testcase)) => self.testcase()?,
+            _ => return Err(self.unexpected()),
+        };
+        Ok(Definition { place, kind })
+    }
+
     #[tactic(auto, unfolding(crate::specs::Reader::type_kind))]
-    pub(crate) fn type_definition(&mut self) -> Result<DefinitionKind, ParseError>
+    fn type_definition(&mut self) -> Result<DefinitionKind, ParseError>
         ensures { Reads (spec.type_kind self.old) result self.new }
     {
         self.word(Word::Type)?;
@@ -75,7 +92,7 @@ impl Parser<'_> {
     }
 
     #[tactic(auto, unfolding(crate::specs::Reader::def_template))]
-    pub(crate) fn template_definition(&mut self) -> Result<DefinitionKind, ParseError>
+    fn template_definition(&mut self) -> Result<DefinitionKind, ParseError>
         ensures { Reads (spec.def_template self.old) result self.new }
     {
         self.word(Word::Template)?;
@@ -108,6 +125,54 @@ impl Parser<'_> {
     {
         self.symbol(Symbol::LeftParen)?;
         self.separated_until(Symbol::RightParen)
+    }
+
+    #[tactic(auto, using(crate::proofs::Readers::function_split))]
+    fn function(&mut self) -> Result<DefinitionKind, ParseError>
+        ensures { Reads (spec.def_function self.old) result self.new }
+    {
+        let (name, parameters) = self.signature(Word::Function)?;
+        let runs_on = self.runs_on_if_any()?;
+        let returns = self.result_type()?;
+        let body = self.block()?;
+        Ok(DefinitionKind::Function(Function {
+            name,
+            parameters,
+            runs_on,
+            returns,
+            body,
+        }))
+    }
+
+    #[tactic(auto, using(crate::proofs::Readers::altstep_split))]
+    fn altstep(&mut self) -> Result<DefinitionKind, ParseError>
+        ensures { Reads (spec.def_altstep self.old) result self.new }
+    {
+        let (name, parameters) = self.signature(Word::Altstep)?;
+        let runs_on = self.runs_on_if_any()?;
+        let branches = self.branches()?;
+        Ok(DefinitionKind::Altstep(Altstep {
+            name,
+            parameters,
+            runs_on,
+            branches,
+        }))
+    }
+
+    #[tactic(auto, using(crate::proofs::Readers::testcase_split))]
+    fn testcase(&mut self) -> Result<DefinitionKind, ParseError>
+        ensures { Reads (spec.def_testcase self.old) result self.new }
+    {
+        let name = self.testcase_name()?;
+        let runs_on = self.runs_on()?;
+        let system = self.system_type()?;
+        let body = self.block()?;
+        Ok(DefinitionKind::Testcase(Testcase {
+            name,
+            runs_on,
+            system,
+            body,
+        }))
     }
 
     /// A name and parameters behind their word.

@@ -1,7 +1,8 @@
-//! The parser: from the tokens of a text to the tree of its module. So far it stands below statements with blocks.
+//! The parser: from the tokens of a text to the tree of its module.
 #![tactic(auto)]
 
-ghost use Rattle.ttcn_parse.specs.Refused.{HasOneTree};
+ghost use Rattle.std.specs.Prelude.{IfErr, IfOk};
+ghost use Rattle.ttcn_parse.specs.Refused.{HasOneTree, IsRead, IsRefused};
 
 mod action;
 mod declaration;
@@ -14,18 +15,34 @@ mod limits;
 mod lists;
 mod module;
 mod parser;
+mod statement;
 mod template;
 mod value;
 
 pub use error::ParseError;
 pub use limits::{DEPTH, first_left_out, first_too_deep};
-use ttcn_syntax::Spanned;
+use parser::Parser;
+use std::alloc::Global;
+use ttcn_syntax::{Module, Spanned};
 
-/// A law: tokens spell at most one module (ES 201 873-1, annex A, cut to this subset).
-#[tactic(auto, using(crate::proofs::Complete::one_tree))]
-pub fn one_tree(tokens: &[Spanned])
-    ensures { HasOneTree tokens.now }
-{}
+/// The module that the tokens spell (ES 201 873-1, annex A, cut to this subset).
+///
+/// Brackets that nest deeper than [`DEPTH`] are refused before what this subset leaves out, and that before what no
+/// module has. What stands behind `control` and `with` is ignored.
+#[tactic(auto, using(crate::proofs::Complete::one_tree, crate::proofs::Parses::parses, crate::proofs::Parses::refuses))]
+pub fn parse(alloc: Global, tokens: &[Spanned]) -> Result<Module, ParseError>
+    ensures read { IfOk result (λ tree. IsRead tokens.now tree) }
+    ensures refused { IfErr result (λ error. IsRefused tokens.now error) }
+    ensures one { HasOneTree tokens.now }
+{
+    if let Some(place) = first_too_deep(tokens) {
+        return Err(ParseError::TooDeep(place));
+    }
+    if let Some(place) = first_left_out(alloc, tokens)? {
+        return Err(ParseError::LeftOut(place));
+    }
+    Parser::new(alloc, tokens).whole()
+}
 
 #[cfg(test)]
 mod tests;

@@ -11,6 +11,16 @@ use crate::parser::Parser;
 use ttcn_syntax::{Definition, Module, Name, Seq, Symbol, Token, Word};
 
 impl Parser<'_> {
+    #[tactic(auto, using(crate::proofs::Readers::whole_split))]
+    pub(crate) fn whole(&mut self) -> Result<Module, ParseError>
+        ensures { Reads (spec.whole self.old) result self.new }
+    {
+        let name = self.module_head()?;
+        let definitions = self.definitions()?;
+        self.module_end()?;
+        Ok(Module { name, definitions })
+    }
+
     /// A module up to its definitions.
     #[tactic(auto, unfolding(crate::specs::Reader::module_head))]
     fn module_head(&mut self) -> Result<Name, ParseError>
@@ -39,6 +49,30 @@ impl Parser<'_> {
         Ok(())
     }
 
+    /// The definitions, up to `control` or the closing brace.
+    fn definitions(&mut self) -> Result<Seq<Definition>, ParseError>
+        ensures { Reads (spec.items spec.at_last spec.definition_with self.old) result self.new }
+    {
+        let mut definitions = Seq::new(self.alloc);
+        for _turn in 0..self.left() {
+            if self.is_at(Symbol::RightBrace) || self.is_at_word(Word::Control) {
+                return Ok(definitions);
+            }
+            definitions.push(self.definition_with()?)?;
+            self.skip_semicolons();
+        }
+        Ok(definitions)
+    }
+
+    #[tactic(auto, unfolding(crate::specs::Reader::definition_with))]
+    fn definition_with(&mut self) -> Result<Definition, ParseError>
+        ensures { Reads (spec.definition_with self.old) result self.new }
+    {
+        let definition = self.definition()?;
+        self.with()?;
+        Ok(definition)
+    }
+
     #[tactic(auto, unfolding(crate::specs::Reader::language))]
     fn language(&mut self) -> Result<(), ParseError>
         ensures { Reads (spec.language self.old) result self.new }
@@ -62,7 +96,7 @@ impl Parser<'_> {
     }
 
     #[tactic(auto, unfolding(crate::specs::Reader::with_))]
-    pub(crate) fn with(&mut self) -> Result<(), ParseError>
+    fn with(&mut self) -> Result<(), ParseError>
         ensures { Reads (spec.with_ self.old) result self.new }
     {
         if self.take_word(Word::With) {
