@@ -1,0 +1,9 @@
+use Rattle.std.proofs.Common.{◌≡◌, drop}
+use Rattle.ttcn_types.specs.Checking.{scope_of}
+use Rattle.ttcn_types.specs.Definitions.{module_scope, with_parameters}
+use Rattle.ttcn_types.proofs.parts.surroundings.Surroundings.of_template.Given as goal
+
+-- the scope so far, with the parameters that are left, is that with all of them
+abbrev pub invariant-loop-parameter : goal.invariant-loop-parameter
+invariant-loop-parameter l =
+    with_parameters (scope_of l.around) (drop l.parameter-index l.parameters) ≡ with_parameters (module_scope l.fn.scope.definitions.now) l.fn.parameters

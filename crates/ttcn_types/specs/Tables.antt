@@ -1,0 +1,56 @@
+-- What tables say of names, and of numbers.
+use Rattle.std.specs.Prelude.{◌≡◌, ℕ, Bool, not, ◌&&◌, List, [], ◌∷◌, Option, Some, None, bytes_eq, nat_eq, slice_index_or}
+use Rattle.std.specs.Bool.{beq}
+use Rattle.std.specs.HashMap.{get_by}
+use Rattle.std.specs.HashSet.{contains_by}
+use Rattle.std.specs.List.{list_any, slice_get}
+use Rattle.std.specs.Option.{option_or}
+use Rattle.ttcn_syntax.specs.declared.tree.definition.EnumNumber.{EnumNumber}
+use Rattle.ttcn_types.specs.Definitions.{same_number}
+use Rattle.ttcn_types.specs.Names.{Names}
+use Rattle.ttcn_types.specs.declared.name_set.NameSet.{NameSet}
+use Rattle.ttcn_types.specs.declared.number_set.NumberSet.{NumberSet}
+use Rattle.ttcn_types.specs.declared.parts.numbers.Numbers.{Numbers}
+use Rattle.ttcn_types.specs.declared.table.Table.{Table}
+
+-- what a table says of a name
+abbrev pub said : Table → Names
+said table name = get_by (λ key. bytes_eq name key.now) table.meanings
+
+-- what tables say of a name: of several that have it the last one counts
+abbrev pub said_in : List Table → Names
+said_in [] name = None
+said_in (table ∷ tables) name = option_or (said_in tables name) (said table name)
+
+abbrev pub said_by : Option Table → Names
+said_by None name = None
+said_by (Some table) name = said table name
+
+-- what the members of a component type say of a name
+abbrev pub member : List Table → Option ℕ → Names
+member tables None name = None
+member tables (Some at) name = said_by (slice_get tables at) name
+
+-- what is said within says more than what is said round it
+abbrev pub either : Names → Names → Names
+either inner outer name = option_or (inner name) (outer name)
+
+-- names have one among them
+abbrev pub has : NameSet → List ℕ → Bool
+has set name = contains_by (λ key. bytes_eq name key.now) set.names
+
+-- a number is below zero
+abbrev pub is_negative : EnumNumber → Bool
+is_negative n = n.minus && not (nat_eq n.magnitude 0)
+
+-- numbers have one among them
+abbrev pub given : NumberSet → EnumNumber → Bool
+given set n = contains_by (λ key. beq (is_negative n) key.0 && nat_eq n.magnitude key.1) set.numbers
+
+-- these are the numbers
+abbrev pub AreGiven : NumberSet → List EnumNumber → Type 0
+AreGiven set numbers = (n : EnumNumber) → given set n ≡ list_any (same_number n) numbers
+
+-- how many constants and templates come before a definition
+abbrev pub numbered : Numbers → ℕ → ℕ
+numbered numbers at = slice_index_or numbers.before.items at numbers.total

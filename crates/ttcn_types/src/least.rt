@@ -1,0 +1,28 @@
+//! The least broken rule with a place that breaks it.
+ghost use Rattle.std.specs.Prelude.{◌≡◌};
+ghost use Rattle.ttcn_types.specs.Checking.{both, least_in};
+
+use crate::broken::Broken;
+use crate::rule::Rule;
+use ttcn_syntax::Span;
+
+/// The least rule that was found broken so far, and the first place that breaks it.
+#[derive(Clone, Copy, Debug, PartialEq, Eq)]
+pub(crate) struct Least {
+    pub(crate) fault: Option<(Rule, Span)>,
+}
+
+impl Least {
+    /// Keeps what is broken at a place, if it is less.
+    pub(crate) fn note(&mut self, broken: Broken, place: Span)
+        ensures { least_in self.new ≡ both (least_in self.old) broken }
+    {
+        let Some(rule) = broken.least else {
+            return;
+        };
+        match self.fault {
+            Some((least, _)) if least.number() <= rule.number() => (),
+            _ => self.fault = Some((rule, place)),
+        }
+    }
+}

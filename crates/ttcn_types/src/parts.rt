@@ -1,0 +1,143 @@
+//! What records, constants, templates and altsteps refer to, and of how many parts they are.
+ghost use Rattle.std.specs.Prelude.{◌≡◌, [], ◌∷◌, IfOk, OnOk, map};
+ghost use Rattle.ttcn_types.specs.Parts as spec;
+
+mod numbers;
+mod surroundings;
+mod template;
+mod written;
+
+use crate::graph::Thing;
+use crate::names::Meaning;
+use crate::scope::Scope;
+use crate::types::DataType;
+use std::alloc::{AllocError, Global};
+use ttcn_syntax::{Alternative, Branch, DefinitionKind, Field, Seq};
+pub(crate) use written::written_out;
+
+impl Thing {
+    fn empty(alloc: Global) -> Thing
+        ensures { result ≡ spec.parts 0 [] }
+    {
+        Thing {
+            own: 0,
+            references: Seq::new(alloc),
+        }
+    }
+
+    /// One more part. The longest text has far fewer than can be counted; a tree with more has no room here.
+    #[tactic(auto, using(crate::proofs::Beside::with_leaf))]
+    fn add_leaf(&mut self) -> Result<(), AllocError>
+        ensures { OnOk result (self.new ≡ spec.beside self.old spec.leaf) }
+    {
+        self.own = self.own.checked_add(1).ok_or(AllocError)?;
+        Ok(())
+    }
+
+    /// One more reference.
+    #[tactic(auto, using(crate::proofs::Beside::with_reference))]
+    fn add_reference(&mut self, to: usize) -> Result<(), AllocError>
+        ensures { OnOk result (self.new ≡ spec.beside self.old (spec.parts 0 (to ∷ []))) }
+    {
+        self.references.push(to)?;
+        Ok(())
+    }
+}
+
+// ---- records
+
+fn add_field(scope: &Scope<'_>, field: &Field, into: &mut Thing) -> Result<(), AllocError>
+    ensures { OnOk result (into.new ≡ spec.beside into.old (spec.part_of_field scope.now.definitions.now field.now)) }
+{
+    match scope.resolved_in_module(&field.type_name) {
+        Some(DataType::Record(at)) => into.add_reference(at),
+        _ => into.add_leaf(),
+    }
+}
+
+fn fields_parts(alloc: Global, scope: &Scope<'_>, fields: &[Field]) -> Result<Thing, AllocError>
+    ensures { IfOk result (λ thing. thing ≡ spec.all_of (map (spec.part_of_field scope.now.definitions.now) fields.now)) }
+{
+    let mut thing = Thing::empty(alloc);
+    for field in fields {
+        add_field(scope, field, &mut thing)?;
+    }
+    Ok(thing)
+}
+
+fn record_parts(
+    alloc: Global,
+    scope: &Scope<'_>,
+    kind: &DefinitionKind,
+) -> Result<Thing, AllocError>
+    ensures { IfOk result (λ thing. thing ≡ spec.record_parts scope.now.definitions.now kind.now) }
+{
+    match kind {
+        DefinitionKind::Record(record) => fields_parts(alloc, scope, record.fields.as_slice()),
+        _ => Ok(Thing::empty(alloc)),
+    }
+}
+
+/// The records of the module, by the positions of the definitions.
+pub(crate) fn records(alloc: Global, scope: &Scope<'_>) -> Result<Vec<Thing>, AllocError>
+    ensures { IfOk result (λ things. things.items ≡ spec.records scope.now.definitions.now) }
+{
+    let mut things = Vec::new(alloc);
+    for definition in scope.definitions {
+        things.push(record_parts(alloc, scope, &definition.kind)?)?;
+    }
+    Ok(things)
+}
+
+// ---- altsteps
+
+fn add_branch(scope: &Scope<'_>, branch: &Branch, into: &mut Thing) -> Result<(), AllocError>
+    ensures { OnOk result (into.new ≡ spec.beside into.old (spec.branch_parts scope.now.definitions.now branch.now)) }
+{
+    if let Alternative::Call(_, call, _) = &branch.alternative
+        && let Some(Meaning::Altstep(at)) = scope.in_module(call.name.as_bytes())
+    {
+        return into.add_reference(at);
+    }
+    into.add_leaf()
+}
+
+fn branches_parts(
+    alloc: Global,
+    scope: &Scope<'_>,
+    branches: &[Branch],
+) -> Result<Thing, AllocError>
+    ensures { IfOk result (λ thing. thing ≡ spec.all_of (map (spec.branch_parts scope.now.definitions.now) branches.now)) }
+{
+    let mut thing = Thing::empty(alloc);
+    for branch in branches {
+        add_branch(scope, branch, &mut thing)?;
+    }
+    Ok(thing)
+}
+
+fn altstep_parts(
+    alloc: Global,
+    scope: &Scope<'_>,
+    kind: &DefinitionKind,
+) -> Result<Thing, AllocError>
+    ensures { IfOk result (λ thing. thing ≡ spec.altstep_parts scope.now.definitions.now kind.now) }
+{
+    match kind {
+        DefinitionKind::Altstep(altstep) => {
+            branches_parts(alloc, scope, altstep.branches.as_slice())
+        }
+        _ => Ok(Thing::empty(alloc)),
+    }
+}
+
+/// The altsteps of the module, by the positions of the definitions.
+pub(crate) fn altsteps(alloc: Global, scope: &Scope<'_>) -> Result<Vec<Thing>, AllocError>
+    ensures { IfOk result (λ things. things.items ≡ spec.altsteps scope.now.definitions.now) }
+{
+    let mut things = Vec::new(alloc);
+    for definition in scope.definitions {
+        things.push(altstep_parts(alloc, scope, &definition.kind)?)?;
+    }
+    Ok(things)
+}

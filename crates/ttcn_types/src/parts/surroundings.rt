@@ -1,0 +1,137 @@
+//! What stands in constants and templates.
+ghost use Rattle.std.specs.Prelude.{◌≡◌, ℕ, IfOk, OnOk, map};
+ghost use Rattle.ttcn_types.specs.Parts.{number_at};
+ghost use Rattle.ttcn_types.specs.Tables.{numbered};
+
+use super::numbers::Numbers;
+use crate::graph::Thing;
+use crate::names::Meaning;
+use crate::scope::Scope;
+use crate::table::Table;
+use std::alloc::{AllocError, Global};
+use ttcn_syntax::{ComponentRef, Constant, Expr, FieldValue, Reference, Value};
+
+/// What stands round a constant or a template: the module, and the template's parameters.
+#[derive(Drop)]
+pub(super) struct Surroundings<'p, 'a> {
+    pub(super) scope: &'p Scope<'a>,
+    pub(super) numbers: &'p Numbers,
+    pub(super) parameters: Table<'a>,
+    ghost are_numbers: { (at : ℕ) → numbered numbers.now at ≡ number_at scope.now.definitions.now at },
+}
+
+impl Surroundings<'_, '_> {
+    ghost use Rattle.ttcn_types.specs.Checking.{scope_of};
+    ghost use Rattle.ttcn_types.specs.Parts as spec;
+
+    /// What a name stands for.
+    pub(super) fn get(&self, name: &[u8]) -> Option<Meaning>
+        ensures { result ≡ (scope_of self.now).names name.now }
+    {
+        if let Some(meaning) = self.parameters.get(name) {
+            return Some(meaning);
+        }
+        self.scope.in_module(name)
+    }
+
+    fn add_meaning(&self, meaning: Option<Meaning>, into: &mut Thing) -> Result<(), AllocError>
+        ensures { OnOk result (into.new ≡ spec.beside into.old (spec.of_meaning (scope_of self.now).definitions meaning)) }
+    {
+        match meaning {
+            Some(Meaning::ModuleConstant(at, item)) => {
+                into.add_reference(self.numbers.at(at).checked_add(item).ok_or(AllocError)?)
+            }
+            _ => into.add_leaf(),
+        }
+    }
+
+    fn add_reference(&self, reference: &Reference, into: &mut Thing) -> Result<(), AllocError>
+        ensures { OnOk result (into.new ≡ spec.beside into.old (spec.of_meaning (scope_of self.now).definitions ((scope_of self.now).names reference.now.name))) }
+    {
+        self.add_meaning(self.get(reference.name.as_bytes()), into)
+    }
+
+    fn add_component(&self, component: &ComponentRef, into: &mut Thing) -> Result<(), AllocError>
+        ensures { OnOk result (into.new ≡ spec.beside into.old (spec.of_component (scope_of self.now) component.now)) }
+    {
+        match component {
+            ComponentRef::Named(reference) => self.add_reference(reference, into),
+            _ => into.add_leaf(),
+        }
+    }
+
+    /// The parts of an expression.
+    pub(super) fn add_expression(&self, expr: &Expr, into: &mut Thing) -> Result<(), AllocError>
+        ensures { OnOk result (into.new ≡ spec.beside into.old (spec.expression_parts (scope_of self.now) expr.now)) }
+    {
+        match expr {
+            Expr::Reference(component) | Expr::Running(component) => {
+                self.add_component(component, into)
+            }
+            Expr::Ispresent(reference) => self.add_reference(reference, into),
+            Expr::Not(operand) => self.add_expression(operand.get(), into),
+            Expr::Signed(_, operand) => self.add_expression(operand.get(), into),
+            Expr::Chain(first, links) => {
+                self.add_expression(first.get(), into)?;
+                for link in links.as_slice() {
+                    self.add_expression(&link.operand, into)?;
+                }
+                Ok(())
+            }
+            Expr::Int(_) | Expr::Bool(_) | Expr::Null => into.add_leaf(),
+        }
+    }
+
+    /// The parts of a value.
+    #[cycle(value)]
+    fn add_value(&self, value: &Value, into: &mut Thing) -> Result<(), AllocError>
+        ensures { OnOk result (into.new ≡ spec.beside into.old (spec.value_parts (scope_of self.now) value.now)) }
+    {
+        match value {
+            Value::Expr(expr) => self.add_expression(expr, into),
+            Value::Omit => into.add_leaf(),
+            Value::Listed(elements) => {
+                if elements.as_slice().is_empty() {
+                    return into.add_leaf();
+                }
+                self.add_values(elements.as_slice(), into)
+            }
+            Value::Assigned(elements) => {
+                if elements.as_slice().is_empty() {
+                    return into.add_leaf();
+                }
+                self.add_field_values(elements.as_slice(), into)
+            }
+        }
+    }
+
+    /// The parts of values.
+    #[cycle(value)]
+    pub(super) fn add_values(&self, values: &[Value], into: &mut Thing) -> Result<(), AllocError>
+        ensures { OnOk result (into.new ≡ spec.beside into.old (spec.all_of (map (spec.value_parts (scope_of self.now)) values.now))) }
+    {
+        for value in values {
+            self.add_value(value, into)?;
+        }
+        Ok(())
+    }
+
+    #[cycle(value)]
+    fn add_field_values(&self, fields: &[FieldValue], into: &mut Thing) -> Result<(), AllocError>
+        ensures { OnOk result (into.new ≡ spec.beside into.old (spec.all_of (map (spec.field_value_parts (scope_of self.now)) fields.now))) }
+    {
+        for field in fields {
+            self.add_value(&field.value, into)?;
+        }
+        Ok(())
+    }
+
+    /// What a constant is.
+    pub(super) fn constant(&self, alloc: Global, constant: &Constant) -> Result<Thing, AllocError>
+        ensures { IfOk result (λ thing. thing ≡ spec.constant_parts (scope_of self.now) constant.now) }
+    {
+        let mut thing = Thing::empty(alloc);
+        self.add_value(&constant.value, &mut thing)?;
+        Ok(thing)
+    }
+}

@@ -1,0 +1,131 @@
+//! The constants and templates of a module.
+ghost use Rattle.std.specs.Prelude.{◌≡◌, ℕ, [], ◌∷◌, ◌++◌, IfOk, OnOk, map};
+ghost use Rattle.ttcn_types.specs.Checking.{scope_of};
+ghost use Rattle.ttcn_types.specs.Definitions.{module_scope, with_parameters};
+ghost use Rattle.ttcn_types.specs.Names.{declaring, resolved};
+ghost use Rattle.ttcn_types.specs.Parts as spec;
+ghost use Rattle.ttcn_types.specs.Tables.{numbered};
+
+use super::numbers::Numbers;
+use super::surroundings::Surroundings;
+use crate::graph::Thing;
+use crate::names::Meaning;
+use crate::scope::{Scope, type_meant};
+use crate::table::Table;
+use crate::types::DataType;
+use std::alloc::{AllocError, Global};
+use ttcn_syntax::{Constant, DefinitionKind, Parameter, TemplateDefinition, TypeName};
+
+impl<'p, 'a> Surroundings<'p, 'a> {
+    /// The module, where there are no parameters.
+    fn of_module(alloc: Global, scope: &'p Scope<'a>, numbers: &'p Numbers) -> Surroundings<'p, 'a>
+        requires { (at : ℕ) → numbered numbers.now at ≡ spec.number_at scope.now.definitions.now at }
+        ensures { scope_of result ≡ module_scope scope.now.definitions.now }
+    {
+        Surroundings {
+            scope,
+            numbers,
+            parameters: Table::new(alloc),
+        }
+    }
+
+    /// The type that a declaration names.
+    fn resolved(&self, type_name: &TypeName) -> Option<DataType>
+        ensures { result ≡ resolved (scope_of self.now).names type_name.now }
+    {
+        match type_name {
+            TypeName::Integer => Some(DataType::Integer),
+            TypeName::Boolean => Some(DataType::Boolean),
+            TypeName::Default => Some(DataType::Default),
+            TypeName::Named(name) => type_meant(self.get(name.as_bytes())),
+        }
+    }
+
+    fn declare(&mut self, parameter: &'a Parameter) -> Result<(), AllocError>
+        ensures { OnOk result (scope_of self.new ≡ declaring (scope_of self.old) ((parameter.now.name, Meaning.Variable (resolved (scope_of self.old).names parameter.now.type_name)) ∷ [])) }
+    {
+        let meaning = Meaning::Variable(self.resolved(&parameter.type_name));
+        self.parameters.insert(parameter.name.as_bytes(), meaning)?;
+        Ok(())
+    }
+
+    /// The module with the parameters of a template.
+    fn of_template(
+        alloc: Global,
+        scope: &'p Scope<'a>,
+        numbers: &'p Numbers,
+        parameters: &'a [Parameter],
+    ) -> Result<Surroundings<'p, 'a>, AllocError>
+        requires { (at : ℕ) → numbered numbers.now at ≡ spec.number_at scope.now.definitions.now at }
+        ensures { IfOk result (λ around. scope_of around ≡ with_parameters (module_scope scope.now.definitions.now) parameters.now) }
+    {
+        let mut around = Surroundings::of_module(alloc, scope, numbers);
+        for parameter in parameters {
+            around.declare(parameter)?;
+        }
+        Ok(around)
+    }
+}
+
+fn push_constants(
+    alloc: Global,
+    around: &Surroundings<'_, '_>,
+    constants: &[Constant],
+    things: &mut Vec<Thing>,
+) -> Result<(), AllocError>
+    ensures { OnOk result (things.new.items ≡ things.old.items ++ map (spec.constant_parts (scope_of around.now)) constants.now) }
+{
+    for constant in constants {
+        things.push(around.constant(alloc, constant)?)?;
+    }
+    Ok(())
+}
+
+fn push_template<'a>(
+    alloc: Global,
+    around: &Surroundings<'_, 'a>,
+    template: &'a TemplateDefinition,
+    things: &mut Vec<Thing>,
+) -> Result<(), AllocError>
+    ensures { OnOk result (things.new.items ≡ things.old.items ++ spec.template_parts (with_parameters (module_scope around.now.scope.now.definitions.now) template.now.parameters) template.now.template ∷ []) }
+{
+    let parameters = template.parameters.as_slice();
+    let within = Surroundings::of_template(alloc, around.scope, around.numbers, parameters)?;
+    things.push(within.template(alloc, &template.template)?)?;
+    Ok(())
+}
+
+/// What a definition has in the numbering.
+fn push_written<'a>(
+    alloc: Global,
+    around: &Surroundings<'_, 'a>,
+    kind: &'a DefinitionKind,
+    things: &mut Vec<Thing>,
+) -> Result<(), AllocError>
+    requires { scope_of around.now ≡ module_scope around.now.scope.now.definitions.now }
+    ensures { OnOk result (things.new.items ≡ things.old.items ++ spec.written_at around.now.scope.now.definitions.now kind.now) }
+{
+    match kind {
+        DefinitionKind::Constants(constants) => {
+            push_constants(alloc, around, constants.constants.as_slice(), things)
+        }
+        DefinitionKind::Template(template) => push_template(alloc, around, template, things),
+        _ => {
+            things.push(Thing::empty(alloc))?;
+            Ok(())
+        }
+    }
+}
+
+/// The constants and templates of the module.
+pub(crate) fn written_out(alloc: Global, scope: &Scope<'_>) -> Result<Vec<Thing>, AllocError>
+    ensures { IfOk result (λ things. things.items ≡ spec.written_out scope.now.definitions.now) }
+{
+    let numbers = Numbers::of(alloc, scope.definitions)?;
+    let around = Surroundings::of_module(alloc, scope, &numbers);
+    let mut things = Vec::new(alloc);
+    for definition in scope.definitions {
+        push_written(alloc, &around, &definition.kind, &mut things)?;
+    }
+    Ok(things)
+}

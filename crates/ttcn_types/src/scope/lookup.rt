@@ -1,0 +1,153 @@
+//! What names stand for at a place.
+ghost use Rattle.std.specs.Prelude.{◌≡◌};
+ghost use Rattle.std.specs.Option.{option_map};
+ghost use Rattle.ttcn_types.specs.Checking.{seen};
+ghost use Rattle.ttcn_types.specs.Names.{component_meant, constants_type, field_named, fields_at, kind_at, module_names, port_type_meant, resolved, type_meant};
+ghost use Rattle.ttcn_types.specs.Tables.{member, said_in};
+
+use super::Scope;
+use crate::names::Meaning;
+use crate::types::DataType;
+use ttcn_syntax::{DefinitionKind, Field, Name, TypeName};
+
+impl<'a> Scope<'a> {
+    /// What a name stands for.
+    pub(crate) fn get(&self, name: &[u8]) -> Option<Meaning>
+        ensures { result ≡ (seen self.now).names name.now }
+    {
+        if let Some(meaning) = self.locals.get(name) {
+            return Some(meaning);
+        }
+        if let Some(meaning) = self.in_blocks(name) {
+            return Some(meaning);
+        }
+        if let Some(meaning) = self.member(name) {
+            return Some(meaning);
+        }
+        self.defined.get(name)
+    }
+
+    fn in_blocks(&self, name: &[u8]) -> Option<Meaning>
+        ensures { result ≡ said_in self.now.blocks.items name.now }
+    {
+        let mut found = None;
+        for block in self.blocks.as_slice() {
+            if let Some(meaning) = block.get(name) {
+                found = Some(meaning);
+            }
+        }
+        found
+    }
+
+    fn member(&self, name: &[u8]) -> Option<Meaning>
+        ensures { result ≡ member self.now.members.items self.now.runs_on name.now }
+    {
+        self.members.get(self.runs_on?)?.get(name)
+    }
+
+    /// What a name stands for in the whole module.
+    pub(crate) fn in_module(&self, name: &[u8]) -> Option<Meaning>
+        ensures { result ≡ module_names self.now.definitions.now name.now }
+    {
+        self.defined.get(name)
+    }
+
+    /// The component type that `self` is of.
+    pub(crate) fn itself(&self) -> Option<usize>
+        ensures { result ≡ (seen self.now).itself }
+    {
+        self.itself
+    }
+
+    /// What is defined at a position.
+    pub(crate) fn kind(&self, at: usize) -> Option<&'a DefinitionKind>
+        ensures { option_map (λ kind. kind.now) result ≡ kind_at (seen self.now).definitions at }
+    {
+        Some(&self.definitions.get(at)?.kind)
+    }
+
+    /// The fields of the record at a position.
+    pub(crate) fn fields(&self, at: usize) -> &'a [Field]
+        ensures { result.now ≡ fields_at (seen self.now).definitions at }
+    {
+        match self.kind(at) {
+            Some(DefinitionKind::Record(record)) => record.fields.as_slice(),
+            _ => &[],
+        }
+    }
+
+    /// The field of a name of the record at a position.
+    pub(crate) fn field(&self, at: usize, name: &Name) -> Option<&'a Field>
+        ensures { option_map (λ field. field.now) result ≡ field_named name.now (fields_at (seen self.now).definitions at) }
+    {
+        self.fields(at).iter().find(|field| field.name == *name)
+    }
+
+    /// The type that a declaration names.
+    pub(crate) fn resolved(&self, type_name: &TypeName) -> Option<DataType>
+        ensures { result ≡ resolved (seen self.now).names type_name.now }
+    {
+        match type_name {
+            TypeName::Integer => Some(DataType::Integer),
+            TypeName::Boolean => Some(DataType::Boolean),
+            TypeName::Default => Some(DataType::Default),
+            TypeName::Named(name) => type_meant(self.get(name.as_bytes())),
+        }
+    }
+
+    /// The type that a definition of the module names.
+    pub(crate) fn resolved_in_module(&self, type_name: &TypeName) -> Option<DataType>
+        ensures { result ≡ resolved (module_names self.now.definitions.now) type_name.now }
+    {
+        match type_name {
+            TypeName::Integer => Some(DataType::Integer),
+            TypeName::Boolean => Some(DataType::Boolean),
+            TypeName::Default => Some(DataType::Default),
+            TypeName::Named(name) => type_meant(self.in_module(name.as_bytes())),
+        }
+    }
+
+    /// The type of the constants at a position.
+    pub(crate) fn constants_type(&self, at: usize) -> Option<DataType>
+        ensures { result ≡ constants_type (module_names self.now.definitions.now) (kind_at self.now.definitions.now at) }
+    {
+        match self.kind(at) {
+            Some(DefinitionKind::Constants(constants)) => {
+                self.resolved_in_module(&constants.type_name)
+            }
+            _ => None,
+        }
+    }
+}
+
+/// The position of the port type that a name stands for.
+pub(super) fn port_type_meant(meaning: Option<Meaning>) -> Option<usize>
+    ensures { result ≡ port_type_meant meaning }
+{
+    match meaning {
+        Some(Meaning::PortType(at)) => Some(at),
+        _ => None,
+    }
+}
+
+/// The position of the component type that a name stands for.
+pub(crate) fn component_meant(meaning: Option<Meaning>) -> Option<usize>
+    ensures { result ≡ component_meant meaning }
+{
+    match meaning {
+        Some(Meaning::Component(at)) => Some(at),
+        _ => None,
+    }
+}
+
+/// The type that a name stands for.
+pub(crate) fn type_meant(meaning: Option<Meaning>) -> Option<DataType>
+    ensures { result ≡ type_meant meaning }
+{
+    match meaning {
+        Some(Meaning::Record(at)) => Some(DataType::Record(at)),
+        Some(Meaning::Enumerated(at)) => Some(DataType::Enumerated(at)),
+        Some(Meaning::Component(at)) => Some(DataType::Component(at)),
+        _ => None,
+    }
+}
