@@ -2,19 +2,24 @@
 use crate::broken::Broken;
 use crate::declaration::{constants, timers, variables};
 use crate::expression::expression;
+use crate::kinds::{in_fields, in_numbers};
 use crate::least::Least;
+use crate::message::at_event;
 use crate::names::Meaning;
 use crate::parts::{altsteps, records, written_out};
 use crate::rule::Rule;
 use crate::scope::Scope;
+use crate::target::at_assignment;
+use crate::template::template;
 use crate::types::{DataType, Target, Typing};
 use crate::value::value;
 use std::alloc::{AllocError, Global};
 use std::test::Fail;
 use ttcn_syntax::{
-    Boxed, ComponentRef, ComponentType, Constant, Constants, Definition, DefinitionKind, Expr,
-    Field, FieldValue, Link, Member, MemberVariable, Name, Operator, RecordType, Reference, Rhs,
-    Seq, Span, Timer, TypeName, Value, Variable, Variables,
+    Assignment, Boxed, ComponentRef, ComponentType, Constant, Constants, Definition,
+    DefinitionKind, EnumNumber, Enumerator, Event, Expr, Field, FieldValue, Link, Member,
+    MemberVariable, Name, Operator, RecordType, Reference, Rhs, Seq, Span, Template, TemplateBody,
+    Timer, TypeName, Value, Variable, Variables,
 };
 
 #[derive(Clone, Copy)]
@@ -281,5 +286,87 @@ fn what_is_written_out(rt: HostRuntime) -> Result<(), Fail> {
         assert!(rt; thing.own == *own && thing.references.as_slice() == *references);
     }
     assert_eq!(rt; altsteps(hand.alloc, &scope)?.len(), 3);
+    Ok(())
+}
+
+#[test]
+fn templates(rt: HostRuntime) -> Result<(), Fail> {
+    let hand = Hand { alloc: rt.alloc() };
+    let module = hand.module("B")?;
+    let mut least = NOTHING;
+    let scope = Scope::new(hand.alloc, module.as_slice(), &mut least)?;
+    let target = Target::of(Some(DataType::Integer));
+    let given = Template {
+        body: TemplateBody::AnyOrOmit,
+        ifpresent: false,
+    };
+    let broken = template(hand.alloc, &scope, &given, target)?;
+    assert!(rt; broken == Broken::of(Rule::Fields));
+    Ok(())
+}
+
+#[test]
+fn statements_without_blocks(rt: HostRuntime) -> Result<(), Fail> {
+    let hand = Hand { alloc: rt.alloc() };
+    let module = hand.module("B")?;
+    let mut least = NOTHING;
+    let mut scope = Scope::new(hand.alloc, module.as_slice(), &mut least)?;
+    scope.go_to_behaviour(hand.alloc, Some(2));
+    let assign = |name, value| -> Result<Assignment, AllocError> {
+        let target = Reference {
+            name: hand.name(name)?,
+            fields: Seq::new(hand.alloc),
+        };
+        let value = Rhs::Value(Value::Expr(value));
+        Ok(Assignment { target, value })
+    };
+    let rows = [
+        (assign("x", Expr::Int(1))?, Broken::nothing()),
+        (assign("A", Expr::Int(1))?, Broken::of(Rule::NotAssignable)),
+        (assign("x", Expr::Bool(true))?, Broken::of(Rule::ValueType)),
+    ];
+    for (assignment, broken) in &rows {
+        assert!(rt; at_assignment(hand.alloc, &scope, assignment)? == *broken);
+    }
+    let timeout = Event::Timeout(hand.name("t")?);
+    assert!(rt; at_event(hand.alloc, &scope, &timeout)? == Broken::nothing());
+    let done = Event::Done(ComponentRef::Mtc);
+    assert!(rt; at_event(hand.alloc, &scope, &done)? == Broken::nothing());
+    Ok(())
+}
+
+#[test]
+fn definitions(rt: HostRuntime) -> Result<(), Fail> {
+    let hand = Hand { alloc: rt.alloc() };
+    let module = hand.module("B")?;
+    let mut least = NOTHING;
+    let scope = Scope::new(hand.alloc, module.as_slice(), &mut least)?;
+    let field = |name| -> Result<Field, AllocError> {
+        Ok(Field {
+            type_name: TypeName::Integer,
+            name: hand.name(name)?,
+            optional: false,
+        })
+    };
+    let fields = hand.two(hand.one(field("a")?)?, field("b")?)?;
+    assert!(rt; in_fields(hand.alloc, &scope, fields.as_slice())? == Broken::nothing());
+    let fields = hand.two(hand.one(field("a")?)?, field("a")?)?;
+    assert!(rt;
+        in_fields(hand.alloc, &scope, fields.as_slice())? == Broken::of(Rule::DuplicateName)
+    );
+    let numbered = |name, minus| -> Result<Enumerator, AllocError> {
+        let number = EnumNumber {
+            minus,
+            magnitude: 1,
+        };
+        Ok(Enumerator {
+            name: hand.name(name)?,
+            number: Some(number),
+        })
+    };
+    let numbers = hand.two(hand.one(numbered("a", false)?)?, numbered("b", true)?)?;
+    assert!(rt; in_numbers(hand.alloc, numbers.as_slice())? == Broken::nothing());
+    let numbers = hand.two(hand.one(numbered("a", false)?)?, numbered("b", false)?)?;
+    assert!(rt; in_numbers(hand.alloc, numbers.as_slice())? == Broken::of(Rule::EnumNumbers));
     Ok(())
 }
