@@ -2,7 +2,7 @@
 ghost use Rattle.std.specs.Prelude.{◌≡◌};
 ghost use Rattle.std.specs.Option.{option_map};
 ghost use Rattle.ttcn_types.specs.Checking.{seen};
-ghost use Rattle.ttcn_types.specs.Names.{component_meant, constants_type, field_named, fields_at, kind_at, module_names, port_type_meant, resolved, type_meant};
+ghost use Rattle.ttcn_types.specs.Names.{constants_type, field_named, fields_at, kind_at, module_names, port_type_meant, resolved, type_meant};
 ghost use Rattle.ttcn_types.specs.Tables.{member, said_in};
 
 use super::Scope;
@@ -126,16 +126,6 @@ pub(super) fn port_type_meant(meaning: Option<Meaning>) -> Option<usize>
 {
     match meaning {
         Some(Meaning::PortType(at)) => Some(at),
-        _ => None,
-    }
-}
-
-/// The position of the component type that a name stands for.
-pub(crate) fn component_meant(meaning: Option<Meaning>) -> Option<usize>
-    ensures { result ≡ component_meant meaning }
-{
-    match meaning {
-        Some(Meaning::Component(at)) => Some(at),
         _ => None,
     }
 }
