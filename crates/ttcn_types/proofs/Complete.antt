@@ -1,9 +1,8 @@
 -- What records and altsteps refer to is among the definitions.
-use Rattle.std.proofs.Common.{◌≤◌, ℕ, ◌+◌, ◌<◌, Bool, true, false, if◌then◌else◌, List, [], ◌∷◌, ◌++◌, map, length, get_or, bytes_eq, Option, Some, None, sym, subst, arith}
+use Rattle.std.proofs.Common.{◌≤◌, ℕ, ◌+◌, ◌<◌, List, [], ◌∷◌, map, length, get_or, Option, Some, sym, subst, arith}
 use Rattle.std.proofs.lemmas.List.{length-map}
 use Rattle.std.proofs.lemmas.List.Elements.{All-append, All-cons, All-map, All-nil}
 use Rattle.std.specs.List.{All}
-use Rattle.std.specs.Option.{option_or}
 use Rattle.ttcn_syntax.specs.declared.tree.definition.Definition.{Definition}
 use Rattle.ttcn_syntax.specs.declared.tree.definition.DefinitionKind.{DefinitionKind}
 use Rattle.ttcn_syntax.specs.declared.tree.definition.DefinitionKind.TheVariants as kind
@@ -20,8 +19,9 @@ use Rattle.ttcn_syntax.specs.declared.tree.value.TypeName.{TypeName}
 use Rattle.ttcn_syntax.specs.declared.tree.value.TypeName.TheVariants as type_name
 use Rattle.ttcn_types.specs.Calls.{altstep_meant}
 use Rattle.ttcn_types.specs.Graphs.{AreComplete}
-use Rattle.ttcn_types.specs.Names.{Entry, constant_entries, entries_at, entries_from, listed, module_names, resolved, type_meant}
-use Rattle.ttcn_types.specs.Parts.{all_of, field_part, alternative_parts, altstep_part, altstep_parts, altsteps, branch_parts, part_of_field, record_parts, records}
+use Rattle.ttcn_types.specs.Names.{constant_entries, entries_at, entries_from, module_names, resolved, type_meant}
+use Rattle.ttcn_types.specs.Parts.{all_of, braced, field_part, alternative_parts, altstep_part, altstep_parts, altsteps, branch_parts, part_of_field, record_parts, records}
+use Rattle.ttcn_types.proofs.Meanings.{EachMeans, IfMeans, means-append, means-listed}
 use Rattle.ttcn_types.specs.declared.graph.Thing.{Thing}
 use Rattle.ttcn_types.specs.declared.names.Meaning.{Meaning}
 use Rattle.ttcn_types.specs.declared.names.Meaning.TheVariants as meaning
@@ -32,41 +32,15 @@ Inside n (meaning.Record at) = at < n
 Inside n (meaning.Altstep at) = at < n
 Inside n _ = Unit {0}
 
-abbrev pub IfInside : ℕ → Option Meaning → Type 0
-IfInside n None = Unit {0}
-IfInside n (Some m) = Inside n m
-
-abbrev pub EachInside : ℕ → List Entry → Type 0
-EachInside n [] = Unit {0}
-EachInside n (entry ∷ entries) = Inside n entry.1 × EachInside n entries
-
-or-inside : (n : ℕ) (one other : Option Meaning) → IfInside n one → IfInside n other → IfInside n (option_or one other)
-or-inside n None other one_in other_in = other_in
-or-inside n (Some m) other one_in other_in = one_in
-
-if-inside : (n : ℕ) (b : Bool) (m : Meaning) → Inside n m → IfInside n (if b then Some m else None)
-if-inside n true m inside = inside
-if-inside n false m inside = tt
-
-listed-inside : (n : ℕ) (entries : List Entry) (name : List ℕ) → EachInside n entries → IfInside n (listed entries name)
-listed-inside n [] name each = tt
-listed-inside n (entry ∷ entries) name each =
-    or-inside n (listed entries name) (if bytes_eq entry.0 name then Some entry.1 else None) (listed-inside n entries name each.1)
-    (if-inside n (bytes_eq entry.0 name) entry.1 each.0)
-
-append-inside : (n : ℕ) (xs ys : List Entry) → EachInside n xs → EachInside n ys → EachInside n (xs ++ ys)
-append-inside n [] ys xs_in ys_in = ys_in
-append-inside n (x ∷ xs) ys xs_in ys_in = (xs_in.0, append-inside n xs ys xs_in.1 ys_in)
-
-constants-inside : (n at item : ℕ) (constants : List Constant) → EachInside n (constant_entries at item constants)
+constants-inside : (n at item : ℕ) (constants : List Constant) → EachMeans (Inside n) (constant_entries at item constants)
 constants-inside n at item [] = tt
 constants-inside n at item (constant ∷ constants) = (tt, constants-inside n at (item + 1) constants)
 
-enumerators-inside : (n at : ℕ) (enumerators : List Enumerator) → EachInside n (map (λ e. (e.name, meaning.Enumerator at)) enumerators)
+enumerators-inside : (n at : ℕ) (enumerators : List Enumerator) → EachMeans (Inside n) (map (λ e. (e.name, meaning.Enumerator at)) enumerators)
 enumerators-inside n at [] = tt
 enumerators-inside n at (e ∷ es) = (tt, enumerators-inside n at es)
 
-at-inside : (n at : ℕ) (k : DefinitionKind) → at < n → EachInside n (entries_at at k)
+at-inside : (n at : ℕ) (k : DefinitionKind) → at < n → EachMeans (Inside n) (entries_at at k)
 at-inside n at (kind.Record r) inside = (inside, tt)
 at-inside n at (kind.Enumerated e) inside = (tt, enumerators-inside n at e.enumerators)
 at-inside n at (kind.Port p) inside = (tt, tt)
@@ -77,30 +51,30 @@ at-inside n at (kind.Function f) inside = (tt, tt)
 at-inside n at (kind.Altstep a) inside = (inside, tt)
 at-inside n at (kind.Testcase t) inside = (tt, tt)
 
-from-inside : (n at : ℕ) (definitions : List Definition) → at + length definitions ≤ n → EachInside n (entries_from at definitions)
+from-inside : (n at : ℕ) (definitions : List Definition) → at + length definitions ≤ n → EachMeans (Inside n) (entries_from at definitions)
 from-inside n at [] fits = tt
 from-inside n at (definition ∷ definitions) fits =
-    append-inside n (entries_at at definition.kind) (entries_from (at + 1) definitions) (at-inside n at definition.kind (omega arith)) (from-inside n (at + 1) definitions (omega arith))
+    means-append (Inside n) (entries_at at definition.kind) (entries_from (at + 1) definitions) (at-inside n at definition.kind (omega arith)) (from-inside n (at + 1) definitions (omega arith))
 
-names-inside : (definitions : List Definition) (name : List ℕ) → IfInside (length definitions) (module_names definitions name)
-names-inside definitions name = listed-inside (length definitions) (entries_from 0 definitions) name (from-inside (length definitions) 0 definitions (omega arith))
+names-inside : (definitions : List Definition) (name : List ℕ) → IfMeans (Inside (length definitions)) (module_names definitions name)
+names-inside definitions name = means-listed (Inside (length definitions)) (entries_from 0 definitions) name (from-inside (length definitions) 0 definitions (omega arith))
 
 -- ---- references
 
 abbrev pub Below : ℕ → Thing → Type 0
 Below n thing = All (λ i. i < n) thing.references
 
-nothing-below : (n : ℕ) → All (λ i. i < n) []
+pub nothing-below : (n : ℕ) → All (λ i. i < n) []
 nothing-below n = All-nil (λ i. i < n)
 
-one-below : (n at : ℕ) → at < n → All (λ i. i < n) (at ∷ [])
+pub one-below : (n at : ℕ) → at < n → All (λ i. i < n) (at ∷ [])
 one-below n at inside = All-cons (λ i. i < n) at [] inside (nothing-below n)
 
-all-below : {A : Type 0} (n : ℕ) (part : A → Thing) → ((x : A) → Below n (part x)) → (xs : List A) → Below n (all_of (map part xs))
+pub all-below : {A : Type 0} (n : ℕ) (part : A → Thing) → ((x : A) → Below n (part x)) → (xs : List A) → Below n (all_of (map part xs))
 all-below n part each [] = nothing-below n
 all-below n part each (x ∷ xs) = All-append (λ i. i < n) (part x).references (all_of (map part xs)).references (each x) (all-below n part each xs)
 
-meant-below : (n : ℕ) (m : Option Meaning) → IfInside n m → Below n (field_part (type_meant m))
+meant-below : (n : ℕ) (m : Option Meaning) → IfMeans (Inside n) m → Below n (field_part (type_meant m))
 meant-below n (Some (meaning.Record at)) inside = one-below n at inside
 meant-below n (Some (meaning.Enumerated at)) inside = nothing-below n
 meant-below n (Some (meaning.Component at)) inside = nothing-below n
@@ -112,8 +86,14 @@ field-below definitions type_name.Boolean = nothing-below (length definitions)
 field-below definitions type_name.Default = nothing-below (length definitions)
 field-below definitions (type_name.Named name) = meant-below (length definitions) (module_names definitions name) (names-inside definitions name)
 
+pub braced-below : (n : ℕ) (things : List Thing) → Below n (all_of things) → Below n (braced things)
+braced-below n [] below = nothing-below n
+braced-below n (thing ∷ things) below = below
+
 record-below : (definitions : List Definition) (k : DefinitionKind) → Below (length definitions) (record_parts definitions k)
-record-below definitions (kind.Record r) = all-below (length definitions) (part_of_field definitions) (λ (f : Field). field-below definitions f.type_name) r.fields
+record-below definitions (kind.Record r) =
+    braced-below (length definitions) (map (part_of_field definitions) r.fields)
+    (all-below (length definitions) (part_of_field definitions) (λ (f : Field). field-below definitions f.type_name) r.fields)
 record-below definitions _ = nothing-below (length definitions)
 
 mapped-complete : (definitions : List Definition) (part : Definition → Thing) → ((d : Definition) → Below (length definitions) (part d)) → AreComplete (map part definitions)
@@ -123,7 +103,7 @@ mapped-complete definitions part each =
 pub records_complete : (definitions : List Definition) → AreComplete (records definitions)
 records_complete definitions = mapped-complete definitions (λ (d : Definition). record_parts definitions d.kind) (λ d. record-below definitions d.kind)
 
-called-below : (n : ℕ) (m : Option Meaning) → IfInside n m → Below n (altstep_part (altstep_meant m))
+called-below : (n : ℕ) (m : Option Meaning) → IfMeans (Inside n) m → Below n (altstep_part (altstep_meant m))
 called-below n (Some (meaning.Altstep at)) inside = one-below n at inside
 called-below n _ inside = nothing-below n
 

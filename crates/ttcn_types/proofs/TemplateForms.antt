@@ -50,7 +50,7 @@ module _ (scope : Scope) (target : Target) where
   pub body_of_expr : (e : Expr) → body (form.Expr e) scope target ≡ at_name scope target e (template_named scope e)
   body_of_expr e = ap (λ (f : AtTarget). f scope target) (ap body (sym (form.rolls-Expr e)) ∙ fold-roll-TemplateBody AtTarget Part AtTarget body_step field_template_step template_step (TemplateBody-F.Expr e))
 
-  body_of_listed : (parts : List Template) → body (form.Listed parts) scope target
+  pub body_of_listed : (parts : List Template) → body (form.Listed parts) scope target
       ≡ unless (takes_braces target.data_type) rule.ValueType ++ unless (is_full (wanted_fields scope.definitions target.data_type) (length (map template parts))) rule.Fields
       ++ in_order (wanted_fields scope.definitions target.data_type) (map template parts) scope
   body_of_listed parts = ap (λ (f : AtTarget). f scope target) (ap body (sym (form.rolls-Listed parts)) ∙ fold-roll-TemplateBody AtTarget Part AtTarget body_step field_template_step template_step (TemplateBody-F.Listed parts))
@@ -60,7 +60,7 @@ module _ (scope : Scope) (target : Target) where
       (least (in_order (wanted_fields scope.definitions target.data_type) (map template parts) scope))
   listed_least parts = rw (body_of_listed parts) (simp (least_append, length-map))
 
-  body_of_assigned : (parts : List FieldTemplate) → body (form.Assigned parts) scope target
+  pub body_of_assigned : (parts : List FieldTemplate) → body (form.Assigned parts) scope target
       ≡ unless (takes_braces target.data_type) rule.ValueType ++ unless (has_all (wanted_fields scope.definitions target.data_type) (map (λ part. part.0) (map field_template parts))) rule.Fields
       ++ by_name (wanted_fields scope.definitions target.data_type) [] (map field_template parts) scope
   body_of_assigned parts = ap (λ (f : AtTarget). f scope target) (ap body (sym (form.rolls-Assigned parts)) ∙ fold-roll-TemplateBody AtTarget Part AtTarget body_step field_template_step template_step (TemplateBody-F.Assigned parts))

@@ -12,7 +12,9 @@ use Rattle.ttcn_types.specs.Typings.{compares}
 use Rattle.ttcn_types.specs.declared.broken.Broken.{Broken}
 use Rattle.ttcn_types.specs.declared.broken.Found.{Found}
 use Rattle.ttcn_types.specs.declared.least.Least.{Least}
+use Rattle.ttcn_types.specs.Statements as statement
 use Rattle.ttcn_types.specs.declared.parts.surroundings.Surroundings.{Surroundings}
+use Rattle.ttcn_types.specs.declared.place.Place.{Place}
 use Rattle.ttcn_types.specs.declared.rule.Rule.{Rule}
 use Rattle.ttcn_types.specs.declared.scope.Scope.{Scope}
 use Rattle.ttcn_types.specs.Tables.{member, said, said_in}
@@ -92,6 +94,10 @@ seen_in a block = record { definitions = a.definitions; names = visible_in a blo
 
 abbrev pub seen : Scope → spec.Scope
 seen scope = seen_in (around scope) scope.locals
+
+-- a place in a behaviour, with what is visible there
+abbrev pub standing : spec.Scope → Place → statement.Place
+standing scope place = record { scope = scope; returns = place.returns; in_branch = place.in_branch }
 
 -- the scope of a constant or a template of the module: the parameters first, and the module
 abbrev pub scope_of : Surroundings → spec.Scope

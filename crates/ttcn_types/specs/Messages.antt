@@ -19,7 +19,7 @@ use Rattle.ttcn_syntax.specs.declared.tree.template.MessageTemplate.{MessageTemp
 use Rattle.ttcn_syntax.specs.declared.tree.template.Template.{Template}
 use Rattle.ttcn_syntax.specs.declared.tree.value.TypeName.{TypeName}
 use Rattle.ttcn_types.specs.Expressions.{Judged, at_wanted_component}
-use Rattle.ttcn_types.specs.Names.{Scope, kind_at, module_names, resolved}
+use Rattle.ttcn_types.specs.Names.{Names, Scope, kind_at, module_names, resolved}
 use Rattle.ttcn_types.specs.Targets.{at_target, at_type, type_known}
 use Rattle.ttcn_types.specs.Templates.{template, typing_of_template}
 use Rattle.ttcn_types.specs.Typings.{is_component, same_type, typed, unless}
@@ -41,12 +41,12 @@ passes true direction.Out = false
 passes false direction.Out = true
 passes incoming direction.Inout = true
 
-abbrev pub types_passing : List Definition → Bool → PortMessages → List (Option DataType)
-types_passing definitions incoming messages = if passes incoming messages.direction then map (resolved (module_names definitions)) messages.types else []
+abbrev pub types_passing : Names → Bool → PortMessages → List (Option DataType)
+types_passing names incoming messages = if passes incoming messages.direction then map (resolved names) messages.types else []
 
-abbrev pub types_of_port : List Definition → Bool → Option DefinitionKind → List (Option DataType)
-types_of_port definitions incoming (Some (kind.Port p)) = flat_map (types_passing definitions incoming) p.messages
-types_of_port definitions incoming _ = []
+abbrev pub types_of_port : Names → Bool → Option DefinitionKind → List (Option DataType)
+types_of_port names incoming (Some (kind.Port p)) = flat_map (types_passing names incoming) p.messages
+types_of_port names incoming _ = []
 
 -- the types of the messages that pass at a port: nothing is known where its own type isn't
 abbrev pub Passing : Type 0
@@ -54,7 +54,7 @@ Passing = Option (List (Option DataType))
 
 abbrev pub passing_at : List Definition → Bool → Option ℕ → Passing
 passing_at definitions incoming None = None
-passing_at definitions incoming (Some at) = Some (types_of_port definitions incoming (kind_at definitions at))
+passing_at definitions incoming (Some at) = Some (types_of_port (module_names definitions) incoming (kind_at definitions at))
 
 -- the port that a name stands for: its type, which may be unknown
 abbrev pub port_meant : Option Meaning → Option (Option ℕ)

@@ -187,7 +187,7 @@ abbrev pub part_of_field : List Definition → Field → Thing
 part_of_field definitions field = field_part (resolved (module_names definitions) field.type_name)
 
 abbrev pub record_parts : List Definition → DefinitionKind → Thing
-record_parts definitions (kind.Record r) = all_of (map (part_of_field definitions) r.fields)
+record_parts definitions (kind.Record r) = braced (map (part_of_field definitions) r.fields)
 record_parts definitions _ = parts 0 []
 
 -- the records of a module, by the positions of the definitions

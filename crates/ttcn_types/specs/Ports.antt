@@ -1,5 +1,5 @@
 -- What is known where messages pass, in the words of the private contracts.
-use Rattle.std.specs.Prelude.{Some, None}
+use Rattle.std.specs.Prelude.{[], Some, None}
 use Rattle.ttcn_types.specs.Expressions.{Judged}
 use Rattle.ttcn_types.specs.Messages as spec
 use Rattle.ttcn_types.specs.declared.message.Passing.{Passing}
@@ -7,13 +7,15 @@ use Rattle.ttcn_types.specs.declared.message.Passing.TheVariants as at
 
 -- the types of the messages that pass
 abbrev pub passing : Passing → spec.Passing
-passing (at.Types types) = Some types.items
+passing (at.Types listing) = Some listing.now.types.items
+passing at.Nothing = Some []
 passing at.Unknown = None
 passing at.Anywhere = None
 
 -- what is known of a message that says nothing of its type by itself
 abbrev pub otherwise : Passing → Judged
-otherwise (at.Types types) = spec.type_by_port (Some types.items)
+otherwise (at.Types listing) = spec.type_by_port (Some listing.now.types.items)
+otherwise at.Nothing = spec.type_by_port (Some [])
 otherwise at.Unknown = spec.type_by_port None
 otherwise at.Anywhere = spec.type_anywhere
 

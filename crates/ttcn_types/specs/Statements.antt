@@ -6,13 +6,18 @@ use Rattle.ttcn_syntax.specs.declared.tree.definition.DefinitionKind.TheVariants
 use Rattle.ttcn_syntax.specs.declared.tree.expression.ComponentRef.{ComponentRef}
 use Rattle.ttcn_syntax.specs.declared.tree.expression.Expr.{Expr}
 use Rattle.ttcn_syntax.specs.declared.tree.expression.Reference.{Reference}
+use Rattle.ttcn_syntax.specs.declared.tree.statement.Action.{Action, fold-Action}
 use Rattle.ttcn_syntax.specs.declared.tree.statement.Action.TheOpen.{Action-F, Alternative-F, Branch-F, Conditional-F, Statement-F}
 use Rattle.ttcn_syntax.specs.declared.tree.statement.ForStart.{ForStart}
 use Rattle.ttcn_syntax.specs.declared.tree.statement.ForStart.TheVariants as for_start
 use Rattle.ttcn_syntax.specs.declared.tree.statement.LogItem.{LogItem}
 use Rattle.ttcn_syntax.specs.declared.tree.statement.LogItem.TheVariants as log_item
 use Rattle.ttcn_syntax.specs.declared.tree.statement.Statement.{Statement, fold-Statement}
+use Rattle.ttcn_syntax.specs.declared.tree.statement.Alternative.{Alternative, fold-Alternative}
+use Rattle.ttcn_syntax.specs.declared.tree.statement.Assignment.{Assignment}
 use Rattle.ttcn_syntax.specs.declared.tree.statement.Branch.{Branch, fold-Branch}
+use Rattle.ttcn_syntax.specs.declared.tree.statement.Conditional.{Conditional, fold-Conditional}
+use Rattle.ttcn_syntax.specs.declared.tree.statement.Event.{Event}
 use Rattle.ttcn_syntax.specs.declared.tree.statement.Verdict.{Verdict}
 use Rattle.ttcn_syntax.specs.declared.tree.statement.Verdict.TheVariants as verdict
 use Rattle.ttcn_syntax.specs.declared.tree.value.Call.{Call}
@@ -97,14 +102,33 @@ abbrev pub behind_for_start : Scope → ForStart → Scope
 behind_for_start scope (for_start.Variables vs) = behind_variables scope vs
 behind_for_start scope (for_start.Assign assignment) = scope
 
+-- what stands in front of the block of a `for`
+abbrev pub at_for_head : Scope → ForStart → Expr → Assignment → List Rule
+at_for_head scope start condition step =
+    at_for_start scope start ++ at_condition (behind_for_start scope start) condition ++ at_assignment (behind_for_start scope start) step
+
+-- what stands in front of the block of a branch
+abbrev pub at_guarded_event : Scope → Option Expr → Event → List Rule
+at_guarded_event scope guard event = at_guard scope guard ++ at_event scope event
+
+abbrev pub at_guarded_call : Scope → Option Expr → Call → List Rule
+at_guarded_call scope guard call = at_guard scope guard ++ at_call scope is_altstep call
+
 -- what is logged: `mtc` may stand there
 abbrev pub at_log_item : Scope → LogItem → List Rule
 at_log_item scope log_item.Text = []
 at_log_item scope (log_item.Expr e) = (expression e scope true).broken
 
+-- what is logged, or the reasons of a verdict
+abbrev pub at_log : Scope → List LogItem → List Rule
+at_log scope items = flat_map (at_log_item scope) items
+
 abbrev pub is_error : Verdict → Bool
 is_error verdict.Error = true
 is_error _ = false
+
+abbrev pub at_setverdict : Scope → Verdict → List LogItem → List Rule
+at_setverdict scope verdict reasons = unless (not (is_error verdict)) rule.VerdictError ++ at_log scope reasons
 
 abbrev pub at_return : Scope → Returns → Option Value → List Rule
 at_return scope returns.Nowhere None = rule.ReturnPlace ∷ []
@@ -127,6 +151,10 @@ at_deactivate scope (Some reference) =
 
 abbrev pub at_stop : Scope → ComponentRef → List Rule
 at_stop scope reference = if names_timer scope reference then [] else (at_wanted_component scope reference).broken
+
+-- both ends of a connection; the names of their ports are not judged
+abbrev pub at_ends : Scope → ComponentRef → ComponentRef → List Rule
+at_ends scope one other = (at_wanted_component scope one).broken ++ (at_wanted_component scope other).broken
 
 -- ---- starts of components
 
@@ -160,35 +188,39 @@ at_start scope reference call =
 
 -- ---- statements
 
+-- the rules that a statement breaks which has no block and declares nothing; of others nothing is said here
+abbrev pub undeclaring : {A B C D E : Type 0} → Action-F A B C D E → AtPlace
+undeclaring (Action-F.Assign assignment) place = at_assignment place.scope assignment
+undeclaring (Action-F.«Action::Call» call) place = at_call place.scope stands_alone call
+undeclaring (Action-F.«Action::Event» event) place = at_event place.scope event
+undeclaring Action-F.Repeat place = unless place.in_branch rule.RepeatPlace
+undeclaring (Action-F.Return v) place = at_return place.scope place.returns v
+undeclaring (Action-F.Log items) place = at_log place.scope items
+undeclaring (Action-F.Setverdict verdict reasons) place = at_setverdict place.scope verdict reasons
+undeclaring (Action-F.Connect one other) place = at_ends place.scope one.component other.component
+undeclaring (Action-F.Send send) place = at_send place.scope send
+undeclaring (Action-F.StartComponent reference call) place = at_start place.scope reference call
+undeclaring (Action-F.StartTimer timer) place = at_timer place.scope timer
+undeclaring (Action-F.StopOf reference) place = at_stop place.scope reference
+undeclaring (Action-F.Activate call) place = at_activation place.scope call
+undeclaring (Action-F.Deactivate reference) place = at_deactivate place.scope reference
+undeclaring _ place = []
+
+-- what is said of a statement without blocks
+abbrev pub plain : {A B C D E : Type 0} → Action-F A B C D E → Stated
+plain (Action-F.Variables vs) = record { broken = λ place. at_variables place.scope vs; scope_behind = λ scope. behind_variables scope vs }
+plain (Action-F.Constants cs) = record { broken = λ place. at_constants place.scope cs; scope_behind = λ scope. behind_constants scope cs }
+plain (Action-F.Timers timers) = record { broken = λ place. at_timers place.scope timers; scope_behind = λ scope. behind_timers scope timers }
+plain action = saying (undeclaring action)
+
 abbrev pub action_step : Action-F Stated AtPlace AtPlace AtPlace Stated → Stated
-action_step (Action-F.Variables vs) = record { broken = λ place. at_variables place.scope vs; scope_behind = λ scope. behind_variables scope vs }
-action_step (Action-F.Constants cs) = record { broken = λ place. at_constants place.scope cs; scope_behind = λ scope. behind_constants scope cs }
-action_step (Action-F.Timers timers) = record { broken = λ place. at_timers place.scope timers; scope_behind = λ scope. behind_timers scope timers }
-action_step (Action-F.Assign assignment) = saying (λ place. at_assignment place.scope assignment)
-action_step (Action-F.«Action::Call» call) = saying (λ place. at_call place.scope stands_alone call)
-action_step (Action-F.«Action::Event» event) = saying (λ place. at_event place.scope event)
 action_step (Action-F.Alt branches) = saying (λ place. flat_map (λ branch. branch place) branches)
-action_step Action-F.Repeat = saying (λ place. unless place.in_branch rule.RepeatPlace)
 action_step (Action-F.If conditionals last) = saying (λ place. flat_map (λ conditional. conditional place) conditionals ++ in_block_if_any last place)
 action_step (Action-F.While condition block) = saying (λ place. at_condition place.scope condition ++ in_block block place)
 action_step (Action-F.DoWhile block condition) = saying (λ place. in_block block place ++ at_condition place.scope condition)
 action_step (Action-F.For start condition step block) = saying (λ place.
-    at_for_start place.scope start ++
-    (let inside = behind_for_start place.scope start in
-    at_condition inside condition ++ at_assignment inside step ++ in_block block (with_scope place inside)))
-action_step (Action-F.Return v) = saying (λ place. at_return place.scope place.returns v)
-action_step Action-F.Stop = saying (λ place. [])
-action_step (Action-F.Log items) = saying (λ place. flat_map (at_log_item place.scope) items)
-action_step (Action-F.Setverdict verdict reasons) =
-    saying (λ place. unless (not (is_error verdict)) rule.VerdictError ++ flat_map (at_log_item place.scope) reasons)
-action_step (Action-F.Connect one other) =
-    saying (λ place. (at_wanted_component place.scope one.component).broken ++ (at_wanted_component place.scope other.component).broken)
-action_step (Action-F.Send send) = saying (λ place. at_send place.scope send)
-action_step (Action-F.StartComponent reference call) = saying (λ place. at_start place.scope reference call)
-action_step (Action-F.StartTimer timer) = saying (λ place. at_timer place.scope timer)
-action_step (Action-F.StopOf reference) = saying (λ place. at_stop place.scope reference)
-action_step (Action-F.Activate call) = saying (λ place. at_activation place.scope call)
-action_step (Action-F.Deactivate reference) = saying (λ place. at_deactivate place.scope reference)
+    at_for_head place.scope start condition step ++ in_block block (with_scope place (behind_for_start place.scope start)))
+action_step action = plain action
 
 abbrev pub statement_step : Statement-F Stated AtPlace AtPlace AtPlace Stated → Stated
 statement_step s = s.action
@@ -198,13 +230,21 @@ conditional_step c place = at_condition place.scope c.condition ++ in_block c.bl
 
 abbrev pub alternative_step : Alternative-F Stated AtPlace AtPlace AtPlace Stated → AtPlace
 alternative_step (Alternative-F.«Alternative::Event» guard event block) place =
-    at_guard place.scope guard ++ at_event place.scope event ++ in_block_if_any block (inside_branch place)
+    at_guarded_event place.scope guard event ++ in_block_if_any block (inside_branch place)
 alternative_step (Alternative-F.«Alternative::Call» guard call block) place =
-    at_guard place.scope guard ++ at_call place.scope is_altstep call ++ in_block_if_any block (inside_branch place)
+    at_guarded_call place.scope guard call ++ in_block_if_any block (inside_branch place)
 alternative_step (Alternative-F.Else block) place = in_block block (inside_branch place)
 
 abbrev pub branch_step : Branch-F Stated AtPlace AtPlace AtPlace Stated → AtPlace
 branch_step b = b.alternative
+
+-- what is said of what a statement does
+abbrev pub action : Action → Stated
+action = fold-Action Stated AtPlace AtPlace AtPlace Stated action_step alternative_step branch_step conditional_step statement_step
+
+-- the rules that what stands in a branch breaks
+abbrev pub alternative : Alternative → AtPlace
+alternative = fold-Alternative Stated AtPlace AtPlace AtPlace Stated action_step alternative_step branch_step conditional_step statement_step
 
 -- what is said of a statement
 abbrev pub statement : Statement → Stated
@@ -213,6 +253,10 @@ statement = fold-Statement Stated AtPlace AtPlace AtPlace Stated action_step alt
 -- the rules that a branch breaks
 abbrev pub branch : Branch → AtPlace
 branch = fold-Branch Stated AtPlace AtPlace AtPlace Stated action_step alternative_step branch_step conditional_step statement_step
+
+-- the rules that a condition with its block breaks
+abbrev pub conditional : Conditional → AtPlace
+conditional = fold-Conditional Stated AtPlace AtPlace AtPlace Stated action_step alternative_step branch_step conditional_step statement_step
 
 -- the rules that statements one behind the other break
 abbrev pub statements : List Statement → AtPlace

@@ -4,10 +4,12 @@ use Rattle.std.specs.Bool.{beq}
 use Rattle.std.specs.HashMap.{get_by}
 use Rattle.std.specs.HashSet.{contains_by}
 use Rattle.std.specs.List.{list_any, slice_get}
-use Rattle.std.specs.Option.{option_or}
+use Rattle.std.specs.Option.{option_map, option_or}
 use Rattle.ttcn_syntax.specs.declared.tree.definition.EnumNumber.{EnumNumber}
+use Rattle.ttcn_syntax.specs.declared.tree.definition.Field.{Field}
 use Rattle.ttcn_types.specs.Definitions.{same_number}
 use Rattle.ttcn_types.specs.Names.{Names}
+use Rattle.ttcn_types.specs.declared.field_table.FieldTable.{FieldTable}
 use Rattle.ttcn_types.specs.declared.name_set.NameSet.{NameSet}
 use Rattle.ttcn_types.specs.declared.number_set.NumberSet.{NumberSet}
 use Rattle.ttcn_types.specs.declared.parts.numbers.Numbers.{Numbers}
@@ -34,6 +36,14 @@ member tables (Some at) name = said_by (slice_get tables at) name
 -- what is said within says more than what is said round it
 abbrev pub either : Names → Names → Names
 either inner outer name = option_or (inner name) (outer name)
+
+-- the field that a table has under a name
+abbrev pub field_in : FieldTable → List ℕ → Option Field
+field_in table name = option_map (λ field. field.now) (get_by (λ key. bytes_eq name key.now) table.fields)
+
+abbrev pub field_by : Option FieldTable → List ℕ → Option Field
+field_by None name = None
+field_by (Some table) name = field_in table name
 
 -- names have one among them
 abbrev pub has : NameSet → List ℕ → Bool

@@ -25,4 +25,15 @@ impl Least {
             _ => self.fault = Some((rule, place)),
         }
     }
+
+    /// The less of two.
+    pub(crate) fn and(self, other: Least) -> Least
+        ensures { least_in result ≡ both (least_in self) (least_in other) }
+    {
+        let mut found = self;
+        if let Some((rule, place)) = other.fault {
+            found.note(Broken::of(rule), place);
+        }
+        found
+    }
 }

@@ -1,10 +1,9 @@
 //! The rules that receives and sends break (ES 201 873-1, 22.2).
-ghost use Rattle.std.specs.Prelude.{◌≡◌, ◌++◌, map, is_some, IfOk, OnOk};
-ghost use Rattle.std.specs.List.{flat_map, list_all, list_any};
+ghost use Rattle.std.specs.Prelude.{◌≡◌, is_some, IfOk};
+ghost use Rattle.std.specs.List.{list_any};
 ghost use Rattle.std.specs.Option.{option_map};
 ghost use Rattle.ttcn_types.specs.Checking.{least, seen, told};
 ghost use Rattle.ttcn_types.specs.Messages as spec;
-ghost use Rattle.ttcn_types.specs.Names.{module_names, resolved};
 ghost use Rattle.ttcn_types.specs.Ports.{known, otherwise, passing};
 ghost use Rattle.ttcn_types.specs.declared.types.Typing.TheVariants as typing;
 
@@ -15,18 +14,20 @@ use crate::rule::Rule;
 use crate::scope::Scope;
 use crate::target::{at_target, at_type};
 use crate::template::{template, typing_of_template};
+use crate::type_listing::Listing;
 use crate::types::{DataType, Target, Typing};
 use std::alloc::{AllocError, Global};
 use ttcn_syntax::{
-    ComponentRef, DefinitionKind, Direction, Event, MessageTemplate, Name, PortMessages,
-    PortSelector, Receive, Reference, Send, TypeName,
+    ComponentRef, Event, MessageTemplate, Name, PortSelector, Receive, Reference, Send, TypeName,
 };
 
 /// What is known of the messages that pass where one is sent or received.
-#[derive(Drop)]
-pub(crate) enum Passing {
-    /// Those of a port; a type is unknown where its name is.
-    Types(Vec<Option<DataType>>),
+#[derive(Clone, Copy)]
+pub(crate) enum Passing<'s> {
+    /// Those of a port.
+    Types(&'s Listing),
+    /// None.
+    Nothing,
     /// Those of a port of which nothing is known.
     Unknown,
     /// Those of any port.
@@ -35,100 +36,24 @@ pub(crate) enum Passing {
 
 // ---- what a port lets pass
 
-/// Whether messages of a direction come in, or go out.
-fn passes(incoming: bool, direction: Direction) -> bool
-    ensures { result ≡ spec.passes incoming direction }
-{
-    match direction {
-        Direction::In => incoming,
-        Direction::Out => !incoming,
-        Direction::Inout => true,
-    }
-}
-
-/// Adds the types that are named.
-fn add_types(
-    scope: &Scope<'_>,
-    types: &mut Vec<Option<DataType>>,
-    names: &[TypeName],
-) -> Result<(), AllocError>
-    ensures { OnOk result (types.new.items ≡ types.old.items ++ map (resolved (module_names (seen scope.now).definitions)) names.now) }
-{
-    for name in names {
-        types.push(scope.resolved_in_module(name))?;
-    }
-    Ok(())
-}
-
-fn add_passing(
-    scope: &Scope<'_>,
-    types: &mut Vec<Option<DataType>>,
-    incoming: bool,
-    messages: &PortMessages,
-) -> Result<(), AllocError>
-    ensures { OnOk result (types.new.items ≡ types.old.items ++ spec.types_passing (seen scope.now).definitions incoming messages.now) }
-{
-    if passes(incoming, messages.direction) {
-        add_types(scope, types, messages.types.as_slice())?;
-    }
-    Ok(())
-}
-
-/// The types of the messages of ports of a kind.
-fn types_of_messages(
-    alloc: Global,
-    scope: &Scope<'_>,
-    incoming: bool,
-    all: &[PortMessages],
-) -> Result<Vec<Option<DataType>>, AllocError>
-    ensures { IfOk result (λ types. types.items ≡ flat_map (spec.types_passing (seen scope.now).definitions incoming) all.now) }
-{
-    let mut types = Vec::new(alloc);
-    for messages in all {
-        add_passing(scope, &mut types, incoming, messages)?;
-    }
-    Ok(types)
-}
-
-fn types_of_port(
-    alloc: Global,
-    scope: &Scope<'_>,
-    incoming: bool,
-    kind: Option<&DefinitionKind>,
-) -> Result<Vec<Option<DataType>>, AllocError>
-    ensures { IfOk result (λ types. types.items ≡ spec.types_of_port (seen scope.now).definitions incoming (option_map (λ kind. kind.now) kind.entry)) }
-{
-    match kind {
-        Some(DefinitionKind::Port(port)) => {
-            types_of_messages(alloc, scope, incoming, port.messages.as_slice())
-        }
-        _ => Ok(Vec::new(alloc)),
-    }
-}
-
-impl Passing {
+impl<'s> Passing<'s> {
     /// At a port whose type stands at a position, if that is known.
-    fn at(
-        alloc: Global,
-        scope: &Scope<'_>,
-        incoming: bool,
-        at: Option<usize>,
-    ) -> Result<Passing, AllocError>
-        ensures { IfOk result (λ found. known found ≡ spec.at_port (seen scope.now).definitions incoming at) }
+    fn at(scope: &'s Scope<'_>, incoming: bool, at: Option<usize>) -> Passing<'s>
+        ensures { known result ≡ spec.at_port (seen scope.now).definitions incoming at }
     {
-        match at {
-            Some(at) => {
-                let types = types_of_port(alloc, scope, incoming, scope.kind(at))?;
-                Ok(Passing::Types(types))
-            }
-            None => Ok(Passing::Unknown),
+        let Some(at) = at else {
+            return Passing::Unknown;
+        };
+        match scope.traffic(at) {
+            Some(traffic) => Passing::Types(traffic.towards(incoming)),
+            None => Passing::Nothing,
         }
     }
 
     fn is_known(&self) -> bool
         ensures { result ≡ is_some (passing self.now) }
     {
-        matches!(self, Passing::Types(_))
+        matches!(self, Passing::Types(_) | Passing::Nothing)
     }
 
     /// Whether messages of the type pass. It isn't judged where nothing is known.
@@ -136,8 +61,9 @@ impl Passing {
         ensures { result ≡ spec.lists (passing self.now) data_type }
     {
         match self {
-            Passing::Types(types) => agrees_with_any(data_type, types.as_slice()),
-            _ => true,
+            Passing::Types(listing) => listing.lists(data_type),
+            Passing::Nothing => false,
+            Passing::Unknown | Passing::Anywhere => true,
         }
     }
 
@@ -146,7 +72,8 @@ impl Passing {
         ensures { result ≡ told (otherwise self.now) }
     {
         match self {
-            Passing::Types(types) => of_only(only_type(types.as_slice())),
+            Passing::Types(listing) => of_only(listing.only_type()),
+            Passing::Nothing => of_only(None),
             Passing::Unknown => of_unknown_type(Broken::nothing()),
             Passing::Anywhere => of_unknown_type(Broken::of(Rule::PortType)),
         }
@@ -164,43 +91,6 @@ fn port_meant(meaning: Option<Meaning>) -> Option<Option<usize>>
 }
 
 // ---- the type of a message
-
-/// Whether two types are the same. It isn't judged where one is unknown.
-fn agrees(data_type: DataType, other: Option<DataType>) -> bool
-    ensures { result ≡ spec.agrees data_type other }
-{
-    match other {
-        Some(other) => data_type.is_same(other),
-        None => true,
-    }
-}
-
-fn agrees_with_any(data_type: DataType, others: &[Option<DataType>]) -> bool
-    ensures { result ≡ list_any (spec.agrees data_type) others.now }
-{
-    others.iter().any(|other| agrees(data_type, *other))
-}
-
-fn agrees_with_all(data_type: DataType, others: &[Option<DataType>]) -> bool
-    ensures { result ≡ list_all (spec.agrees data_type) others.now }
-{
-    others.iter().all(|other| agrees(data_type, *other))
-}
-
-/// The only type among types.
-fn only_type(types: &[Option<DataType>]) -> Option<DataType>
-    ensures { result ≡ spec.only_type types.now }
-{
-    let [first, others @ ..] = types else {
-        return None;
-    };
-    let first = (*first)?;
-    if agrees_with_all(first, others) {
-        Some(first)
-    } else {
-        None
-    }
-}
 
 fn of_unknown_type(broken: Broken) -> Found
     ensures typing { result.typing ≡ typing.Unknown }
@@ -226,7 +116,7 @@ fn of_only(data_type: Option<DataType>) -> Found
 }
 
 /// A message whose type is known by itself is of one of those that pass.
-fn type_by_itself(ports: &Passing, typing: Typing) -> Found
+fn type_by_itself(ports: &Passing<'_>, typing: Typing) -> Found
     ensures { result ≡ told (spec.type_by_itself (passing ports.now) typing) }
 {
     match typing {
@@ -244,7 +134,7 @@ fn type_by_itself(ports: &Passing, typing: Typing) -> Found
 }
 
 /// Of which type a message is: that before it says it, else itself, else the port.
-fn type_of_message(scope: &Scope<'_>, ports: &Passing, message: &MessageTemplate) -> Found
+fn type_of_message(scope: &Scope<'_>, ports: &Passing<'_>, message: &MessageTemplate) -> Found
     ensures { result ≡ told (spec.type_of_message (seen scope.now) (passing ports.now) (otherwise ports.now) message.now) }
 {
     if let Some(type_name) = &message.type_name {
@@ -270,7 +160,7 @@ fn at_type_name(scope: &Scope<'_>, type_name: Option<&TypeName>) -> Broken
 fn at_message(
     alloc: Global,
     scope: &Scope<'_>,
-    ports: &Passing,
+    ports: &Passing<'_>,
     message: &MessageTemplate,
 ) -> Result<Broken, AllocError>
     ensures { IfOk result (λ broken. broken ≡ least (spec.at_message (seen scope.now) (passing ports.now) (otherwise ports.now) message.now)) }
@@ -305,7 +195,7 @@ fn at_sent(
 {
     match port {
         Some(port) => {
-            let ports = Passing::at(alloc, scope, false, port)?;
+            let ports = Passing::at(scope, false, port);
             at_message(alloc, scope, &ports, message)
         }
         None => {
@@ -326,21 +216,17 @@ pub(crate) fn at_send(alloc: Global, scope: &Scope<'_>, send: &Send) -> Result<B
 
 // ---- receives
 
-impl Passing {
+impl<'s> Passing<'s> {
     /// What is known where a message comes in.
-    fn incoming(
-        alloc: Global,
-        scope: &Scope<'_>,
-        selector: &PortSelector,
-    ) -> Result<Passing, AllocError>
-        ensures { IfOk result (λ found. known found ≡ spec.incoming (seen scope.now) selector.now) }
+    fn incoming(scope: &'s Scope<'_>, selector: &PortSelector) -> Passing<'s>
+        ensures { known result ≡ spec.incoming (seen scope.now) selector.now }
     {
         let PortSelector::Named(name) = selector else {
-            return Ok(Passing::Anywhere);
+            return Passing::Anywhere;
         };
         match port_meant(scope.get(name.as_bytes())) {
-            Some(port) => Passing::at(alloc, scope, true, port),
-            None => Ok(Passing::Unknown),
+            Some(port) => Passing::at(scope, true, port),
+            None => Passing::Unknown,
         }
     }
 }
@@ -361,7 +247,7 @@ fn at_selector(scope: &Scope<'_>, selector: &PortSelector) -> Broken
 fn at_received(
     alloc: Global,
     scope: &Scope<'_>,
-    ports: &Passing,
+    ports: &Passing<'_>,
     message: Option<&MessageTemplate>,
 ) -> Result<Broken, AllocError>
     ensures { IfOk result (λ broken. broken ≡ least (spec.at_received (seen scope.now) (known ports.now) (option_map (λ message. message.now) message.entry))) }
@@ -375,7 +261,7 @@ fn at_received(
 /// What is known of the type of what is received, where a template tells it.
 fn received_type(
     scope: &Scope<'_>,
-    ports: &Passing,
+    ports: &Passing<'_>,
     message: Option<&MessageTemplate>,
 ) -> Option<DataType>
     ensures { result ≡ spec.received_type (seen scope.now) (known ports.now) (option_map (λ message. message.now) message.entry) }
@@ -446,7 +332,7 @@ fn at_sender_redirect(scope: &Scope<'_>, target: Option<&Reference>) -> Broken
 fn at_receive(alloc: Global, scope: &Scope<'_>, receive: &Receive) -> Result<Broken, AllocError>
     ensures { IfOk result (λ broken. broken ≡ least (spec.at_receive (seen scope.now) receive.now)) }
 {
-    let ports = Passing::incoming(alloc, scope, &receive.port)?;
+    let ports = Passing::incoming(scope, &receive.port);
     let message = receive.message.as_ref();
     let received = at_received(alloc, scope, &ports, message)?;
     let data_type = received_type(scope, &ports, message);
@@ -461,7 +347,7 @@ fn at_receive(alloc: Global, scope: &Scope<'_>, receive: &Receive) -> Result<Bro
     )
 }
 
-fn at_timer(scope: &Scope<'_>, name: &Name) -> Broken
+pub(crate) fn at_timer(scope: &Scope<'_>, name: &Name) -> Broken
     ensures { result ≡ least (spec.at_timer (seen scope.now) name.now) }
 {
     let is_timer = matches!(scope.get(name.as_bytes()), Some(Meaning::Timer));

@@ -11,6 +11,7 @@ use crate::graph::Thing;
 use crate::names::Meaning;
 use crate::scope::Scope;
 use crate::types::DataType;
+pub(crate) use numbers::place_of;
 use std::alloc::{AllocError, Global};
 use ttcn_syntax::{Alternative, Branch, DefinitionKind, Field, Seq};
 pub(crate) use written::written_out;
@@ -65,6 +66,7 @@ fn fields_parts(alloc: Global, scope: &Scope<'_>, fields: &[Field]) -> Result<Th
     Ok(thing)
 }
 
+/// The fields of a record, or a leaf where it has none.
 fn record_parts(
     alloc: Global,
     scope: &Scope<'_>,
@@ -73,7 +75,13 @@ fn record_parts(
     ensures { IfOk result (λ thing. thing ≡ spec.record_parts scope.now.definitions.now kind.now) }
 {
     match kind {
-        DefinitionKind::Record(record) => fields_parts(alloc, scope, record.fields.as_slice()),
+        DefinitionKind::Record(record) => {
+            let mut thing = fields_parts(alloc, scope, record.fields.as_slice())?;
+            if record.fields.as_slice().is_empty() {
+                thing.add_leaf()?;
+            }
+            Ok(thing)
+        }
         _ => Ok(Thing::empty(alloc)),
     }
 }

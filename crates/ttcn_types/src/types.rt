@@ -1,7 +1,7 @@
 //! Types (ES 201 873-1, section 6).
 
 /// A type of values. A type that the module defines is its position among the definitions.
-#[derive(Clone, Copy, Debug, PartialEq, Eq)]
+#[derive(Clone, Copy, Debug, PartialEq, Eq, Hash)]
 pub enum DataType {
     Integer,
     Boolean,

@@ -1,10 +1,10 @@
 //! The numbers of constants and templates.
-ghost use Rattle.std.specs.Prelude.{◌≡◌, ℕ, IfOk};
-ghost use Rattle.ttcn_types.specs.Parts.{how_many, number_at};
+ghost use Rattle.std.specs.Prelude.{◌≡◌, ℕ, ◌<◌, IfOk};
+ghost use Rattle.ttcn_types.specs.Parts.{how_many, how_many_in, number_at};
 ghost use Rattle.ttcn_types.specs.Tables.{numbered};
 
 use std::alloc::{AllocError, Global};
-use ttcn_syntax::{Definition, DefinitionKind};
+use ttcn_syntax::{Definition, DefinitionKind, Span};
 
 /// The numbers of constants and templates, in the order of the text.
 #[derive(Drop)]
@@ -50,4 +50,19 @@ fn how_many(kind: &DefinitionKind) -> usize
         DefinitionKind::Constants(constants) => constants.constants.len(),
         _ => 1,
     }
+}
+
+/// The place of the definition that has a number.
+pub(crate) fn place_of(definitions: &[Definition], number: usize) -> Span
+    requires { number < how_many_in definitions.now }
+{
+    let mut left = number;
+    for definition in definitions {
+        let count = how_many(&definition.kind);
+        if left < count {
+            return definition.place;
+        }
+        left -= count;
+    }
+    unreachable!()
 }

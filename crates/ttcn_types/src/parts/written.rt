@@ -10,7 +10,7 @@ use super::numbers::Numbers;
 use super::surroundings::Surroundings;
 use crate::graph::Thing;
 use crate::names::Meaning;
-use crate::scope::{Scope, type_meant};
+use crate::scope::{Scope, built_in, type_meant};
 use crate::table::Table;
 use crate::types::DataType;
 use std::alloc::{AllocError, Global};
@@ -34,10 +34,8 @@ impl<'p, 'a> Surroundings<'p, 'a> {
         ensures { result ≡ resolved (scope_of self.now).names type_name.now }
     {
         match type_name {
-            TypeName::Integer => Some(DataType::Integer),
-            TypeName::Boolean => Some(DataType::Boolean),
-            TypeName::Default => Some(DataType::Default),
             TypeName::Named(name) => type_meant(self.get(name.as_bytes())),
+            _ => built_in(type_name),
         }
     }
 

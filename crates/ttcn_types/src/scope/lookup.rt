@@ -1,12 +1,17 @@
 //! What names stand for at a place.
-ghost use Rattle.std.specs.Prelude.{◌≡◌};
+ghost use Rattle.std.specs.Prelude.{◌≡◌, None};
 ghost use Rattle.std.specs.Option.{option_map};
 ghost use Rattle.ttcn_types.specs.Checking.{seen};
+ghost use Rattle.ttcn_types.specs.Messages.{types_of_port};
 ghost use Rattle.ttcn_types.specs.Names.{constants_type, field_named, fields_at, kind_at, module_names, port_type_meant, resolved, type_meant};
 ghost use Rattle.ttcn_types.specs.Tables.{member, said_in};
+ghost use Rattle.ttcn_types.specs.Traffic.{types_through};
 
 use super::Scope;
+use super::fields::field_at;
+use super::ports::traffic_at;
 use crate::names::Meaning;
+use crate::traffic::Traffic;
 use crate::types::DataType;
 use ttcn_syntax::{DefinitionKind, Field, Name, TypeName};
 
@@ -80,7 +85,14 @@ impl<'a> Scope<'a> {
     pub(crate) fn field(&self, at: usize, name: &Name) -> Option<&'a Field>
         ensures { option_map (λ field. field.now) result ≡ field_named name.now (fields_at (seen self.now).definitions at) }
     {
-        self.fields(at).iter().find(|field| field.name == *name)
+        field_at(self.fields_by_name.as_slice(), at, name)
+    }
+
+    /// What passes at ports of the type at a position.
+    pub(crate) fn traffic(&self, at: usize) -> Option<&Traffic>
+        ensures { types_through (option_map (λ traffic. traffic.now) result) ≡ (λ incoming. types_of_port (module_names (seen self.now).definitions) incoming (kind_at (seen self.now).definitions at)) }
+    {
+        traffic_at(self.ports.as_slice(), at)
     }
 
     /// The type that a declaration names.
@@ -88,10 +100,8 @@ impl<'a> Scope<'a> {
         ensures { result ≡ resolved (seen self.now).names type_name.now }
     {
         match type_name {
-            TypeName::Integer => Some(DataType::Integer),
-            TypeName::Boolean => Some(DataType::Boolean),
-            TypeName::Default => Some(DataType::Default),
             TypeName::Named(name) => type_meant(self.get(name.as_bytes())),
+            _ => built_in(type_name),
         }
     }
 
@@ -100,10 +110,8 @@ impl<'a> Scope<'a> {
         ensures { result ≡ resolved (module_names self.now.definitions.now) type_name.now }
     {
         match type_name {
-            TypeName::Integer => Some(DataType::Integer),
-            TypeName::Boolean => Some(DataType::Boolean),
-            TypeName::Default => Some(DataType::Default),
             TypeName::Named(name) => type_meant(self.in_module(name.as_bytes())),
+            _ => built_in(type_name),
         }
     }
 
@@ -121,12 +129,24 @@ impl<'a> Scope<'a> {
 }
 
 /// The position of the port type that a name stands for.
-pub(super) fn port_type_meant(meaning: Option<Meaning>) -> Option<usize>
+pub(crate) fn port_type_meant(meaning: Option<Meaning>) -> Option<usize>
     ensures { result ≡ port_type_meant meaning }
 {
     match meaning {
         Some(Meaning::PortType(at)) => Some(at),
         _ => None,
+    }
+}
+
+/// The type that a word of the language names.
+pub(crate) fn built_in(type_name: &TypeName) -> Option<DataType>
+    ensures { result ≡ resolved (λ name. None) type_name.now }
+{
+    match type_name {
+        TypeName::Integer => Some(DataType::Integer),
+        TypeName::Boolean => Some(DataType::Boolean),
+        TypeName::Default => Some(DataType::Default),
+        TypeName::Named(_) => None,
     }
 }
 

@@ -3,7 +3,7 @@ ghost use Rattle.std.specs.Prelude.{◌≡◌, ℕ, map, IfOk, OnOk, Some};
 ghost use Rattle.ttcn_types.specs.Names.{behind, behind_members, kind_at, member_entries, members_of, resolved};
 ghost use Rattle.ttcn_types.specs.Tables.{either, member, said};
 
-use super::lookup::{port_type_meant, type_meant};
+use super::lookup::{built_in, port_type_meant, type_meant};
 use crate::names::Meaning;
 use crate::table::Table;
 use crate::types::DataType;
@@ -83,10 +83,8 @@ fn resolved(table: &Table<'_>, defined: &Table<'_>, type_name: &TypeName) -> Opt
     ensures { result ≡ resolved (either (said table.now) (said defined.now)) type_name.now }
 {
     match type_name {
-        TypeName::Integer => Some(DataType::Integer),
-        TypeName::Boolean => Some(DataType::Boolean),
-        TypeName::Default => Some(DataType::Default),
         TypeName::Named(name) => type_meant(get(table, defined, name)),
+        _ => built_in(type_name),
     }
 }
 

@@ -5,7 +5,9 @@ ghost use Rattle.ttcn_types.specs.Definitions.{at_module_names, component_scope,
 
 use super::Scope;
 use super::define::define_all;
+use super::fields::fields_by_name;
 use super::members::tables_of;
+use super::ports::ports_of;
 use crate::least::Least;
 use crate::table::Table;
 use std::alloc::{AllocError, Global};
@@ -23,10 +25,14 @@ impl<'a> Scope<'a> {
     {
         let defined = define_all(alloc, definitions, found)?;
         let members = tables_of(alloc, &defined, definitions)?;
+        let fields_by_name = fields_by_name(alloc, definitions)?;
+        let ports = ports_of(alloc, &defined, definitions)?;
         Ok(Scope {
             definitions,
             defined,
             members,
+            fields_by_name,
+            ports,
             runs_on: None,
             blocks: Vec::new(alloc),
             locals: Table::new(alloc),

@@ -5,6 +5,8 @@ use Rattle.ttcn_types.proofs.scope.Scope.new.Goals as goal
 pub invariant_of-result : goal.invariant_of-result
 invariant_of-result c = record {
   are_members = are-members c.args.definitions.now c.in_ok-defined.defined c.in_ok-members.members.items c.in_ok-defined.ensures.names c.in_ok-members.ensures;
+  are_fields = c.in_ok-fields_by_name.ensures;
+  are_ports = rw c.in_ok-defined.ensures.names at c.in_ok-ports.ensures;
   is_whole = c.in_ok-defined.ensures.names;
 }
 

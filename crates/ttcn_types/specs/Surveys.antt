@@ -1,0 +1,37 @@
+-- The least of what is broken, and what surveys of circles and sizes find, in the words of their private contracts.
+use Rattle.std.specs.Prelude.{ℕ, ◌≤◌, ◌⊎◌, List, Option, Some, None}
+use Rattle.std.specs.Option.{option_map}
+use Rattle.ttcn_syntax.specs.declared.tree.definition.Definition.{Definition}
+use Rattle.ttcn_types.specs.Numbers.{number_of}
+use Rattle.ttcn_types.specs.Parts.{altsteps, records, written_out}
+use Rattle.ttcn_types.specs.Rules.{AreTooLarge, HasCircle}
+use Rattle.ttcn_types.specs.declared.graph.Thing.{Thing}
+use Rattle.ttcn_types.specs.declared.rule.Rule.{Rule}
+use Rattle.ttcn_types.specs.declared.rule.Rule.TheVariants as rule
+
+-- the least of the rules of which something holds, or none where it holds of none
+abbrev pub IsLeastWhere : (Rule → Type 0) → Option Rule → Type 0
+IsLeastWhere P None = (r : Rule) → P r → ⊥
+IsLeastWhere P (Some r) = P r × ((other : Rule) → P other → number_of r ≤ number_of other)
+
+-- the rule of a fault, without its place
+abbrev pub rule_of : {A : Type 0} → Option (Rule × A) → Option Rule
+rule_of fault = option_map (λ f. f.0) fault
+
+-- what things that refer to one another break: a rule where there is a circle, and another where they are too large
+pub data BreaksAmong (things : List Thing) (heaviest : ℕ) (circle : Rule) : Rule → Type 0 where
+  in_circle : HasCircle things → BreaksAmong things heaviest circle circle
+  too_large : AreTooLarge things 200 heaviest → BreaksAmong things heaviest circle rule.Size
+
+abbrev pub BreaksInRecords : List Definition → Rule → Type 0
+BreaksInRecords definitions = BreaksAmong (records definitions) 1000 rule.BadType
+
+abbrev pub BreaksWritten : List Definition → Rule → Type 0
+BreaksWritten definitions = BreaksAmong (written_out definitions) 10000 rule.Cycle
+
+abbrev pub BreaksInAltsteps : List Definition → Rule → Type 0
+BreaksInAltsteps definitions = BreaksAmong (altsteps definitions) 10000 rule.Cycle
+
+-- what definitions break by circles and sizes
+abbrev pub BreaksBySurvey : List Definition → Rule → Type 0
+BreaksBySurvey definitions r = (BreaksInRecords definitions r ⊎ BreaksWritten definitions r) ⊎ BreaksInAltsteps definitions r

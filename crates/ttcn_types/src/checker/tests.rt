@@ -1,0 +1,323 @@
+use super::*;
+use std::test::Fail;
+use ttcn_syntax::{
+    Alternative, Altstep, Branch, Call, ComponentRef, ComponentType, Constant, Constants,
+    DefinitionKind, Expr, Field, Function, Module, Name, RecordType, Reference, Seq, Span,
+    Template, TemplateBody, TemplateDefinition, Testcase, TypeName, Value,
+};
+
+/// What can refer to others of its kind.
+#[derive(Clone, Copy, Debug, PartialEq, Eq)]
+enum Kind {
+    Record,
+    Constant,
+    Template,
+    Altstep,
+}
+
+const KINDS: [Kind; 4] = [Kind::Record, Kind::Constant, Kind::Template, Kind::Altstep];
+
+/// Builds definitions that are named by numbers.
+#[derive(Clone, Copy)]
+struct Hand {
+    alloc: Global,
+}
+
+impl Hand {
+    fn name(self, number: u32) -> Result<Name, AllocError> {
+        let text = format!(in self.alloc; "n{number}")?;
+        Name::new(self.alloc, text.as_str().as_bytes())
+    }
+
+    fn reference(self, number: u32) -> Result<Expr, AllocError> {
+        Ok(Expr::Reference(ComponentRef::Named(Reference {
+            name: self.name(number)?,
+            fields: Seq::new(self.alloc),
+        })))
+    }
+
+    /// A field of a type that a number names, or an integer.
+    fn field(self, to: Option<u32>) -> Result<Field, AllocError> {
+        let type_name = match to {
+            Some(number) => TypeName::Named(self.name(number)?),
+            None => TypeName::Integer,
+        };
+        Ok(Field {
+            type_name,
+            name: self.name(0)?,
+            optional: false,
+        })
+    }
+
+    /// What a number names, or 1.
+    fn value(self, to: Option<u32>) -> Result<Expr, AllocError> {
+        match to {
+            Some(number) => self.reference(number),
+            None => Ok(Expr::Int(1)),
+        }
+    }
+
+    /// A branch that calls what a number names, or an `[else]`.
+    fn branch(self, to: Option<u32>) -> Result<Branch, AllocError> {
+        let alternative = match to {
+            Some(number) => {
+                let call = Call {
+                    name: self.name(number)?,
+                    arguments: Seq::new(self.alloc),
+                };
+                Alternative::Call(None, call, None)
+            }
+            None => Alternative::Else(Seq::new(self.alloc)),
+        };
+        Ok(Branch {
+            place: AT_ONE,
+            alternative,
+        })
+    }
+
+    fn record(self, number: u32, parts: &[Option<u32>]) -> Result<DefinitionKind, AllocError> {
+        let mut fields = Seq::new(self.alloc);
+        for part in parts {
+            fields.push(self.field(*part)?)?;
+        }
+        let name = self.name(number)?;
+        Ok(DefinitionKind::Record(RecordType { name, fields }))
+    }
+
+    fn constant(self, number: u32, parts: &[Option<u32>]) -> Result<DefinitionKind, AllocError> {
+        let mut values = Seq::new(self.alloc);
+        for part in parts {
+            values.push(Value::Expr(self.value(*part)?))?;
+        }
+        let constant = Constant {
+            name: self.name(number)?,
+            value: Value::Listed(values),
+        };
+        let mut constants = Seq::new(self.alloc);
+        constants.push(constant)?;
+        Ok(DefinitionKind::Constants(Constants {
+            type_name: TypeName::Integer,
+            constants,
+        }))
+    }
+
+    fn template(self, number: u32, parts: &[Option<u32>]) -> Result<DefinitionKind, AllocError> {
+        let mut templates = Seq::new(self.alloc);
+        for part in parts {
+            templates.push(Template {
+                body: TemplateBody::Expr(self.value(*part)?),
+                ifpresent: false,
+            })?;
+        }
+        Ok(DefinitionKind::Template(TemplateDefinition {
+            type_name: TypeName::Integer,
+            name: self.name(number)?,
+            parameters: Seq::new(self.alloc),
+            template: Template {
+                body: TemplateBody::List(templates),
+                ifpresent: false,
+            },
+        }))
+    }
+
+    fn altstep(self, number: u32, parts: &[Option<u32>]) -> Result<DefinitionKind, AllocError> {
+        let mut branches = Seq::new(self.alloc);
+        for part in parts {
+            branches.push(self.branch(*part)?)?;
+        }
+        Ok(DefinitionKind::Altstep(Altstep {
+            name: self.name(number)?,
+            parameters: Seq::new(self.alloc),
+            runs_on: None,
+            branches,
+        }))
+    }
+
+    fn kind(
+        self,
+        kind: Kind,
+        number: u32,
+        parts: &[Option<u32>],
+    ) -> Result<DefinitionKind, AllocError> {
+        match kind {
+            Kind::Record => self.record(number, parts),
+            Kind::Constant => self.constant(number, parts),
+            Kind::Template => self.template(number, parts),
+            Kind::Altstep => self.altstep(number, parts),
+        }
+    }
+
+    /// Definitions from 1 on, each in a line of its own. Each refers so many times to the next, and the last has these
+    /// parts.
+    fn chain(
+        self,
+        kind: Kind,
+        count: u32,
+        times: usize,
+        last: &[Option<u32>],
+    ) -> Result<Seq<Definition>, AllocError> {
+        let mut definitions = Seq::new(self.alloc);
+        for line in 1..count {
+            let parts = vec![in self.alloc; Some(line + 1); times]?;
+            definitions.push(Definition {
+                place: Span { line, column: 1 },
+                kind: self.kind(kind, line, parts.as_slice())?,
+            })?;
+        }
+        definitions.push(Definition {
+            place: Span {
+                line: count,
+                column: 1,
+            },
+            kind: self.kind(kind, count, last)?,
+        })?;
+        Ok(definitions)
+    }
+}
+
+const AT_ONE: Span = Span { line: 1, column: 1 };
+
+fn fault(alloc: Global, definitions: &[Definition]) -> Result<Option<(Rule, Span)>, AllocError> {
+    let mut found = Least { fault: None };
+    let scope = Scope::new(alloc, definitions, &mut found)?;
+    Ok(found.and(in_surveys(alloc, &scope)?).fault)
+}
+
+#[test]
+fn circles(rt: HostRuntime) -> Result<(), Fail> {
+    let hand = Hand { alloc: rt.alloc() };
+    for kind in KINDS {
+        let rule = match kind {
+            Kind::Record => Rule::BadType,
+            _ => Rule::Cycle,
+        };
+        for (count, back) in [(1, 1), (2, 1), (3, 2)] {
+            let definitions = hand.chain(kind, count, 1, &[None, Some(back)])?;
+            let found = fault(hand.alloc, definitions.as_slice())?;
+            let place = Span {
+                line: back,
+                column: 1,
+            };
+            assert!(rt; found == Some((rule, place)), "{kind:?} {count}");
+        }
+    }
+    Ok(())
+}
+
+#[test]
+fn chains(rt: HostRuntime) -> Result<(), Fail> {
+    let hand = Hand { alloc: rt.alloc() };
+    for kind in KINDS {
+        let longest = hand.chain(kind, 200, 1, &[None])?;
+        assert!(rt;
+            fault(hand.alloc, longest.as_slice())?.is_none(),
+            "{kind:?}"
+        );
+        let longer = hand.chain(kind, 201, 1, &[None])?;
+        let found = fault(hand.alloc, longer.as_slice())?;
+        assert!(rt; found == Some((Rule::Size, AT_ONE)), "{kind:?}");
+    }
+    Ok(())
+}
+
+#[test]
+fn sizes(rt: HostRuntime) -> Result<(), Fail> {
+    let hand = Hand { alloc: rt.alloc() };
+    for kind in KINDS {
+        let times = match kind {
+            Kind::Record => 10,
+            _ => 100,
+        };
+        let leaves = vec![in hand.alloc; None; 100]?;
+        let heaviest = hand.chain(kind, 2, times, leaves.as_slice())?;
+        assert!(rt;
+            fault(hand.alloc, heaviest.as_slice())?.is_none(),
+            "{kind:?}"
+        );
+        let leaves = vec![in hand.alloc; None; 101]?;
+        let heavier = hand.chain(kind, 2, times, leaves.as_slice())?;
+        let found = fault(hand.alloc, heavier.as_slice())?;
+        assert!(rt; found == Some((Rule::Size, AT_ONE)), "{kind:?}");
+    }
+    Ok(())
+}
+
+/// `type component n1 {}`, a function `n2`, and the test cases `n3` and `n4`.
+fn tree(hand: Hand) -> Result<Module, AllocError> {
+    let component = ComponentType {
+        name: hand.name(1)?,
+        members: Seq::new(hand.alloc),
+    };
+    let function = Function {
+        name: hand.name(2)?,
+        parameters: Seq::new(hand.alloc),
+        runs_on: None,
+        returns: None,
+        body: Seq::new(hand.alloc),
+    };
+    let mut definitions = Seq::new(hand.alloc);
+    for kind in [
+        DefinitionKind::Component(component),
+        DefinitionKind::Function(function),
+    ] {
+        definitions.push(Definition {
+            place: AT_ONE,
+            kind,
+        })?;
+    }
+    for number in [3, 4] {
+        let testcase = Testcase {
+            name: hand.name(number)?,
+            runs_on: hand.name(1)?,
+            system: None,
+            body: Seq::new(hand.alloc),
+        };
+        definitions.push(Definition {
+            place: AT_ONE,
+            kind: DefinitionKind::Testcase(testcase),
+        })?;
+    }
+    Ok(Module {
+        name: hand.name(0)?,
+        definitions,
+    })
+}
+
+#[test]
+fn programs(rt: HostRuntime) -> Result<(), Fail> {
+    let hand = Hand { alloc: rt.alloc() };
+    let program = check(hand.alloc, tree(hand)?)?;
+    assert!(rt; program.module() == &tree(hand)?);
+    let rows = [
+        ("n0", None),
+        ("n1", None),
+        ("n2", None),
+        ("n3", Some(2)),
+        ("n4", Some(3)),
+        ("n5", None),
+        ("", None),
+    ];
+    for (name, position) in rows {
+        let found = program.testcase(name).map(|id| id.position());
+        assert_eq!(rt; found, position, "{name}");
+    }
+    Ok(())
+}
+
+#[test]
+fn refusals(rt: HostRuntime) -> Result<(), Fail> {
+    let hand = Hand { alloc: rt.alloc() };
+    for (first, rule) in [(4, Rule::DuplicateName), (5, Rule::BadType)] {
+        let mut module = tree(hand)?;
+        let kind = hand.record(first, &[Some(first)])?;
+        let place = Span { line: 7, column: 2 };
+        module.definitions.push(Definition { place, kind })?;
+        match check(hand.alloc, module) {
+            Err(CheckError::Broken(broken, at)) => {
+                assert!(rt; broken == rule && at == place);
+            }
+            _ => assert!(rt; false, "{rule:?}"),
+        }
+    }
+    Ok(())
+}
