@@ -1,3 +1,4 @@
+pub mod Checks
 pub mod Complete
 pub mod CompleteModules
 pub mod Depth

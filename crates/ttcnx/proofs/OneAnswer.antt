@@ -269,7 +269,7 @@ one_of_tokens tokens name plan a b (read {tree = tree} is more) (read {tree = ot
     let same = one_tree tokens tree other is.is_module also.is_module in
     one_of_module other name plan a b (subst (λ tree. OfModule tree name plan a) same more) too
 
-same_fault : (f : Fault) → SameFault f f
+pub same_fault : (f : Fault) → SameFault f f
 same_fault (fault.Refused why place) = refl
 same_fault fault.NoSuchTestCase = refl
 same_fault fault.TooMany = refl

@@ -35,7 +35,7 @@ pub from_error : {A : Type 0} (r : Result A Fault) (why : Fault) (P : Fault → 
 from_error (Ok a) why P is holds = tt
 from_error (Err x) why P is holds = subst P (sym is) holds
 
-no_stop : {before text : List ℕ} {e : LexError} → Stops before text e → e ≡ lexical.TextTooLong → ⊥
+pub no_stop : {before text : List ℕ} {e : LexError} → Stops before text e → e ≡ lexical.TextTooLong → ⊥
 no_stop (at_fault longest no_piece) is = cc
 no_stop (at_fault longest unended_comment) is = cc
 no_stop (at_fault longest unended_text) is = cc

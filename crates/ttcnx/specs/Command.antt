@@ -1,8 +1,9 @@
 -- What a command line asks for.
-use Rattle.explore.specs.declared.plan.Plan.{Plan}
+use Rattle.explore.specs.Limits.{IsWithinLimits}
 use Rattle.ttcnx.specs.declared.command.Line.{Line}
-use Rattle.ttcnx.specs.declared.command.Line.TheVariants.{Run}
+use Rattle.ttcnx.specs.declared.command.Line.TheVariants.{Check, Run}
 
--- how far the command explores
-abbrev pub plan_of : Line → Plan
-plan_of (Run file testcase plan) = plan
+-- how far a command explores is within the limits
+abbrev pub StaysWithinLimits : Line → Type 0
+StaysWithinLimits (Check file) = Unit {0}
+StaysWithinLimits (Run file testcase plan) = IsWithinLimits plan

@@ -6,6 +6,12 @@ use Rattle.ttcn_syntax.specs.declared.error.LexError.{LexError}
 use Rattle.ttcn_syntax.specs.declared.error.LexError.TheVariants as lexical
 use Rattle.explore.specs.declared.plan.ExploreError.{ExploreError}
 use Rattle.explore.specs.declared.plan.ExploreError.TheVariants as searching
+use Rattle.ttcn_parse.specs.declared.error.ParseError as whole
+use Rattle.ttcn_parse.specs.declared.error.ParseError.TheVariants as reading
+use Rattle.ttcn_types.specs.declared.rule.CheckError as typed
+use Rattle.ttcn_types.specs.declared.rule.CheckError.TheVariants as typing
+use Rattle.ttcn_types.specs.declared.rule.Rule as all_rules
+use Rattle.ttcn_types.specs.declared.rule.Rule.TheVariants as rule
 use Rattle.ttcnx.specs.declared.parse.ParseError.{ParseError}
 use Rattle.ttcnx.specs.declared.parse.ParseError.TheVariants as parsing
 use Rattle.ttcnx.specs.declared.rules.CheckError.{CheckError}
@@ -13,7 +19,7 @@ use Rattle.ttcnx.specs.declared.rules.CheckError.TheVariants as checking
 use Rattle.ttcnx.specs.declared.rules.Rule.{Rule}
 use Rattle.ttcnx.specs.declared.rules.Rule.TheVariants as rules
 use Rattle.ttcnx.specs.declared.fault.Refusal.{Refusal}
-use Rattle.ttcnx.specs.declared.fault.Refusal.TheVariants.{BadByte, OpenComment, OpenText, IntegerTooLarge, TextTooLong, Unexpected, TooDeep, LeftOut, DuplicateName, UnknownName, OperandType, ValueType, VerdictError}
+use Rattle.ttcnx.specs.declared.fault.Refusal.TheVariants.{BadByte, OpenComment, OpenText, IntegerTooLarge, TextTooLong, Unexpected, TooDeep, LeftOut, DuplicateName, UnknownName, BadType, Cycle, Size, EnumNumbers, OperandType, ValueType, NotAssignable, Arguments, Fields, Condition, RunsOn, PortType, Redirect, CallKind, ReturnPlace, RepeatPlace, VerdictError, MtcPlace}
 use Rattle.ttcnx.specs.declared.fault.Fault.{Fault}
 use Rattle.ttcnx.specs.declared.fault.Fault.TheVariants.{Refused, NoSuchTestCase, TooMany, BadPlan, Memory, CannotRead, CannotWrite}
 
@@ -29,9 +35,24 @@ refusal_text TooDeep = codes "P2 TooDeep"
 refusal_text LeftOut = codes "P3 LeftOut"
 refusal_text DuplicateName = codes "C1 DuplicateName"
 refusal_text UnknownName = codes "C2 UnknownName"
+refusal_text BadType = codes "C3 BadType"
+refusal_text Cycle = codes "C4 Cycle"
+refusal_text Size = codes "C5 Size"
+refusal_text EnumNumbers = codes "C6 EnumNumbers"
 refusal_text OperandType = codes "C7 OperandType"
 refusal_text ValueType = codes "C8 ValueType"
+refusal_text NotAssignable = codes "C9 NotAssignable"
+refusal_text Arguments = codes "C10 Arguments"
+refusal_text Fields = codes "C11 Fields"
+refusal_text Condition = codes "C12 Condition"
+refusal_text RunsOn = codes "C13 RunsOn"
+refusal_text PortType = codes "C14 PortType"
+refusal_text Redirect = codes "C15 Redirect"
+refusal_text CallKind = codes "C16 CallKind"
+refusal_text ReturnPlace = codes "C17 ReturnPlace"
+refusal_text RepeatPlace = codes "C18 RepeatPlace"
 refusal_text VerdictError = codes "C19 VerdictError"
+refusal_text MtcPlace = codes "C20 MtcPlace"
 
 -- a place as line and column
 abbrev pub place_text : Span → List ℕ
@@ -85,6 +106,41 @@ rule_refusal rules.VerdictError = VerdictError
 abbrev pub check_fault : CheckError → Fault
 check_fault (checking.Broken rule place) = Refused (rule_refusal rule) place
 check_fault (checking.Memory error) = Memory
+
+-- the fault of tokens that spell no module of the whole language
+abbrev pub grammar_fault : whole.ParseError → Fault
+grammar_fault (reading.TooDeep place) = Refused TooDeep place
+grammar_fault (reading.LeftOut place) = Refused LeftOut place
+grammar_fault (reading.Unexpected place) = Refused Unexpected place
+grammar_fault reading.Memory = Memory
+
+-- the refusal that a broken rule of the whole language leads to
+abbrev pub typing_refusal : all_rules.Rule → Refusal
+typing_refusal rule.DuplicateName = DuplicateName
+typing_refusal rule.UnknownName = UnknownName
+typing_refusal rule.BadType = BadType
+typing_refusal rule.Cycle = Cycle
+typing_refusal rule.Size = Size
+typing_refusal rule.EnumNumbers = EnumNumbers
+typing_refusal rule.OperandType = OperandType
+typing_refusal rule.ValueType = ValueType
+typing_refusal rule.NotAssignable = NotAssignable
+typing_refusal rule.Arguments = Arguments
+typing_refusal rule.Fields = Fields
+typing_refusal rule.Condition = Condition
+typing_refusal rule.RunsOn = RunsOn
+typing_refusal rule.PortType = PortType
+typing_refusal rule.Redirect = Redirect
+typing_refusal rule.CallKind = CallKind
+typing_refusal rule.ReturnPlace = ReturnPlace
+typing_refusal rule.RepeatPlace = RepeatPlace
+typing_refusal rule.VerdictError = VerdictError
+typing_refusal rule.MtcPlace = MtcPlace
+
+-- the fault of a module of the whole language that isn't well typed
+abbrev pub typing_fault : typed.CheckError → Fault
+typing_fault (typing.Broken rule place) = Refused (typing_refusal rule) place
+typing_fault (typing.Memory error) = Memory
 
 -- the fault of a search that gives no answer
 abbrev pub explore_fault : ExploreError → Fault

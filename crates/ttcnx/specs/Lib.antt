@@ -1,4 +1,5 @@
 pub mod Answer
+pub mod Checked
 pub mod Checking
 pub mod Command
 pub mod Fault

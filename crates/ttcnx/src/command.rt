@@ -1,7 +1,7 @@
 //! The command line.
 ghost use Rattle.std.specs.Prelude.{IfOk, IfSome};
 ghost use Rattle.explore.specs.Limits.{IsWithinLimits};
-ghost use Rattle.ttcnx.specs.Command.{plan_of};
+ghost use Rattle.ttcnx.specs.Command.{StaysWithinLimits};
 
 use clap::error::ErrorKind;
 use clap::{Arg, ArgMatches, Command, Error as ClapError, value_parser};
@@ -12,6 +12,11 @@ use thiserror::Error;
 /// What the program is asked to do.
 #[derive(Debug, Drop)]
 pub enum Line {
+    /// To test whether a module is well typed.
+    Check {
+        file: String,
+    },
+    /// To explore the runs of a test case.
     Run {
         file: String,
         testcase: String,
@@ -34,13 +39,16 @@ pub enum LineError {
 
 /// The command that the words behind the program's name give.
 pub fn read_line<'a>(alloc: Global, words: &'a [&'a str]) -> Result<Line, LineError>
-    ensures { IfOk result (λ line. IsWithinLimits (plan_of line)) }
+    ensures { IfOk result StaysWithinLimits }
 {
     let mut command = command(alloc)?;
     let matches = match command.try_get_matches_from_mut(words) {
         Ok(matches) => matches,
         Err(error) => return Err(refusal(alloc, &error)?),
     };
+    if let Some(line) = check_line(alloc, &matches)? {
+        return Ok(line);
+    }
     if let Some(line) = run_line(alloc, &matches)? {
         return Ok(line);
     }
@@ -58,9 +66,23 @@ fn refusal(alloc: Global, error: &ClapError) -> Result<LineError, AllocError> {
     })
 }
 
+/// The command `check`, if that was given.
+fn check_line(alloc: Global, matches: &ArgMatches<'_>) -> Result<Option<Line>, AllocError>
+    ensures { IfOk result (λ found. IfSome found StaysWithinLimits) }
+{
+    let Some(check) = matches.subcommand_matches("check") else {
+        return Ok(None);
+    };
+    let Some(file) = check.get_str("FILE") else {
+        return Ok(None);
+    };
+    let file = String::from_str(alloc, file)?;
+    Ok(Some(Line::Check { file }))
+}
+
 /// The command `run`, if that was given.
 fn run_line(alloc: Global, matches: &ArgMatches<'_>) -> Result<Option<Line>, AllocError>
-    ensures { IfOk result (λ found. IfSome found (λ line. IsWithinLimits (plan_of line))) }
+    ensures { IfOk result (λ found. IfSome found StaysWithinLimits) }
 {
     let Some(run) = matches.subcommand_matches("run") else {
         return Ok(None);
@@ -96,17 +118,21 @@ fn plan(run: &ArgMatches<'_>) -> Option<Plan>
 /// The commands and what they take.
 fn command<'a>(alloc: Global) -> Result<Command<'a>, AllocError> {
     Command::new(alloc, "ttcnx")
-        .about("Explores test cases written in TTCN-3")
+        .about("Checks modules written in TTCN-3, and explores their test cases")
         .bin_name("ttcnx")?
         .no_binary_name(true)
         .subcommand_required(true)
+        .subcommand(check_command(alloc)?)?
         .subcommand(run_command(alloc)?)
 }
 
+fn check_command<'a>(alloc: Global) -> Result<Command<'a>, AllocError> {
+    Command::new(alloc, "check")
+        .about("Tests whether a module is well typed")
+        .arg(file(alloc))
+}
+
 fn run_command<'a>(alloc: Global) -> Result<Command<'a>, AllocError> {
-    let file = Arg::new(alloc, "FILE")
-        .required(true)
-        .help("The text of the module");
     let testcase = Arg::new(alloc, "testcase")
         .long("testcase")
         .value_name("NAME")
@@ -129,12 +155,19 @@ fn run_command<'a>(alloc: Global) -> Result<Command<'a>, AllocError> {
     );
     Command::new(alloc, "run")
         .about("Explores the runs of a test case")
-        .arg(file)?
+        .arg(file(alloc))?
         .arg(testcase)?
         .arg(steps)?
         .arg(limit)?
         .arg(workers)?
         .arg(piece)
+}
+
+/// The file that a command reads.
+fn file<'a>(alloc: Global) -> Arg<'a> {
+    Arg::new(alloc, "FILE")
+        .required(true)
+        .help("The text of the module")
 }
 
 /// A number from 1 on that may be left out.

@@ -22,9 +22,24 @@ pub enum Refusal {
     LeftOut,
     DuplicateName,
     UnknownName,
+    BadType,
+    Cycle,
+    Size,
+    EnumNumbers,
     OperandType,
     ValueType,
+    NotAssignable,
+    Arguments,
+    Fields,
+    Condition,
+    RunsOn,
+    PortType,
+    Redirect,
+    CallKind,
+    ReturnPlace,
+    RepeatPlace,
     VerdictError,
+    MtcPlace,
 }
 
 /// Why there is no answer.
@@ -56,9 +71,24 @@ impl fmt::Display for Refusal {
             Refusal::LeftOut => "P3 LeftOut",
             Refusal::DuplicateName => "C1 DuplicateName",
             Refusal::UnknownName => "C2 UnknownName",
+            Refusal::BadType => "C3 BadType",
+            Refusal::Cycle => "C4 Cycle",
+            Refusal::Size => "C5 Size",
+            Refusal::EnumNumbers => "C6 EnumNumbers",
             Refusal::OperandType => "C7 OperandType",
             Refusal::ValueType => "C8 ValueType",
+            Refusal::NotAssignable => "C9 NotAssignable",
+            Refusal::Arguments => "C10 Arguments",
+            Refusal::Fields => "C11 Fields",
+            Refusal::Condition => "C12 Condition",
+            Refusal::RunsOn => "C13 RunsOn",
+            Refusal::PortType => "C14 PortType",
+            Refusal::Redirect => "C15 Redirect",
+            Refusal::CallKind => "C16 CallKind",
+            Refusal::ReturnPlace => "C17 ReturnPlace",
+            Refusal::RepeatPlace => "C18 RepeatPlace",
             Refusal::VerdictError => "C19 VerdictError",
+            Refusal::MtcPlace => "C20 MtcPlace",
         })
     }
 }
@@ -197,6 +227,67 @@ impl From<Rule> for Refusal {
             Rule::OperandType => Refusal::OperandType,
             Rule::ValueType => Refusal::ValueType,
             Rule::VerdictError => Refusal::VerdictError,
+        }
+    }
+}
+
+impl From<ttcn_parse::ParseError> for Fault {
+    ghost use Rattle.ttcnx.specs.Fault.{grammar_fault};
+
+    ghost from_gives = { λ error fault. fault ≡ grammar_fault error };
+
+    fn from(error: ttcn_parse::ParseError) -> Fault {
+        match error {
+            ttcn_parse::ParseError::TooDeep(place) => Fault::Refused(Refusal::TooDeep, place),
+            ttcn_parse::ParseError::LeftOut(place) => Fault::Refused(Refusal::LeftOut, place),
+            ttcn_parse::ParseError::Unexpected(place) => Fault::Refused(Refusal::Unexpected, place),
+            ttcn_parse::ParseError::Memory => Fault::Memory,
+        }
+    }
+}
+
+impl From<ttcn_types::CheckError> for Fault {
+    ghost use Rattle.ttcnx.specs.Fault.{typing_fault};
+
+    ghost from_gives = { λ error fault. fault ≡ typing_fault error };
+
+    fn from(error: ttcn_types::CheckError) -> Fault {
+        match error {
+            ttcn_types::CheckError::Broken(rule, place) => {
+                Fault::Refused(Refusal::from(rule), place)
+            }
+            ttcn_types::CheckError::Memory(_) => Fault::Memory,
+        }
+    }
+}
+
+impl From<ttcn_types::Rule> for Refusal {
+    ghost use Rattle.ttcnx.specs.Fault.{typing_refusal};
+
+    ghost from_gives = { λ rule refusal. refusal ≡ typing_refusal rule };
+
+    fn from(rule: ttcn_types::Rule) -> Refusal {
+        match rule {
+            ttcn_types::Rule::DuplicateName => Refusal::DuplicateName,
+            ttcn_types::Rule::UnknownName => Refusal::UnknownName,
+            ttcn_types::Rule::BadType => Refusal::BadType,
+            ttcn_types::Rule::Cycle => Refusal::Cycle,
+            ttcn_types::Rule::Size => Refusal::Size,
+            ttcn_types::Rule::EnumNumbers => Refusal::EnumNumbers,
+            ttcn_types::Rule::OperandType => Refusal::OperandType,
+            ttcn_types::Rule::ValueType => Refusal::ValueType,
+            ttcn_types::Rule::NotAssignable => Refusal::NotAssignable,
+            ttcn_types::Rule::Arguments => Refusal::Arguments,
+            ttcn_types::Rule::Fields => Refusal::Fields,
+            ttcn_types::Rule::Condition => Refusal::Condition,
+            ttcn_types::Rule::RunsOn => Refusal::RunsOn,
+            ttcn_types::Rule::PortType => Refusal::PortType,
+            ttcn_types::Rule::Redirect => Refusal::Redirect,
+            ttcn_types::Rule::CallKind => Refusal::CallKind,
+            ttcn_types::Rule::ReturnPlace => Refusal::ReturnPlace,
+            ttcn_types::Rule::RepeatPlace => Refusal::RepeatPlace,
+            ttcn_types::Rule::VerdictError => Refusal::VerdictError,
+            ttcn_types::Rule::MtcPlace => Refusal::MtcPlace,
         }
     }
 }

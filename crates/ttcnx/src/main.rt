@@ -1,6 +1,7 @@
 //! Explores the runs of test cases written in TTCN-3, up to a bound.
 #![tactic(auto)]
 
+mod check;
 mod command;
 mod configuration;
 mod fault;

@@ -1,4 +1,5 @@
 //! What the program does: from its words to what it writes and the status that it exits with.
+use crate::check::check_answer;
 use crate::command::{Line, LineError, read_line};
 use crate::fault::{Fault, fault_line, status};
 use crate::report::to_text;
@@ -82,6 +83,10 @@ where
         Err(LineError::Memory(_)) => return Err(Stop::Fault(Fault::Memory)),
     };
     match line {
+        Line::Check { file } => {
+            let text = read_text(rt, file)?;
+            Ok(check_answer(alloc, &text)?)
+        }
         Line::Run {
             file,
             testcase,

@@ -1,4 +1,5 @@
 //! From texts to what the program prints.
+mod checks;
 mod large;
 mod lines;
 mod refusals;

@@ -15,12 +15,10 @@ fn commands(rt: HostRuntime) -> Result<(), Fail> {
         workers: 1,
         piece: 256,
     };
-    let Line::Run {
-        file,
-        testcase,
-        plan: found,
-    } = read_line(rt.alloc(), &RUN)?;
-    assert!(rt; file.as_str() == "a b.ttcn" && testcase.as_str() == "T" && found == plan);
+    let line = read_line(rt.alloc(), &RUN)?;
+    let is_read = matches!(&line, Line::Run { file, testcase, plan: found }
+        if file.as_str() == "a b.ttcn" && testcase.as_str() == "T" && *found == plan);
+    assert!(rt; is_read, "{line:?}");
     let words = [
         "run",
         "--steps=0",
@@ -33,18 +31,19 @@ fn commands(rt: HostRuntime) -> Result<(), Fail> {
         "--testcase=",
         "f",
     ];
-    let Line::Run {
-        file,
-        testcase,
-        plan: found,
-    } = read_line(rt.alloc(), &words)?;
     let plan = Plan {
         steps: 0,
         limit: 10_000_000,
         workers: 64,
         piece: 65_536,
     };
-    assert!(rt; file.as_str() == "f" && testcase.as_str() == "" && found == plan);
+    let line = read_line(rt.alloc(), &words)?;
+    let is_read = matches!(&line, Line::Run { file, testcase, plan: found }
+        if file.as_str() == "f" && testcase.as_str() == "" && *found == plan);
+    assert!(rt; is_read, "{line:?}");
+    let line = read_line(rt.alloc(), &["check", "a b.ttcn"])?;
+    let is_read = matches!(&line, Line::Check { file } if file.as_str() == "a b.ttcn");
+    assert!(rt; is_read, "{line:?}");
     Ok(())
 }
 
@@ -69,9 +68,12 @@ fn faulty_lines(rt: HostRuntime) -> Result<(), Fail> {
         let refused = matches!(read_line(alloc, &words), Err(LineError::Bad(_)));
         assert!(rt; refused, "{name} {value}");
     }
-    let lines: [&[&str]; 5] = [
+    let lines: [&[&str]; 8] = [
         &[],
         &["walk"],
+        &["check"],
+        &["check", "f", "g"],
+        &["check", "f", "--steps", "1"],
         &["run"],
         &["run", "f", "--testcase", "T"],
         &["run", "f", "g", "--testcase", "T", "--steps", "1"],
@@ -82,7 +84,7 @@ fn faulty_lines(rt: HostRuntime) -> Result<(), Fail> {
             "{words:?}"
         );
     }
-    for words in [["--help", ""], ["run", "--help"]] {
+    for words in [["--help", ""], ["run", "--help"], ["check", "--help"]] {
         assert!(rt;
             matches!(read_line(alloc, &words), Err(LineError::Help(_))),
             "{words:?}"
@@ -109,9 +111,24 @@ fn fault_lines(rt: HostRuntime) -> Result<(), Fail> {
         (Refusal::LeftOut, "P3 LeftOut"),
         (Refusal::DuplicateName, "C1 DuplicateName"),
         (Refusal::UnknownName, "C2 UnknownName"),
+        (Refusal::BadType, "C3 BadType"),
+        (Refusal::Cycle, "C4 Cycle"),
+        (Refusal::Size, "C5 Size"),
+        (Refusal::EnumNumbers, "C6 EnumNumbers"),
         (Refusal::OperandType, "C7 OperandType"),
         (Refusal::ValueType, "C8 ValueType"),
+        (Refusal::NotAssignable, "C9 NotAssignable"),
+        (Refusal::Arguments, "C10 Arguments"),
+        (Refusal::Fields, "C11 Fields"),
+        (Refusal::Condition, "C12 Condition"),
+        (Refusal::RunsOn, "C13 RunsOn"),
+        (Refusal::PortType, "C14 PortType"),
+        (Refusal::Redirect, "C15 Redirect"),
+        (Refusal::CallKind, "C16 CallKind"),
+        (Refusal::ReturnPlace, "C17 ReturnPlace"),
+        (Refusal::RepeatPlace, "C18 RepeatPlace"),
         (Refusal::VerdictError, "C19 VerdictError"),
+        (Refusal::MtcPlace, "C20 MtcPlace"),
     ];
     for (refusal, name) in refusals {
         let fault = Fault::Refused(refusal, place);

@@ -1,0 +1,53 @@
+-- Which texts are those of well-typed modules, and what the others are refused with. Stage by stage: the text, its
+-- tokens, its module.
+use Rattle.std.specs.Prelude.{ℕ, ◌<◌, ◌≤◌, List, length}
+use Rattle.ttcn_syntax.specs.Cut.{IsCut, IsLeftmostFault}
+use Rattle.ttcn_syntax.specs.declared.error.LexError.{LexError}
+use Rattle.ttcn_syntax.specs.declared.place.Span.{Span}
+use Rattle.ttcn_syntax.specs.declared.token.Spanned.{Spanned}
+use Rattle.ttcn_syntax.specs.declared.tree.definition.Module.{Module}
+use Rattle.ttcn_parse.specs.Groups.{IsTooDeep}
+use Rattle.ttcn_parse.specs.LeftOut.{HasLeftOut}
+use Rattle.ttcn_parse.specs.Refused.{IsRead, IsUnread}
+use Rattle.ttcn_types.specs.Rules.{AreWellTyped, IsLeast}
+use Rattle.ttcn_types.specs.declared.rule.Rule.{Rule}
+use Rattle.ttcnx.specs.Answer.{SameFault}
+use Rattle.ttcnx.specs.Fault.{lexical_fault, typing_refusal}
+use Rattle.ttcnx.specs.declared.fault.Fault.{Fault}
+use Rattle.ttcnx.specs.declared.fault.Fault.TheVariants as fault
+use Rattle.ttcnx.specs.declared.fault.Refusal.TheVariants as refusal
+
+-- a text of a well-typed module: it isn't too long, is cut into tokens, and these are read as a module that breaks no rule
+pub record IsAccepted (text : List ℕ) : Type 0 where
+  pub tokens : List Spanned
+  pub tree : Module
+  pub short : length text ≤ 1048576
+  pub is_cut : IsCut text tokens
+  pub is_read : IsRead tokens tree
+  pub well_typed : AreWellTyped tree.definitions
+
+-- why tokens are no well-typed module, with any place
+pub data AreRefused (tokens : List Spanned) : Fault → Type 0 where
+  -- brackets nest too deep
+  too_deep : {place : Span} → IsTooDeep tokens → AreRefused tokens (fault.Refused refusal.TooDeep place)
+  -- or else a word or character is left out
+  left_out : {place : Span} → (IsTooDeep tokens → ⊥) → HasLeftOut tokens → AreRefused tokens (fault.Refused refusal.LeftOut place)
+  -- or else they are no module
+  unexpected : {place : Span} → IsUnread tokens → AreRefused tokens (fault.Refused refusal.Unexpected place)
+  -- or else the least rule that their module breaks
+  broken : {tree : Module} {rule : Rule} {place : Span} → IsRead tokens tree → IsLeast tree.definitions rule
+      → AreRefused tokens (fault.Refused (typing_refusal rule) place)
+
+-- why a text is that of no well-typed module
+pub data IsRefusedWith (text : List ℕ) : Fault → Type 0 where
+  -- it is longer than 1,048,576 bytes
+  too_long : {place : Span} → 1048576 < length text → IsRefusedWith text (fault.Refused refusal.TextTooLong place)
+  -- or else its leftmost fault, where it stands
+  uncut : {error : LexError} → length text ≤ 1048576 → IsLeftmostFault text error → IsRefusedWith text (lexical_fault error)
+  -- or else why its tokens are refused
+  cut : {tokens : List Spanned} {why : Fault} → length text ≤ 1048576 → IsCut text tokens → AreRefused tokens why → IsRefusedWith text why
+
+-- a text is not both accepted and refused, and not refused in two ways
+pub record HasOneJudgement (text : List ℕ) : Type 0 where
+  pub not_both : {why : Fault} → IsAccepted text → IsRefusedWith text why → ⊥
+  pub one_refusal : {why other : Fault} → IsRefusedWith text why → IsRefusedWith text other → SameFault why other
