@@ -8,6 +8,7 @@ use Rattle.ttcn_syntax.specs.declared.tree.definition.DefinitionKind.TheVariants
 use Rattle.ttcn_syntax.specs.declared.tree.definition.Field.{Field}
 use Rattle.ttcn_syntax.specs.declared.tree.definition.Member.{Member}
 use Rattle.ttcn_syntax.specs.declared.tree.definition.Member.TheVariants as member
+use Rattle.ttcn_syntax.specs.declared.tree.definition.TemplateDefinition.{TemplateDefinition}
 use Rattle.ttcn_syntax.specs.declared.tree.statement.Constant.{Constant}
 use Rattle.ttcn_syntax.specs.declared.tree.value.TypeName.{TypeName}
 use Rattle.ttcn_syntax.specs.declared.tree.value.TypeName.TheVariants as type_name
@@ -106,6 +107,22 @@ field_named name = find (λ field. bytes_eq field.name name)
 abbrev pub constants_type : Names → Option DefinitionKind → Option DataType
 constants_type names (Some (kind.Constants cs)) = resolved names cs.type_name
 constants_type names _ = None
+
+abbrev pub constant_of : Option DefinitionKind → ℕ → Option Constant
+constant_of (Some (kind.Constants cs)) item = slice_get cs.constants item
+constant_of _ item = None
+
+-- the constant at a place of the declaration that stands at a position
+abbrev pub constant_at : List Definition → ℕ → ℕ → Option Constant
+constant_at definitions at item = constant_of (kind_at definitions at) item
+
+abbrev pub template_of : Option DefinitionKind → Option TemplateDefinition
+template_of (Some (kind.Template t)) = Some t
+template_of _ = None
+
+-- the template that stands at a position
+abbrev pub template_at : List Definition → ℕ → Option TemplateDefinition
+template_at definitions at = template_of (kind_at definitions at)
 
 -- ---- component types
 

@@ -7,6 +7,7 @@ mod call;
 mod checker;
 mod declaration;
 mod definition;
+mod definitions;
 mod expression;
 mod field_table;
 mod graph;
@@ -36,6 +37,8 @@ mod typing;
 mod value;
 
 pub use checker::check;
+pub use definitions::Definitions;
+pub use names::Meaning;
 pub use program::{Program, TestId};
 pub use rule::{CheckError, Rule};
-pub use types::DataType;
+pub use types::{DataType, Target, Typing};

@@ -3,6 +3,7 @@ ghost use Rattle.std.specs.Prelude.{◌≡◌, IfOk, IfSome};
 ghost use Rattle.ttcn_types.specs.Programs.{IsTestCaseAt, test_case_named};
 ghost use Rattle.ttcn_types.specs.Rules.{AreWellTyped};
 
+use crate::definitions::Definitions;
 use crate::test_cases::TestCases;
 use std::alloc::{AllocError, Global};
 use std::marker::Model;
@@ -78,6 +79,13 @@ impl Program {
         ensures well_typed { AreWellTyped self.now.definitions }
     {
         &self.module
+    }
+
+    /// The definitions of the module, by their names.
+    pub fn definitions(&self, alloc: Global) -> Result<Definitions<'_>, AllocError>
+        ensures { IfOk result (λ definitions. definitions ≡ self.now.definitions) }
+    {
+        Definitions::of(alloc, self.module.definitions.as_slice())
     }
 
     /// The test case of a name, if there is one.

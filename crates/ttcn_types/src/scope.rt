@@ -17,7 +17,9 @@ mod start;
 use crate::field_table::FieldTable;
 use crate::table::Table;
 use crate::traffic::Traffic;
-pub(crate) use lookup::{built_in, port_type_meant, type_meant};
+pub(crate) use define::define_all;
+pub(crate) use fields::fields_of;
+pub(crate) use lookup::{built_in, kind_at, port_type_meant, resolved_in, type_meant};
 use ttcn_syntax::Definition;
 
 /// The module, the names that are visible at a place, and the component type that `self` is of.

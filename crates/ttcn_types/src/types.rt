@@ -15,7 +15,7 @@ pub enum DataType {
 
 /// What is known of an expression's type.
 #[derive(Clone, Copy, Debug, PartialEq, Eq)]
-pub(crate) enum Typing {
+pub enum Typing {
     Known(DataType),
     /// `null`, which is of every component type and of type `default`.
     Null,
@@ -29,7 +29,7 @@ pub(crate) enum Typing {
 
 /// What a value goes to: the type that is wanted, where it is known, and whether the value may be omitted.
 #[derive(Clone, Copy, Debug, PartialEq, Eq)]
-pub(crate) struct Target {
-    pub(crate) data_type: Option<DataType>,
-    pub(crate) optional: bool,
+pub struct Target {
+    pub data_type: Option<DataType>,
+    pub optional: bool,
 }

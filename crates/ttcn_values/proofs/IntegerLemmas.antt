@@ -1,5 +1,5 @@
 -- The whole numbers that are integers, and what division leaves.
-use Rattle.std.proofs.Common.{◌≡◌, ◌≢◌, Result, ◌||◌, not, Bool, add-one, ℕ, zero, suc, ◌+◌, ◌%◌, ◌<◌, ◌≤◌, ℤ, pos, negsuc, ◌+ℤ◌, neg_ℤ, Option, Some, None, Ok, Err, FitsSigned, w64, to_z, of_z, true, false, sym, ap, ◌∙◌, refl, arith, inl, inr, if◌then◌else◌}
+use Rattle.std.proofs.Common.{◌≡◌, ◌≢◌, ◌||◌, not, Bool, add-one, ℕ, zero, suc, ◌+◌, ◌%◌, ◌<◌, ◌≤◌, ℤ, pos, negsuc, ◌+ℤ◌, neg_ℤ, Option, Some, None, FitsSigned, w64, to_z, of_z, true, false, sym, ap, ◌∙◌, refl, arith, inl, inr, if◌then◌else◌}
 use Rattle.std.specs.Prelude.{◌⊎◌, int_div, int_rem, int_lt, unsigned_abs, SomeIff}
 use Rattle.std.specs.Int.{CanDivide, IsNonZero, int_rem_euclid, cast_unsigned}
 use Rattle.std.specs.Ordering.{int_eq}
@@ -7,29 +7,24 @@ use Rattle.std.proofs.lemmas.Int.{ints, quot-rem, to_z-of_z}
 use Rattle.std.proofs.lemmas.Bool.{cases_lt}
 use Rattle.std.proofs.lemmas.Bool.Decides.{nat_tests}
 use Rattle.std.proofs.Math.Nat.{suc-mod, mod-lt, mod_self, mod-eq_of_lt}
-use Rattle.ttcn_values.specs.Integers.{in_range, divided_by, remainder, modulus, absolute}
-use Rattle.ttcn_values.specs.Whole.{fitting}
-use Rattle.ttcn_values.specs.declared.fault.Fault.{Fault}
-use Rattle.ttcn_values.specs.declared.fault.Fault.TheVariants.{Dynamic}
-use Rattle.ttcn_values.specs.declared.value.Value.{Value}
-use Rattle.ttcn_values.specs.declared.value.Value.TheVariants.{Integer}
+use Rattle.ttcn_values.specs.Integers.{absolute, divided_by, modulus, remainder, within}
 
 -- a number of 64 bits is an integer
-pub in_range-fits : (z : ℤ) → FitsSigned w64 z → in_range z ≡ Ok (Integer z)
-unfolding in_range
-in_range-fits (pos n) fits = let bound : n < 9223372036854775808 = fits.sfits in grind (arith, nat_tests)
-in_range-fits (negsuc n) fits = let bound : n < 9223372036854775808 = fits.sfits in grind (arith, nat_tests)
+pub within-fits : (z : ℤ) → FitsSigned w64 z → within z ≡ Some z
+unfolding within
+within-fits (pos n) fits = let bound : n < 9223372036854775808 = fits.sfits in grind (arith, nat_tests)
+within-fits (negsuc n) fits = let bound : n < 9223372036854775808 = fits.sfits in grind (arith, nat_tests)
 
 -- and no other is
-pub in_range-not : (z : ℤ) → ¬ FitsSigned w64 z → in_range z ≡ Err Dynamic
-unfolding in_range
-in_range-not (pos n) wide = let bound : 9223372036854775808 ≤ n = elim (cases_lt n 9223372036854775808) [ inl below ↦ absurd (wide (record { sfits = below })) | inr above ↦ above ] in grind (arith, nat_tests)
-in_range-not (negsuc n) wide = let bound : 9223372036854775808 ≤ n = elim (cases_lt n 9223372036854775808) [ inl below ↦ absurd (wide (record { sfits = below })) | inr above ↦ above ] in grind (arith, nat_tests)
+pub within-not : (z : ℤ) → ¬ FitsSigned w64 z → within z ≡ None
+unfolding within
+within-not (pos n) wide = let bound : 9223372036854775808 ≤ n = elim (cases_lt n 9223372036854775808) [ inl below ↦ absurd (wide (record { sfits = below })) | inr above ↦ above ] in grind (arith, nat_tests)
+within-not (negsuc n) wide = let bound : 9223372036854775808 ≤ n = elim (cases_lt n 9223372036854775808) [ inl below ↦ absurd (wide (record { sfits = below })) | inr above ↦ above ] in grind (arith, nat_tests)
 
 -- what a checked operation leaves, where it gives the whole number z if that fits
-pub fitting_is : (o : Option ℤ) (z : ℤ) → SomeIff o (FitsSigned w64 z) z → fitting o ≡ in_range z
-fitting_is (Some y) z given = ap (λ x. Ok (Integer x)) given.1 ∙ sym (in_range-fits z given.0)
-fitting_is None z given = sym (in_range-not z given)
+pub checked_is : (o : Option ℤ) (z : ℤ) → SomeIff o (FitsSigned w64 z) z → o ≡ within z
+checked_is (Some y) z given = ap Some given.1 ∙ sym (within-fits z given.0)
+checked_is None z given = sym (within-not z given)
 
 -- an integer is 0, or it is another and a division asks no more of it
 pub zero_or_divisor : (y : ℤ) → FitsSigned w64 y → (int_eq y (pos 0) ≡ true) × (y ≡ pos 0) ⊎ (int_eq y (pos 0) ≡ false) × (IsNonZero w64 y) × (0 < unsigned_abs y)
@@ -38,21 +33,21 @@ zero_or_divisor (pos (suc n)) fits = inr (grind (arith, nat_tests), omega arith,
 zero_or_divisor (negsuc n) fits = let bound : n < 9223372036854775808 = fits.sfits in inr (refl, omega arith, omega arith)
 
 -- a divisor that is not 0
-pub divided_by-nonzero : (y : ℤ) (r : Result Value Fault) → FitsSigned w64 y → y ≢ pos 0 → r ≡ divided_by y r
-divided_by-nonzero y r fits nonzero = elim (zero_or_divisor y fits) [
+pub divided_by-nonzero : (y z : ℤ) → FitsSigned w64 y → y ≢ pos 0 → within z ≡ divided_by y z
+divided_by-nonzero y z fits nonzero = elim (zero_or_divisor y fits) [
   | inl none ↦ absurd (nonzero none.1)
-  | inr other ↦ ap (λ b. if b then Err Dynamic else r) (sym other.0)
+  | inr other ↦ ap (λ b. if b then None else within z) (sym other.0)
 ]
 
 -- a checked division
-pub fitting-divided : (o : Option ℤ) (x y : ℤ) → FitsSigned w64 y → SomeIff o (CanDivide w64 x y) (int_div x y) → fitting o ≡ divided_by y (in_range (int_div x y))
-fitting-divided (Some z) x y fits given = elim (zero_or_divisor y fits) [
+pub checked-divided : (o : Option ℤ) (x y : ℤ) → FitsSigned w64 y → SomeIff o (CanDivide w64 x y) (int_div x y) → o ≡ divided_by y (int_div x y)
+checked-divided (Some z) x y fits given = elim (zero_or_divisor y fits) [
   | inl none ↦ absurd (omega (arith, rw none.1 at given.0.0))
-  | inr other ↦ ap (λ v. Ok (Integer v)) given.1 ∙ sym (in_range-fits (int_div x y) given.0.1) ∙ ap (λ b. if b then Err Dynamic else in_range (int_div x y)) (sym other.0)
+  | inr other ↦ ap Some given.1 ∙ sym (within-fits (int_div x y) given.0.1) ∙ ap (λ b. if b then None else within (int_div x y)) (sym other.0)
 ]
-fitting-divided None x y fits given = elim (zero_or_divisor y fits) [
-  | inl none ↦ ap (λ b. if b then Err Dynamic else in_range (int_div x y)) (sym none.0)
-  | inr other ↦ sym (in_range-not (int_div x y) (λ h. given (other.1, h))) ∙ ap (λ b. if b then Err Dynamic else in_range (int_div x y)) (sym other.0)
+checked-divided None x y fits given = elim (zero_or_divisor y fits) [
+  | inl none ↦ ap (λ b. if b then None else within (int_div x y)) (sym none.0)
+  | inr other ↦ sym (within-not (int_div x y) (λ h. given (other.1, h))) ∙ ap (λ b. if b then None else within (int_div x y)) (sym other.0)
 ]
 
 -- `rem`
@@ -88,14 +83,14 @@ modulus_is (negsuc a) y positive =
     ]
 
 -- an operation whose result is z, where the code gives r
-given : (y z r : ℤ) → FitsSigned w64 y → (cast_unsigned w64 y ≡ 0 → ⊥) → FitsSigned w64 r → r ≡ z → Ok (Integer (to_z w64 (of_z w64 r))) ≡ divided_by y (in_range z)
+given : (y z r : ℤ) → FitsSigned w64 y → (cast_unsigned w64 y ≡ 0 → ⊥) → FitsSigned w64 r → r ≡ z → Some (to_z w64 (of_z w64 r)) ≡ divided_by y z
 given y z r fits nonzero fits_r is =
-    ap (λ v. Ok (Integer v)) (to_z-of_z w64 r fits_r) ∙ sym (in_range-fits r fits_r) ∙ ap in_range is ∙ divided_by-nonzero y (in_range z) fits (λ zero_y. nonzero (ap (cast_unsigned w64) zero_y))
+    ap Some (to_z-of_z w64 r fits_r) ∙ sym (within-fits r fits_r) ∙ ap within is ∙ divided_by-nonzero y z fits (λ zero_y. nonzero (ap (cast_unsigned w64) zero_y))
 
-pub given_remainder : (x y r : ℤ) → FitsSigned w64 y → (cast_unsigned w64 y ≡ 0 → ⊥) → FitsSigned w64 r → r ≡ int_rem x y → Ok (Integer (to_z w64 (of_z w64 r))) ≡ divided_by y (in_range (remainder x y))
+pub given_remainder : (x y r : ℤ) → FitsSigned w64 y → (cast_unsigned w64 y ≡ 0 → ⊥) → FitsSigned w64 r → r ≡ int_rem x y → Some (to_z w64 (of_z w64 r)) ≡ divided_by y (remainder x y)
 given_remainder x y r fits nonzero fits_r is = given y (remainder x y) r fits nonzero fits_r (is ∙ sym (remainder_is x y))
 
-pub given_modulus : (x y r : ℤ) → FitsSigned w64 y → (cast_unsigned w64 y ≡ 0 → ⊥) → FitsSigned w64 r → r ≡ int_rem_euclid x y → Ok (Integer (to_z w64 (of_z w64 r))) ≡ divided_by y (in_range (modulus x y))
+pub given_modulus : (x y r : ℤ) → FitsSigned w64 y → (cast_unsigned w64 y ≡ 0 → ⊥) → FitsSigned w64 r → r ≡ int_rem_euclid x y → Some (to_z w64 (of_z w64 r)) ≡ divided_by y (modulus x y)
 given_modulus x y r fits nonzero fits_r is = elim (zero_or_divisor y fits) [
   | inl none ↦ absurd (nonzero (ap (cast_unsigned w64) none.1))
   | inr other ↦ given y (modulus x y) r fits nonzero fits_r (is ∙ sym (modulus_is x y other.2))

@@ -1,38 +1,47 @@
--- The value of an expression (ES 201 873-1, 7.1).
-use Rattle.std.specs.Prelude.{ℕ, pos, List, Option, Some, None, Result, Ok, Err, if◌then◌else◌}
-use Rattle.ttcn_syntax.specs.Expression.{Expression, integer, boolean, name, negation, signed, operation}
+-- The value of an expression (ES 201 873-1, 7). `None` is a dynamic error.
+use Rattle.std.specs.Prelude.{pos, List, [], ◌∷◌, Option, Some, None, if◌then◌else◌}
+use Rattle.std.specs.Option.{option_and_then}
 use Rattle.ttcn_syntax.specs.declared.operator.Operator.{Operator}
-use Rattle.ttcn_values.specs.Integers.{in_range}
-use Rattle.ttcn_values.specs.Operators.{negated, under_sign, applied, decides}
-use Rattle.ttcn_values.specs.declared.fault.Fault.{Fault}
-use Rattle.ttcn_values.specs.declared.fault.Fault.TheVariants.{Dynamic}
+use Rattle.ttcn_syntax.specs.declared.tree.expression.Expr.{Expr, fold-Expr}
+use Rattle.ttcn_syntax.specs.declared.tree.expression.Expr.TheOpen.{Expr-F, Link-F}
+use Rattle.ttcn_syntax.specs.declared.tree.expression.Link.{Link, fold-Link}
+use Rattle.ttcn_values.specs.Integers.{within}
+use Rattle.ttcn_values.specs.Operations.{applied, decides, fitting, negated, truth, under_sign}
+use Rattle.ttcn_values.specs.Readings.{Reading, component_at, named, presence, runs}
 use Rattle.ttcn_values.specs.declared.value.Value.{Value}
-use Rattle.ttcn_values.specs.declared.value.Value.TheVariants.{Boolean}
+use Rattle.ttcn_values.specs.declared.value.Value.TheVariants as value
 
--- the values of the visible names: a name may have none
-abbrev pub Reading : Type 0
-Reading = List ℕ → Option Value
+-- what something gives in a reading
+abbrev pub Evaluation : Type 0
+Evaluation = Reading → Option Value
 
--- what follows from a value: a dynamic error stays one
-abbrev pub then_by : (Value → Result Value Fault) → Result Value Fault → Result Value Fault
-then_by f (Ok value) = f value
-then_by f (Err fault) = Err fault
+-- a value with an operator and a right side behind it, which counts for nothing where the left side decides
+abbrev pub joined : Reading → Operator × Evaluation → Value → Option Value
+joined reading link left = if decides link.0 left then Some left else option_and_then (applied link.0 left) (link.1 reading)
 
--- the value that a name may have: a dynamic error where it has none
-abbrev pub value_or_fault : Option Value → Result Value Fault
-value_or_fault (Some value) = Ok value
-value_or_fault None = Err Dynamic
+-- operators and operands behind what is found, from the left
+abbrev pub after : Reading → Option Value → List (Operator × Evaluation) → Option Value
+after reading found [] = found
+after reading found (link ∷ links) = after reading (option_and_then (joined reading link) found) links
 
--- a value, an operator and what the right side gives, which counts for nothing where the left side decides
-abbrev pub joined : Operator → Value → Result Value Fault → Result Value Fault
-joined operator left right = if decides operator left then Ok left else then_by (applied operator left) right
+abbrev pub expression_step : Expr-F Evaluation (Operator × Evaluation) → Evaluation
+expression_step (Expr-F.Int n) reading = fitting (within (pos n))
+expression_step (Expr-F.Bool b) reading = truth b
+expression_step Expr-F.Null reading = Some value.Null
+expression_step (Expr-F.Reference reference) reading = component_at reading reference
+expression_step (Expr-F.Running reference) reading = runs reading reference
+expression_step (Expr-F.Ispresent reference) reading = option_and_then (presence reading.definitions reference.fields) (named reading reference.name)
+expression_step (Expr-F.Not operand) reading = option_and_then negated (operand reading)
+expression_step (Expr-F.Signed sign operand) reading = option_and_then (under_sign sign) (operand reading)
+expression_step (Expr-F.Chain first links) reading = after reading (first reading) links
+
+abbrev pub link_step : Link-F Evaluation (Operator × Evaluation) → Operator × Evaluation
+link_step link = (link.operator, link.operand)
 
 -- the value or the dynamic error of an expression
-abbrev pub value_of : Reading → Expression → Result Value Fault
-value_of reading (integer n) = in_range (pos n)
-value_of reading (boolean b) = Ok (Boolean b)
-value_of reading (name bytes) = value_or_fault (reading bytes)
-value_of reading (negation operand) = then_by negated (value_of reading operand)
-value_of reading (signed sign operand) = then_by (under_sign sign) (value_of reading operand)
-value_of reading (operation operator left right) =
-    then_by (λ value. joined operator value (value_of reading right)) (value_of reading left)
+abbrev pub value_of : Expr → Evaluation
+value_of = fold-Expr Evaluation (Operator × Evaluation) expression_step link_step
+
+-- an operator with what the operand behind it gives
+abbrev pub link : Link → Operator × Evaluation
+link = fold-Link Evaluation (Operator × Evaluation) expression_step link_step

@@ -1,20 +1,67 @@
--- When values are the same, and what of them is hashed.
-use Rattle.std.specs.Prelude.{Bool, false, ◌++◌}
-use Rattle.std.specs.Ordering.{int_eq}
-use Rattle.std.specs.Hash as fed
-use Rattle.std.specs.Hash.{HashWrites}
-use mathlib.Core.Bool.{beq}
-use Rattle.ttcn_values.specs.declared.value.Value.{Value}
-use Rattle.ttcn_values.specs.declared.value.Value.TheVariants.{Integer, Boolean}
+-- Values (ES 201 873-1, 6): when they are equal, what they are, and whether they lack something.
+use Rattle.std.specs.Prelude.{ℕ, ℤ, Bool, true, false, List, Option, Some, None}
+use Rattle.std.specs.List.{list_all}
+use Rattle.ttcn_values.specs.contracts.value.ValuePartialEq.TheImpl as equality
+use Rattle.ttcn_values.specs.declared.value.ComponentId.{ComponentId}
+use Rattle.ttcn_values.specs.declared.value.Value.{Value, fold-Value, out-Value}
+use Rattle.ttcn_values.specs.declared.value.Value.TheOpen.{Value-F}
 
--- the values are the same
-abbrev pub same_value : Value → Value → Bool
-same_value (Integer x) (Integer y) = int_eq x y
-same_value (Boolean a) (Boolean b) = beq a b
-same_value (Integer x) (Boolean b) = false
-same_value (Boolean a) (Integer y) = false
+-- `==`, which is true of a value and itself alone
+abbrev pub equal : Value → Value → Bool
+equal = (equality.ghosts).eq
 
--- what a hasher is fed of a value
-abbrev pub value_writes : Value → HashWrites
-value_writes (Integer z) = fed.u8 0 ++ fed.i64 z
-value_writes (Boolean b) = fed.u8 1 ++ fed.bool b
+-- ---- what a value is
+
+abbrev pub integer_in : Value-F Value → Option ℤ
+integer_in (Value-F.Integer n) = Some n
+integer_in _ = None
+
+-- the integer that a value is
+abbrev pub integer : Value → Option ℤ
+integer v = integer_in (out-Value v)
+
+abbrev pub boolean_in : Value-F Value → Option Bool
+boolean_in (Value-F.Boolean b) = Some b
+boolean_in _ = None
+
+-- the boolean that a value is
+abbrev pub boolean : Value → Option Bool
+boolean v = boolean_in (out-Value v)
+
+abbrev pub component_in : Value-F Value → Option ComponentId
+component_in (Value-F.Component c) = Some c
+component_in _ = None
+
+-- the component that a value refers to: `null` refers to none
+abbrev pub component : Value → Option ComponentId
+component v = component_in (out-Value v)
+
+abbrev pub record_in : Value-F Value → Option (ℕ × List (Option Value))
+record_in (Value-F.Record at fields) = Some (at, fields)
+record_in _ = None
+
+-- the position of the type of the record that a value is, and its fields in order: a field may have no value
+abbrev pub record_of : Value → Option (ℕ × List (Option Value))
+record_of v = record_in (out-Value v)
+
+abbrev pub is_omit_in : Value-F Value → Bool
+is_omit_in Value-F.Omit = true
+is_omit_in _ = false
+
+-- a field is omitted
+abbrev pub is_omit : Value → Bool
+is_omit v = is_omit_in (out-Value v)
+
+-- ---- what a value lacks
+
+abbrev pub has_value : Option Bool → Bool
+has_value None = false
+has_value (Some complete) = complete
+
+abbrev pub complete_step : Value-F Bool → Bool
+complete_step (Value-F.Record at fields) = list_all has_value fields
+complete_step _ = true
+
+-- no field has no value, however deep: an omitted field lacks nothing
+abbrev pub is_complete : Value → Bool
+is_complete = fold-Value Bool complete_step

@@ -1,37 +1,60 @@
-//! What an expression gives.
-ghost use Rattle.std.specs.Prelude.{◌≡◌};
-ghost use Rattle.ttcn_syntax.specs.Expression.{expression};
-ghost use Rattle.ttcn_values.specs.Entries.{find};
+//! What expressions, values and templates of the text give (ES 201 873-1, sections 7 and 15).
 ghost use Rattle.ttcn_values.specs.Evaluation.{value_of};
+ghost use Rattle.std.specs.Prelude.{◌≡◌};
+ghost use Rattle.ttcn_values.specs.Frames.{read_by, reading};
+ghost use Rattle.ttcn_values.specs.Literals.{value_wanted};
+ghost use Rattle.ttcn_values.specs.Outcomes.{Gives};
+ghost use Rattle.ttcn_values.specs.Templates.{template_wanted};
 
-use crate::operators::{apply, is_decided, negate, number, sign};
-use crate::{Fault, Frame, Value};
-use ttcn_syntax::BasicExpr;
+use crate::reader::{Reader, Visible};
+use crate::{Fault, Frame, Template, Value};
+use std::alloc::Global;
+use ttcn_syntax::{Expr, Template as WrittenTemplate, Value as WrittenValue};
+use ttcn_types::DataType;
 
-/// The value of an expression where the names of the frame have their values.
-pub fn eval(expr: &BasicExpr, frame: &Frame) -> Result<Value, Fault>
-    ensures { result ≡ value_of (find frame.now) (expression expr.now) }
-{
-    match expr {
-        BasicExpr::Int(digits) => number(*digits),
-        BasicExpr::Bool(truth) => Ok(Value::Boolean(*truth)),
-        BasicExpr::Name(name) => match frame.get(name) {
-            Some(value) => Ok(value),
-            None => Err(Fault::Dynamic),
-        },
-        BasicExpr::Not(operand) => negate(eval(operand.get(), frame)?),
-        BasicExpr::Signed(mark, operand) => sign(*mark, eval(operand.get(), frame)?),
-        BasicExpr::Chain(first, links) => {
-            let mut value = eval(first.get(), frame)?;
-            for link in links.as_slice() {
-                if !is_decided(link.operator, value) {
-                    value = apply(link.operator, value, eval(&link.operand, frame)?)?;
-                }
-            }
-            Ok(value)
+/// Constants and templates of a program refer to each other in chains of at most so many.
+const LONGEST_CHAIN: usize = 200;
+
+impl<'a> Reader<'a> {
+    /// A frame reads for itself.
+    fn of(frame: &'a Frame<'a>) -> Reader<'a>
+        ensures { read_by result ≡ reading frame.now }
+    {
+        Reader {
+            frame,
+            visible: Visible::Frame,
+            depth: LONGEST_CHAIN,
         }
     }
 }
 
-#[cfg(test)]
-mod tests;
+/// The value of an expression, or its dynamic error.
+pub fn eval(alloc: Global, expr: &Expr, frame: &Frame<'_>) -> Result<Value, Fault>
+    ensures { Gives (value_of expr.now (reading frame.now)) result }
+{
+    Reader::of(frame).evaluate(alloc, expr)
+}
+
+/// The value of what stands where a value of a type is wanted, or its dynamic error. `Value::Omit` is what `omit` gives.
+pub fn eval_value(
+    alloc: Global,
+    value: &WrittenValue,
+    wanted: Option<DataType>,
+    frame: &Frame<'_>,
+) -> Result<Value, Fault>
+    ensures { Gives (value_wanted value.now (reading frame.now) wanted) result }
+{
+    Reader::of(frame).value(alloc, value, wanted)
+}
+
+/// The template of what stands where one of a type is wanted, or its dynamic error. Each of its expressions is evaluated.
+pub fn eval_template(
+    alloc: Global,
+    template: &WrittenTemplate,
+    wanted: Option<DataType>,
+    frame: &Frame<'_>,
+) -> Result<Template, Fault>
+    ensures { Gives (template_wanted template.now (reading frame.now) wanted) result }
+{
+    Reader::of(frame).template(alloc, template, wanted)
+}

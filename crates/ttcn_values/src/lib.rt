@@ -1,13 +1,31 @@
-//! Values, the names that have one, and what an expression gives.
+//! Values and templates, and what expressions give.
 #![tactic(auto)]
 
+mod arithmetic;
+mod basic;
 mod evaluation;
 mod fault;
 mod frame;
+mod laws;
+mod matching;
+mod named;
 mod operators;
+mod path;
+mod reader;
+mod template;
+mod typing;
 mod value;
 
-pub use evaluation::eval;
+pub use basic::{BasicFrame, BasicValue, eval_basic};
+pub use evaluation::{eval, eval_template, eval_value};
 pub use fault::Fault;
-pub use frame::Frame;
-pub use value::Value;
+pub use frame::{Frame, TimerState};
+pub use laws::{equal_templates_are_one, equal_values_are_one};
+pub use matching::matches;
+pub use path::Path;
+pub use template::{Pattern, Template};
+pub use typing::{
+    arguments_are_given, chains_fit_their_module, expressions_give_their_types, fields_differ,
+    templates_go_where_they_are_wanted, values_go_where_they_are_wanted, wanted_expressions_go,
+};
+pub use value::{ComponentId, Value};

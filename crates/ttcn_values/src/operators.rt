@@ -1,103 +1,114 @@
-//! What the operators give.
-ghost use Rattle.std.specs.Prelude.{◌≡◌, pos, IsTrue, ◌↔◌};
-ghost use Rattle.ttcn_values.specs.Integers.{in_range};
-ghost use Rattle.ttcn_values.specs.Operators.{negated, under_sign, decides, of_integers, of_booleans, applied};
-ghost use Rattle.ttcn_values.specs.Whole.{fitting};
+//! What the operators give (ES 201 873-1, section 7.1).
+ghost use Rattle.std.specs.Prelude.{◌≡◌, pos};
+ghost use Rattle.ttcn_values.specs.Integers.{within};
+ghost use Rattle.ttcn_values.specs.Operations.{applied, compared, decides, fitting, logical, negated, ordered, under_sign};
+ghost use Rattle.ttcn_values.specs.Outcomes.{Gives};
 
-use crate::{Fault, Value};
+use crate::{Fault, Value, arithmetic};
 use ttcn_syntax::{Operator, Sign};
+
+/// A whole number, where it is an integer.
+pub(crate) fn fit(number: Option<i64>) -> Result<Value, Fault>
+    ensures { Gives (fitting number) result }
+{
+    match number {
+        Some(number) => Ok(Value::Integer(number)),
+        None => Err(Fault::Dynamic),
+    }
+}
 
 /// The value of a number of the text.
 pub(crate) fn number(digits: u64) -> Result<Value, Fault>
-    ensures { result ≡ in_range (pos digits) }
+    ensures { Gives (fitting (within (pos digits))) result }
 {
-    if digits <= 9_223_372_036_854_775_807 {
-        Ok(Value::Integer(digits as i64))
+    fit(arithmetic::number(digits))
+}
+
+pub(crate) fn negate(value: &Value) -> Result<Value, Fault>
+    ensures { Gives (negated value.now) result }
+{
+    match value {
+        Value::Boolean(truth) => Ok(Value::Boolean(!*truth)),
+        _ => Err(Fault::Dynamic),
+    }
+}
+
+pub(crate) fn sign(sign: Sign, value: &Value) -> Result<Value, Fault>
+    ensures { Gives (under_sign sign value.now) result }
+{
+    match (sign, value) {
+        (Sign::Plus, Value::Integer(number)) => Ok(Value::Integer(*number)),
+        (Sign::Minus, Value::Integer(number)) => fit(arithmetic::opposite(*number)),
+        _ => Err(Fault::Dynamic),
+    }
+}
+
+/// Whether the right side doesn't count.
+pub(crate) fn is_decided(operator: Operator, left: &Value) -> bool
+    ensures { result ≡ decides operator left.now }
+{
+    match (operator, left) {
+        (Operator::And, Value::Boolean(truth)) => !*truth,
+        (Operator::Or, Value::Boolean(truth)) => *truth,
+        _ => false,
+    }
+}
+
+pub(crate) fn apply(operator: Operator, left: &Value, right: &Value) -> Result<Value, Fault>
+    ensures { Gives (applied operator left.now right.now) result }
+{
+    match operator {
+        Operator::Equal => compare(true, left, right),
+        Operator::NotEqual => compare(false, left, right),
+        Operator::Or | Operator::Xor | Operator::And => match (left, right) {
+            (Value::Boolean(a), Value::Boolean(b)) => reason(operator, *a, *b),
+            _ => Err(Fault::Dynamic),
+        },
+        Operator::Less | Operator::Greater | Operator::LessEqual | Operator::GreaterEqual => {
+            match (left, right) {
+                (Value::Integer(x), Value::Integer(y)) => order(operator, *x, *y),
+                _ => Err(Fault::Dynamic),
+            }
+        }
+        _ => match (left, right) {
+            (Value::Integer(x), Value::Integer(y)) => fit(arithmetic::calculate(operator, *x, *y)),
+            _ => Err(Fault::Dynamic),
+        },
+    }
+}
+
+/// Whether two values are equal, or are not, as it is wanted.
+fn compare(wanted: bool, left: &Value, right: &Value) -> Result<Value, Fault>
+    ensures { Gives (compared wanted left.now right.now) result }
+{
+    if left.is_complete() && right.is_complete() {
+        Ok(Value::Boolean(wanted == (left == right)))
     } else {
         Err(Fault::Dynamic)
     }
 }
 
-pub(crate) fn negate(value: Value) -> Result<Value, Fault>
-    ensures { result ≡ negated value }
-{
-    match value {
-        Value::Boolean(truth) => Ok(Value::Boolean(!truth)),
-        Value::Integer(_) => Err(Fault::Dynamic),
-    }
-}
-
-pub(crate) fn sign(sign: Sign, value: Value) -> Result<Value, Fault>
-    ensures { result ≡ under_sign sign value }
-{
-    match (sign, value) {
-        (Sign::Plus, Value::Integer(_)) => Ok(value),
-        (Sign::Minus, Value::Integer(whole)) => within(whole.checked_neg()),
-        (_, Value::Boolean(_)) => Err(Fault::Dynamic),
-    }
-}
-
-/// Whether the right side doesn't count.
-pub(crate) fn is_decided(operator: Operator, left: Value) -> bool
-    ensures { result ≡ decides operator left }
-{
-    match (operator, left) {
-        (Operator::And, Value::Boolean(truth)) => !truth,
-        (Operator::Or, Value::Boolean(truth)) => truth,
-        _ => false,
-    }
-}
-
-pub(crate) fn apply(operator: Operator, left: Value, right: Value) -> Result<Value, Fault>
-    ensures { result ≡ applied operator left right }
-{
-    match (left, right) {
-        (Value::Integer(x), Value::Integer(y)) => apply_to_integers(operator, x, y),
-        (Value::Boolean(a), Value::Boolean(b)) => apply_to_booleans(operator, a, b),
-        _ => Err(Fault::Dynamic),
-    }
-}
-
-fn apply_to_integers(operator: Operator, x: i64, y: i64) -> Result<Value, Fault>
-    ensures { result ≡ of_integers operator x y }
+/// An order between integers.
+fn order(operator: Operator, x: i64, y: i64) -> Result<Value, Fault>
+    ensures { Gives (ordered operator x y) result }
 {
     match operator {
-        Operator::Add => within(x.checked_add(y)),
-        Operator::Subtract => within(x.checked_sub(y)),
-        Operator::Multiply => within(x.checked_mul(y)),
-        Operator::Divide => within(x.checked_div(y)),
-        Operator::Rem if y == 0 => Err(Fault::Dynamic),
-        Operator::Rem => Ok(Value::Integer(x.wrapping_rem(y))),
-        Operator::Mod if y == 0 => Err(Fault::Dynamic),
-        Operator::Mod => Ok(Value::Integer(x.wrapping_rem_euclid(y))),
-        Operator::Equal => Ok(Value::Boolean(x == y)),
-        Operator::NotEqual => Ok(Value::Boolean(x != y)),
         Operator::Less => Ok(Value::Boolean(x < y)),
         Operator::Greater => Ok(Value::Boolean(y < x)),
         Operator::LessEqual => Ok(Value::Boolean(x <= y)),
         Operator::GreaterEqual => Ok(Value::Boolean(y <= x)),
-        Operator::Or | Operator::Xor | Operator::And => Err(Fault::Dynamic),
-    }
-}
-
-fn apply_to_booleans(operator: Operator, a: bool, b: bool) -> Result<Value, Fault>
-    ensures { result ≡ of_booleans operator a b }
-{
-    match operator {
-        Operator::Or => Ok(Value::Boolean(a || b)),
-        Operator::And => Ok(Value::Boolean(a && b)),
-        Operator::Xor | Operator::NotEqual => Ok(Value::Boolean(a != b)),
-        Operator::Equal => Ok(Value::Boolean(a == b)),
         _ => Err(Fault::Dynamic),
     }
 }
 
-/// A whole number, where it is an integer.
-fn within(whole: Option<i64>) -> Result<Value, Fault>
-    ensures { result ≡ fitting whole }
+/// Logic on booleans.
+fn reason(operator: Operator, a: bool, b: bool) -> Result<Value, Fault>
+    ensures { Gives (logical operator a b) result }
 {
-    match whole {
-        Some(integer) => Ok(Value::Integer(integer)),
-        None => Err(Fault::Dynamic),
+    match operator {
+        Operator::Or => Ok(Value::Boolean(a || b)),
+        Operator::And => Ok(Value::Boolean(a && b)),
+        Operator::Xor => Ok(Value::Boolean(a != b)),
+        _ => Err(Fault::Dynamic),
     }
 }

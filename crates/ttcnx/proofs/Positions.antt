@@ -10,10 +10,10 @@ use Rattle.summary.specs.Exploration.{Counts, HasMark, IsComplete, IsReached}
 use Rattle.explore.specs.Best.{IsBestOf}
 use Rattle.explore.proofs.Lists.{In, Ordered, contains_in, each_from_in, each_in, from_map, in_contains, in_map, ordered_from_pairs, pairs_from_ordered}
 use Rattle.ttcn_syntax.specs.Expression.{expression}
-use Rattle.ttcn_values.specs.Entries.{Entries, find}
-use Rattle.ttcn_values.specs.Evaluation.{value_of}
+use Rattle.ttcn_values.specs.BasicEntries.{Entries, find}
+use Rattle.ttcn_values.specs.BasicEvaluation.{value_of}
 use Rattle.ttcn_values.specs.declared.fault.Fault.{Fault}
-use Rattle.ttcn_values.specs.declared.value.Value.{Value}
+use Rattle.ttcn_values.specs.declared.basic.value.BasicValue.{BasicValue}
 use Rattle.ttcnx.specs.Machine.{StandsIn, positions_of}
 use Rattle.ttcnx.specs.Machine as by_position
 use Rattle.ttcnx.specs.Same.{after_stands, zero_below}
@@ -37,7 +37,7 @@ situation body (Running c) = running (underway body c)
 
 -- ---- steps
 
-stored_alike : (body : List Statement) (c : Component) (rest : List Statement) (name : List ℕ) (value : Result Value Fault)
+stored_alike : (body : List Statement) (c : Component) (rest : List Statement) (name : List ℕ) (value : Result BasicValue Fault)
     → drop (c.position + 1) body ≡ rest → situation body (by_position.stored c name value) ≡ stored (underway body c) rest name value
 stored_alike body c rest name (Ok value) h = rw h refl
 stored_alike body c rest name (Err fault) h = refl

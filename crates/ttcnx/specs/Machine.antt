@@ -3,10 +3,10 @@
 use Rattle.std.specs.Prelude.{ℕ, ◌+◌, ◌≤◌, List, [], ◌∷◌, length, Option, Some, None, Result, Ok, Err, slice_get}
 use Rattle.summary.specs.Graph.{Graph}
 use Rattle.ttcn_syntax.specs.Expression.{expression}
-use Rattle.ttcn_values.specs.Entries.{find, put, without}
-use Rattle.ttcn_values.specs.Evaluation.{value_of}
+use Rattle.ttcn_values.specs.BasicEntries.{find, put, without}
+use Rattle.ttcn_values.specs.BasicEvaluation.{value_of}
 use Rattle.ttcn_values.specs.declared.fault.Fault.{Fault}
-use Rattle.ttcn_values.specs.declared.value.Value.{Value}
+use Rattle.ttcn_values.specs.declared.basic.value.BasicValue.{BasicValue}
 use Rattle.ttcnx.specs.declared.configuration.Component.{Component}
 use Rattle.ttcnx.specs.declared.configuration.Configuration.{Configuration}
 use Rattle.ttcnx.specs.declared.configuration.Configuration.TheVariants.{Ended, Running}
@@ -24,7 +24,7 @@ abbrev pub onward : Component → Component
 onward c = record c { position = c.position + 1 }
 
 -- the value of the expression is stored under the name; a dynamic error ends the test case with verdict error
-abbrev pub stored : Component → List ℕ → Result Value Fault → Configuration
+abbrev pub stored : Component → List ℕ → Result BasicValue Fault → Configuration
 stored c name (Ok value) = Running (record (onward c) { frame = put c.frame name value })
 stored c name (Err fault) = Ended Error
 

@@ -2,17 +2,17 @@
 use Rattle.std.specs.Prelude.{◌≡◌, ◌<◌, ◌&&◌, nat_eq, ℕ, Bool, true, false, refl, List, length, IfSome, AllPairs, slice_get, Option, None as Absent, Some, Result, Ok, Err}
 use Rattle.std.specs.declared.cmp.Ordering.TheVariants.{Less}
 use Rattle.std.proofs.Common.{◌∙◌, ap, arith, ◌≤◌, lit<}
-use Rattle.ttcn_values.specs.contracts.frame.FramePartialEq.TheImpl as frame
+use Rattle.ttcn_values.specs.contracts.basic.frame.BasicFramePartialEq.TheImpl as frame
 use Rattle.std.proofs.lemmas.Bool.{eqb-true}
 use Rattle.ttcnx.specs.contracts.label.LabelOrd.TheImpl as label
 use Rattle.ttcnx.specs.Machine.{StandsIn, after_step, performed, shown_mark, stepped, steps_at, stored}
 use Rattle.std.proofs.lemmas.Option.{slice_get_within}
 use Rattle.ttcn_syntax.specs.Expression.{expression}
-use Rattle.ttcn_values.specs.Entries.{Entries, find}
-use Rattle.ttcn_values.specs.Evaluation.{value_of}
-use Rattle.ttcn_values.specs.Same.{entries_decide}
+use Rattle.ttcn_values.specs.BasicEntries.{Entries, find}
+use Rattle.ttcn_values.specs.BasicEvaluation.{value_of}
+use Rattle.ttcn_values.specs.BasicSame.{entries_decide}
 use Rattle.ttcn_values.specs.declared.fault.Fault.{Fault}
-use Rattle.ttcn_values.specs.declared.value.Value.{Value}
+use Rattle.ttcn_values.specs.declared.basic.value.BasicValue.{BasicValue}
 use Rattle.ttcnx.specs.declared.module.Action.{Action}
 use Rattle.ttcnx.specs.declared.module.Action.TheVariants.{Declare, Assign, Log, Setverdict}
 use Rattle.ttcnx.specs.declared.module.Statement.{Statement}
@@ -83,7 +83,7 @@ pub steps_ascend : (s : Configuration) → AllPairs (λ l m. (label.ghosts).cmp 
 steps_ascend (Ended v) i j d before inside = absurd (omega arith)
 steps_ascend (Running c) i j d before inside = absurd (omega arith)
 
-stored_stands : (body : List Statement) (c : Component) (name : List ℕ) (value : Result Value Fault) → c.position < length body
+stored_stands : (body : List Statement) (c : Component) (name : List ℕ) (value : Result BasicValue Fault) → c.position < length body
     → StandsIn body (stored c name value)
 stored_stands body c name (Ok value) h = omega arith
 stored_stands body c name (Err fault) h = tt

@@ -2,10 +2,10 @@
 use Rattle.std.specs.Prelude.{ℕ, List, [], ◌∷◌, Option, Some, None, Result, Ok, Err}
 use Rattle.summary.specs.Graph.{Graph}
 use Rattle.ttcn_syntax.specs.Expression.{expression}
-use Rattle.ttcn_values.specs.Entries.{Entries, find, put, without}
-use Rattle.ttcn_values.specs.Evaluation.{value_of}
+use Rattle.ttcn_values.specs.BasicEntries.{Entries, find, put, without}
+use Rattle.ttcn_values.specs.BasicEvaluation.{value_of}
 use Rattle.ttcn_values.specs.declared.fault.Fault.{Fault}
-use Rattle.ttcn_values.specs.declared.value.Value.{Value}
+use Rattle.ttcn_values.specs.declared.basic.value.BasicValue.{BasicValue}
 use Rattle.ttcnx.specs.declared.label.Label.{Label}
 use Rattle.ttcnx.specs.declared.label.Label.TheVariants.{Mtc}
 use Rattle.ttcnx.specs.declared.module.Action.{Action}
@@ -27,7 +27,7 @@ pub data Situation : Type 0 where
   running : Underway → Situation
 
 -- the value is stored under the name, and these statements remain; a dynamic error ends the test case with verdict error
-abbrev pub stored : Underway → List Statement → List ℕ → Result Value Fault → Situation
+abbrev pub stored : Underway → List Statement → List ℕ → Result BasicValue Fault → Situation
 stored c rest name (Ok value) = running (record { remaining = rest; verdict = c.verdict; values = put c.values name value })
 stored c rest name (Err fault) = ended verdicts.Error
 

@@ -1,6 +1,6 @@
 //! Configurations of a test case that has one component.
 use crate::verdict::Verdict;
-use ttcn_values::Frame;
+use ttcn_values::BasicFrame;
 
 /// A test case that has ended with its verdict, or that runs.
 #[derive(Debug, Drop, PartialEq, Eq, Hash)]
@@ -14,5 +14,5 @@ pub enum Configuration {
 pub struct Component {
     pub position: usize,
     pub verdict: Verdict,
-    pub frame: Frame,
+    pub frame: BasicFrame,
 }

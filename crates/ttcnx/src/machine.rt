@@ -1,8 +1,8 @@
 //! The steps of a test case, as a system.
 ghost use Rattle.std.specs.Prelude.{◌≡◌, ◌<◌, ◌^◌, IfOk, length};
 ghost use Rattle.ttcn_syntax.specs.Expression.{expression};
-ghost use Rattle.ttcn_values.specs.Entries.{find};
-ghost use Rattle.ttcn_values.specs.Evaluation.{value_of};
+ghost use Rattle.ttcn_values.specs.BasicEntries.{find};
+ghost use Rattle.ttcn_values.specs.BasicEvaluation.{value_of};
 ghost use Rattle.ttcnx.specs.Same.{after_stands, marks_are_small, same_configurations, steps_ascend, zero_below};
 ghost use Rattle.ttcnx.specs.Machine.{StandsIn, positions_of, performed, stored};
 
@@ -13,7 +13,7 @@ use crate::verdict::Verdict;
 use std::alloc::Global;
 use summary::{Memory, System};
 use ttcn_syntax::{BasicExpr, Name, Seq};
-use ttcn_values::{Fault, Frame, eval};
+use ttcn_values::{BasicFrame, Fault, eval_basic};
 
 /// A test case that runs on its main test component alone: its statements.
 #[derive(Debug, Drop)]
@@ -34,7 +34,7 @@ impl System for Machine {
         Ok(Configuration::Running(Component {
             position: 0,
             verdict: Verdict::None,
-            frame: Frame::new(alloc),
+            frame: BasicFrame::new(alloc),
         }))
     }
 
@@ -117,7 +117,7 @@ fn store(
     requires { component.now.position < 2 ^ 63 }
     ensures { IfOk result (λ after. after ≡ stored component.now name.now (value_of (find component.now.frame) (expression value.now))) }
 {
-    let Ok(value) = eval(value, &component.frame) else {
+    let Ok(value) = eval_basic(value, &component.frame) else {
         return Ok(Configuration::Ended(Verdict::Error));
     };
     let mut frame = component.frame.try_clone(alloc)?;

@@ -4,6 +4,7 @@ mod large;
 mod lines;
 mod refusals;
 mod rows;
+mod values;
 
 use crate::fault::{fault_line, status};
 use crate::report::to_text;

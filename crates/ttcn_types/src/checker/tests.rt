@@ -1,4 +1,7 @@
 use super::*;
+use crate::definitions::Definitions;
+use crate::names::Meaning;
+use crate::types::DataType;
 use std::test::Fail;
 use ttcn_syntax::{
     Alternative, Altstep, Branch, Call, ComponentRef, ComponentType, Constant, Constants,
@@ -301,6 +304,59 @@ fn programs(rt: HostRuntime) -> Result<(), Fail> {
         let found = program.testcase(name).map(|id| id.position());
         assert_eq!(rt; found, position, "{name}");
     }
+    Ok(())
+}
+
+#[test]
+fn definitions_by_name(rt: HostRuntime) -> Result<(), Fail> {
+    let hand = Hand { alloc: rt.alloc() };
+    let program = check(hand.alloc, tree(hand)?)?;
+    let definitions = program.definitions(hand.alloc)?;
+    let rows = [
+        ("n0", None),
+        ("n1", Some(Meaning::Component(0))),
+        ("n2", Some(Meaning::Function(1))),
+        ("n3", Some(Meaning::Testcase(2))),
+        ("n4", Some(Meaning::Testcase(3))),
+        ("", None),
+    ];
+    for (name, meaning) in rows {
+        assert!(rt; definitions.meaning(name.as_bytes()) == meaning, "{name}");
+    }
+    Ok(())
+}
+
+#[test]
+fn definitions_by_position(rt: HostRuntime) -> Result<(), Fail> {
+    let hand = Hand { alloc: rt.alloc() };
+    let mut all = Seq::new(hand.alloc);
+    for kind in [
+        hand.record(1, &[None, Some(1)])?,
+        hand.constant(2, &[None])?,
+        hand.template(3, &[None])?,
+    ] {
+        all.push(Definition {
+            place: AT_ONE,
+            kind,
+        })?;
+    }
+    let definitions = Definitions::of(hand.alloc, all.as_slice())?;
+    assert!(rt; definitions.kind(0) == Some(&hand.record(1, &[None, Some(1)])?));
+    assert!(rt; definitions.kind(3).is_none());
+    assert!(rt; definitions.fields(0) == [hand.field(None)?, hand.field(Some(1))?].as_slice());
+    assert!(rt; definitions.fields(1).is_empty());
+    let named = TypeName::Named(hand.name(1)?);
+    assert!(rt; definitions.resolved(&named) == Some(DataType::Record(0)));
+    let constant = TypeName::Named(hand.name(2)?);
+    assert!(rt; definitions.resolved(&constant).is_none());
+    let found = definitions.constant(1, 0).map(|constant| &constant.name);
+    assert!(rt; found == Some(&hand.name(2)?));
+    assert!(rt; definitions.constant(1, 1).is_none() && definitions.constant(0, 0).is_none());
+    assert!(rt; definitions.constants_type(1) == Some(DataType::Integer));
+    assert!(rt; definitions.constants_type(0).is_none());
+    let found = definitions.template(2).map(|template| &template.name);
+    assert!(rt; found == Some(&hand.name(3)?));
+    assert!(rt; definitions.template(1).is_none());
     Ok(())
 }
 

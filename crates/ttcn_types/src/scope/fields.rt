@@ -9,8 +9,8 @@ use crate::field_table::FieldTable;
 use std::alloc::{AllocError, Global};
 use ttcn_syntax::{Definition, DefinitionKind, Field, Name};
 
-/// The fields of a record.
-fn fields_of(kind: &DefinitionKind) -> &[Field]
+/// The fields of a record. Nothing else has any.
+pub(crate) fn fields_of(kind: &DefinitionKind) -> &[Field]
     ensures { result.now ≡ fields_of (Some kind.now) }
 {
     match kind {

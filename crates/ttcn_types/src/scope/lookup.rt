@@ -4,16 +4,17 @@ ghost use Rattle.std.specs.Option.{option_map};
 ghost use Rattle.ttcn_types.specs.Checking.{seen};
 ghost use Rattle.ttcn_types.specs.Messages.{types_of_port};
 ghost use Rattle.ttcn_types.specs.Names.{constants_type, field_named, fields_at, kind_at, module_names, port_type_meant, resolved, type_meant};
-ghost use Rattle.ttcn_types.specs.Tables.{member, said_in};
+ghost use Rattle.ttcn_types.specs.Tables.{member, said, said_in};
 ghost use Rattle.ttcn_types.specs.Traffic.{types_through};
 
 use super::Scope;
-use super::fields::field_at;
+use super::fields::{field_at, fields_of};
 use super::ports::traffic_at;
 use crate::names::Meaning;
+use crate::table::Table;
 use crate::traffic::Traffic;
 use crate::types::DataType;
-use ttcn_syntax::{DefinitionKind, Field, Name, TypeName};
+use ttcn_syntax::{Definition, DefinitionKind, Field, Name, TypeName};
 
 impl<'a> Scope<'a> {
     /// What a name stands for.
@@ -68,7 +69,7 @@ impl<'a> Scope<'a> {
     pub(crate) fn kind(&self, at: usize) -> Option<&'a DefinitionKind>
         ensures { option_map (λ kind. kind.now) result ≡ kind_at (seen self.now).definitions at }
     {
-        Some(&self.definitions.get(at)?.kind)
+        kind_at(self.definitions, at)
     }
 
     /// The fields of the record at a position.
@@ -76,8 +77,8 @@ impl<'a> Scope<'a> {
         ensures { result.now ≡ fields_at (seen self.now).definitions at }
     {
         match self.kind(at) {
-            Some(DefinitionKind::Record(record)) => record.fields.as_slice(),
-            _ => &[],
+            Some(kind) => fields_of(kind),
+            None => &[],
         }
     }
 
@@ -109,10 +110,7 @@ impl<'a> Scope<'a> {
     pub(crate) fn resolved_in_module(&self, type_name: &TypeName) -> Option<DataType>
         ensures { result ≡ resolved (module_names self.now.definitions.now) type_name.now }
     {
-        match type_name {
-            TypeName::Named(name) => type_meant(self.in_module(name.as_bytes())),
-            _ => built_in(type_name),
-        }
+        resolved_in(&self.defined, type_name)
     }
 
     /// The type of the constants at a position.
@@ -125,6 +123,23 @@ impl<'a> Scope<'a> {
             }
             _ => None,
         }
+    }
+}
+
+/// What is defined at a position, or `None` behind the last definition.
+pub(crate) fn kind_at(definitions: &[Definition], at: usize) -> Option<&DefinitionKind>
+    ensures { option_map (λ kind. kind.now) result ≡ kind_at definitions.now at }
+{
+    Some(&definitions.get(at)?.kind)
+}
+
+/// The type that is named where a table says what names stand for.
+pub(crate) fn resolved_in(table: &Table<'_>, type_name: &TypeName) -> Option<DataType>
+    ensures { result ≡ resolved (said table.now) type_name.now }
+{
+    match type_name {
+        TypeName::Named(name) => type_meant(table.get(name.as_bytes())),
+        _ => built_in(type_name),
     }
 }
 

@@ -7,7 +7,7 @@ ghost use Rattle.ttcn_types.specs.Names.{kind_at, resolved};
 ghost use Rattle.ttcn_types.specs.Tables.{said};
 ghost use Rattle.ttcn_types.specs.Traffic.{types_at, types_through};
 
-use super::lookup::{built_in, type_meant};
+use super::lookup::resolved_in;
 use crate::table::Table;
 use crate::traffic::Traffic;
 use crate::type_listing::Listing;
@@ -26,16 +26,6 @@ fn passes(incoming: bool, direction: Direction) -> bool
     }
 }
 
-/// The type that a port lists.
-fn listed(defined: &Table<'_>, type_name: &TypeName) -> Option<DataType>
-    ensures { result ≡ resolved (said defined.now) type_name.now }
-{
-    match type_name {
-        TypeName::Named(name) => type_meant(defined.get(name.as_bytes())),
-        _ => built_in(type_name),
-    }
-}
-
 /// Adds the types that are named.
 fn add_types(
     defined: &Table<'_>,
@@ -45,7 +35,7 @@ fn add_types(
     ensures { OnOk result (types.new.items ≡ types.old.items ++ map (resolved (said defined.now)) names.now) }
 {
     for name in names {
-        types.push(listed(defined, name))?;
+        types.push(resolved_in(defined, name))?;
     }
     Ok(())
 }

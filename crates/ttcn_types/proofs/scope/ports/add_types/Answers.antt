@@ -7,7 +7,7 @@ use Rattle.ttcn_types.proofs.scope.ports.add_types.Goals as goal
 pub loop-name-preserved : goal.loop-name-preserved
 loop-name-preserved c =
     mapped-next (resolved (said c.args.defined.now)) c.args.names.now c.loop-name.name-index c.name-item.result c.loop-name.types.items c.push.new.self.items
-    c.loop-name-test.true c.name-item.is (rw c.listed.ensures at c.in_ok-push.ensures.items) ∙ c.loop-name.invariant
+    c.loop-name-test.true c.name-item.is (rw c.resolved_in.ensures at c.in_ok-push.ensures.items) ∙ c.loop-name.invariant
 
 pub returns : goal.returns
 returns c =

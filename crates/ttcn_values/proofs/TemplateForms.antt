@@ -1,0 +1,105 @@
+-- What templates give, form by form.
+use Rattle.std.proofs.Common.{◌≡◌, ℕ, List, length, map, bytes_eq, Option, Some, None, sym, ap, ◌∙◌}
+use Rattle.std.proofs.Math.ListN.{length-map}
+use Rattle.std.specs.List.{find, zip}
+use Rattle.std.specs.Option.{option_map}
+use Rattle.ttcn_syntax.specs.declared.tree.definition.Field.{Field}
+use Rattle.ttcn_syntax.specs.declared.tree.template.FieldTemplate.{FieldTemplate, fold_out-FieldTemplate, out-FieldTemplate}
+use Rattle.ttcn_syntax.specs.declared.tree.template.Template.{Template}
+use Rattle.ttcn_syntax.specs.declared.tree.template.TemplateBody.{TemplateBody}
+use Rattle.ttcn_syntax.specs.declared.tree.template.TemplateBody.TheFolds.{fold-roll-TemplateBody}
+use Rattle.ttcn_syntax.specs.declared.tree.template.TemplateBody.TheOpen.{TemplateBody-F}
+use Rattle.ttcn_syntax.specs.declared.tree.template.TemplateBody.TheVariants as form
+use Rattle.ttcn_syntax.specs.declared.tree.value.Call.{Call}
+use Rattle.ttcn_syntax.specs.declared.tree.value.Value as written
+use Rattle.ttcn_types.specs.Names.{fields_at, module_names, resolved}
+use Rattle.ttcn_types.specs.declared.types.DataType.{DataType}
+use Rattle.ttcn_values.proofs.Each.{if_as_long}
+use Rattle.ttcn_values.proofs.Lists.{find_among}
+use Rattle.ttcn_values.specs.Frames.{read_by}
+use Rattle.ttcn_values.specs.Literals.{wanted_record}
+use Rattle.ttcn_values.specs.Outcomes.{each}
+use Rattle.ttcn_values.specs.Readings.{Reading}
+use Rattle.ttcn_values.specs.Templates.{Wanted, body_step, body_wanted, by_name, element, element_named, field_template, field_template_step, in_order, parts_of, plain, record_at, template_called, template_of_name, template_step, template_wanted}
+use Rattle.ttcn_values.specs.declared.reader.Reader.{Reader}
+use Rattle.ttcn_values.specs.declared.template.Pattern.TheVariants as pattern
+use Rattle.ttcn_values.specs.declared.template.Template.{Template as Found}
+
+abbrev Part : Type 0
+Part = List ℕ × Wanted
+
+-- ---- parts and calls
+
+module _ (reading : Reading) (wanted : Option DataType) (body : TemplateBody) where
+  pub body_of_complement : (parts slice : List Template) (o : Option (List Found)) → body ≡ form.Complement parts → slice ≡ parts
+      → parts_of reading wanted (map template_wanted slice) ≡ o → body_wanted body reading wanted ≡ option_map (λ ps. plain (pattern.Complement ps)) o
+  body_of_complement parts slice o is is_slice gives =
+      ap (λ (w : Wanted). w reading wanted) (ap body_wanted (is ∙ sym (form.rolls-Complement parts)) ∙ fold-roll-TemplateBody Wanted Part Wanted body_step field_template_step template_step (TemplateBody-F.Complement parts))
+      ∙ ap (λ ps. option_map (λ ps. plain (pattern.Complement ps)) (parts_of reading wanted (map template_wanted ps))) (sym is_slice)
+      ∙ ap (option_map (λ ps. plain (pattern.Complement ps))) gives
+
+  pub body_of_list : (parts slice : List Template) (o : Option (List Found)) → body ≡ form.List parts → slice ≡ parts
+      → parts_of reading wanted (map template_wanted slice) ≡ o → body_wanted body reading wanted ≡ option_map (λ ps. plain (pattern.List ps)) o
+  body_of_list parts slice o is is_slice gives =
+      ap (λ (w : Wanted). w reading wanted) (ap body_wanted (is ∙ sym (form.rolls-List parts)) ∙ fold-roll-TemplateBody Wanted Part Wanted body_step field_template_step template_step (TemplateBody-F.List parts))
+      ∙ ap (λ ps. option_map (λ ps. plain (pattern.List ps)) (parts_of reading wanted (map template_wanted ps))) (sym is_slice)
+      ∙ ap (option_map (λ ps. plain (pattern.List ps))) gives
+
+  pub body_of_call : (call : Call) (at : ℕ) (slice : List written.Value) → body ≡ form.Call call → template_of_name reading (Some call.name) ≡ Some at → slice ≡ call.arguments
+      → body_wanted body reading wanted ≡ template_called reading (Some at) slice
+  body_of_call call at slice is means is_slice =
+      ap (λ (w : Wanted). w reading wanted) (ap body_wanted (is ∙ sym (form.rolls-Call call)) ∙ fold-roll-TemplateBody Wanted Part Wanted body_step field_template_step template_step (TemplateBody-F.Call call))
+      ∙ ap (λ o. template_called reading o call.arguments) means
+      ∙ ap (template_called reading (Some at)) (sym is_slice)
+
+-- ---- records
+
+module _ (reader : Reader) (wanted : Option DataType) (at : ℕ) (fields : List Field) (is_wanted : wanted_record wanted ≡ Some at)
+    (are_fields : fields ≡ fields_at reader.frame.now.definitions.now at) where
+  pub body_of_listed : (body : TemplateBody) (parts slice : List Template) (o : Option (List Found)) → body ≡ form.Listed parts → slice ≡ parts
+      → in_order (read_by reader) fields (map template_wanted slice) ≡ o → body_wanted body (read_by reader) wanted ≡ option_map (λ ps. plain (pattern.Record at ps)) o
+  body_of_listed body parts slice o is is_slice gives =
+      ap (λ (w : Wanted). w (read_by reader) wanted) (ap body_wanted (is ∙ sym (form.rolls-Listed parts)) ∙ fold-roll-TemplateBody Wanted Part Wanted body_step field_template_step template_step (TemplateBody-F.Listed parts))
+      ∙ ap (λ r. record_at r (λ at. in_order (read_by reader) (fields_at (read_by reader).definitions at) (map template_wanted parts))) is_wanted
+      ∙ ap (λ fs. option_map (λ ps. plain (pattern.Record at ps)) (in_order (read_by reader) fs (map template_wanted parts))) (sym are_fields)
+      ∙ ap (λ ps. option_map (λ ps. plain (pattern.Record at ps)) (in_order (read_by reader) fields (map template_wanted ps))) (sym is_slice)
+      ∙ ap (option_map (λ ps. plain (pattern.Record at ps))) gives
+
+  pub body_of_assigned : (body : TemplateBody) (parts slice : List FieldTemplate) (o : Option (List Found)) → body ≡ form.Assigned parts → slice ≡ parts
+      → by_name (read_by reader) fields (map field_template slice) ≡ o → body_wanted body (read_by reader) wanted ≡ option_map (λ ps. plain (pattern.Record at ps)) o
+  body_of_assigned body parts slice o is is_slice gives =
+      ap (λ (w : Wanted). w (read_by reader) wanted) (ap body_wanted (is ∙ sym (form.rolls-Assigned parts)) ∙ fold-roll-TemplateBody Wanted Part Wanted body_step field_template_step template_step (TemplateBody-F.Assigned parts))
+      ∙ ap (λ r. record_at r (λ at. by_name (read_by reader) (fields_at (read_by reader).definitions at) (map field_template parts))) is_wanted
+      ∙ ap (λ fs. option_map (λ ps. plain (pattern.Record at ps)) (by_name (read_by reader) fs (map field_template parts))) (sym are_fields)
+      ∙ ap (λ ps. option_map (λ ps. plain (pattern.Record at ps)) (by_name (read_by reader) fields (map field_template ps))) (sym is_slice)
+      ∙ ap (option_map (λ ps. plain (pattern.Record at ps))) gives
+
+-- ---- elements by the order of the fields
+
+-- as many elements as fields
+pub in_order_as_long : (reading : Reading) (fields : List Field) (elements : List Template) → length elements ≡ length fields
+    → in_order reading fields (map template_wanted elements) ≡ each (map (element reading) (zip fields (map template_wanted elements)))
+in_order_as_long reading fields elements as_long =
+    if_as_long (map template_wanted elements) fields (each (map (element reading) (zip fields (map template_wanted elements)))) (simp length-map as_long)
+
+-- ---- elements by their names
+
+field_template_out : (part : FieldTemplate) → field_template part ≡ ((out-FieldTemplate part).name, template_wanted (out-FieldTemplate part).template)
+field_template_out part = fold_out-FieldTemplate Wanted Part Wanted body_step field_template_step template_step part
+
+module _ (reader : Reader) (field : Field) (elements : List FieldTemplate) where
+  among : find (λ e. bytes_eq e.0 field.name) (map field_template elements) ≡ option_map field_template (find (λ e. bytes_eq (out-FieldTemplate e).name field.name) elements)
+  among = find_among field_template (λ e. bytes_eq e.0 field.name) (λ e. bytes_eq (out-FieldTemplate e).name field.name)
+      (λ e. ap (λ (p : Part). bytes_eq p.0 field.name) (field_template_out e)) elements
+
+  -- an element stands for the field
+  pub element_found : (part : FieldTemplate) (wanted : Option DataType) → find (λ e. bytes_eq (out-FieldTemplate e).name field.name) elements ≡ Some part
+      → wanted ≡ resolved (module_names reader.frame.now.definitions.now) field.type_name
+      → element_named (read_by reader) field (find (λ e. bytes_eq e.0 field.name) (map field_template elements)) ≡ template_wanted (out-FieldTemplate part).template (read_by reader) wanted
+  element_found part wanted found is =
+      ap (element_named (read_by reader) field) (among ∙ ap (option_map field_template) found ∙ ap Some (field_template_out part))
+      ∙ ap (template_wanted (out-FieldTemplate part).template (read_by reader)) (sym is)
+
+  pub element_missing : find (λ e. bytes_eq (out-FieldTemplate e).name field.name) elements ≡ None
+      → element_named (read_by reader) field (find (λ e. bytes_eq e.0 field.name) (map field_template elements)) ≡ None
+  element_missing none = ap (element_named (read_by reader) field) (among ∙ ap (option_map field_template) none)

@@ -1,0 +1,92 @@
+-- The readings that frames stand for.
+use Rattle.std.specs.Prelude.{ℕ, Bool, true, false, List, Option, Some, None, bytes_eq}
+use Rattle.std.specs.List.{find, list_any}
+use Rattle.std.specs.Option.{option_and_then, option_map, option_or}
+use Rattle.ttcn_syntax.specs.declared.tree.definition.Definition.{Definition}
+use Rattle.ttcn_syntax.specs.declared.tree.expression.Reference.{Reference}
+use Rattle.ttcn_values.specs.Chains.{given_to, within_chains}
+use Rattle.ttcn_values.specs.Readings.{Reading, along, named, presence}
+use Rattle.ttcn_values.specs.contracts.path.PathPartialEq.TheImpl as equality
+use Rattle.ttcn_values.specs.declared.frame.Frame.{Frame}
+use Rattle.ttcn_values.specs.declared.frame.TimerState.{TimerState}
+use Rattle.ttcn_values.specs.declared.frame.TimerState.TheVariants as timer
+use Rattle.ttcn_values.specs.declared.path.Path.{Path}
+use Rattle.ttcn_values.specs.declared.reader.Origin.{Origin}
+use Rattle.ttcn_values.specs.declared.reader.Origin.TheVariants as origin
+use Rattle.ttcn_values.specs.declared.reader.Reader.{Reader}
+use Rattle.ttcn_values.specs.declared.reader.Use.{Use}
+use Rattle.ttcn_values.specs.declared.reader.Use.TheVariants as use_form
+use Rattle.ttcn_values.specs.declared.reader.Visible.{Visible}
+use Rattle.ttcn_values.specs.declared.reader.Visible.TheVariants as visible
+use Rattle.ttcn_values.specs.declared.value.Value.{Value}
+
+-- what the first entry of a name says
+abbrev pub entry : {A : Type 0} → List (List ℕ × A) → List ℕ → Option A
+entry entries name = option_map (λ e. e.1) (find (λ e. bytes_eq e.0 name) entries)
+
+abbrev pub is_running : TimerState → Bool
+is_running timer.Running = true
+is_running _ = false
+
+-- the module's constants and templates refer to each other in chains of at most so many: the checker refuses longer ones
+abbrev pub longest_chain : ℕ
+longest_chain = 200
+
+-- what a frame gives, without the module's constants and templates
+abbrev pub facts : Frame → Reading
+facts frame = record {
+  definitions = frame.definitions.now;
+  names = λ name. option_or (entry frame.locals.now name) (entry frame.members.now name);
+  timers = λ name. option_map is_running (option_or (entry frame.local_timers.now name) (entry frame.member_timers.now name));
+  running = λ path. list_any ((equality.ghosts).eq path) frame.running.now;
+  itself = frame.itself.now;
+  mtc = frame.mtc.now;
+  constants = λ at item. None;
+  templates = λ at values. None;
+}
+
+-- the reading that a frame stands for
+abbrev pub reading : Frame → Reading
+reading frame = within_chains longest_chain (facts frame)
+
+-- ---- readers
+
+abbrev pub names_seen : Visible → Reading → List ℕ → Option Value
+names_seen visible.Frame facts = facts.names
+names_seen visible.Nothing facts = λ name. None
+names_seen (visible.Parameters parameters values) facts = given_to parameters.now values.now
+
+abbrev pub timers_seen : Visible → Reading → List ℕ → Option Bool
+timers_seen visible.Frame facts = facts.timers
+timers_seen _ facts = λ name. None
+
+abbrev pub seen_by : Visible → Reading → Reading
+seen_by seen facts = record {
+  definitions = facts.definitions;
+  names = names_seen seen facts;
+  timers = timers_seen seen facts;
+  running = facts.running;
+  itself = facts.itself;
+  mtc = facts.mtc;
+  constants = facts.constants;
+  templates = facts.templates;
+}
+
+-- the reading that a reader has
+abbrev pub read_by : Reader → Reading
+read_by reader = within_chains reader.depth (seen_by reader.visible (facts reader.frame.now))
+
+-- what a value gives for a use, with fields behind it
+abbrev pub taken_for : Use → List Definition → List (List ℕ) → Option Value → Option Value
+taken_for use_form.Value definitions fields found = along definitions fields found
+taken_for use_form.Presence definitions fields found = option_and_then (presence definitions fields) found
+
+-- what a reference gives for a use
+abbrev pub wanted_of : Use → Reading → Reference → Option Value
+wanted_of wanted reading reference = taken_for wanted reading.definitions reference.fields (named reading reference.name)
+
+-- the value of what a name stands for
+abbrev pub origin_value : Reading → Origin → Option Value
+origin_value reading (origin.Constant at item) = reading.constants at item
+origin_value reading (origin.Made v) = v
+origin_value reading (origin.Kept v) = option_map (λ value. value.now) v

@@ -1,0 +1,81 @@
+-- What the operators give (ES 201 873-1, 7.1). Operands that an operator doesn't take make a dynamic error, so that each expression has a meaning; a checked module has none of these.
+use Rattle.std.specs.Prelude.{ℤ, neg_ℤ, Bool, true, false, ◌&&◌, ◌||◌, not, Option, Some, None, int_lt, if◌then◌else◌}
+use Rattle.std.specs.Option.{option_and_then, option_map}
+use mathlib.Core.Bool.{beq}
+use Rattle.ttcn_syntax.specs.declared.operator.Operator.{Operator}
+use Rattle.ttcn_syntax.specs.declared.operator.Operator.TheVariants as operator
+use Rattle.ttcn_syntax.specs.declared.operator.Sign.{Sign}
+use Rattle.ttcn_syntax.specs.declared.operator.Sign.TheVariants as sign
+use Rattle.ttcn_values.specs.Integers.{calculated, within}
+use Rattle.ttcn_values.specs.Values.{boolean, equal, integer, is_complete}
+use Rattle.ttcn_values.specs.declared.value.Value.{Value}
+use Rattle.ttcn_values.specs.declared.value.Value.TheVariants as value
+
+-- an integer as a value: a dynamic error where there is none
+abbrev pub fitting : Option ℤ → Option Value
+fitting = option_map value.Integer
+
+abbrev pub truth : Bool → Option Value
+truth b = Some (value.Boolean b)
+
+-- ---- one operand
+
+-- `not`
+abbrev pub negated : Value → Option Value
+negated v = option_and_then (λ b. truth (not b)) (boolean v)
+
+abbrev pub with_sign : Sign → ℤ → Option ℤ
+with_sign sign.Plus z = Some z
+with_sign sign.Minus z = within (neg_ℤ z)
+
+-- a sign before a value
+abbrev pub under_sign : Sign → Value → Option Value
+under_sign s v = option_and_then (λ z. fitting (with_sign s z)) (integer v)
+
+-- ---- two operands
+
+-- an order between integers
+abbrev pub ordered : Operator → ℤ → ℤ → Option Value
+ordered operator.Less x y = truth (int_lt x y)
+ordered operator.Greater x y = truth (int_lt y x)
+ordered operator.LessEqual x y = truth (not (int_lt y x))
+ordered operator.GreaterEqual x y = truth (not (int_lt x y))
+ordered _ x y = None
+
+-- logic on booleans
+abbrev pub logical : Operator → Bool → Bool → Option Value
+logical operator.Or a b = truth (a || b)
+logical operator.And a b = truth (a && b)
+logical operator.Xor a b = truth (not (beq a b))
+logical _ a b = None
+
+-- two values of any one type: a dynamic error where one lacks something, even where others of their parts differ
+abbrev pub compared : Bool → Value → Value → Option Value
+compared wanted v w = if is_complete v && is_complete w then truth (beq wanted (equal v w)) else None
+
+-- where both are there
+abbrev pub both : {A : Type 0} → (A → A → Option Value) → Option A → Option A → Option Value
+both f a b = option_and_then (λ x. option_and_then (f x) b) a
+
+-- what an operator gives between two values
+abbrev pub applied : Operator → Value → Value → Option Value
+applied operator.Equal v w = compared true v w
+applied operator.NotEqual v w = compared false v w
+applied operator.Or v w = both (logical operator.Or) (boolean v) (boolean w)
+applied operator.Xor v w = both (logical operator.Xor) (boolean v) (boolean w)
+applied operator.And v w = both (logical operator.And) (boolean v) (boolean w)
+applied operator.Less v w = both (ordered operator.Less) (integer v) (integer w)
+applied operator.Greater v w = both (ordered operator.Greater) (integer v) (integer w)
+applied operator.LessEqual v w = both (ordered operator.LessEqual) (integer v) (integer w)
+applied operator.GreaterEqual v w = both (ordered operator.GreaterEqual) (integer v) (integer w)
+applied op v w = both (λ x y. fitting (calculated op x y)) (integer v) (integer w)
+
+abbrev pub is_truth : Bool → Option Bool → Bool
+is_truth wanted None = false
+is_truth wanted (Some b) = beq wanted b
+
+-- the left side of `and` or `or` decides by itself
+abbrev pub decides : Operator → Value → Bool
+decides operator.And v = is_truth false (boolean v)
+decides operator.Or v = is_truth true (boolean v)
+decides _ v = false

@@ -1,0 +1,45 @@
+//! Who reads: a frame, or a constant or a template of the module on its behalf.
+mod expression;
+mod names;
+mod record;
+mod template;
+mod value;
+
+use crate::{Frame, Value};
+use ttcn_syntax::Parameter;
+
+/// The names that are visible, beside those of the module.
+#[derive(Clone, Copy)]
+pub(crate) enum Visible<'a> {
+    /// Those of the frame.
+    Frame,
+    /// None: in a constant of the module.
+    Nothing,
+    /// The parameters of a template, and what they are given.
+    Parameters(&'a [Parameter], &'a [Value]),
+}
+
+/// A frame, the names that are visible, and how long chains of constants and templates may still be.
+#[derive(Clone, Copy)]
+pub(crate) struct Reader<'a> {
+    pub(crate) frame: &'a Frame<'a>,
+    pub(crate) visible: Visible<'a>,
+    pub(crate) depth: usize,
+}
+
+/// What a reference is read for.
+#[derive(Clone, Copy)]
+pub(crate) enum Use {
+    /// The value that it leads to.
+    Value,
+    /// Whether the field is there that it leads to.
+    Presence,
+}
+
+/// What a name stands for as a value: a constant of the module by its place, or a value, if there is one.
+#[derive(Drop)]
+pub(crate) enum Origin<'a> {
+    Constant(usize, usize),
+    Made(Option<Value>),
+    Kept(Option<&'a Value>),
+}

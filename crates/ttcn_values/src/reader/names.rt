@@ -1,0 +1,83 @@
+//! What the names give that the module doesn't define.
+ghost use Rattle.std.specs.Prelude.{◌≡◌};
+ghost use Rattle.std.specs.Option.{option_map};
+ghost use Rattle.ttcn_values.specs.Chains.{given_to};
+ghost use Rattle.ttcn_values.specs.Frames.{entry, origin_value, read_by};
+ghost use Rattle.ttcn_values.specs.Readings.{named, timer_at};
+
+use super::record::enumerated;
+use super::{Origin, Reader, Visible};
+use crate::named::position_of;
+use crate::{Path, TimerState, Value};
+use ttcn_syntax::{ComponentRef, Name, Parameter};
+use ttcn_types::Meaning;
+
+/// What the first entry of a name says.
+fn entry<'a, T>(entries: &'a [(Name, T)], name: &Name) -> Option<&'a T>
+    ensures { option_map (λ found. found.now) result ≡ entry entries.now name.now }
+{
+    let found = entries.iter().find(|entry| entry.0 == *name)?;
+    Some(&found.1)
+}
+
+/// What the parameter of a name is given.
+fn given<'a>(parameters: &[Parameter], values: &'a [Value], name: &Name) -> Option<&'a Value>
+    ensures { option_map (λ value. value.now) result ≡ given_to parameters.now values.now name.now }
+{
+    values.get(position_of(parameters, name)?)
+}
+
+impl<'a> Reader<'a> {
+    /// The value of a name, if it has one.
+    pub(super) fn name(&self, name: &Name) -> Option<&'a Value>
+        ensures { option_map (λ value. value.now) result ≡ (read_by self.now).names name.now }
+    {
+        match self.visible {
+            Visible::Frame => match entry(self.frame.locals, name) {
+                Some(value) => Some(value),
+                None => entry(self.frame.members, name),
+            },
+            Visible::Nothing => None,
+            Visible::Parameters(parameters, values) => given(parameters, values, name),
+        }
+    }
+
+    /// Whether the timer runs that is meant, if one is: a name without fields may be that of a timer.
+    pub(super) fn timer(&self, component: &ComponentRef) -> Option<bool>
+        ensures { result ≡ timer_at (read_by self.now) component.now }
+    {
+        let ComponentRef::Named(reference) = component else {
+            return None;
+        };
+        let Visible::Frame = self.visible else {
+            return None;
+        };
+        if reference.fields.len() > 0 {
+            return None;
+        }
+        let state = match entry(self.frame.local_timers, &reference.name) {
+            Some(state) => *state,
+            None => *entry(self.frame.member_timers, &reference.name)?,
+        };
+        Some(state == TimerState::Running)
+    }
+
+    /// Whether a component runs.
+    pub(super) fn runs(&self, path: &Path) -> bool
+        ensures { result ≡ (read_by self.now).running path.now }
+    {
+        self.frame.running.contains(path)
+    }
+
+    /// What a name stands for.
+    pub(super) fn origin(&self, name: &Name) -> Origin<'a>
+        ensures { named (read_by self.now) name.now ≡ origin_value (read_by self.now) result }
+    {
+        let definitions = self.frame.definitions;
+        match definitions.meaning(name.as_bytes()) {
+            Some(Meaning::ModuleConstant(at, item)) => Origin::Constant(at, item),
+            Some(Meaning::Enumerator(at)) => Origin::Made(enumerated(definitions, at, name)),
+            _ => Origin::Kept(self.name(name)),
+        }
+    }
+}
