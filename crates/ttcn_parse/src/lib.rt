@@ -43,6 +43,3 @@ pub fn parse(alloc: Global, tokens: &[Spanned]) -> Result<Module, ParseError>
     }
     Parser::new(alloc, tokens).whole()
 }
-
-#[cfg(test)]
-mod tests;

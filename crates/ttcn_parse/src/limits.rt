@@ -10,9 +10,6 @@ ghost use Rattle.ttcn_parse.specs.LeftOut.{HasLeftOut};
 ghost use Rattle.ttcn_syntax.specs.declared.token.Spanned.{Spanned};
 ghost use Rattle.ttcn_syntax.specs.declared.token.Token.TheVariants as variant;
 
-#[cfg(test)]
-mod tests;
-
 use std::alloc::{AllocError, Global};
 use ttcn_syntax::{Span, Spanned, Symbol, Token, Word};
 

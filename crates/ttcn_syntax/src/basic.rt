@@ -21,6 +21,3 @@ pub struct BasicLink {
     pub operator: Operator,
     pub operand: BasicExpr,
 }
-
-#[cfg(test)]
-mod tests;

@@ -59,6 +59,3 @@ pub fn lex(alloc: Global, text: &[u8]) -> Result<Vec<Spanned>, LexError>
     }
     Ok(tokens)
 }
-
-#[cfg(test)]
-mod tests;

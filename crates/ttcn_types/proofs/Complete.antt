@@ -3,6 +3,8 @@ use Rattle.std.proofs.Common.{◌≤◌, ℕ, ◌+◌, ◌<◌, List, [], ◌∷
 use Rattle.std.proofs.lemmas.List.{length-map}
 use Rattle.std.proofs.lemmas.List.Elements.{All-append, All-cons, All-map, All-nil}
 use Rattle.std.specs.List.{All}
+use Rattle.survey.specs.Graphs.{AreComplete}
+use Rattle.survey.specs.declared.thing.Thing.{Thing}
 use Rattle.ttcn_syntax.specs.declared.tree.definition.Definition.{Definition}
 use Rattle.ttcn_syntax.specs.declared.tree.definition.DefinitionKind.{DefinitionKind}
 use Rattle.ttcn_syntax.specs.declared.tree.definition.DefinitionKind.TheVariants as kind
@@ -18,11 +20,9 @@ use Rattle.ttcn_syntax.specs.declared.tree.statement.Statement.{Statement}
 use Rattle.ttcn_syntax.specs.declared.tree.value.TypeName.{TypeName}
 use Rattle.ttcn_syntax.specs.declared.tree.value.TypeName.TheVariants as type_name
 use Rattle.ttcn_types.specs.Calls.{altstep_meant}
-use Rattle.ttcn_types.specs.Graphs.{AreComplete}
 use Rattle.ttcn_types.specs.Names.{constant_entries, entries_at, entries_from, module_names, resolved, type_meant}
 use Rattle.ttcn_types.specs.Parts.{all_of, braced, field_part, alternative_parts, altstep_part, altstep_parts, altsteps, branch_parts, part_of_field, record_parts, records}
 use Rattle.ttcn_types.proofs.Meanings.{EachMeans, IfMeans, means-append, means-listed}
-use Rattle.ttcn_types.specs.declared.graph.Thing.{Thing}
 use Rattle.ttcn_types.specs.declared.names.Meaning.{Meaning}
 use Rattle.ttcn_types.specs.declared.names.Meaning.TheVariants as meaning
 

@@ -13,10 +13,6 @@ pub mod Elements
 pub mod Entries
 pub mod FieldTables
 pub mod Fitting
-pub mod GraphChains
-pub mod GraphEnds
-pub mod GraphSizes
-pub mod GraphSteps
 pub mod Insides
 pub mod Judgements
 pub mod LeastWhere

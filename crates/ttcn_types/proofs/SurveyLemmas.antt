@@ -2,15 +2,15 @@
 use Rattle.std.proofs.Common.{◌≡◌, ℕ, ◌<◌, ◌≤◌, List, [], ◌∷◌, ◌++◌, length, Option, Some, None, sym, subst, ◌∙◌, arith, inl, inr}
 use Rattle.std.specs.Option.{option_or}
 use Rattle.std.specs.Prelude.{MatchOption}
-use Rattle.ttcn_types.proofs.GraphChains.{chain_head, weigh_within}
-use Rattle.ttcn_types.specs.Graphs.{AllChainsWithin, AllWeighWithin, BeginsLongerChain, IfCircle, IfSizes, IsFirst, IsOnCircle, WeighsMore}
+use Rattle.survey.specs.Graphs.{AllChainsWithin, AllWeighWithin, BeginsLongerChain, IfCircle, IfSizes, IsFirst, IsOnCircle, WeighsMore}
+use Rattle.survey.specs.declared.findings.Findings.{Findings}
+use Rattle.survey.specs.declared.findings.Findings.TheVariants.{Circle, Sizes}
+use Rattle.survey.specs.declared.thing.Thing.{Thing}
+use Rattle.survey.proofs.Chains.{chain_head, weigh_within}
 use Rattle.ttcn_types.specs.Numbers.{number_of}
 use Rattle.ttcn_types.specs.Rules.{AreTooLarge}
 use Rattle.ttcn_types.specs.Surveys.{BreaksAmong, IsLeastWhere}
 use Rattle.ttcn_types.specs.Surveys.BreaksAmong.{in_circle, too_large}
-use Rattle.ttcn_types.specs.declared.graph.Findings.{Findings}
-use Rattle.ttcn_types.specs.declared.graph.Findings.TheVariants.{Circle, Sizes}
-use Rattle.ttcn_types.specs.declared.graph.Thing.{Thing}
 use Rattle.ttcn_types.specs.declared.rule.Rule.{Rule}
 use Rattle.ttcn_types.specs.declared.rule.Rule.TheVariants as rule
 

@@ -3,8 +3,6 @@ pub mod Checking
 pub mod Declarations
 pub mod Definitions
 pub mod Expressions
-pub mod GraphSearch
-pub mod Graphs
 pub mod Laws
 pub mod Listings
 pub mod Messages

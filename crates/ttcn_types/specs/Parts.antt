@@ -1,5 +1,7 @@
 -- What constants, templates and altsteps refer to, and of how many parts they are.
 use Rattle.std.specs.Prelude.{ℕ, ◌+◌, List, [], ◌∷◌, ◌++◌, length, map, take, Option, Some, None}
+pub use Rattle.survey.specs.Things.{beside, leaf, parts}
+use Rattle.survey.specs.declared.thing.Thing.{Thing}
 use Rattle.ttcn_syntax.specs.declared.tree.definition.Definition.{Definition}
 use Rattle.ttcn_syntax.specs.declared.tree.definition.DefinitionKind.{DefinitionKind}
 use Rattle.ttcn_syntax.specs.declared.tree.definition.DefinitionKind.TheVariants as kind
@@ -29,26 +31,12 @@ use Rattle.ttcn_types.specs.Calls.{altstep_meant}
 use Rattle.ttcn_types.specs.Definitions.{module_scope, with_parameters}
 use Rattle.ttcn_types.specs.Names.{Scope, module_names, resolved}
 use Rattle.ttcn_types.specs.Templates.{template_meant, template_named}
-use Rattle.ttcn_types.specs.declared.graph.Thing.{Thing}
 use Rattle.ttcn_types.specs.declared.names.Meaning.{Meaning}
 use Rattle.ttcn_types.specs.declared.names.Meaning.TheVariants as meaning
 use Rattle.ttcn_types.specs.declared.types.DataType.{DataType}
 use Rattle.ttcn_types.specs.declared.types.DataType.TheVariants as type
 
 -- ---- parts
-
--- Thing: how many parts something has itself, and what else it refers to
-
-abbrev pub parts : ℕ → List ℕ → Thing
-parts own references = record { own = own; references = references }
-
--- one part without parts
-abbrev pub leaf : Thing
-leaf = parts 1 []
-
--- two one beside the other
-abbrev pub beside : Thing → Thing → Thing
-beside one other = parts (one.own + other.own) (one.references ++ other.references)
 
 abbrev pub all_of : List Thing → Thing
 all_of [] = parts 0 []

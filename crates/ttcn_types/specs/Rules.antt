@@ -1,11 +1,11 @@
 -- Which rules a module breaks, and the least of them (ES 201 873-1, cut to this subset).
 use Rattle.std.specs.Prelude.{ℕ, ◌≤◌, ◌⊎◌, List, Contains}
+use Rattle.survey.specs.Graphs.{BeginsLongerChain, IsOnCircle, WeighsMore}
+use Rattle.survey.specs.declared.thing.Thing.{Thing}
 use Rattle.ttcn_syntax.specs.declared.tree.definition.Definition.{Definition}
 use Rattle.ttcn_types.specs.Definitions.{at_sites}
-use Rattle.ttcn_types.specs.Graphs.{BeginsLongerChain, IsOnCircle, WeighsMore}
 use Rattle.ttcn_types.specs.Numbers.{number_of}
 use Rattle.ttcn_types.specs.Parts.{altsteps, records, written_out}
-use Rattle.ttcn_types.specs.declared.graph.Thing.{Thing}
 use Rattle.ttcn_types.specs.declared.rule.CheckError.{CheckError}
 use Rattle.ttcn_types.specs.declared.rule.CheckError.TheVariants.{Broken, Memory}
 use Rattle.ttcn_types.specs.declared.rule.Rule.{Rule}

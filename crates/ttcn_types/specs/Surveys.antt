@@ -1,11 +1,11 @@
 -- The least of what is broken, and what surveys of circles and sizes find, in the words of their private contracts.
 use Rattle.std.specs.Prelude.{ℕ, ◌≤◌, ◌⊎◌, List, Option, Some, None}
 use Rattle.std.specs.Option.{option_map}
+use Rattle.survey.specs.declared.thing.Thing.{Thing}
 use Rattle.ttcn_syntax.specs.declared.tree.definition.Definition.{Definition}
 use Rattle.ttcn_types.specs.Numbers.{number_of}
 use Rattle.ttcn_types.specs.Parts.{altsteps, records, written_out}
 use Rattle.ttcn_types.specs.Rules.{AreTooLarge, HasCircle}
-use Rattle.ttcn_types.specs.declared.graph.Thing.{Thing}
 use Rattle.ttcn_types.specs.declared.rule.Rule.{Rule}
 use Rattle.ttcn_types.specs.declared.rule.Rule.TheVariants as rule
 

@@ -1,22 +1,19 @@
 //! Which modules are well typed.
 ghost use Rattle.std.specs.Prelude.{◌≡◌, ◌<◌, ◌≤◌, length, IfErr, IfOk, IfSome, OnOk};
+ghost use Rattle.survey.specs.Graphs.{AreComplete};
 ghost use Rattle.ttcn_types.specs.Checking.{least_in};
-ghost use Rattle.ttcn_types.specs.Graphs.{AreComplete};
 ghost use Rattle.ttcn_types.specs.Numbers.{number_of};
 ghost use Rattle.ttcn_types.specs.Rules.{AreWellTyped, Breaks, IsRefusal};
 ghost use Rattle.ttcn_types.specs.Surveys.{BreaksAmong, BreaksBySurvey, BreaksInAltsteps, BreaksInRecords, BreaksWritten, IsLeastWhere, rule_of};
 
-#[cfg(test)]
-mod tests;
-
 use crate::definition::in_definitions;
-use crate::graph::{Findings, Thing, survey};
 use crate::least::Least;
 use crate::parts::{altsteps, place_of, records, written_out};
 use crate::program::Program;
 use crate::rule::{CheckError, Rule};
 use crate::scope::Scope;
 use std::alloc::{AllocError, Global};
+use survey::{Findings, Thing, survey};
 use ttcn_syntax::{Definition, Module};
 
 /// How many members a chain may have, of records, of constants and templates, or of altsteps.

@@ -10,7 +10,6 @@ mod definition;
 mod definitions;
 mod expression;
 mod field_table;
-mod graph;
 mod kinds;
 mod laws;
 mod least;

@@ -1,5 +1,5 @@
 //! What records, constants, templates and altsteps refer to, and of how many parts they are.
-ghost use Rattle.std.specs.Prelude.{◌≡◌, [], ◌∷◌, IfOk, OnOk, map};
+ghost use Rattle.std.specs.Prelude.{◌≡◌, IfOk, OnOk, map};
 ghost use Rattle.ttcn_types.specs.Parts as spec;
 
 mod numbers;
@@ -7,43 +7,14 @@ mod surroundings;
 mod template;
 mod written;
 
-use crate::graph::Thing;
 use crate::names::Meaning;
 use crate::scope::Scope;
 use crate::types::DataType;
 pub(crate) use numbers::place_of;
 use std::alloc::{AllocError, Global};
-use ttcn_syntax::{Alternative, Branch, DefinitionKind, Field, Seq};
+use survey::Thing;
+use ttcn_syntax::{Alternative, Branch, DefinitionKind, Field};
 pub(crate) use written::written_out;
-
-impl Thing {
-    fn empty(alloc: Global) -> Thing
-        ensures { result ≡ spec.parts 0 [] }
-    {
-        Thing {
-            own: 0,
-            references: Seq::new(alloc),
-        }
-    }
-
-    /// One more part. The longest text has far fewer than can be counted; a tree with more has no room here.
-    #[tactic(auto, using(crate::proofs::Beside::with_leaf))]
-    fn add_leaf(&mut self) -> Result<(), AllocError>
-        ensures { OnOk result (self.new ≡ spec.beside self.old spec.leaf) }
-    {
-        self.own = self.own.checked_add(1).ok_or(AllocError)?;
-        Ok(())
-    }
-
-    /// One more reference.
-    #[tactic(auto, using(crate::proofs::Beside::with_reference))]
-    fn add_reference(&mut self, to: usize) -> Result<(), AllocError>
-        ensures { OnOk result (self.new ≡ spec.beside self.old (spec.parts 0 (to ∷ []))) }
-    {
-        self.references.push(to)?;
-        Ok(())
-    }
-}
 
 // ---- records
 

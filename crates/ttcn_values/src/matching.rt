@@ -74,6 +74,3 @@ fn is_within(low: Option<i64>, high: Option<i64>, value: &Value) -> bool
     };
     low.is_none_or(|low| low <= *number) && high.is_none_or(|high| *number <= high)
 }
-
-#[cfg(test)]
-mod tests;

@@ -25,7 +25,7 @@ use Rattle.ttcnx.specs.Fault.{grammar_fault, lexical_fault, typing_fault, typing
 use Rattle.ttcnx.specs.declared.fault.Fault.{Fault}
 use Rattle.ttcnx.specs.declared.fault.Fault.TheVariants as fault
 use Rattle.ttcnx.proofs.OneAnswer.{same_fault}
-use Rattle.ttcnx.proofs.Sound.{some_is}
+use Rattle.basic.proofs.Sound.{some_is}
 use Rattle.ttcnx.proofs.Stages.{no_stop, short}
 
 -- the fault is want of memory, or why the text is refused

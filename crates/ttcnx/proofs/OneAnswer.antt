@@ -23,23 +23,23 @@ use Rattle.ttcnx.specs.Answer.{Answer, HasOneAnswer, OfModule, OfTestCase, OfTex
 use Rattle.ttcnx.specs.Fault.{lexical_fault, rule_refusal}
 use Rattle.ttcnx.specs.Steps.{Situation, graph_of}
 use Rattle.ttcnx.specs.Report.{header_text, line, outcome_text, report_text, step_line, yes_or_no}
-use Rattle.ttcnx.specs.Rules.{IsLeast, broken_rules, number_of}
+use Rattle.basic.specs.Rules.{IsLeast, broken_rules, number_of}
 use Rattle.ttcnx.specs.Tells.{Tells, all_verdicts, outcome_of}
-use Rattle.ttcnx.specs.Verdict.{mark_of, word_of}
+use Rattle.basic.specs.Verdict.{mark_of, word_of}
 use Rattle.ttcnx.specs.contracts.label.LabelOrd.TheImpl as label
 use Rattle.ttcnx.specs.declared.fault.Fault.{Fault}
 use Rattle.ttcnx.specs.declared.fault.Fault.TheVariants as fault
 use Rattle.ttcnx.specs.declared.label.Label.{Label}
 use Rattle.ttcnx.specs.declared.label.Label.TheVariants.{Mtc}
-use Rattle.ttcnx.specs.declared.module.Module.{Module}
-use Rattle.ttcnx.specs.declared.module.Statement.{Statement}
+use Rattle.basic.specs.declared.module.Module.{Module}
+use Rattle.basic.specs.declared.module.Statement.{Statement}
 use Rattle.ttcnx.specs.declared.report.Outcome.{Outcome}
 use Rattle.ttcnx.specs.declared.report.Report.{Report}
-use Rattle.ttcnx.specs.declared.rules.Rule.{Rule}
-use Rattle.ttcnx.specs.declared.rules.Rule.TheVariants as rules
-use Rattle.ttcnx.specs.declared.verdict.Verdict.{Verdict}
-use Rattle.ttcnx.proofs.Parsing.{one_tree}
-use Rattle.ttcnx.proofs.Sound.{some_is}
+use Rattle.basic.specs.declared.rules.Rule.{Rule}
+use Rattle.basic.specs.declared.rules.Rule.TheVariants as rules
+use Rattle.basic.specs.declared.verdict.Verdict.{Verdict}
+use Rattle.basic.proofs.Parsing.{one_tree}
+use Rattle.basic.proofs.Sound.{some_is}
 use Rattle.std.proofs.lemmas.List.Elements.{All-contains}
 
 -- ---- a graph has one count

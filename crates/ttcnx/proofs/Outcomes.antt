@@ -5,10 +5,10 @@ use Rattle.std.specs.List.{filter_map, zip}
 use Rattle.std.specs.declared.alloc.Global.{Global}
 use Rattle.std.specs.declared.vec.Vec.{Vec}
 use Rattle.ttcnx.specs.Tells.{all_verdicts, outcome_of, outcomes_of}
-use Rattle.ttcnx.specs.Verdict.{mark_of}
+use Rattle.basic.specs.Verdict.{mark_of}
 use Rattle.ttcnx.specs.declared.label.Label.{Label}
-use Rattle.ttcnx.specs.declared.verdict.Verdict.{Verdict}
-use Rattle.ttcnx.specs.declared.verdict.Verdict.TheVariants as verdicts
+use Rattle.basic.specs.declared.verdict.Verdict.{Verdict}
+use Rattle.basic.specs.declared.verdict.Verdict.TheVariants as verdicts
 
 -- the run that is kept for a verdict
 abbrev pub kept : List (Option (Vec Label Global)) → Verdict → Option (Vec Label Global)

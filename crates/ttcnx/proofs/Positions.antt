@@ -22,10 +22,10 @@ use Rattle.ttcnx.specs.declared.configuration.Component.{Component}
 use Rattle.ttcnx.specs.declared.configuration.Configuration.{Configuration}
 use Rattle.ttcnx.specs.declared.configuration.Configuration.TheVariants.{Ended, Running}
 use Rattle.ttcnx.specs.declared.label.Label.{Label}
-use Rattle.ttcnx.specs.declared.module.Action.{Action}
-use Rattle.ttcnx.specs.declared.module.Action.TheVariants.{Declare, Assign, Log, Setverdict}
-use Rattle.ttcnx.specs.declared.module.Statement.{Statement}
-use Rattle.ttcnx.specs.declared.verdict.Verdict.{Verdict}
+use Rattle.basic.specs.declared.module.Action.{Action}
+use Rattle.basic.specs.declared.module.Action.TheVariants.{Declare, Assign, Log, Setverdict}
+use Rattle.basic.specs.declared.module.Statement.{Statement}
+use Rattle.basic.specs.declared.verdict.Verdict.{Verdict}
 
 -- what remains at a position
 abbrev pub underway : List Statement → Component → Underway

@@ -15,16 +15,16 @@ use Rattle.ttcn_syntax.specs.declared.token.Spanned.{Spanned}
 use Rattle.ttcnx.specs.Answer.{Answer, IsAnswer, OfTestCase, OfText, body_of, broken, cut, left_out, named, nameless, read, too_deep, too_long, too_many, uncut, unexpected, within}
 use Rattle.ttcnx.specs.Fault.{check_fault, explore_fault, lexical_fault, parse_fault}
 use Rattle.ttcnx.specs.Steps.{graph_of}
-use Rattle.ttcnx.specs.Refused.{IsRead, IsRefused}
-use Rattle.ttcnx.specs.Rules.{IsRefusal, broken_rules}
+use Rattle.basic.specs.Refused.{IsRead, IsRefused}
+use Rattle.basic.specs.Rules.{IsRefusal, broken_rules}
 use Rattle.ttcnx.specs.declared.fault.Fault.{Fault}
 use Rattle.ttcnx.specs.declared.fault.Fault.TheVariants as fault
-use Rattle.ttcnx.specs.declared.module.Module.{Module}
-use Rattle.ttcnx.specs.declared.module.Statement.{Statement}
-use Rattle.ttcnx.specs.declared.parse.ParseError.{ParseError}
-use Rattle.ttcnx.specs.declared.parse.ParseError.TheVariants.{TooDeep, LeftOut, Unexpected, Memory}
-use Rattle.ttcnx.specs.declared.rules.CheckError.{CheckError}
-use Rattle.ttcnx.specs.declared.rules.CheckError.TheVariants as checking
+use Rattle.basic.specs.declared.module.Module.{Module}
+use Rattle.basic.specs.declared.module.Statement.{Statement}
+use Rattle.basic.specs.declared.reader.ParseError.{ParseError}
+use Rattle.basic.specs.declared.reader.ParseError.TheVariants.{TooDeep, LeftOut, Unexpected, Memory}
+use Rattle.basic.specs.declared.rules.CheckError.{CheckError}
+use Rattle.basic.specs.declared.rules.CheckError.TheVariants as checking
 
 -- the fault is want of memory, or the answer for the text
 abbrev pub Refuses : List ℕ → List ℕ → Fault → Type 0

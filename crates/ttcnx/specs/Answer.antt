@@ -13,21 +13,21 @@ use Rattle.ttcn_syntax.specs.declared.token.Spanned.{Spanned}
 use Rattle.ttcn_parse.specs.Groups.{IsTooDeep}
 use Rattle.ttcnx.specs.Fault.{lexical_fault, rule_refusal}
 use Rattle.ttcnx.specs.Steps.{graph_of}
-use Rattle.ttcnx.specs.Refused.{HasLeftOut, IsRead, IsUnread}
+use Rattle.basic.specs.Refused.{HasLeftOut, IsRead, IsUnread}
 use Rattle.ttcnx.specs.Report.{report_text}
-use Rattle.ttcnx.specs.Rules.{IsLeast, broken_rules}
+use Rattle.basic.specs.Rules.{IsLeast, broken_rules}
 use Rattle.ttcnx.specs.Tells.{Tells}
 use Rattle.ttcnx.specs.declared.fault.Fault.{Fault}
 use Rattle.ttcnx.specs.declared.fault.Fault.TheVariants as fault
 use Rattle.ttcnx.specs.declared.fault.Refusal.{Refusal}
 use Rattle.ttcnx.specs.declared.fault.Refusal.TheVariants as refusal
-use Rattle.ttcnx.specs.declared.module.Definition.{Definition}
-use Rattle.ttcnx.specs.declared.module.Kind.{Kind}
-use Rattle.ttcnx.specs.declared.module.Kind.TheVariants.{Component, Testcase}
-use Rattle.ttcnx.specs.declared.module.Module.{Module}
-use Rattle.ttcnx.specs.declared.module.Statement.{Statement}
+use Rattle.basic.specs.declared.module.Definition.{Definition}
+use Rattle.basic.specs.declared.module.Kind.{Kind}
+use Rattle.basic.specs.declared.module.Kind.TheVariants.{Component, Testcase}
+use Rattle.basic.specs.declared.module.Module.{Module}
+use Rattle.basic.specs.declared.module.Statement.{Statement}
 use Rattle.ttcnx.specs.declared.report.Report.{Report}
-use Rattle.ttcnx.specs.declared.rules.Rule.{Rule}
+use Rattle.basic.specs.declared.rules.Rule.{Rule}
 
 -- what a definition does, if it is a test case
 abbrev pub body_of_kind : Kind → Option (List Statement)

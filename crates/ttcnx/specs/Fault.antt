@@ -12,12 +12,12 @@ use Rattle.ttcn_types.specs.declared.rule.CheckError as typed
 use Rattle.ttcn_types.specs.declared.rule.CheckError.TheVariants as typing
 use Rattle.ttcn_types.specs.declared.rule.Rule as all_rules
 use Rattle.ttcn_types.specs.declared.rule.Rule.TheVariants as rule
-use Rattle.ttcnx.specs.declared.parse.ParseError.{ParseError}
-use Rattle.ttcnx.specs.declared.parse.ParseError.TheVariants as parsing
-use Rattle.ttcnx.specs.declared.rules.CheckError.{CheckError}
-use Rattle.ttcnx.specs.declared.rules.CheckError.TheVariants as checking
-use Rattle.ttcnx.specs.declared.rules.Rule.{Rule}
-use Rattle.ttcnx.specs.declared.rules.Rule.TheVariants as rules
+use Rattle.basic.specs.declared.reader.ParseError.{ParseError}
+use Rattle.basic.specs.declared.reader.ParseError.TheVariants as parsing
+use Rattle.basic.specs.declared.rules.CheckError.{CheckError}
+use Rattle.basic.specs.declared.rules.CheckError.TheVariants as checking
+use Rattle.basic.specs.declared.rules.Rule.{Rule}
+use Rattle.basic.specs.declared.rules.Rule.TheVariants as rules
 use Rattle.ttcnx.specs.declared.fault.Refusal.{Refusal}
 use Rattle.ttcnx.specs.declared.fault.Refusal.TheVariants.{BadByte, OpenComment, OpenText, IntegerTooLarge, TextTooLong, Unexpected, TooDeep, LeftOut, DuplicateName, UnknownName, BadType, Cycle, Size, EnumNumbers, OperandType, ValueType, NotAssignable, Arguments, Fields, Condition, RunsOn, PortType, Redirect, CallKind, ReturnPlace, RepeatPlace, VerdictError, MtcPlace}
 use Rattle.ttcnx.specs.declared.fault.Fault.{Fault}

@@ -12,12 +12,12 @@ use Rattle.ttcnx.specs.declared.configuration.Configuration.{Configuration}
 use Rattle.ttcnx.specs.declared.configuration.Configuration.TheVariants.{Ended, Running}
 use Rattle.ttcnx.specs.declared.label.Label.{Label}
 use Rattle.ttcnx.specs.declared.label.Label.TheVariants.{Mtc}
-use Rattle.ttcnx.specs.declared.module.Action.{Action}
-use Rattle.ttcnx.specs.declared.module.Action.TheVariants.{Declare, Assign, Log, Setverdict}
-use Rattle.ttcnx.specs.declared.module.Statement.{Statement}
-use Rattle.ttcnx.specs.declared.verdict.Verdict.TheVariants.{Error}
-use Rattle.ttcnx.specs.declared.verdict.Verdict.TheVariants as verdicts
-use Rattle.ttcnx.specs.Verdict.{mark_of, worse_of}
+use Rattle.basic.specs.declared.module.Action.{Action}
+use Rattle.basic.specs.declared.module.Action.TheVariants.{Declare, Assign, Log, Setverdict}
+use Rattle.basic.specs.declared.module.Statement.{Statement}
+use Rattle.basic.specs.declared.verdict.Verdict.TheVariants.{Error}
+use Rattle.basic.specs.declared.verdict.Verdict.TheVariants as verdicts
+use Rattle.basic.specs.Verdict.{mark_of, worse_of}
 
 -- the component behind its next statement
 abbrev pub onward : Component → Component

@@ -5,7 +5,7 @@ use Rattle.std.specs.Fmt.{decimal}
 use Rattle.ttcnx.specs.declared.label.Label.{Label}
 use Rattle.ttcnx.specs.declared.report.Outcome.{Outcome}
 use Rattle.ttcnx.specs.declared.report.Report.{Report}
-use Rattle.ttcnx.specs.Verdict.{word_of}
+use Rattle.basic.specs.Verdict.{word_of}
 
 -- the text and the byte that ends a line
 abbrev pub line : List ℕ → List ℕ

@@ -13,15 +13,15 @@ use Rattle.ttcn_values.specs.BasicEvaluation.{value_of}
 use Rattle.ttcn_values.specs.BasicSame.{entries_decide}
 use Rattle.ttcn_values.specs.declared.fault.Fault.{Fault}
 use Rattle.ttcn_values.specs.declared.basic.value.BasicValue.{BasicValue}
-use Rattle.ttcnx.specs.declared.module.Action.{Action}
-use Rattle.ttcnx.specs.declared.module.Action.TheVariants.{Declare, Assign, Log, Setverdict}
-use Rattle.ttcnx.specs.declared.module.Statement.{Statement}
+use Rattle.basic.specs.declared.module.Action.{Action}
+use Rattle.basic.specs.declared.module.Action.TheVariants.{Declare, Assign, Log, Setverdict}
+use Rattle.basic.specs.declared.module.Statement.{Statement}
 use Rattle.ttcnx.specs.declared.configuration.Component.{Component}
 use Rattle.ttcnx.specs.declared.configuration.Configuration.{Configuration}
 use Rattle.ttcnx.specs.declared.configuration.Configuration.TheVariants.{Ended, Running}
-use Rattle.ttcnx.specs.declared.verdict.Verdict.{Verdict}
-use Rattle.ttcnx.specs.declared.verdict.Verdict.TheVariants.{None, Pass, Inconc, Fail, Error}
-use Rattle.ttcnx.specs.contracts.verdict.VerdictPartialEq.TheImpl as verdict
+use Rattle.basic.specs.declared.verdict.Verdict.{Verdict}
+use Rattle.basic.specs.declared.verdict.Verdict.TheVariants.{None, Pass, Inconc, Fail, Error}
+use Rattle.basic.specs.contracts.verdict.VerdictPartialEq.TheImpl as verdict
 use Rattle.ttcnx.specs.contracts.configuration.ComponentPartialEq.TheImpl as component
 use Rattle.ttcnx.specs.contracts.configuration.ConfigurationPartialEq.TheImpl as configuration
 

@@ -8,12 +8,12 @@ use Rattle.ttcn_values.specs.declared.fault.Fault.{Fault}
 use Rattle.ttcn_values.specs.declared.basic.value.BasicValue.{BasicValue}
 use Rattle.ttcnx.specs.declared.label.Label.{Label}
 use Rattle.ttcnx.specs.declared.label.Label.TheVariants.{Mtc}
-use Rattle.ttcnx.specs.declared.module.Action.{Action}
-use Rattle.ttcnx.specs.declared.module.Action.TheVariants.{Declare, Assign, Log, Setverdict}
-use Rattle.ttcnx.specs.declared.module.Statement.{Statement}
-use Rattle.ttcnx.specs.declared.verdict.Verdict.{Verdict}
-use Rattle.ttcnx.specs.declared.verdict.Verdict.TheVariants as verdicts
-use Rattle.ttcnx.specs.Verdict.{mark_of, worse_of}
+use Rattle.basic.specs.declared.module.Action.{Action}
+use Rattle.basic.specs.declared.module.Action.TheVariants.{Declare, Assign, Log, Setverdict}
+use Rattle.basic.specs.declared.module.Statement.{Statement}
+use Rattle.basic.specs.declared.verdict.Verdict.{Verdict}
+use Rattle.basic.specs.declared.verdict.Verdict.TheVariants as verdicts
+use Rattle.basic.specs.Verdict.{mark_of, worse_of}
 
 -- the main test component on its way: the statements that remain, its verdict so far, and the values of its names
 pub record Underway : Type 0 where

@@ -7,14 +7,14 @@ use Rattle.summary.specs.Graph.{Graph}
 use Rattle.summary.specs.Exploration.{Counts, IsComplete}
 use Rattle.explore.specs.Best.{IsBestOf}
 use Rattle.explore.specs.declared.plan.Plan.{Plan}
-use Rattle.ttcnx.specs.Verdict.{mark_of}
+use Rattle.basic.specs.Verdict.{mark_of}
 use Rattle.ttcnx.specs.contracts.label.LabelOrd.TheImpl as label
 use Rattle.ttcnx.specs.Steps.{Situation}
 use Rattle.ttcnx.specs.declared.label.Label.{Label}
 use Rattle.ttcnx.specs.declared.report.Outcome.{Outcome}
 use Rattle.ttcnx.specs.declared.report.Report.{Report}
-use Rattle.ttcnx.specs.declared.verdict.Verdict.{Verdict}
-use Rattle.ttcnx.specs.declared.verdict.Verdict.TheVariants as verdicts
+use Rattle.basic.specs.declared.verdict.Verdict.{Verdict}
+use Rattle.basic.specs.declared.verdict.Verdict.TheVariants as verdicts
 
 -- all verdicts, from the best on
 abbrev pub all_verdicts : List Verdict

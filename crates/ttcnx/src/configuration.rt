@@ -1,5 +1,5 @@
 //! Configurations of a test case that has one component.
-use crate::verdict::Verdict;
+use basic::Verdict;
 use ttcn_values::BasicFrame;
 
 /// A test case that has ended with its verdict, or that runs.

@@ -2,8 +2,7 @@
 ghost use Rattle.std.specs.Prelude.{◌≡◌, Some, IfOk, string_bytes};
 ghost use Rattle.ttcnx.specs.Fault.{fault_text, refusal_text, status_of};
 
-use crate::parse::ParseError;
-use crate::rules::{CheckError, Rule};
+use basic::{CheckError, ParseError, Rule};
 use explore::ExploreError;
 use std::alloc::{AllocError, AllocFailed, Global};
 use std::fmt;

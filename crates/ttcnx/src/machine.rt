@@ -8,8 +8,7 @@ ghost use Rattle.ttcnx.specs.Machine.{StandsIn, positions_of, performed, stored}
 
 use crate::configuration::{Component, Configuration};
 use crate::label::Label;
-use crate::module::{Action, Statement};
-use crate::verdict::Verdict;
+use basic::{Action, Statement, Verdict};
 use std::alloc::Global;
 use summary::{Memory, System};
 use ttcn_syntax::{BasicExpr, Name, Seq};

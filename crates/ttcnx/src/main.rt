@@ -7,15 +7,11 @@ mod configuration;
 mod fault;
 mod label;
 mod machine;
-mod module;
-mod parse;
 mod program;
 mod report;
-mod rules;
 mod run;
 #[cfg(test)]
 mod tests;
-mod verdict;
 
 use std::process::ExitCode;
 

@@ -4,7 +4,7 @@ ghost use Rattle.ttcnx.specs.Report.{header_text, outcome_text, report_text, yes
 ghost use Rattle.std.specs.Fmt.{DisplaysOnOk};
 
 use crate::label::Label;
-use crate::verdict::Verdict;
+use basic::Verdict;
 use std::alloc::{AllocError, Global};
 use std::fmt;
 

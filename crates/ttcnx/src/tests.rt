@@ -4,7 +4,6 @@ mod large;
 mod lines;
 mod refusals;
 mod rows;
-mod values;
 
 use crate::fault::{fault_line, status};
 use crate::report::to_text;
@@ -22,6 +21,15 @@ fn with_body(alloc: Global, body: &str) -> Result<String, AllocError> {
     format!(in alloc;
         "module M {{\ntype component C {{}}\ntestcase T() runs on C {{ {body} }}\n}}\n"
     )
+}
+
+/// A piece of text, so many times.
+fn repeated(alloc: Global, piece: &str, count: u64) -> Result<String, AllocError> {
+    let mut text = String::new(alloc);
+    for _turn in 0..count {
+        text.push_str(piece)?;
+    }
+    Ok(text)
 }
 
 /// The program's plan where nothing but the number of steps is told.

@@ -4,11 +4,11 @@ ghost use Rattle.ttcn_types.specs.Parts.{number_at};
 ghost use Rattle.ttcn_types.specs.Tables.{numbered};
 
 use super::numbers::Numbers;
-use crate::graph::Thing;
 use crate::names::Meaning;
 use crate::scope::Scope;
 use crate::table::Table;
 use std::alloc::{AllocError, Global};
+use survey::Thing;
 use ttcn_syntax::{ComponentRef, Constant, Expr, FieldValue, Reference, Value};
 
 /// What stands round a constant or a template: the module, and the template's parameters.

@@ -3,9 +3,9 @@ ghost use Rattle.std.specs.Prelude.{◌≡◌, IfOk, OnOk, map};
 ghost use Rattle.ttcn_types.specs.Templates.{template_meant};
 
 use super::surroundings::Surroundings;
-use crate::graph::Thing;
 use crate::names::Meaning;
 use std::alloc::{AllocError, Global};
+use survey::Thing;
 use ttcn_syntax::{Bound, Call, ComponentRef, Expr, FieldTemplate, Template, TemplateBody};
 
 /// The template that a name stands for.

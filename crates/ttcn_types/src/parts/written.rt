@@ -8,12 +8,12 @@ ghost use Rattle.ttcn_types.specs.Tables.{numbered};
 
 use super::numbers::Numbers;
 use super::surroundings::Surroundings;
-use crate::graph::Thing;
 use crate::names::Meaning;
 use crate::scope::{Scope, built_in, type_meant};
 use crate::table::Table;
 use crate::types::DataType;
 use std::alloc::{AllocError, Global};
+use survey::Thing;
 use ttcn_syntax::{Constant, DefinitionKind, Parameter, TemplateDefinition, TypeName};
 
 impl<'p, 'a> Surroundings<'p, 'a> {

@@ -32,6 +32,3 @@ pub fn eval_basic(expr: &BasicExpr, frame: &BasicFrame) -> Result<BasicValue, Fa
         }
     }
 }
-
-#[cfg(test)]
-mod tests;

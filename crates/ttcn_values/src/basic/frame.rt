@@ -128,6 +128,3 @@ impl Hash for BasicFrame {
         self.entries.hash(state);
     }
 }
-
-#[cfg(test)]
-mod tests;

@@ -1,15 +1,6 @@
 //! Texts that are long or deep.
-use super::{plan, told, with_body};
-use std::alloc::{AllocError, Global};
+use super::{plan, repeated, told, with_body};
 use std::test::Fail;
-
-fn repeated(alloc: Global, piece: &str, count: u64) -> Result<String, AllocError> {
-    let mut text = String::new(alloc);
-    for _turn in 0..count {
-        text.push_str(piece)?;
-    }
-    Ok(text)
-}
 
 #[test]
 fn long_texts(rt: HostRuntime) -> Result<(), Fail> {

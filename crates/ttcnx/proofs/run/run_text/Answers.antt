@@ -6,7 +6,7 @@ use Rattle.ttcnx.specs.Answer.{IsAnswer, beyond, told, within}
 use Rattle.ttcnx.specs.Fault.{explore_fault}
 use Rattle.ttcnx.specs.Steps.{graph_of}
 use Rattle.ttcnx.specs.Tells.{Tells}
-use Rattle.ttcnx.specs.Verdict.{mark_of}
+use Rattle.basic.specs.Verdict.{mark_of}
 use Rattle.ttcnx.specs.declared.fault.Fault.TheVariants.{Memory}
 use Rattle.ttcnx.proofs.Outcomes.{kept, mark_below_8, outcomes_of-kept}
 use Rattle.ttcnx.proofs.Positions.{best_there, complete_there, counts_there}

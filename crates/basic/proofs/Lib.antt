@@ -1,0 +1,14 @@
+pub mod Complete
+pub mod CompleteModules
+pub mod Depth
+pub mod LeastLemmas
+pub mod Parses
+pub mod Parsing
+pub mod ScopeLemmas
+pub mod SiteLemmas
+pub mod Sound
+pub mod SoundModules
+pub mod Spellings
+pub mod Tokens
+pub mod Turns
+pub mod TypingLemmas

@@ -1,0 +1,5 @@
+pub mod Beside
+pub mod Chains
+pub mod Ends
+pub mod Sizes
+pub mod Steps
