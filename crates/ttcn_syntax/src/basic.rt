@@ -3,7 +3,7 @@ use crate::{Boxed, Name, Operator, Seq, Sign};
 
 /// An expression without fields, components and timers. Operands joined by operators of one binding level are one chain, read from left to right.
 #[cycle(basic)]
-#[derive(Debug, Drop, PartialEq, Eq)]
+#[derive(Drop, PartialEq, Eq)]
 pub enum BasicExpr {
     Int(u64),
     Bool(bool),
@@ -16,7 +16,7 @@ pub enum BasicExpr {
 
 /// An operator and the operand behind it.
 #[cycle(basic)]
-#[derive(Debug, Drop, PartialEq, Eq)]
+#[derive(Drop, PartialEq, Eq)]
 pub struct BasicLink {
     pub operator: Operator,
     pub operand: BasicExpr,

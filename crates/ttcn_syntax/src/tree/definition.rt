@@ -2,20 +2,30 @@
 use crate::{Branch, Constants, Name, Seq, Span, Statement, Template, Timer, TypeName, Value};
 
 /// The definitions of a module, in the order of the text.
-#[derive(Debug, Drop, PartialEq, Eq)]
+#[derive(PartialEq, Eq)]
 pub struct Module {
     pub name: Name,
     pub definitions: Seq<Definition>,
 }
 
+/// By hand, so that a crate that drops a module proves nothing of the types in it.
+impl Drop for Module {
+    fn drop(self) {
+        let Module {
+            name: _name,
+            definitions: _definitions,
+        } = self;
+    }
+}
+
 /// A definition, and where its first token stands.
-#[derive(Debug, Drop, PartialEq, Eq)]
+#[derive(Drop, PartialEq, Eq)]
 pub struct Definition {
     pub place: Span,
     pub kind: DefinitionKind,
 }
 
-#[derive(Debug, Drop, PartialEq, Eq)]
+#[derive(Drop, PartialEq, Eq)]
 pub enum DefinitionKind {
     Record(RecordType),
     Enumerated(EnumeratedType),
@@ -28,27 +38,27 @@ pub enum DefinitionKind {
     Testcase(Testcase),
 }
 
-#[derive(Debug, Drop, PartialEq, Eq)]
+#[derive(Drop, PartialEq, Eq)]
 pub struct RecordType {
     pub name: Name,
     pub fields: Seq<Field>,
 }
 
-#[derive(Debug, Drop, PartialEq, Eq)]
+#[derive(Drop, PartialEq, Eq)]
 pub struct Field {
     pub type_name: TypeName,
     pub name: Name,
     pub optional: bool,
 }
 
-#[derive(Debug, Drop, PartialEq, Eq)]
+#[derive(Drop, PartialEq, Eq)]
 pub struct EnumeratedType {
     pub name: Name,
     pub enumerators: Seq<Enumerator>,
 }
 
 /// A name of an enumeration, and its number where one is given.
-#[derive(Debug, Drop, PartialEq, Eq)]
+#[derive(Drop, PartialEq, Eq)]
 pub struct Enumerator {
     pub name: Name,
     pub number: Option<EnumNumber>,
@@ -62,14 +72,14 @@ pub struct EnumNumber {
 }
 
 /// A type of message ports.
-#[derive(Debug, Drop, PartialEq, Eq)]
+#[derive(Drop, PartialEq, Eq)]
 pub struct PortType {
     pub name: Name,
     pub messages: Seq<PortMessages>,
 }
 
 /// The types of messages that a port lets pass in a direction.
-#[derive(Debug, Drop, PartialEq, Eq)]
+#[derive(Drop, PartialEq, Eq)]
 pub struct PortMessages {
     pub direction: Direction,
     pub types: Seq<TypeName>,
@@ -82,14 +92,14 @@ pub enum Direction {
     Inout,
 }
 
-#[derive(Debug, Drop, PartialEq, Eq)]
+#[derive(Drop, PartialEq, Eq)]
 pub struct ComponentType {
     pub name: Name,
     pub members: Seq<Member>,
 }
 
 /// A declaration of a component type.
-#[derive(Debug, Drop, PartialEq, Eq)]
+#[derive(Drop, PartialEq, Eq)]
 pub enum Member {
     /// The type of the ports, and their names.
     Ports(Name, Seq<Name>),
@@ -99,20 +109,20 @@ pub enum Member {
 }
 
 /// A variable of a component type; its initial value is no call.
-#[derive(Debug, Drop, PartialEq, Eq)]
+#[derive(Drop, PartialEq, Eq)]
 pub struct MemberVariable {
     pub name: Name,
     pub value: Option<Value>,
 }
 
-#[derive(Debug, Drop, PartialEq, Eq)]
+#[derive(Drop, PartialEq, Eq)]
 pub struct Parameter {
     pub type_name: TypeName,
     pub name: Name,
 }
 
 /// A named template. One without parameters may be written with `()` or without.
-#[derive(Debug, Drop, PartialEq, Eq)]
+#[derive(Drop, PartialEq, Eq)]
 pub struct TemplateDefinition {
     pub type_name: TypeName,
     pub name: Name,
@@ -120,7 +130,7 @@ pub struct TemplateDefinition {
     pub template: Template,
 }
 
-#[derive(Debug, Drop, PartialEq, Eq)]
+#[derive(Drop, PartialEq, Eq)]
 pub struct Function {
     pub name: Name,
     pub parameters: Seq<Parameter>,
@@ -129,7 +139,7 @@ pub struct Function {
     pub body: Seq<Statement>,
 }
 
-#[derive(Debug, Drop, PartialEq, Eq)]
+#[derive(Drop, PartialEq, Eq)]
 pub struct Altstep {
     pub name: Name,
     pub parameters: Seq<Parameter>,
@@ -137,7 +147,7 @@ pub struct Altstep {
     pub branches: Seq<Branch>,
 }
 
-#[derive(Debug, Drop, PartialEq, Eq)]
+#[derive(Drop, PartialEq, Eq)]
 pub struct Testcase {
     pub name: Name,
     pub runs_on: Name,

@@ -2,14 +2,14 @@
 use crate::{Boxed, Name, Operator, Seq, Sign};
 
 /// A name, and the fields behind it that lead into a record: `r.f.g`.
-#[derive(Debug, Drop, PartialEq, Eq)]
+#[derive(Drop, PartialEq, Eq)]
 pub struct Reference {
     pub name: Name,
     pub fields: Seq<Name>,
 }
 
 /// A component, by `self`, by `mtc`, or by what a name stands for.
-#[derive(Debug, Drop, PartialEq, Eq)]
+#[derive(Drop, PartialEq, Eq)]
 pub enum ComponentRef {
     /// `self`
     Itself,
@@ -19,7 +19,7 @@ pub enum ComponentRef {
 
 /// An expression. Operands joined by operators of one binding level are one chain, read from left to right.
 #[cycle(expression)]
-#[derive(Debug, Drop, PartialEq, Eq)]
+#[derive(Drop, PartialEq, Eq)]
 pub enum Expr {
     Int(u64),
     Bool(bool),
@@ -38,7 +38,7 @@ pub enum Expr {
 
 /// An operator and the operand behind it.
 #[cycle(expression)]
-#[derive(Debug, Drop, PartialEq, Eq)]
+#[derive(Drop, PartialEq, Eq)]
 pub struct Link {
     pub operator: Operator,
     pub operand: Expr,

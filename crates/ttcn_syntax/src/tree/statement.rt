@@ -5,7 +5,7 @@ use crate::{
 
 /// A statement, and where its first token stands.
 #[cycle(statement)]
-#[derive(Debug, Drop, PartialEq, Eq)]
+#[derive(Drop, PartialEq, Eq)]
 pub struct Statement {
     pub place: Span,
     pub action: Action,
@@ -13,7 +13,7 @@ pub struct Statement {
 
 /// What a statement does.
 #[cycle(statement)]
-#[derive(Debug, Drop, PartialEq, Eq)]
+#[derive(Drop, PartialEq, Eq)]
 pub enum Action {
     Variables(Variables),
     Constants(Constants),
@@ -48,45 +48,45 @@ pub enum Action {
 }
 
 /// The variables of one declaration.
-#[derive(Debug, Drop, PartialEq, Eq)]
+#[derive(Drop, PartialEq, Eq)]
 pub struct Variables {
     pub type_name: TypeName,
     pub variables: Seq<Variable>,
 }
 
-#[derive(Debug, Drop, PartialEq, Eq)]
+#[derive(Drop, PartialEq, Eq)]
 pub struct Variable {
     pub name: Name,
     pub value: Option<Rhs>,
 }
 
 /// The constants of one declaration.
-#[derive(Debug, Drop, PartialEq, Eq)]
+#[derive(Drop, PartialEq, Eq)]
 pub struct Constants {
     pub type_name: TypeName,
     pub constants: Seq<Constant>,
 }
 
-#[derive(Debug, Drop, PartialEq, Eq)]
+#[derive(Drop, PartialEq, Eq)]
 pub struct Constant {
     pub name: Name,
     pub value: Value,
 }
 
 /// A timer of a declaration. Its duration has no value here.
-#[derive(Debug, Drop, PartialEq, Eq)]
+#[derive(Drop, PartialEq, Eq)]
 pub struct Timer {
     pub name: Name,
 }
 
-#[derive(Debug, Drop, PartialEq, Eq)]
+#[derive(Drop, PartialEq, Eq)]
 pub struct Assignment {
     pub target: Reference,
     pub value: Rhs,
 }
 
 /// What a `for` begins with.
-#[derive(Debug, Drop, PartialEq, Eq)]
+#[derive(Drop, PartialEq, Eq)]
 pub enum ForStart {
     Variables(Variables),
     Assign(Assignment),
@@ -94,7 +94,7 @@ pub enum ForStart {
 
 /// A condition, and the block that it guards.
 #[cycle(statement)]
-#[derive(Debug, Drop, PartialEq, Eq)]
+#[derive(Drop, PartialEq, Eq)]
 pub struct Conditional {
     pub condition: Expr,
     pub block: Seq<Statement>,
@@ -102,7 +102,7 @@ pub struct Conditional {
 
 /// A branch of an `alt` or an altstep, and where its `[` stands.
 #[cycle(statement)]
-#[derive(Debug, Drop, PartialEq, Eq)]
+#[derive(Drop, PartialEq, Eq)]
 pub struct Branch {
     pub place: Span,
     pub alternative: Alternative,
@@ -110,7 +110,7 @@ pub struct Branch {
 
 /// What a branch waits for, and the block behind it.
 #[cycle(statement)]
-#[derive(Debug, Drop, PartialEq, Eq)]
+#[derive(Drop, PartialEq, Eq)]
 pub enum Alternative {
     /// A guard, an event, and a block.
     Event(Option<Expr>, Event, Option<Seq<Statement>>),
@@ -121,7 +121,7 @@ pub enum Alternative {
 }
 
 /// What a component can wait for.
-#[derive(Debug, Drop, PartialEq, Eq)]
+#[derive(Drop, PartialEq, Eq)]
 pub enum Event {
     Receive(Receive),
     /// `t.timeout`
@@ -133,7 +133,7 @@ pub enum Event {
 }
 
 /// A receive: the message's template and sender, and where message and sender go.
-#[derive(Debug, Drop, PartialEq, Eq)]
+#[derive(Drop, PartialEq, Eq)]
 pub struct Receive {
     pub port: PortSelector,
     pub message: Option<MessageTemplate>,
@@ -142,14 +142,14 @@ pub struct Receive {
     pub sender: Option<Reference>,
 }
 
-#[derive(Debug, Drop, PartialEq, Eq)]
+#[derive(Drop, PartialEq, Eq)]
 pub enum PortSelector {
     Named(Name),
     /// `any port`
     Any,
 }
 
-#[derive(Debug, Drop, PartialEq, Eq)]
+#[derive(Drop, PartialEq, Eq)]
 pub struct Send {
     pub port: Name,
     pub message: MessageTemplate,
@@ -157,14 +157,14 @@ pub struct Send {
 }
 
 /// A component's port: `c:p`.
-#[derive(Debug, Drop, PartialEq, Eq)]
+#[derive(Drop, PartialEq, Eq)]
 pub struct PortRef {
     pub component: ComponentRef,
     pub port: Name,
 }
 
 /// An argument of `log`, or a reason of a verdict.
-#[derive(Debug, Drop, PartialEq, Eq)]
+#[derive(Drop, PartialEq, Eq)]
 pub enum LogItem {
     Text,
     Expr(Expr),

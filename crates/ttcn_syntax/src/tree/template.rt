@@ -3,14 +3,14 @@ use crate::{Call, Expr, Name, Seq, TypeName};
 
 /// A template: its body, and whether `ifpresent` stands behind it.
 #[cycle(template)]
-#[derive(Debug, Drop, PartialEq, Eq)]
+#[derive(Drop, PartialEq, Eq)]
 pub struct Template {
     pub body: TemplateBody,
     pub ifpresent: bool,
 }
 
 #[cycle(template)]
-#[derive(Debug, Drop, PartialEq, Eq)]
+#[derive(Drop, PartialEq, Eq)]
 pub enum TemplateBody {
     /// `?`
     Any,
@@ -33,21 +33,21 @@ pub enum TemplateBody {
 
 /// A field of a record template.
 #[cycle(template)]
-#[derive(Debug, Drop, PartialEq, Eq)]
+#[derive(Drop, PartialEq, Eq)]
 pub struct FieldTemplate {
     pub name: Name,
     pub template: Template,
 }
 
 /// An end of a range. An infinite one bounds nothing, whatever its sign.
-#[derive(Debug, Drop, PartialEq, Eq)]
+#[derive(Drop, PartialEq, Eq)]
 pub enum Bound {
     Expr(Expr),
     Infinity,
 }
 
 /// The template of a message, with its type where the text names it.
-#[derive(Debug, Drop, PartialEq, Eq)]
+#[derive(Drop, PartialEq, Eq)]
 pub struct MessageTemplate {
     pub type_name: Option<TypeName>,
     pub template: Template,

@@ -2,7 +2,7 @@
 use crate::{Expr, Name, Seq};
 
 /// A type, as a declaration names it.
-#[derive(Debug, Drop, PartialEq, Eq)]
+#[derive(Drop, PartialEq, Eq)]
 pub enum TypeName {
     Integer,
     Boolean,
@@ -12,7 +12,7 @@ pub enum TypeName {
 
 /// A value: an expression, `omit`, or a record literal.
 #[cycle(value)]
-#[derive(Debug, Drop, PartialEq, Eq)]
+#[derive(Drop, PartialEq, Eq)]
 pub enum Value {
     Expr(Expr),
     Omit,
@@ -24,21 +24,21 @@ pub enum Value {
 
 /// A field of a record literal.
 #[cycle(value)]
-#[derive(Debug, Drop, PartialEq, Eq)]
+#[derive(Drop, PartialEq, Eq)]
 pub struct FieldValue {
     pub name: Name,
     pub value: Value,
 }
 
 /// A name with arguments: of a function, an altstep, a test case or a template.
-#[derive(Debug, Drop, PartialEq, Eq)]
+#[derive(Drop, PartialEq, Eq)]
 pub struct Call {
     pub name: Name,
     pub arguments: Seq<Value>,
 }
 
 /// What may stand on the right of `:=`.
-#[derive(Debug, Drop, PartialEq, Eq)]
+#[derive(Drop, PartialEq, Eq)]
 pub enum Rhs {
     Value(Value),
     /// `C.create`
