@@ -3,3 +3,8 @@ pub mod Lists
 pub mod Places
 pub mod Steps
 pub mod TemplateAgreement
+pub mod TypedChains
+pub mod TypedLiterals
+pub mod TypedRecords
+pub mod TypedTemplates
+pub mod TypedValues

@@ -11,8 +11,9 @@ use Rattle.ttcn_syntax.specs.declared.tree.definition.DefinitionKind.{Definition
 use Rattle.ttcn_syntax.specs.declared.tree.definition.DefinitionKind.TheVariants as kind
 use Rattle.ttcn_syntax.specs.declared.tree.definition.TemplateDefinition.{TemplateDefinition}
 use Rattle.ttcn_syntax.specs.declared.tree.statement.Constant.{Constant}
-use Rattle.ttcn_types.specs.Definitions.{module_scope, with_parameters}
-use Rattle.ttcn_types.specs.Names.{constant_at, constant_of, kind_at, template_at, template_of}
+use Rattle.check_scope.specs.Scopes.{module_scope}
+use Rattle.check_statements.specs.Definitions.{with_parameters}
+use Rattle.check_scope.specs.Names.{constant_at, constant_of, kind_at, template_at, template_of}
 use Rattle.ttcn_types.specs.Parts.{constant_parts, how_many, how_many_in, number_at, template_parts, written_at, written_from, written_out}
 
 module _ (definitions : List Definition) where

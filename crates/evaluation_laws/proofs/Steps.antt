@@ -17,21 +17,22 @@ use Rattle.ttcn_syntax.specs.declared.tree.definition.DefinitionKind.TheVariants
 use Rattle.ttcn_syntax.specs.declared.tree.definition.Parameter.{Parameter}
 use Rattle.ttcn_syntax.specs.declared.tree.definition.TemplateDefinition.{TemplateDefinition}
 use Rattle.ttcn_syntax.specs.declared.tree.statement.Constant.{Constant}
-use Rattle.ttcn_types.proofs.Nothing.{kept, nothing-first, nothing-rest}
-use Rattle.ttcn_types.proofs.Whole.{definition_is_fine}
-use Rattle.ttcn_types.specs.Definitions.{at_parameter, in_parameters, module_scope, parameter_entry, with_parameters}
-use Rattle.ttcn_types.specs.Names.{Scope, constant_at, constants_type, declaring, kind_at, module_names, resolved, template_at, template_of}
+use Rattle.checker_laws.proofs.Nothing.{kept, nothing-first, nothing-rest}
+use Rattle.checker_laws.proofs.Whole.{definition_is_fine}
+use Rattle.check_statements.specs.Definitions.{at_parameter, in_parameters, parameter_entry, with_parameters}
+use Rattle.check_scope.specs.Scopes.{module_scope}
+use Rattle.check_scope.specs.Names.{Scope, constant_at, constants_type, declaring, kind_at, module_names, resolved, template_at, template_of}
 use Rattle.ttcn_types.specs.Parts.{constant_parts, number_at, template_parts, written_out}
 use Rattle.ttcn_types.specs.Rules.{AreWellTyped}
 use Rattle.ttcn_types.specs.Rules.Breaks.{size}
-use Rattle.ttcn_types.specs.Targets.{at_new_name, at_type}
-use Rattle.ttcn_types.specs.Templates.{template, template_meant}
-use Rattle.ttcn_types.specs.Values.{target_of}
-use Rattle.ttcn_types.specs.declared.names.Meaning.{Meaning}
-use Rattle.ttcn_types.specs.declared.names.Meaning.TheVariants as meaning
-use Rattle.ttcn_types.specs.declared.rule.Rule.{Rule}
-use Rattle.ttcn_types.specs.declared.rule.Rule.TheVariants as rule
-use Rattle.ttcn_types.specs.declared.types.DataType.{DataType}
+use Rattle.check_expressions.specs.Targets.{at_new_name, at_type}
+use Rattle.check_expressions.specs.Templates.{template, template_meant}
+use Rattle.check_scope.specs.Typings.{target_of}
+use Rattle.check_scope.specs.declared.names.Meaning.{Meaning}
+use Rattle.check_scope.specs.declared.names.Meaning.TheVariants as meaning
+use Rattle.check_scope.specs.declared.rule.Rule.{Rule}
+use Rattle.check_scope.specs.declared.rule.Rule.TheVariants as rule
+use Rattle.check_scope.specs.declared.types.DataType.{DataType}
 use Rattle.ttcn_values.specs.Chains.{Outcomes, constant_value, given_to, outcomes_within, template_value, with_names, with_outcomes, within_chains}
 use Rattle.ttcn_values.specs.Frames.{facts, reading as reading_of}
 use Rattle.ttcn_values.specs.Readings.{Reading}

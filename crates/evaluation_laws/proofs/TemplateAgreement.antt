@@ -17,11 +17,11 @@ use Rattle.ttcn_syntax.specs.declared.tree.template.TemplateBody.{TemplateBody, 
 use Rattle.ttcn_syntax.specs.declared.tree.template.TemplateBody.TheFolds.{fold-roll-FieldTemplate, fold-roll-Template, fold-roll-TemplateBody, ind-Template, map-FieldTemplate, map-Template, map-TemplateBody}
 use Rattle.ttcn_syntax.specs.declared.tree.template.TemplateBody.TheOpen.{FieldTemplate-F, Template-F, TemplateBody-F}
 use Rattle.ttcn_syntax.specs.declared.tree.value.Value as written
-use Rattle.ttcn_types.specs.Calls.{parameters_of}
-use Rattle.ttcn_types.specs.Names.{Scope, fields_at, kind_at, module_names, resolved}
+use Rattle.check_expressions.specs.Calls.{parameters_of}
+use Rattle.check_scope.specs.Names.{Scope, fields_at, kind_at, module_names, resolved}
 use Rattle.ttcn_types.specs.Parts.{all_of, body_parts_step, field_template_parts, field_template_parts_step, of_bound, of_name, of_template, template_parts, template_parts_step, value_parts}
-use Rattle.ttcn_types.specs.Templates.{bare_name, template_by_name, template_meant}
-use Rattle.ttcn_types.specs.declared.types.DataType.{DataType}
+use Rattle.check_expressions.specs.Templates.{bare_name, template_by_name, template_meant}
+use Rattle.check_scope.specs.declared.types.DataType.{DataType}
 use Rattle.ttcn_values.specs.Chains.{Outcomes, with_outcomes}
 use Rattle.ttcn_values.specs.Literals.{type_of_field, wanted_record}
 use Rattle.ttcn_values.specs.Outcomes.{each}

@@ -1,6 +1,6 @@
 -- What constants and templates stand for, with no word on how deep they refer to each other.
 use Rattle.std.specs.Prelude.{◌≡◌, ℕ, List, None}
-use Rattle.ttcn_types.specs.Names.{constant_at, constants_type, kind_at, module_names, template_at}
+use Rattle.check_scope.specs.Names.{constant_at, constants_type, kind_at, module_names, template_at}
 use Rattle.ttcn_values.specs.Chains.{constant_value, template_value, with_names}
 use Rattle.ttcn_values.specs.Readings.{Reading}
 use Rattle.ttcn_values.specs.declared.value.Value.{Value}

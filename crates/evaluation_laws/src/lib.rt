@@ -2,8 +2,13 @@
 #![tactic(auto)]
 
 mod laws;
+mod typing;
 
 pub use laws::{
     constants_stand_for_their_values, more_links_change_nothing, nothing_else_stands_so,
     templates_stand_for_their_bodies,
+};
+pub use typing::{
+    arguments_are_given, chains_fit_their_module, expressions_give_their_types, fields_differ,
+    templates_go_where_they_are_wanted, values_go_where_they_are_wanted, wanted_expressions_go,
 };

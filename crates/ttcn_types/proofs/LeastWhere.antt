@@ -4,16 +4,17 @@ use Rattle.std.proofs.lemmas.Bool.Decides.{nat_tests}
 use Rattle.std.proofs.lemmas.List.Elements.{Contains-append_cases, Contains-append_left, Contains-append_right}
 use Rattle.std.specs.List.{Contains}
 use Rattle.ttcn_syntax.specs.declared.tree.definition.Definition.{Definition}
-use Rattle.ttcn_types.specs.Checking.{both, least, lesser_of}
-use Rattle.ttcn_types.specs.Definitions.{at_module_names, in_definitions, module_scope}
-use Rattle.ttcn_types.specs.Names.{Scope}
-use Rattle.ttcn_types.specs.Numbers.{lesser, number_of}
+use Rattle.check_scope.specs.Checking.{both, least, lesser_of}
+use Rattle.check_scope.specs.Scopes.{at_module_names, module_scope}
+use Rattle.check_statements.specs.Definitions.{in_definitions}
+use Rattle.check_scope.specs.Names.{Scope}
+use Rattle.check_scope.specs.Numbers.{lesser, number_of}
 use Rattle.ttcn_types.specs.Rules.{Breaks}
 use Rattle.ttcn_types.specs.Rules.Breaks.{site, in_itself, circle, altstep_circle, record_size, size, altstep_size}
 use Rattle.ttcn_types.specs.Surveys.{BreaksBySurvey, BreaksInAltsteps, BreaksInRecords, BreaksWritten, IsLeastWhere}
 use Rattle.ttcn_types.specs.Surveys.BreaksAmong.{in_circle, too_large}
-use Rattle.ttcn_types.specs.declared.broken.Broken.{Broken}
-use Rattle.ttcn_types.specs.declared.rule.Rule.{Rule}
+use Rattle.check_scope.specs.declared.broken.Broken.{Broken}
+use Rattle.check_scope.specs.declared.rule.Rule.{Rule}
 
 lesser-le : (r other : Rule) → (number_of (lesser r other) ≤ number_of r) × (number_of (lesser r other) ≤ number_of other)
 lesser-le r other = grind (arith, nat_tests)

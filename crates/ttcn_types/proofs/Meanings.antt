@@ -1,8 +1,8 @@
 -- What holds of all that names stand for.
 use Rattle.std.proofs.Common.{Bool, true, false, if◌then◌else◌, List, [], ◌∷◌, ◌++◌, ℕ, bytes_eq, Option, Some, None}
 use Rattle.std.specs.Option.{option_or}
-use Rattle.ttcn_types.specs.Names.{Entry, listed}
-use Rattle.ttcn_types.specs.declared.names.Meaning.{Meaning}
+use Rattle.check_scope.specs.Names.{Entry, listed}
+use Rattle.check_scope.specs.declared.names.Meaning.{Meaning}
 
 module _ (P : Meaning → Type 0) where
   abbrev pub IfMeans : Option Meaning → Type 0

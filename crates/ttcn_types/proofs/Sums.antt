@@ -3,7 +3,7 @@ use Rattle.std.proofs.Common.{◌≡◌, ◌≤◌, ℕ, zero, suc, ◌+◌, ◌
 use Rattle.std.proofs.lemmas.List.{append-nil, drop_all}
 use Rattle.ttcn_syntax.specs.declared.tree.definition.Definition.{Definition}
 use Rattle.ttcn_types.specs.Parts.{how_many, how_many_in, number_at}
-use Rattle.ttcn_types.proofs.Lookups.{drop-next}
+use Rattle.check_scope.proofs.Lookups.{drop-next}
 
 -- at each definition a number and how many come before it
 abbrev pub sums : ℕ → List Definition → List ℕ

@@ -1,11 +1,11 @@
 -- The scope of a constant or a template of the module.
 use Rattle.std.proofs.Common.{◌≡◌, List, None, ap}
 use Rattle.ttcn_syntax.specs.declared.tree.definition.Definition.{Definition}
-use Rattle.ttcn_types.specs.Definitions.{module_scope}
-use Rattle.ttcn_types.specs.Names.{Entry, Names, Scope, behind, declaring, module_names}
-use Rattle.ttcn_types.specs.Tables.{either, said}
-use Rattle.ttcn_types.proofs.Entries.{either_behind}
-use Rattle.ttcn_types.specs.declared.table.Table.{Table}
+use Rattle.check_scope.specs.Scopes.{module_scope}
+use Rattle.check_scope.specs.Names.{Entry, Names, Scope, behind, declaring, module_names}
+use Rattle.check_scope.specs.Tables.{either, said}
+use Rattle.check_scope.proofs.Entries.{either_behind}
+use Rattle.check_scope.specs.declared.table.Table.{Table}
 
 -- a scope of the module that has these names
 abbrev pub with_names : List Definition → Names → Scope

@@ -7,12 +7,12 @@ use Rattle.survey.specs.declared.findings.Findings.{Findings}
 use Rattle.survey.specs.declared.findings.Findings.TheVariants.{Circle, Sizes}
 use Rattle.survey.specs.declared.thing.Thing.{Thing}
 use Rattle.survey.proofs.Chains.{chain_head, weigh_within}
-use Rattle.ttcn_types.specs.Numbers.{number_of}
+use Rattle.check_scope.specs.Numbers.{number_of}
 use Rattle.ttcn_types.specs.Rules.{AreTooLarge}
 use Rattle.ttcn_types.specs.Surveys.{BreaksAmong, IsLeastWhere}
 use Rattle.ttcn_types.specs.Surveys.BreaksAmong.{in_circle, too_large}
-use Rattle.ttcn_types.specs.declared.rule.Rule.{Rule}
-use Rattle.ttcn_types.specs.declared.rule.Rule.TheVariants as rule
+use Rattle.check_scope.specs.declared.rule.Rule.{Rule}
+use Rattle.check_scope.specs.declared.rule.Rule.TheVariants as rule
 
 module _ (things : List Thing) (heaviest : ℕ) (circle : Rule) where
   circle_below : number_of circle ≤ 5 → (other : Rule) → BreaksAmong things heaviest circle other → number_of circle ≤ number_of other

@@ -10,7 +10,7 @@ use Rattle.ttcn_syntax.specs.declared.tree.definition.Definition.{Definition}
 use Rattle.ttcn_syntax.specs.declared.tree.definition.DefinitionKind.{DefinitionKind}
 use Rattle.ttcn_syntax.specs.declared.tree.definition.DefinitionKind.TheVariants as kind
 use Rattle.ttcn_syntax.specs.declared.tree.definition.Testcase.{Testcase}
-use Rattle.ttcn_types.proofs.Lookups.{or-None, or-assoc, put}
+use Rattle.check_scope.proofs.Lookups.{or-None, or-assoc, put}
 use Rattle.ttcn_types.specs.Programs.{IsTestCaseAt, is_test_case, test_case_named}
 use Rattle.ttcn_types.specs.TestCases.{with_position}
 

@@ -27,14 +27,15 @@ use Rattle.ttcn_syntax.specs.declared.tree.value.Call.{Call}
 use Rattle.ttcn_syntax.specs.declared.tree.value.FieldValue.{FieldValue, fold-FieldValue}
 use Rattle.ttcn_syntax.specs.declared.tree.value.Value.{Value, fold-Value}
 use Rattle.ttcn_syntax.specs.declared.tree.value.Value.TheOpen.{FieldValue-F, Value-F}
-use Rattle.ttcn_types.specs.Calls.{altstep_meant}
-use Rattle.ttcn_types.specs.Definitions.{module_scope, with_parameters}
-use Rattle.ttcn_types.specs.Names.{Scope, module_names, resolved}
-use Rattle.ttcn_types.specs.Templates.{template_meant, template_named}
-use Rattle.ttcn_types.specs.declared.names.Meaning.{Meaning}
-use Rattle.ttcn_types.specs.declared.names.Meaning.TheVariants as meaning
-use Rattle.ttcn_types.specs.declared.types.DataType.{DataType}
-use Rattle.ttcn_types.specs.declared.types.DataType.TheVariants as type
+use Rattle.check_expressions.specs.Calls.{altstep_meant}
+use Rattle.check_scope.specs.Scopes.{module_scope}
+use Rattle.check_statements.specs.Definitions.{with_parameters}
+use Rattle.check_scope.specs.Names.{Scope, module_names, resolved}
+use Rattle.check_expressions.specs.Templates.{template_meant, template_named}
+use Rattle.check_scope.specs.declared.names.Meaning.{Meaning}
+use Rattle.check_scope.specs.declared.names.Meaning.TheVariants as meaning
+use Rattle.check_scope.specs.declared.types.DataType.{DataType}
+use Rattle.check_scope.specs.declared.types.DataType.TheVariants as type
 
 -- ---- parts
 

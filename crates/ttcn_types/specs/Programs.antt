@@ -5,7 +5,7 @@ use Rattle.ttcn_syntax.specs.declared.tree.definition.Definition.{Definition}
 use Rattle.ttcn_syntax.specs.declared.tree.definition.DefinitionKind.{DefinitionKind}
 use Rattle.ttcn_syntax.specs.declared.tree.definition.DefinitionKind.TheVariants as kind
 use Rattle.ttcn_syntax.specs.declared.tree.definition.Testcase.{Testcase}
-use Rattle.ttcn_types.specs.Names.{kind_at}
+use Rattle.check_scope.specs.Names.{kind_at}
 
 -- something is a test case of a name
 abbrev pub is_test_case : List ℕ → DefinitionKind → Bool

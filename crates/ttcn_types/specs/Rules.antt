@@ -3,13 +3,13 @@ use Rattle.std.specs.Prelude.{ℕ, ◌≤◌, ◌⊎◌, List, Contains}
 use Rattle.survey.specs.Graphs.{BeginsLongerChain, IsOnCircle, WeighsMore}
 use Rattle.survey.specs.declared.thing.Thing.{Thing}
 use Rattle.ttcn_syntax.specs.declared.tree.definition.Definition.{Definition}
-use Rattle.ttcn_types.specs.Definitions.{at_sites}
-use Rattle.ttcn_types.specs.Numbers.{number_of}
+use Rattle.check_statements.specs.Definitions.{at_sites}
+use Rattle.check_scope.specs.Numbers.{number_of}
 use Rattle.ttcn_types.specs.Parts.{altsteps, records, written_out}
-use Rattle.ttcn_types.specs.declared.rule.CheckError.{CheckError}
-use Rattle.ttcn_types.specs.declared.rule.CheckError.TheVariants.{Broken, Memory}
-use Rattle.ttcn_types.specs.declared.rule.Rule.{Rule}
-use Rattle.ttcn_types.specs.declared.rule.Rule.TheVariants as rule
+use Rattle.ttcn_types.specs.declared.error.CheckError.{CheckError}
+use Rattle.ttcn_types.specs.declared.error.CheckError.TheVariants.{Broken, Memory}
+use Rattle.check_scope.specs.declared.rule.Rule.{Rule}
+use Rattle.check_scope.specs.declared.rule.Rule.TheVariants as rule
 
 -- ---- circles and sizes
 

@@ -3,11 +3,11 @@ use Rattle.std.specs.Prelude.{ℕ, ◌≤◌, ◌⊎◌, List, Option, Some, Non
 use Rattle.std.specs.Option.{option_map}
 use Rattle.survey.specs.declared.thing.Thing.{Thing}
 use Rattle.ttcn_syntax.specs.declared.tree.definition.Definition.{Definition}
-use Rattle.ttcn_types.specs.Numbers.{number_of}
+use Rattle.check_scope.specs.Numbers.{number_of}
 use Rattle.ttcn_types.specs.Parts.{altsteps, records, written_out}
 use Rattle.ttcn_types.specs.Rules.{AreTooLarge, HasCircle}
-use Rattle.ttcn_types.specs.declared.rule.Rule.{Rule}
-use Rattle.ttcn_types.specs.declared.rule.Rule.TheVariants as rule
+use Rattle.check_scope.specs.declared.rule.Rule.{Rule}
+use Rattle.check_scope.specs.declared.rule.Rule.TheVariants as rule
 
 -- the least of the rules of which something holds, or none where it holds of none
 abbrev pub IsLeastWhere : (Rule → Type 0) → Option Rule → Type 0

@@ -1,17 +1,18 @@
 //! Which modules are well typed.
 ghost use Rattle.std.specs.Prelude.{◌≡◌, ◌<◌, ◌≤◌, length, IfErr, IfOk, IfSome, OnOk};
 ghost use Rattle.survey.specs.Graphs.{AreComplete};
-ghost use Rattle.ttcn_types.specs.Checking.{least_in};
-ghost use Rattle.ttcn_types.specs.Numbers.{number_of};
+ghost use Rattle.check_scope.specs.Checking.{least_in};
+ghost use Rattle.check_scope.specs.Numbers.{number_of};
 ghost use Rattle.ttcn_types.specs.Rules.{AreWellTyped, Breaks, IsRefusal};
 ghost use Rattle.ttcn_types.specs.Surveys.{BreaksAmong, BreaksBySurvey, BreaksInAltsteps, BreaksInRecords, BreaksWritten, IsLeastWhere, rule_of};
 
-use crate::definition::in_definitions;
-use crate::least::Least;
+use crate::error::CheckError;
 use crate::parts::{altsteps, place_of, records, written_out};
 use crate::program::Program;
-use crate::rule::{CheckError, Rule};
-use crate::scope::Scope;
+use check_scope::least::Least;
+use check_scope::rule::Rule;
+use check_scope::scope::Scope;
+use check_statements::in_definitions;
 use std::alloc::{AllocError, Global};
 use survey::{Findings, Thing, survey};
 use ttcn_syntax::{Definition, Module};

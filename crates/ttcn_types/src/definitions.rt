@@ -1,13 +1,13 @@
 //! The definitions of a program, by their names.
 ghost use Rattle.std.specs.Prelude.{◌≡◌, IfOk};
 ghost use Rattle.std.specs.Option.{option_map};
-ghost use Rattle.ttcn_types.specs.Names.{constant_at, constants_type, fields_at, kind_at, module_names, resolved, template_at};
+ghost use Rattle.check_scope.specs.Names.{constant_at, constants_type, fields_at, kind_at, module_names, resolved, template_at};
 
-use crate::least::Least;
-use crate::names::Meaning;
-use crate::scope::{define_all, fields_of, kind_at, resolved_in};
-use crate::table::Table;
-use crate::types::DataType;
+use check_scope::least::Least;
+use check_scope::names::Meaning;
+use check_scope::scope::{define_all, fields_of, kind_at, resolved_in};
+use check_scope::table::Table;
+use check_scope::types::DataType;
 use std::alloc::{AllocError, Global};
 use std::marker::Model;
 use ttcn_syntax::{Constant, Definition, DefinitionKind, Field, TemplateDefinition, TypeName};
@@ -28,8 +28,8 @@ impl<'a> Model for Definitions<'a> {
     ghost use Rattle.ttcn_syntax.specs.contracts.tree.template.Template as template;
     ghost use Rattle.ttcn_syntax.specs.contracts.tree.value.Value as value;
     ghost use Rattle.ttcn_syntax.specs.declared.tree.definition.Definition.{Definition};
-    ghost use Rattle.ttcn_types.specs.Names.{module_names};
-    ghost use Rattle.ttcn_types.specs.Tables.{said};
+    ghost use Rattle.check_scope.specs.Names.{module_names};
+    ghost use Rattle.check_scope.specs.Tables.{said};
 
     ghost Value = { List Definition };
 

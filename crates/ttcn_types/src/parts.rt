@@ -7,9 +7,9 @@ mod surroundings;
 mod template;
 mod written;
 
-use crate::names::Meaning;
-use crate::scope::Scope;
-use crate::types::DataType;
+use check_scope::names::Meaning;
+use check_scope::scope::Scope;
+use check_scope::types::DataType;
 pub(crate) use numbers::place_of;
 use std::alloc::{AllocError, Global};
 use survey::Thing;

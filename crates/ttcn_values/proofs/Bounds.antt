@@ -9,7 +9,7 @@ use Rattle.ttcn_syntax.specs.declared.tree.definition.DefinitionKind.{Definition
 use Rattle.ttcn_syntax.specs.declared.tree.definition.DefinitionKind.TheVariants as kind
 use Rattle.ttcn_syntax.specs.declared.tree.definition.TemplateDefinition.{TemplateDefinition}
 use Rattle.ttcn_syntax.specs.declared.tree.template.FieldTemplate.{FieldTemplate, out-FieldTemplate, size_is-FieldTemplate}
-use Rattle.ttcn_types.specs.Names.{template_at, template_of}
+use Rattle.check_scope.specs.Names.{template_at, template_of}
 use denote.Param.Weighed.{most}
 
 abbrev of_kind : DefinitionKind → ℕ

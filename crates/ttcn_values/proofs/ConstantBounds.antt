@@ -19,7 +19,7 @@ use Rattle.ttcn_syntax.specs.declared.tree.value.Value.{Value, fold-Value}
 use Rattle.ttcn_syntax.specs.declared.tree.value.Value.TheFolds.{fold-roll-Value}
 use Rattle.ttcn_syntax.specs.declared.tree.value.Value.TheOpen.{FieldValue-F, Value-F}
 use Rattle.ttcn_syntax.specs.declared.tree.value.Value.TheVariants as form
-use Rattle.ttcn_types.specs.Names.{constant_at, constant_of, kind_at}
+use Rattle.check_scope.specs.Names.{constant_at, constant_of, kind_at}
 
 -- ---- values
 

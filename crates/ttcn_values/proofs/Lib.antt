@@ -5,9 +5,9 @@ pub mod Chained
 pub mod ConstantBounds
 pub mod Each
 pub mod Equality
+pub mod Examples
 pub mod Faults
 pub mod Following
-pub mod IntegerLemmas
 pub mod Lists
 pub mod LiteralForms
 pub mod MatchForms
@@ -16,9 +16,4 @@ pub mod Sending
 pub mod TemplateCalls
 pub mod TemplateEquality
 pub mod TemplateForms
-pub mod TypedChains
-pub mod TypedLiterals
-pub mod TypedRecords
-pub mod TypedTemplates
-pub mod TypedValues
 pub mod Uses

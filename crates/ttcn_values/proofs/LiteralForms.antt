@@ -11,8 +11,8 @@ use Rattle.ttcn_syntax.specs.declared.tree.value.Value.{Value}
 use Rattle.ttcn_syntax.specs.declared.tree.value.Value.TheFolds.{fold-roll-Value}
 use Rattle.ttcn_syntax.specs.declared.tree.value.Value.TheOpen.{Value-F}
 use Rattle.ttcn_syntax.specs.declared.tree.value.Value.TheVariants as form
-use Rattle.ttcn_types.specs.Names.{fields_at}
-use Rattle.ttcn_types.specs.declared.types.DataType.{DataType}
+use Rattle.check_scope.specs.Names.{fields_at}
+use Rattle.check_scope.specs.declared.types.DataType.{DataType}
 use Rattle.ttcn_values.specs.Evaluation.{value_of}
 use Rattle.ttcn_values.specs.Literals.{Wanted, by_name, element, element_named, field_value, field_value_step, given_by_name, in_order, record_at, type_of_field, value_step, value_wanted, wanted_record}
 use Rattle.ttcn_values.specs.Outcomes.{each}

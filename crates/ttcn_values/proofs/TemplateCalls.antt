@@ -6,9 +6,9 @@ use Rattle.ttcn_syntax.specs.declared.tree.definition.DefinitionKind.TheVariants
 use Rattle.ttcn_syntax.specs.declared.tree.definition.Parameter.{Parameter}
 use Rattle.ttcn_syntax.specs.declared.tree.definition.TemplateDefinition.{TemplateDefinition}
 use Rattle.ttcn_syntax.specs.declared.tree.value.Value as written
-use Rattle.ttcn_types.specs.Calls.{parameters_of}
-use Rattle.ttcn_types.specs.Names.{kind_at, module_names, resolved, template_at, template_of}
-use Rattle.ttcn_types.specs.declared.types.DataType.{DataType}
+use Rattle.check_expressions.specs.Calls.{parameters_of}
+use Rattle.check_scope.specs.Names.{kind_at, module_names, resolved, template_at, template_of}
+use Rattle.check_scope.specs.declared.types.DataType.{DataType}
 use Rattle.ttcn_values.specs.Chains.{given_to, template_value, with_names, within_chains}
 use Rattle.ttcn_values.specs.Frames.{facts, read_by, seen_by}
 use Rattle.ttcn_values.specs.Readings.{Reading}

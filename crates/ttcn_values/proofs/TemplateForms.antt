@@ -12,8 +12,8 @@ use Rattle.ttcn_syntax.specs.declared.tree.template.TemplateBody.TheOpen.{Templa
 use Rattle.ttcn_syntax.specs.declared.tree.template.TemplateBody.TheVariants as form
 use Rattle.ttcn_syntax.specs.declared.tree.value.Call.{Call}
 use Rattle.ttcn_syntax.specs.declared.tree.value.Value as written
-use Rattle.ttcn_types.specs.Names.{fields_at, module_names, resolved}
-use Rattle.ttcn_types.specs.declared.types.DataType.{DataType}
+use Rattle.check_scope.specs.Names.{fields_at, module_names, resolved}
+use Rattle.check_scope.specs.declared.types.DataType.{DataType}
 use Rattle.ttcn_values.proofs.Each.{if_as_long}
 use Rattle.ttcn_values.proofs.Lists.{find_among}
 use Rattle.ttcn_values.specs.Frames.{read_by}

@@ -3,7 +3,7 @@ use Rattle.std.specs.Prelude.{ℕ, pos, List, Option, Some, None, Result, Ok, Er
 use Rattle.ttcn_syntax.specs.Expression.{Expression, integer, boolean, name, negation, signed, operation}
 use Rattle.ttcn_syntax.specs.declared.operator.Operator.{Operator}
 use Rattle.ttcn_values.specs.BasicWhole.{fitting}
-use Rattle.ttcn_values.specs.Integers.{within}
+use Rattle.arithmetic.specs.Integers.{within}
 use Rattle.ttcn_values.specs.BasicOperators.{negated, under_sign, applied, decides}
 use Rattle.ttcn_values.specs.declared.fault.Fault.{Fault}
 use Rattle.ttcn_values.specs.declared.fault.Fault.TheVariants.{Dynamic}

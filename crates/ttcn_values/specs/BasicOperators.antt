@@ -7,7 +7,7 @@ use Rattle.ttcn_syntax.specs.declared.operator.Operator.TheVariants.{Or, Xor, An
 use Rattle.ttcn_syntax.specs.declared.operator.Sign.{Sign}
 use Rattle.ttcn_syntax.specs.declared.operator.Sign.TheVariants.{Plus, Minus}
 use Rattle.ttcn_values.specs.BasicWhole.{fitting}
-use Rattle.ttcn_values.specs.Integers.{calculated, within}
+use Rattle.arithmetic.specs.Integers.{calculated, within}
 use Rattle.ttcn_values.specs.declared.fault.Fault.{Fault}
 use Rattle.ttcn_values.specs.declared.fault.Fault.TheVariants.{Dynamic}
 use Rattle.ttcn_values.specs.declared.basic.value.BasicValue.{BasicValue}

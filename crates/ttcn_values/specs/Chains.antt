@@ -6,8 +6,8 @@ use Rattle.ttcn_syntax.specs.declared.tree.definition.Definition.{Definition}
 use Rattle.ttcn_syntax.specs.declared.tree.definition.Parameter.{Parameter}
 use Rattle.ttcn_syntax.specs.declared.tree.definition.TemplateDefinition.{TemplateDefinition}
 use Rattle.ttcn_syntax.specs.declared.tree.statement.Constant.{Constant}
-use Rattle.ttcn_types.specs.Names.{constant_at, constants_type, kind_at, module_names, resolved, template_at}
-use Rattle.ttcn_types.specs.declared.types.DataType.{DataType}
+use Rattle.check_scope.specs.Names.{constant_at, constants_type, kind_at, module_names, resolved, template_at}
+use Rattle.check_scope.specs.declared.types.DataType.{DataType}
 use Rattle.ttcn_values.specs.Literals.{value_wanted}
 use Rattle.ttcn_values.specs.Readings.{Reading}
 use Rattle.ttcn_values.specs.Templates.{template_wanted}

@@ -8,12 +8,10 @@ pub mod BasicWhole
 pub mod Chains
 pub mod Evaluation
 pub mod Frames
-pub mod Integers
 pub mod Literals
 pub mod Matching
 pub mod Operations
 pub mod Outcomes
 pub mod Readings
 pub mod Templates
-pub mod Types
 pub mod Values

@@ -8,9 +8,9 @@ use Rattle.ttcn_syntax.specs.declared.tree.value.FieldValue.{FieldValue, fold-Fi
 use Rattle.ttcn_syntax.specs.declared.tree.value.Value.{fold-Value}
 use Rattle.ttcn_syntax.specs.declared.tree.value.Value as tree
 use Rattle.ttcn_syntax.specs.declared.tree.value.Value.TheOpen.{FieldValue-F, Value-F}
-use Rattle.ttcn_types.specs.Names.{fields_at, module_names, resolved}
-use Rattle.ttcn_types.specs.declared.types.DataType.{DataType}
-use Rattle.ttcn_types.specs.declared.types.DataType.TheVariants as type
+use Rattle.check_scope.specs.Names.{fields_at, module_names, resolved}
+use Rattle.check_scope.specs.declared.types.DataType.{DataType}
+use Rattle.check_scope.specs.declared.types.DataType.TheVariants as type
 use Rattle.ttcn_values.specs.Evaluation.{value_of}
 use Rattle.ttcn_values.specs.Outcomes.{each}
 use Rattle.ttcn_values.specs.Readings.{Reading}

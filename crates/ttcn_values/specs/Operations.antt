@@ -6,7 +6,7 @@ use Rattle.ttcn_syntax.specs.declared.operator.Operator.{Operator}
 use Rattle.ttcn_syntax.specs.declared.operator.Operator.TheVariants as operator
 use Rattle.ttcn_syntax.specs.declared.operator.Sign.{Sign}
 use Rattle.ttcn_syntax.specs.declared.operator.Sign.TheVariants as sign
-use Rattle.ttcn_values.specs.Integers.{calculated, within}
+use Rattle.arithmetic.specs.Integers.{calculated, within}
 use Rattle.ttcn_values.specs.Values.{boolean, equal, integer, is_complete}
 use Rattle.ttcn_values.specs.declared.value.Value.{Value}
 use Rattle.ttcn_values.specs.declared.value.Value.TheVariants as value

@@ -9,9 +9,9 @@ use Rattle.ttcn_syntax.specs.declared.tree.definition.Enumerator.{Enumerator}
 use Rattle.ttcn_syntax.specs.declared.tree.expression.ComponentRef.{ComponentRef}
 use Rattle.ttcn_syntax.specs.declared.tree.expression.ComponentRef.TheVariants as component
 use Rattle.ttcn_syntax.specs.declared.tree.expression.Reference.{Reference}
-use Rattle.ttcn_types.specs.Names.{fields_at, kind_at, module_names}
-use Rattle.ttcn_types.specs.declared.names.Meaning.{Meaning}
-use Rattle.ttcn_types.specs.declared.names.Meaning.TheVariants as meaning
+use Rattle.check_scope.specs.Names.{fields_at, kind_at, module_names}
+use Rattle.check_scope.specs.declared.names.Meaning.{Meaning}
+use Rattle.check_scope.specs.declared.names.Meaning.TheVariants as meaning
 use Rattle.ttcn_values.specs.Operations.{truth}
 use Rattle.ttcn_values.specs.Values as values
 use Rattle.ttcn_values.specs.Values.{is_omit, record_of}

@@ -13,10 +13,10 @@ use Rattle.ttcn_syntax.specs.declared.tree.template.Template as tree
 use Rattle.ttcn_syntax.specs.declared.tree.template.TemplateBody.{TemplateBody, fold-TemplateBody}
 use Rattle.ttcn_syntax.specs.declared.tree.template.TemplateBody.TheOpen.{FieldTemplate-F, Template-F, TemplateBody-F}
 use Rattle.ttcn_syntax.specs.declared.tree.value.Value as written
-use Rattle.ttcn_types.specs.Calls.{parameters_of}
-use Rattle.ttcn_types.specs.Names.{fields_at, kind_at, module_names, resolved}
-use Rattle.ttcn_types.specs.Templates.{bare_name, template_meant}
-use Rattle.ttcn_types.specs.declared.types.DataType.{DataType}
+use Rattle.check_expressions.specs.Calls.{parameters_of}
+use Rattle.check_scope.specs.Names.{fields_at, kind_at, module_names, resolved}
+use Rattle.check_expressions.specs.Templates.{bare_name, template_meant}
+use Rattle.check_scope.specs.declared.types.DataType.{DataType}
 use Rattle.ttcn_values.specs.Evaluation.{value_of}
 use Rattle.ttcn_values.specs.Literals.{type_of_field, value_wanted, wanted_record}
 use Rattle.ttcn_values.specs.Outcomes.{each}

@@ -1,7 +1,6 @@
 //! Values and templates, and what expressions give.
 #![tactic(auto)]
 
-mod arithmetic;
 mod basic;
 mod evaluation;
 mod fault;
@@ -13,7 +12,6 @@ mod operators;
 mod path;
 mod reader;
 mod template;
-mod typing;
 mod value;
 
 pub use basic::{BasicFrame, BasicValue, eval_basic};
@@ -24,8 +22,4 @@ pub use laws::{equal_templates_are_one, equal_values_are_one};
 pub use matching::matches;
 pub use path::Path;
 pub use template::{Pattern, Template};
-pub use typing::{
-    arguments_are_given, chains_fit_their_module, expressions_give_their_types, fields_differ,
-    templates_go_where_they_are_wanted, values_go_where_they_are_wanted, wanted_expressions_go,
-};
 pub use value::{ComponentId, Value};

@@ -1,10 +1,10 @@
 //! What the operators give (ES 201 873-1, section 7.1).
 ghost use Rattle.std.specs.Prelude.{◌≡◌, pos};
-ghost use Rattle.ttcn_values.specs.Integers.{within};
+ghost use Rattle.arithmetic.specs.Integers.{within};
 ghost use Rattle.ttcn_values.specs.Operations.{applied, compared, decides, fitting, logical, negated, ordered, under_sign};
 ghost use Rattle.ttcn_values.specs.Outcomes.{Gives};
 
-use crate::{Fault, Value, arithmetic};
+use crate::{Fault, Value};
 use ttcn_syntax::{Operator, Sign};
 
 /// A whole number, where it is an integer.

@@ -13,12 +13,12 @@ use Rattle.ttcn_parse.proofs.Complete.{one_tree}
 use Rattle.ttcn_parse.specs.Refused.{IsRead, IsRefused}
 use Rattle.ttcn_parse.specs.declared.error.ParseError.{ParseError}
 use Rattle.ttcn_parse.specs.declared.error.ParseError.TheVariants as reading
-use Rattle.ttcn_types.specs.Numbers.{number_of}
+use Rattle.check_scope.specs.Numbers.{number_of}
 use Rattle.ttcn_types.specs.Rules.{AreWellTyped, IsLeast, IsRefusal}
-use Rattle.ttcn_types.specs.declared.rule.CheckError.{CheckError}
-use Rattle.ttcn_types.specs.declared.rule.CheckError.TheVariants as typing
-use Rattle.ttcn_types.specs.declared.rule.Rule.{Rule}
-use Rattle.ttcn_types.specs.declared.rule.Rule.TheVariants as rule
+use Rattle.ttcn_types.specs.declared.error.CheckError.{CheckError}
+use Rattle.ttcn_types.specs.declared.error.CheckError.TheVariants as typing
+use Rattle.check_scope.specs.declared.rule.Rule.{Rule}
+use Rattle.check_scope.specs.declared.rule.Rule.TheVariants as rule
 use Rattle.ttcnx.specs.Answer.{SameFault}
 use Rattle.ttcnx.specs.Checked.{AreRefused, HasOneJudgement, IsAccepted, IsRefusedWith, broken, cut, left_out, too_deep, too_long, uncut, unexpected}
 use Rattle.ttcnx.specs.Fault.{grammar_fault, lexical_fault, typing_fault, typing_refusal}

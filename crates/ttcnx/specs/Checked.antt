@@ -10,7 +10,7 @@ use Rattle.ttcn_parse.specs.Groups.{IsTooDeep}
 use Rattle.ttcn_parse.specs.LeftOut.{HasLeftOut}
 use Rattle.ttcn_parse.specs.Refused.{IsRead, IsUnread}
 use Rattle.ttcn_types.specs.Rules.{AreWellTyped, IsLeast}
-use Rattle.ttcn_types.specs.declared.rule.Rule.{Rule}
+use Rattle.check_scope.specs.declared.rule.Rule.{Rule}
 use Rattle.ttcnx.specs.Answer.{SameFault}
 use Rattle.ttcnx.specs.Fault.{lexical_fault, typing_refusal}
 use Rattle.ttcnx.specs.declared.fault.Fault.{Fault}

@@ -8,10 +8,10 @@ use Rattle.explore.specs.declared.plan.ExploreError.{ExploreError}
 use Rattle.explore.specs.declared.plan.ExploreError.TheVariants as searching
 use Rattle.ttcn_parse.specs.declared.error.ParseError as whole
 use Rattle.ttcn_parse.specs.declared.error.ParseError.TheVariants as reading
-use Rattle.ttcn_types.specs.declared.rule.CheckError as typed
-use Rattle.ttcn_types.specs.declared.rule.CheckError.TheVariants as typing
-use Rattle.ttcn_types.specs.declared.rule.Rule as all_rules
-use Rattle.ttcn_types.specs.declared.rule.Rule.TheVariants as rule
+use Rattle.ttcn_types.specs.declared.error.CheckError as typed
+use Rattle.ttcn_types.specs.declared.error.CheckError.TheVariants as typing
+use Rattle.check_scope.specs.declared.rule.Rule as all_rules
+use Rattle.check_scope.specs.declared.rule.Rule.TheVariants as rule
 use Rattle.basic.specs.declared.reader.ParseError.{ParseError}
 use Rattle.basic.specs.declared.reader.ParseError.TheVariants as parsing
 use Rattle.basic.specs.declared.rules.CheckError.{CheckError}

@@ -1,7 +1,7 @@
 //! The numbers of constants and templates.
 ghost use Rattle.std.specs.Prelude.{◌≡◌, ℕ, ◌<◌, IfOk};
 ghost use Rattle.ttcn_types.specs.Parts.{how_many, how_many_in, number_at};
-ghost use Rattle.ttcn_types.specs.Tables.{numbered};
+ghost use Rattle.ttcn_types.specs.Numbering.{numbered};
 
 use std::alloc::{AllocError, Global};
 use ttcn_syntax::{Definition, DefinitionKind, Span};

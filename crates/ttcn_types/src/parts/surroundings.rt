@@ -1,12 +1,12 @@
 //! What stands in constants and templates.
 ghost use Rattle.std.specs.Prelude.{◌≡◌, ℕ, IfOk, OnOk, map};
 ghost use Rattle.ttcn_types.specs.Parts.{number_at};
-ghost use Rattle.ttcn_types.specs.Tables.{numbered};
+ghost use Rattle.ttcn_types.specs.Numbering.{numbered};
 
 use super::numbers::Numbers;
-use crate::names::Meaning;
-use crate::scope::Scope;
-use crate::table::Table;
+use check_scope::names::Meaning;
+use check_scope::scope::Scope;
+use check_scope::table::Table;
 use std::alloc::{AllocError, Global};
 use survey::Thing;
 use ttcn_syntax::{ComponentRef, Constant, Expr, FieldValue, Reference, Value};
@@ -21,7 +21,7 @@ pub(super) struct Surroundings<'p, 'a> {
 }
 
 impl Surroundings<'_, '_> {
-    ghost use Rattle.ttcn_types.specs.Checking.{scope_of};
+    ghost use Rattle.ttcn_types.specs.Surrounding.{scope_of};
     ghost use Rattle.ttcn_types.specs.Parts as spec;
 
     /// What a name stands for.

@@ -1,9 +1,9 @@
 //! What stands in templates.
 ghost use Rattle.std.specs.Prelude.{◌≡◌, IfOk, OnOk, map};
-ghost use Rattle.ttcn_types.specs.Templates.{template_meant};
+ghost use Rattle.check_expressions.specs.Templates.{template_meant};
 
 use super::surroundings::Surroundings;
-use crate::names::Meaning;
+use check_scope::names::Meaning;
 use std::alloc::{AllocError, Global};
 use survey::Thing;
 use ttcn_syntax::{Bound, Call, ComponentRef, Expr, FieldTemplate, Template, TemplateBody};
@@ -19,9 +19,9 @@ fn template_meant(meaning: Option<Meaning>) -> Option<usize>
 }
 
 impl Surroundings<'_, '_> {
-    ghost use Rattle.ttcn_types.specs.Checking.{scope_of};
+    ghost use Rattle.ttcn_types.specs.Surrounding.{scope_of};
     ghost use Rattle.ttcn_types.specs.Parts as spec;
-    ghost use Rattle.ttcn_types.specs.Templates as named;
+    ghost use Rattle.check_expressions.specs.Templates as named;
 
     /// The template that an expression names without arguments.
     fn template_named(&self, expr: &Expr) -> Option<usize>

@@ -1,17 +1,18 @@
 //! The constants and templates of a module.
 ghost use Rattle.std.specs.Prelude.{◌≡◌, ℕ, [], ◌∷◌, ◌++◌, IfOk, OnOk, map};
-ghost use Rattle.ttcn_types.specs.Checking.{scope_of};
-ghost use Rattle.ttcn_types.specs.Definitions.{module_scope, with_parameters};
-ghost use Rattle.ttcn_types.specs.Names.{declaring, resolved};
+ghost use Rattle.ttcn_types.specs.Surrounding.{scope_of};
+ghost use Rattle.check_scope.specs.Scopes.{module_scope};
+ghost use Rattle.check_statements.specs.Definitions.{with_parameters};
+ghost use Rattle.check_scope.specs.Names.{declaring, resolved};
 ghost use Rattle.ttcn_types.specs.Parts as spec;
-ghost use Rattle.ttcn_types.specs.Tables.{numbered};
+ghost use Rattle.ttcn_types.specs.Numbering.{numbered};
 
 use super::numbers::Numbers;
 use super::surroundings::Surroundings;
-use crate::names::Meaning;
-use crate::scope::{Scope, built_in, type_meant};
-use crate::table::Table;
-use crate::types::DataType;
+use check_scope::names::Meaning;
+use check_scope::scope::{Scope, built_in, type_meant};
+use check_scope::table::Table;
+use check_scope::types::DataType;
 use std::alloc::{AllocError, Global};
 use survey::Thing;
 use ttcn_syntax::{Constant, DefinitionKind, Parameter, TemplateDefinition, TypeName};

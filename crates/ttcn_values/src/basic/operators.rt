@@ -2,9 +2,9 @@
 ghost use Rattle.std.specs.Prelude.{◌≡◌, pos, IsTrue, ◌↔◌};
 ghost use Rattle.ttcn_values.specs.BasicOperators.{negated, under_sign, decides, of_integers, of_booleans, applied};
 ghost use Rattle.ttcn_values.specs.BasicWhole.{fitting};
-ghost use Rattle.ttcn_values.specs.Integers.{within};
+ghost use Rattle.arithmetic.specs.Integers.{within};
 
-use crate::{BasicValue, Fault, arithmetic};
+use crate::{BasicValue, Fault};
 use ttcn_syntax::{Operator, Sign};
 
 /// The value of a number of the text.

@@ -2,7 +2,7 @@
 ghost use Rattle.std.specs.Prelude.{◌≡◌, None, Some, map};
 ghost use Rattle.std.specs.Option.{option_map};
 ghost use Rattle.ttcn_syntax.specs.declared.tree.expression.Expr.{out-Expr};
-ghost use Rattle.ttcn_types.specs.Templates.{bare_name};
+ghost use Rattle.check_expressions.specs.Templates.{bare_name};
 ghost use Rattle.ttcn_values.specs.Frames.{read_by};
 ghost use Rattle.ttcn_values.specs.Outcomes.{Gives, GivesBy};
 ghost use Rattle.ttcn_values.specs.Templates as spec;

@@ -1,4 +1,4 @@
-use Rattle.ttcn_types.specs.Checking.{least_in, seen}
+use Rattle.check_scope.specs.Checking.{least_in, seen}
 use Rattle.ttcn_types.proofs.LeastWhere.{found_broken}
 use Rattle.ttcn_types.proofs.checker.least_broken.Goals as goal
 

@@ -1,6 +1,6 @@
 use Rattle.std.proofs.Common.{List, ap, ◌∙◌}
 use Rattle.ttcn_syntax.specs.declared.tree.definition.Definition.{Definition}
-use Rattle.ttcn_types.specs.Names.{Names, module_names}
+use Rattle.check_scope.specs.Names.{Names, module_names}
 use Rattle.ttcn_types.proofs.definitions.Definitions.meaning.Goals as goal
 
 pub returns : goal.returns

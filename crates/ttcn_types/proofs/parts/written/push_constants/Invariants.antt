@@ -1,5 +1,5 @@
 use Rattle.std.proofs.Common.{◌≡◌, ◌++◌, map}
-use Rattle.ttcn_types.specs.Checking.{scope_of}
+use Rattle.ttcn_types.specs.Surrounding.{scope_of}
 use Rattle.ttcn_types.specs.Parts.{constant_parts}
 use Rattle.ttcn_types.proofs.Listing.{listing}
 use Rattle.ttcn_types.proofs.parts.written.push_constants.Given as goal

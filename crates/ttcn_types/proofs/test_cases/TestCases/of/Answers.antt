@@ -2,7 +2,7 @@ use Rattle.std.proofs.Common.{◌+◌, drop, sym, ap, ◌∙◌}
 use Rattle.ttcn_types.specs.Programs.{is_test_case}
 use Rattle.ttcn_types.specs.TestCases.{placed}
 use Rattle.ttcn_types.specs.declared.test_cases.TestCases.{TestCases}
-use Rattle.ttcn_types.proofs.Lookups.{drop-next}
+use Rattle.check_scope.proofs.Lookups.{drop-next}
 use Rattle.ttcn_types.proofs.TestCaseLemmas.{no-test_case, placing, placing-end, placing-first, placing-other, placing-test_case}
 use Rattle.ttcn_types.proofs.test_cases.TestCases.of.Goals as goal
 use Rattle.ttcn_types.proofs.test_cases.TestCases.of.Goals.{in-Testcase+in_ok-add, in_default}

@@ -1,5 +1,5 @@
 use Rattle.std.proofs.Common.{◌≡◌}
-use Rattle.ttcn_types.specs.Checking.{scope_of}
+use Rattle.ttcn_types.specs.Surrounding.{scope_of}
 use Rattle.ttcn_types.specs.Parts.{beside, expression_parts, link_parts}
 use Rattle.ttcn_types.proofs.Beside.{collecting}
 use Rattle.ttcn_types.proofs.parts.surroundings.Surroundings.+add_expression.Given as goal

@@ -1,0 +1,185 @@
+-- The types of expressions, and the rules that are broken in them (ES 201 873-1, 7).
+use Rattle.std.specs.Prelude.{ℕ, Bool, true, false, ◌&&◌, List, [], ◌∷◌, ◌++◌, Option, Some, None, if◌then◌else◌}
+use Rattle.ttcn_syntax.specs.declared.operator.Operator.{Operator}
+use Rattle.ttcn_syntax.specs.declared.tree.definition.Definition.{Definition}
+use Rattle.ttcn_syntax.specs.declared.tree.definition.Field.{Field}
+use Rattle.ttcn_syntax.specs.declared.tree.expression.ComponentRef.{ComponentRef}
+use Rattle.ttcn_syntax.specs.declared.tree.expression.ComponentRef.TheVariants as component
+use Rattle.ttcn_syntax.specs.declared.tree.expression.Expr.{Expr, fold-Expr}
+use Rattle.ttcn_syntax.specs.declared.tree.expression.Expr.TheOpen.{Expr-F, Link-F}
+use Rattle.ttcn_syntax.specs.declared.tree.expression.Link.{Link, fold-Link}
+use Rattle.ttcn_syntax.specs.declared.tree.expression.Reference.{Reference}
+use Rattle.check_scope.specs.Names.{Scope, constants_type, field_named, fields_at, kind_at, module_names, resolved}
+use Rattle.check_scope.specs.Typings.{comparable, compares, is_of, operands_of, refers_to_component, result_of, typed, unless}
+use Rattle.check_scope.specs.declared.names.Meaning.{Meaning}
+use Rattle.check_scope.specs.declared.names.Meaning.TheVariants as meaning
+use Rattle.check_scope.specs.declared.rule.Rule.{Rule}
+use Rattle.check_scope.specs.declared.rule.Rule.TheVariants as rule
+use Rattle.check_scope.specs.declared.types.DataType.{DataType}
+use Rattle.check_scope.specs.declared.types.DataType.TheVariants as type
+use Rattle.check_scope.specs.declared.types.Typing.{Typing}
+use Rattle.check_scope.specs.declared.types.Typing.TheVariants as typing
+
+-- what is said of an expression: what is known of its type, and the rules that are broken in it
+pub record Judged : Type 0 where
+  pub typing : Typing
+  pub broken : List Rule
+
+-- nothing is broken
+abbrev pub fine : Typing → Judged
+fine t = record { typing = t; broken = [] }
+
+-- a rule is broken, so that the type is not known
+abbrev pub wrong : Rule → Judged
+wrong r = record { typing = typing.Unknown; broken = r ∷ [] }
+
+-- of this type if a demand is kept, which is not judged again where the type is not known
+abbrev pub demanding : Bool → Rule → DataType → Judged
+demanding true r t = fine (typing.Known t)
+demanding false r t = wrong r
+
+-- and so with what is broken before it
+abbrev pub after : List Rule → Judged → Judged
+after before judged = record { typing = judged.typing; broken = before ++ judged.broken }
+
+-- ---- references
+
+-- what a name stands for as a value
+abbrev pub at_meaning : List Definition → Option Meaning → Judged
+at_meaning definitions (Some (meaning.Variable t)) = fine (typed t)
+at_meaning definitions (Some (meaning.Constant t)) = fine (typed t)
+at_meaning definitions (Some (meaning.ModuleConstant at item)) = fine (typed (constants_type (module_names definitions) (kind_at definitions at)))
+at_meaning definitions (Some (meaning.Enumerator at)) = fine (typing.Known (type.Enumerated at))
+at_meaning definitions (Some (meaning.Port at)) = fine typing.NoValue
+at_meaning definitions (Some meaning.Timer) = fine typing.NoValue
+at_meaning definitions _ = wrong rule.UnknownName
+
+-- what a field of a record is
+abbrev pub at_field : List Definition → Option Field → Judged
+at_field definitions None = wrong rule.Fields
+at_field definitions (Some field) = fine (typed (resolved (module_names definitions) field.type_name))
+
+-- what is said of a field of something
+abbrev pub within : List Definition → Typing → List ℕ → Judged
+within definitions (typing.Known (type.Record at)) name = at_field definitions (field_named name (fields_at definitions at))
+within definitions typing.Unknown name = fine typing.Unknown
+within definitions _ name = wrong rule.Fields
+
+-- what is said of fields of fields
+abbrev pub along : List Definition → Typing → List (List ℕ) → Judged
+along definitions t [] = fine t
+along definitions t (name ∷ names) =
+    let found = within definitions t name in after found.broken (along definitions found.typing names)
+
+abbrev pub at_reference : Scope → Reference → Judged
+at_reference scope reference =
+    let found = at_meaning scope.definitions (scope.names reference.name) in
+    after found.broken (along scope.definitions found.typing reference.fields)
+
+-- `mtc`, or `self` of no known type: only where these may stand
+abbrev pub any_component : Bool → Judged
+any_component free = record { typing = typing.AnyComponent; broken = unless free rule.MtcPlace }
+
+-- `self`
+abbrev pub at_self : Option ℕ → Bool → Judged
+at_self (Some at) free = fine (typing.Known (type.Component at))
+at_self None free = any_component free
+
+abbrev pub at_component : Scope → ComponentRef → Bool → Judged
+at_component scope component.Itself free = at_self scope.itself free
+at_component scope component.Mtc free = any_component free
+at_component scope (component.Named reference) free = at_reference scope reference
+
+-- where a component is wanted, `mtc` among them
+abbrev pub at_wanted_component : Scope → ComponentRef → Judged
+at_wanted_component scope reference =
+    let found = at_component scope reference true in
+    after found.broken (record { typing = found.typing; broken = unless (refers_to_component found.typing) rule.UnknownName })
+
+-- a name without fields stands for a timer
+abbrev pub is_timer : List (List ℕ) → Option Meaning → Bool
+is_timer [] (Some meaning.Timer) = true
+is_timer _ _ = false
+
+abbrev pub names_timer : Scope → ComponentRef → Bool
+names_timer scope (component.Named reference) = is_timer reference.fields (scope.names reference.name)
+names_timer scope _ = false
+
+-- whether a component runs: unknown where its reference is
+abbrev pub runs : Typing → Judged
+runs typing.Unknown = fine typing.Unknown
+runs found = demanding (refers_to_component found) rule.UnknownName type.Boolean
+
+-- `.running`, of a timer or a component
+abbrev pub at_running : Scope → ComponentRef → Judged
+at_running scope reference =
+    if names_timer scope reference then fine (typing.Known type.Boolean)
+    else (let found = at_component scope reference true in after found.broken (runs found.typing))
+
+-- whether a field is present
+abbrev pub presence : Typing → List (List ℕ) → Judged
+presence typing.Unknown fields = fine typing.Unknown
+presence found [] = wrong rule.Fields
+presence found (field ∷ fields) = fine (typing.Known type.Boolean)
+
+-- `ispresent`, of a field
+abbrev pub at_ispresent : Scope → Reference → Judged
+at_ispresent scope reference = let found = at_reference scope reference in after found.broken (presence found.typing reference.fields)
+
+-- ---- operators
+
+-- an operand that must be of a type, which is then that of the whole
+abbrev pub of_type : DataType → Typing → Judged
+of_type wanted typing.Unknown = fine typing.Unknown
+of_type wanted found = demanding (is_of wanted found) rule.OperandType wanted
+
+abbrev pub operand : DataType → Judged → Judged
+operand wanted judged = after judged.broken (of_type wanted judged.typing)
+
+-- an operator between two operands: not judged where the type of one is unknown
+abbrev pub between : Operator → Typing → Typing → Judged
+between op typing.Unknown right = fine typing.Unknown
+between op left typing.Unknown = fine typing.Unknown
+between op left right = demanding
+    (if compares op then comparable left right else (is_of (operands_of op) left && is_of (operands_of op) right))
+    rule.OperandType (result_of op)
+
+-- ---- expressions
+
+-- what is said of an expression in a scope: `mtc`, and `self` of no known type, may stand free as the whole of it, or not
+abbrev pub Judgement : Type 0
+Judgement = Scope → Bool → Judged
+
+-- one link of a chain behind what is said of those before it
+abbrev pub joined : Operator → Judgement → Judgement → Judgement
+joined op left right scope free =
+    let l = left scope (compares op) in
+    let r = right scope (compares op) in
+    after l.broken (after r.broken (between op l.typing r.typing))
+
+-- operands with operators between them, from the left
+abbrev pub chained : Judgement → List (Operator × Judgement) → Judgement
+chained first [] = first
+chained first (link ∷ links) = chained (joined link.0 first link.1) links
+
+abbrev pub expression_step : Expr-F Judgement (Operator × Judgement) → Judgement
+expression_step (Expr-F.Int n) scope free = fine (typing.Known type.Integer)
+expression_step (Expr-F.Bool b) scope free = fine (typing.Known type.Boolean)
+expression_step Expr-F.Null scope free = fine typing.Null
+expression_step (Expr-F.Reference reference) scope free = at_component scope reference free
+expression_step (Expr-F.Running reference) scope free = at_running scope reference
+expression_step (Expr-F.Ispresent reference) scope free = at_ispresent scope reference
+expression_step (Expr-F.Not judgement) scope free = operand type.Boolean (judgement scope false)
+expression_step (Expr-F.Signed sign judgement) scope free = operand type.Integer (judgement scope false)
+expression_step (Expr-F.Chain first links) scope free = chained first links scope free
+
+abbrev pub link_step : Link-F Judgement (Operator × Judgement) → Operator × Judgement
+link_step link = (link.operator, link.operand)
+
+-- what is said of an expression
+abbrev pub expression : Expr → Judgement
+expression = fold-Expr Judgement (Operator × Judgement) expression_step link_step
+
+-- an operator with what is said of the operand behind it
+abbrev pub link : Link → Operator × Judgement
+link = fold-Link Judgement (Operator × Judgement) expression_step link_step

@@ -1,0 +1,144 @@
+-- The rules that templates break, at what they are matched with (ES 201 873-1, 15).
+use Rattle.std.specs.Prelude.{ℕ, Bool, true, false, not, ◌||◌, List, [], ◌∷◌, ◌++◌, length, map, bytes_eq, Option, Some, None}
+use Rattle.std.specs.List.{flat_map, list_all, list_any}
+use Rattle.ttcn_syntax.specs.declared.tree.definition.Field.{Field}
+use Rattle.ttcn_syntax.specs.declared.tree.expression.ComponentRef.TheVariants as component
+use Rattle.ttcn_syntax.specs.declared.tree.expression.Expr.{Expr, out-Expr}
+use Rattle.ttcn_syntax.specs.declared.tree.expression.Expr.TheOpen.{Expr-F}
+use Rattle.ttcn_syntax.specs.declared.tree.expression.Link.{Link}
+use Rattle.ttcn_syntax.specs.declared.tree.template.Bound.{Bound}
+use Rattle.ttcn_syntax.specs.declared.tree.template.Bound.TheVariants as bound
+use Rattle.ttcn_syntax.specs.declared.tree.template.FieldTemplate.{FieldTemplate, fold-FieldTemplate}
+use Rattle.ttcn_syntax.specs.declared.tree.template.Template.{Template, fold-Template, out-Template}
+use Rattle.ttcn_syntax.specs.declared.tree.template.TemplateBody.TheOpen.{FieldTemplate-F, Template-F, TemplateBody-F}
+use Rattle.ttcn_syntax.specs.declared.tree.template.TemplateBody.{TemplateBody, fold-TemplateBody, out-TemplateBody}
+use Rattle.ttcn_syntax.specs.declared.tree.value.Value.{Value}
+use Rattle.check_expressions.specs.Calls.{at_arguments, lone_arguments, parameters_of, template_type}
+use Rattle.check_expressions.specs.Expressions.{expression}
+use Rattle.check_scope.specs.Names.{Scope, kind_at}
+use Rattle.check_scope.specs.Typings.{fits, typed, unless}
+use Rattle.check_expressions.specs.Values.{AtTarget, at_expression, by_name, in_order, is_full, takes_braces, wanted_fields}
+use Rattle.check_scope.specs.declared.names.Meaning.{Meaning}
+use Rattle.check_scope.specs.declared.names.Meaning.TheVariants as meaning
+use Rattle.check_scope.specs.declared.rule.Rule.{Rule}
+use Rattle.check_scope.specs.declared.rule.Rule.TheVariants as rule
+use Rattle.check_scope.specs.declared.types.DataType.{DataType}
+use Rattle.check_scope.specs.declared.types.DataType.TheVariants as type
+use Rattle.check_scope.specs.declared.types.Target.{Target}
+use Rattle.check_scope.specs.declared.types.Typing.{Typing}
+use Rattle.check_scope.specs.declared.types.Typing.TheVariants as typing
+
+-- ---- named templates
+
+-- the position of the template that a name stands for
+abbrev pub template_meant : Option Meaning → Option ℕ
+template_meant (Some (meaning.Template at)) = Some at
+template_meant _ = None
+
+-- the name that an expression is and nothing more
+abbrev pub whole_name : List (List ℕ) → List ℕ → Option (List ℕ)
+whole_name [] name = Some name
+whole_name (field ∷ fields) name = None
+
+abbrev pub bare_name : Expr-F Expr Link → Option (List ℕ)
+bare_name (Expr-F.Reference (component.Named reference)) = whole_name reference.fields reference.name
+bare_name _ = None
+
+-- the template that an expression names without arguments
+abbrev pub template_by_name : Scope → Option (List ℕ) → Option ℕ
+template_by_name scope None = None
+template_by_name scope (Some name) = template_meant (scope.names name)
+
+abbrev pub template_named : Scope → Expr → Option ℕ
+template_named scope e = template_by_name scope (bare_name (out-Expr e))
+
+abbrev pub type_of_template : Scope → ℕ → Option DataType
+type_of_template scope at = template_type scope.definitions (kind_at scope.definitions at)
+
+-- a template with arguments, where a template of a type is wanted
+abbrev pub at_template : Scope → Target → List Value → Option ℕ → List Rule
+at_template scope target given None = rule.UnknownName ∷ lone_arguments scope given
+at_template scope target given (Some at) =
+    at_arguments scope (parameters_of (kind_at scope.definitions at)) given ++
+    unless (fits target.data_type (typed (type_of_template scope at))) rule.ValueType
+
+-- an expression, or the name of a template
+abbrev pub at_name : Scope → Target → Expr → Option ℕ → List Rule
+at_name scope target e None = at_expression scope target.data_type e
+at_name scope target e (Some at) = at_template scope target [] (Some at)
+
+-- ---- ranges
+
+abbrev pub at_bound : Scope → Bound → List Rule
+at_bound scope (bound.Expr e) = at_expression scope (Some type.Integer) e
+at_bound scope bound.Infinity = []
+
+-- integers are wanted, and the bounds are integers
+abbrev pub at_range : Scope → Target → Bound → Bound → List Rule
+at_range scope target low high = unless (fits target.data_type (typing.Known type.Integer)) rule.ValueType ++ at_bound scope low ++ at_bound scope high
+
+-- ---- templates
+
+-- each field has an element: not judged where the fields aren't known
+abbrev pub has_all : Option (List Field) → List (List ℕ) → Bool
+has_all None names = true
+has_all (Some fields) names = list_all (λ field. list_any (bytes_eq field.name) names) fields
+
+-- the rules that parts break which stand for the same target
+abbrev pub each : List AtTarget → AtTarget
+each parts scope target = flat_map (λ part. part scope target) parts
+
+abbrev pub body_step : TemplateBody-F AtTarget (List ℕ × AtTarget) AtTarget → AtTarget
+body_step TemplateBody-F.Any scope target = []
+body_step TemplateBody-F.AnyOrOmit scope target = unless target.optional rule.Fields
+body_step TemplateBody-F.Omit scope target = unless target.optional rule.Fields
+body_step (TemplateBody-F.Complement parts) scope target = each parts scope target
+body_step (TemplateBody-F.List parts) scope target = each parts scope target
+body_step (TemplateBody-F.Range low high) scope target = at_range scope target low high
+body_step (TemplateBody-F.Call call) scope target = at_template scope target call.arguments (template_meant (scope.names call.name))
+body_step (TemplateBody-F.Expr e) scope target = at_name scope target e (template_named scope e)
+body_step (TemplateBody-F.Listed parts) scope target =
+    unless (takes_braces target.data_type) rule.ValueType ++
+    unless (is_full (wanted_fields scope.definitions target.data_type) (length parts)) rule.Fields ++
+    in_order (wanted_fields scope.definitions target.data_type) parts scope
+body_step (TemplateBody-F.Assigned parts) scope target =
+    unless (takes_braces target.data_type) rule.ValueType ++
+    unless (has_all (wanted_fields scope.definitions target.data_type) (map (λ part. part.0) parts)) rule.Fields ++
+    by_name (wanted_fields scope.definitions target.data_type) [] parts scope
+
+abbrev pub template_step : Template-F AtTarget (List ℕ × AtTarget) AtTarget → AtTarget
+template_step t scope target = t.body scope target ++ unless (not t.ifpresent || target.optional) rule.Fields
+
+abbrev pub field_template_step : FieldTemplate-F AtTarget (List ℕ × AtTarget) AtTarget → List ℕ × AtTarget
+field_template_step part = (part.name, part.template)
+
+-- the rules that a template breaks, but for its `ifpresent`
+abbrev pub body : TemplateBody → AtTarget
+body = fold-TemplateBody AtTarget (List ℕ × AtTarget) AtTarget body_step field_template_step template_step
+
+-- the name of an element, with the rules that its template breaks
+abbrev pub field_template : FieldTemplate → List ℕ × AtTarget
+field_template = fold-FieldTemplate AtTarget (List ℕ × AtTarget) AtTarget body_step field_template_step template_step
+
+-- the rules that a template breaks
+abbrev pub template : Template → AtTarget
+template = fold-Template AtTarget (List ℕ × AtTarget) AtTarget body_step field_template_step template_step
+
+-- ---- the type of a template by itself
+
+-- what is known of it, where it says something: an expression and a named template do
+abbrev pub typing_at_name : Scope → Expr → Option ℕ → Typing
+typing_at_name scope e None = (expression e scope false).typing
+typing_at_name scope e (Some at) = typed (type_of_template scope at)
+
+abbrev pub typing_by_position : Scope → Option ℕ → Typing
+typing_by_position scope None = typing.Unknown
+typing_by_position scope (Some at) = typed (type_of_template scope at)
+
+abbrev pub typing_of_body : Scope → TemplateBody-F TemplateBody FieldTemplate Template → Option Typing
+typing_of_body scope (TemplateBody-F.Expr e) = Some (typing_at_name scope e (template_named scope e))
+typing_of_body scope (TemplateBody-F.Call call) = Some (typing_by_position scope (template_meant (scope.names call.name)))
+typing_of_body scope _ = None
+
+abbrev pub typing_of_template : Scope → Template → Option Typing
+typing_of_template scope t = typing_of_body scope (out-TemplateBody (out-Template t).body)

@@ -1,0 +1,252 @@
+//! The rules that calls and their arguments break (ES 201 873-1, 16 and 20).
+ghost use Rattle.std.specs.Prelude.{◌≡◌, IfOk};
+ghost use Rattle.std.specs.Option.{option_map};
+ghost use Rattle.check_expressions.specs.Calls as spec;
+ghost use Rattle.check_scope.specs.Checking.{least, seen};
+ghost use Rattle.check_scope.specs.Names.{component_meant};
+
+use crate::value::value;
+use check_scope::broken::Broken;
+use check_scope::names::Meaning;
+use check_scope::rule::Rule;
+use check_scope::scope::Scope;
+use check_scope::types::{DataType, Target, Typing};
+use std::alloc::{AllocError, Global};
+use ttcn_syntax::{Call, DefinitionKind, Name, Parameter, TypeName, Value};
+
+/// Where a call stands, which says what may be called.
+#[derive(Clone, Copy, Debug, PartialEq, Eq)]
+pub enum CallPlace {
+    /// As a statement: functions and altsteps.
+    Alone,
+    /// As a branch: altsteps.
+    Branch,
+    /// Where a value is wanted: functions with a result.
+    Value,
+}
+
+impl CallPlace {
+    fn may_call(self, kind: Option<&DefinitionKind>) -> bool
+        ensures { result ≡ spec.callable self (option_map (λ kind. kind.now) kind.entry) }
+    {
+        match (self, kind) {
+            (CallPlace::Alone, Some(DefinitionKind::Function(_)))
+            | (CallPlace::Alone | CallPlace::Branch, Some(DefinitionKind::Altstep(_))) => true,
+            (CallPlace::Value, Some(DefinitionKind::Function(function))) => {
+                function.returns.is_some()
+            }
+            _ => false,
+        }
+    }
+}
+
+pub fn parameters_of<'a>(kind: Option<&'a DefinitionKind>) -> &'a [Parameter]
+    ensures { result.now ≡ spec.parameters_of (option_map (λ kind. kind.now) kind.entry) }
+{
+    match kind {
+        Some(DefinitionKind::Template(template)) => template.parameters.as_slice(),
+        Some(DefinitionKind::Function(function)) => function.parameters.as_slice(),
+        Some(DefinitionKind::Altstep(altstep)) => altstep.parameters.as_slice(),
+        _ => &[],
+    }
+}
+
+/// The component type that a function or an altstep says it runs on. No test case is called, wherever it runs.
+pub fn runs_on_of<'a>(kind: Option<&'a DefinitionKind>) -> Option<&'a Name>
+    ensures { option_map (λ name. name.now) result ≡ spec.runs_on_of (option_map (λ kind. kind.now) kind.entry) }
+{
+    match kind {
+        Some(DefinitionKind::Function(function)) => function.runs_on.as_ref(),
+        Some(DefinitionKind::Altstep(altstep)) => altstep.runs_on.as_ref(),
+        _ => None,
+    }
+}
+
+/// The type of a function's result, where it has one.
+pub(crate) fn result_type_of<'a>(kind: Option<&'a DefinitionKind>) -> Option<&'a TypeName>
+    ensures { option_map (λ name. name.now) result ≡ spec.result_type_of (option_map (λ kind. kind.now) kind.entry) }
+{
+    match kind {
+        Some(DefinitionKind::Function(function)) => function.returns.as_ref(),
+        _ => None,
+    }
+}
+
+/// The type of a template.
+pub(crate) fn template_type(scope: &Scope<'_>, kind: Option<&DefinitionKind>) -> Option<DataType>
+    ensures { result ≡ spec.template_type (seen scope.now).definitions (option_map (λ kind. kind.now) kind.entry) }
+{
+    match kind {
+        Some(DefinitionKind::Template(template)) => {
+            scope.resolved_in_module(&template.type_name)
+        }
+        _ => None,
+    }
+}
+
+/// What the first argument goes to.
+fn parameter_target(scope: &Scope<'_>, parameters: &[Parameter]) -> Target
+    ensures { result ≡ spec.parameter_target (seen scope.now) parameters.now }
+{
+    match parameters {
+        [parameter, ..] => Target::of(scope.resolved_in_module(&parameter.type_name)),
+        [] => Target::any(),
+    }
+}
+
+/// What is behind the first parameter.
+fn next_parameters(parameters: &[Parameter]) -> &[Parameter]
+    ensures { result.now ≡ spec.next_parameters parameters.now }
+{
+    match parameters {
+        [_, parameters @ ..] => parameters,
+        [] => &[],
+    }
+}
+
+/// Arguments by the order of the parameters.
+fn arguments(
+    alloc: Global,
+    scope: &Scope<'_>,
+    parameters: &[Parameter],
+    given: &[Value],
+) -> Result<Broken, AllocError>
+    ensures { IfOk result (λ broken. broken ≡ least (spec.arguments (seen scope.now) parameters.now given.now)) }
+{
+    let mut broken = Broken::nothing();
+    let mut left = parameters;
+    for argument in given {
+        let part = value(alloc, scope, argument, parameter_target(scope, left))?;
+        broken = broken.and(part);
+        left = next_parameters(left);
+    }
+    Ok(broken)
+}
+
+/// As many arguments as parameters, each of the parameter's type.
+#[tactic(auto, using(crate::proofs::Findings::least_append))]
+pub fn at_arguments(
+    alloc: Global,
+    scope: &Scope<'_>,
+    parameters: &[Parameter],
+    given: &[Value],
+) -> Result<Broken, AllocError>
+    ensures { IfOk result (λ broken. broken ≡ least (spec.at_arguments (seen scope.now) parameters.now given.now)) }
+{
+    let number = Broken::unless(given.len() == parameters.len(), Rule::Arguments);
+    let each = arguments(alloc, scope, parameters, given)?;
+    Ok(number.and(each))
+}
+
+/// The arguments of something that can't be called.
+pub fn lone_arguments(
+    alloc: Global,
+    scope: &Scope<'_>,
+    given: &[Value],
+) -> Result<Broken, AllocError>
+    ensures { IfOk result (λ broken. broken ≡ least (spec.lone_arguments (seen scope.now) given.now)) }
+{
+    arguments(alloc, scope, &[], given)
+}
+
+/// Whether a behaviour runs on what its caller runs on. One that says nothing may be called everywhere.
+fn runs_here(at: Option<usize>, caller: Option<usize>) -> bool
+    ensures { result ≡ spec.runs_here at caller }
+{
+    match (at, caller) {
+        (Some(at), Some(caller)) => at == caller,
+        (Some(_), None) => false,
+        (None, _) => true,
+    }
+}
+
+/// The position of the component type that a name in the module's text stands for.
+pub fn component_named(scope: &Scope<'_>, name: Option<&Name>) -> Option<usize>
+    ensures { result ≡ spec.component_named (seen scope.now) (option_map (λ name. name.now) name.entry) }
+{
+    component_meant(scope.in_module(name?.as_bytes()))
+}
+
+/// The position of the component type that a name stands for.
+pub(crate) fn component_meant(meaning: Option<Meaning>) -> Option<usize>
+    ensures { result ≡ component_meant meaning }
+{
+    match meaning {
+        Some(Meaning::Component(at)) => Some(at),
+        _ => None,
+    }
+}
+
+/// The position of the behaviour that a name stands for.
+pub fn behaviour_meant(meaning: Option<Meaning>) -> Option<usize>
+    ensures { result ≡ spec.behaviour_meant meaning }
+{
+    match meaning {
+        Some(Meaning::Function(at) | Meaning::Altstep(at) | Meaning::Testcase(at)) => Some(at),
+        _ => None,
+    }
+}
+
+/// The call of a behaviour: with arguments for its parameters, running on what its caller runs on, and of a kind that may
+/// be called here.
+#[tactic(auto, using(crate::proofs::Findings::least_append))]
+fn at_behaviour(
+    alloc: Global,
+    scope: &Scope<'_>,
+    place: CallPlace,
+    call: &Call,
+    at: Option<usize>,
+) -> Result<Broken, AllocError>
+    ensures { IfOk result (λ broken. broken ≡ least (spec.at_behaviour (seen scope.now) (spec.callable place) call.now at)) }
+{
+    let given = call.arguments.as_slice();
+    let Some(at) = at else {
+        let given = lone_arguments(alloc, scope, given)?;
+        return Ok(Broken::of(Rule::UnknownName).and(given));
+    };
+    let kind = scope.kind(at);
+    let given = at_arguments(alloc, scope, parameters_of(kind), given)?;
+    let runs = runs_here(component_named(scope, runs_on_of(kind)), scope.itself());
+    let called = Broken::unless(place.may_call(kind), Rule::CallKind);
+    Ok(given.and(Broken::unless(runs, Rule::RunsOn)).and(called))
+}
+
+pub fn at_call(
+    alloc: Global,
+    scope: &Scope<'_>,
+    place: CallPlace,
+    call: &Call,
+) -> Result<Broken, AllocError>
+    ensures { IfOk result (λ broken. broken ≡ least (spec.at_call (seen scope.now) (spec.callable place) call.now)) }
+{
+    let meant = behaviour_meant(scope.get(call.name.as_bytes()));
+    at_behaviour(alloc, scope, place, call, meant)
+}
+
+/// What is known of the result of a call.
+pub(crate) fn result_typing(scope: &Scope<'_>, type_name: Option<&TypeName>) -> Typing
+    ensures { result ≡ spec.result_typing (seen scope.now) (option_map (λ name. name.now) type_name.entry) }
+{
+    match type_name {
+        Some(type_name) => Typing::of(scope.resolved_in_module(type_name)),
+        None => Typing::Unknown,
+    }
+}
+
+/// The position of the altstep that a name stands for.
+fn altstep_meant(meaning: Option<Meaning>) -> Option<usize>
+    ensures { result ≡ spec.altstep_meant meaning }
+{
+    match meaning {
+        Some(Meaning::Altstep(at)) => Some(at),
+        _ => None,
+    }
+}
+
+/// An altstep that is activated, and runs on what its activator runs on.
+pub fn at_activation(alloc: Global, scope: &Scope<'_>, call: &Call) -> Result<Broken, AllocError>
+    ensures { IfOk result (λ broken. broken ≡ least (spec.at_activation (seen scope.now) call.now)) }
+{
+    let meant = altstep_meant(scope.get(call.name.as_bytes()));
+    at_behaviour(alloc, scope, CallPlace::Branch, call, meant)
+}

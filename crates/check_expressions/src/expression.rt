@@ -1,0 +1,223 @@
+//! The types of expressions, and the rules that are broken in them (ES 201 873-1, 7).
+ghost use Rattle.std.specs.Prelude.{◌≡◌, map, Some};
+ghost use Rattle.std.specs.Option.{option_map};
+ghost use Rattle.check_expressions.specs.Findings.{free_before, told, with_before};
+ghost use Rattle.check_scope.specs.Checking.{seen};
+ghost use Rattle.check_expressions.specs.Expressions as spec;
+
+use crate::found::Found;
+use check_scope::broken::Broken;
+use check_scope::names::Meaning;
+use check_scope::rule::Rule;
+use check_scope::scope::Scope;
+use check_scope::types::{DataType, Typing};
+use check_scope::typing::{compares, operands_of, result_of};
+use ttcn_syntax::{ComponentRef, Expr, Link, Name, Operator, Reference};
+
+/// What a name stands for as a value.
+pub(crate) fn at_meaning(scope: &Scope<'_>, meaning: Option<Meaning>) -> Found
+    ensures { result ≡ told (spec.at_meaning (seen scope.now).definitions meaning) }
+{
+    match meaning {
+        Some(Meaning::Variable(data_type) | Meaning::Constant(data_type)) => {
+            Found::fine(Typing::of(data_type))
+        }
+        Some(Meaning::ModuleConstant(at, _)) => Found::fine(Typing::of(scope.constants_type(at))),
+        Some(Meaning::Enumerator(at)) => Found::fine(Typing::Known(DataType::Enumerated(at))),
+        Some(Meaning::Port(_) | Meaning::Timer) => Found::fine(Typing::NoValue),
+        _ => Found::wrong(Rule::UnknownName),
+    }
+}
+
+/// What a field of something is.
+pub fn within(scope: &Scope<'_>, typing: Typing, name: &Name) -> Found
+    ensures { result ≡ told (spec.within (seen scope.now).definitions typing name.now) }
+{
+    match typing {
+        Typing::Known(DataType::Record(at)) => match scope.field(at, name) {
+            Some(field) => Found::fine(Typing::of(scope.resolved_in_module(&field.type_name))),
+            None => Found::wrong(Rule::Fields),
+        },
+        Typing::Unknown => Found::fine(Typing::Unknown),
+        _ => Found::wrong(Rule::Fields),
+    }
+}
+
+/// What fields of fields are.
+pub(crate) fn along(scope: &Scope<'_>, typing: Typing, names: &[Name]) -> Found
+    ensures { result ≡ told (spec.along (seen scope.now).definitions typing names.now) }
+{
+    let mut found = Found::fine(typing);
+    for name in names {
+        found = within(scope, found.typing, name).after(found.broken);
+    }
+    found
+}
+
+#[tactic(auto, using(crate::proofs::Findings::least_append, crate::proofs::Findings::told_after))]
+pub fn at_reference(scope: &Scope<'_>, reference: &Reference) -> Found
+    ensures { result ≡ told (spec.at_reference (seen scope.now) reference.now) }
+{
+    let found = at_meaning(scope, scope.get(reference.name.as_bytes()));
+    along(scope, found.typing, reference.fields.as_slice()).after(found.broken)
+}
+
+/// `mtc`, or `self` of no known type.
+fn any_component(free: bool) -> Found
+    ensures { result ≡ told (spec.any_component free) }
+{
+    Found {
+        typing: Typing::AnyComponent,
+        broken: Broken::unless(free, Rule::MtcPlace),
+    }
+}
+
+pub fn at_component(scope: &Scope<'_>, component: &ComponentRef, free: bool) -> Found
+    ensures { result ≡ told (spec.at_component (seen scope.now) component.now free) }
+{
+    match component {
+        ComponentRef::Itself => match scope.itself() {
+            Some(at) => Found::fine(Typing::Known(DataType::Component(at))),
+            None => any_component(free),
+        },
+        ComponentRef::Mtc => any_component(free),
+        ComponentRef::Named(reference) => at_reference(scope, reference),
+    }
+}
+
+/// A place where a component is wanted, `mtc` among them.
+#[tactic(auto, using(crate::proofs::Findings::least_append, crate::proofs::Findings::told_after))]
+pub fn at_wanted_component(scope: &Scope<'_>, component: &ComponentRef) -> Found
+    ensures { result ≡ told (spec.at_wanted_component (seen scope.now) component.now) }
+{
+    let found = at_component(scope, component, true);
+    let is_component = found.typing.refers_to_component();
+    Found {
+        typing: found.typing,
+        broken: found
+            .broken
+            .and(Broken::unless(is_component, Rule::UnknownName)),
+    }
+}
+
+/// Whether it is the mere name of a timer.
+pub fn names_timer(scope: &Scope<'_>, component: &ComponentRef) -> bool
+    ensures { result ≡ spec.names_timer (seen scope.now) component.now }
+{
+    match component {
+        ComponentRef::Named(reference) => {
+            reference.fields.as_slice().is_empty()
+                && matches!(scope.get(reference.name.as_bytes()), Some(Meaning::Timer))
+        }
+        _ => false,
+    }
+}
+
+/// `.running`, of a timer or a component.
+#[tactic(auto, using(crate::proofs::Findings::least_append, crate::proofs::Findings::told_after))]
+fn at_running(scope: &Scope<'_>, component: &ComponentRef) -> Found
+    ensures { result ≡ told (spec.at_running (seen scope.now) component.now) }
+{
+    if names_timer(scope, component) {
+        return Found::fine(Typing::Known(DataType::Boolean));
+    }
+    let found = at_component(scope, component, true);
+    runs(found.typing).after(found.broken)
+}
+
+/// Whether a component runs.
+fn runs(typing: Typing) -> Found
+    ensures { result ≡ told (spec.runs typing) }
+{
+    match typing {
+        Typing::Unknown => Found::fine(Typing::Unknown),
+        typing => Found::demanding(
+            typing.refers_to_component(),
+            Rule::UnknownName,
+            DataType::Boolean,
+        ),
+    }
+}
+
+/// `ispresent`, of a field.
+#[tactic(auto, using(crate::proofs::Findings::least_append, crate::proofs::Findings::told_after))]
+fn at_ispresent(scope: &Scope<'_>, reference: &Reference) -> Found
+    ensures { result ≡ told (spec.at_ispresent (seen scope.now) reference.now) }
+{
+    let found = at_reference(scope, reference);
+    let presence = match (found.typing, reference.fields.as_slice()) {
+        (Typing::Unknown, _) => Found::fine(Typing::Unknown),
+        (_, []) => Found::wrong(Rule::Fields),
+        _ => Found::fine(Typing::Known(DataType::Boolean)),
+    };
+    presence.after(found.broken)
+}
+
+/// An operand that must be of a type, which is then that of the whole.
+fn of_type(wanted: DataType, typing: Typing) -> Found
+    ensures { result ≡ told (spec.of_type wanted typing) }
+{
+    match typing {
+        Typing::Unknown => Found::fine(Typing::Unknown),
+        typing => Found::demanding(typing.is_of(wanted), Rule::OperandType, wanted),
+    }
+}
+
+/// An operator between two operands.
+fn between(operator: Operator, left: Typing, right: Typing) -> Found
+    ensures { result ≡ told (spec.between operator left right) }
+{
+    if left == Typing::Unknown || right == Typing::Unknown {
+        return Found::fine(Typing::Unknown);
+    }
+    let fit = if compares(operator) {
+        left.is_comparable(right)
+    } else {
+        left.is_of(operands_of(operator)) && right.is_of(operands_of(operator))
+    };
+    Found::demanding(fit, Rule::OperandType, result_of(operator))
+}
+
+/// What is known of an expression's type, and the least rule that is broken in it. `mtc` may be the whole of it where it
+/// is `free`.
+pub fn expression(scope: &Scope<'_>, expr: &Expr, free: bool) -> Found
+    ensures { result ≡ told (spec.expression expr.now (seen scope.now) free) }
+{
+    match expr {
+        Expr::Int(_) => Found::fine(Typing::Known(DataType::Integer)),
+        Expr::Bool(_) => Found::fine(Typing::Known(DataType::Boolean)),
+        Expr::Null => Found::fine(Typing::Null),
+        Expr::Reference(component) => at_component(scope, component, free),
+        Expr::Running(component) => at_running(scope, component),
+        Expr::Ispresent(reference) => at_ispresent(scope, reference),
+        Expr::Not(operand) => {
+            let found = expression(scope, operand.get(), false);
+            of_type(DataType::Boolean, found.typing).after(found.broken)
+        }
+        Expr::Signed(_, operand) => {
+            let found = expression(scope, operand.get(), false);
+            of_type(DataType::Integer, found.typing).after(found.broken)
+        }
+        Expr::Chain(first, links) => {
+            let links = links.as_slice();
+            let mut left = expression(scope, first.get(), is_free_before(links, free));
+            for link in links {
+                let right = expression(scope, &link.operand, compares(link.operator));
+                left = between(link.operator, left.typing, right.typing)
+                    .after(right.broken)
+                    .after(left.broken);
+            }
+            left
+        }
+    }
+}
+
+/// Whether `mtc` may be the first operand of a chain.
+fn is_free_before(links: &[Link], free: bool) -> bool
+    ensures { result ≡ free_before (map spec.link links.now) free }
+{
+    match links {
+        [link, ..] => compares(link.operator),
+        [] => free,
+    }
+}

@@ -1,0 +1,9 @@
+//! The rules that expressions, values, calls and templates break, and the types of expressions.
+#![tactic(auto)]
+
+pub mod call;
+pub mod expression;
+pub mod found;
+pub mod target;
+pub mod template;
+pub mod value;

@@ -1,0 +1,65 @@
+-- What names stand for and what fits what, by examples (ES 201 873-1, 5.2, 6 and 7.1).
+use Rattle.std.proofs.Common.{◌≡◌, refl, ℕ, Bool, true, false, List, [], ◌∷◌, Option, Some, None}
+use Rattle.check_scope.specs.Names.{Names, behind, listed, type_meant}
+use Rattle.check_scope.specs.Numbers.{lesser}
+use Rattle.check_scope.specs.Scopes.{at_new_entries}
+use Rattle.check_scope.specs.Typings.{comparable, fits, goes_to}
+use Rattle.check_scope.specs.declared.names.Meaning.TheVariants as meaning
+use Rattle.check_scope.specs.declared.rule.Rule.TheVariants as rule
+use Rattle.check_scope.specs.declared.types.DataType.TheVariants as type
+use Rattle.check_scope.specs.declared.types.Typing.TheVariants as typing
+
+-- the names `x` and `y`
+abbrev x : List ℕ
+x = 120 ∷ []
+
+abbrev y : List ℕ
+y = 121 ∷ []
+
+-- a module with the record `x` and the component type `y`
+abbrev module_of_two : Names
+module_of_two = listed ((x, meaning.Record 0) ∷ (y, meaning.Component 1) ∷ [])
+
+-- an inner declaration hides the outer one of its name, and no other
+inner_name : behind module_of_two ((x, meaning.Timer) ∷ []) x ≡ Some meaning.Timer
+inner_name = refl
+
+outer_name : behind module_of_two ((x, meaning.Timer) ∷ []) y ≡ Some (meaning.Component 1)
+outer_name = refl
+
+-- of two declarations of a name the last one counts, and the name is declared twice
+last_declaration : listed ((x, meaning.Record 0) ∷ (x, meaning.Record 1) ∷ []) x ≡ Some (meaning.Record 1)
+last_declaration = refl
+
+name_declared_twice : at_new_entries (λ name. None) ((x, meaning.Record 0) ∷ (x, meaning.Record 1) ∷ []) ≡ rule.DuplicateName ∷ []
+name_declared_twice = refl
+
+-- a timer is no type
+timer_is_no_type : type_meant (Some meaning.Timer) ≡ None
+timer_is_no_type = refl
+
+-- `null` goes to components and defaults, and to no integer
+null_to_component : goes_to (type.Component 3) typing.Null ≡ true
+null_to_component = refl
+
+null_to_integer : goes_to type.Integer typing.Null ≡ false
+null_to_integer = refl
+
+-- records of two types don't fit each other
+other_record : goes_to (type.Record 0) (typing.Known (type.Record 1)) ≡ false
+other_record = refl
+
+-- where the type that is wanted isn't known, nothing is judged
+unknown_target : fits None (typing.Known type.Boolean) ≡ true
+unknown_target = refl
+
+-- references to components of two types compare, defaults don't
+components_compare : comparable (typing.Known (type.Component 0)) (typing.Known (type.Component 1)) ≡ true
+components_compare = refl
+
+defaults_do_not_compare : comparable (typing.Known type.Default) (typing.Known type.Default) ≡ false
+defaults_do_not_compare = refl
+
+-- of two broken rules the one of the lesser number is answered
+lesser_rule : lesser rule.ValueType rule.DuplicateName ≡ rule.DuplicateName
+lesser_rule = refl

@@ -1,0 +1,9 @@
+pub mod Added
+pub mod Alongside
+pub mod Entries
+pub mod Examples
+pub mod FieldTables
+pub mod Leasts
+pub mod Lookups
+pub mod Members
+pub mod PortTypes

@@ -1,0 +1,51 @@
+-- Names that are declared one behind the other, item by item.
+use Rattle.std.proofs.Common.{◌≡◌, ◌≤◌, ℕ, ◌+◌, ◌<◌, List, [], ◌∷◌, length, get_or, drop, refl, sym, ap, ◌∙◌}
+use Rattle.std.proofs.lemmas.List.{drop_all}
+use Rattle.check_scope.specs.Checking.{both, least}
+use Rattle.check_expressions.specs.Declarations.{behind_all, one_by_one}
+use Rattle.check_scope.specs.Names.{Entry, Scope, declaring}
+use Rattle.check_scope.specs.declared.broken.Broken.{Broken}
+use Rattle.check_scope.specs.declared.rule.Rule.{Rule}
+use Rattle.check_scope.proofs.Leasts.{both_assoc, both_nothing, least_append}
+use Rattle.check_scope.proofs.Lookups.{drop-next}
+
+module _ {A : Type 0} (rules : Scope → A → List Rule) (entry : Scope → A → Entry) where
+  -- what was broken and declared so far, with the items that are left, are those of the beginning
+  pub record Walked (broken : Broken) (scope : Scope) (items : List A) (start : Broken) (first : Scope) (all : List A) : Type 0 where
+    pub rules_are : both broken (least (one_by_one rules entry scope items)) ≡ both start (least (one_by_one rules entry first all))
+    pub scope_is : behind_all entry scope items ≡ behind_all entry first all
+
+  pub walked-first : (start : Broken) (scope : Scope) (items : List A) → Walked start scope items start scope items
+  walked-first start scope items = record { rules_are = refl; scope_is = refl }
+
+  walked-item : (broken more next start : Broken) (scope behind first : Scope) (item : A) (items all : List A) → Walked broken scope (item ∷ items) start first all
+      → more ≡ least (rules scope item) → behind ≡ declaring scope (entry scope item ∷ []) → next ≡ both broken more → Walked next behind items start first all
+  walked-item broken more next start scope behind first item items all walked more_is behind_is next_is = record {
+    rules_are =
+        ap (λ s. both next (least (one_by_one rules entry s items))) behind_is
+        ∙ ap (λ b. both b (least (one_by_one rules entry (declaring scope (entry scope item ∷ [])) items))) (next_is ∙ ap (both broken) more_is)
+        ∙ both_assoc broken (least (rules scope item)) (least (one_by_one rules entry (declaring scope (entry scope item ∷ [])) items))
+        ∙ ap (both broken) (sym (least_append (rules scope item) (one_by_one rules entry (declaring scope (entry scope item ∷ [])) items)))
+        ∙ walked.rules_are;
+    scope_is = ap (λ s. behind_all entry s items) behind_is ∙ walked.scope_is;
+  }
+
+  -- one item more
+  pub walked-next : (broken more next start : Broken) (scope behind first : Scope) (items : List A) (i : ℕ) (item : A) (all : List A) → i < length items → item ≡ get_or items i item
+      → Walked broken scope (drop i items) start first all → more ≡ least (rules scope item) → behind ≡ declaring scope (entry scope item ∷ []) → next ≡ both broken more
+      → Walked next behind (drop (i + 1) items) start first all
+  walked-next broken more next start scope behind first items i item all inside is walked =
+      walked-item broken more next start scope behind first item (drop (i + 1) items) all (rw (drop-next items i item inside is) at walked)
+
+  -- none is left
+  pub walked-rules : (broken start : Broken) (scope first : Scope) (items : List A) (i : ℕ) (all : List A) → length items ≤ i → Walked broken scope (drop i items) start first all
+      → broken ≡ both start (least (one_by_one rules entry first all))
+  walked-rules broken start scope first items i all past walked =
+      let done : Walked broken scope [] start first all = rw (drop_all i items past) at walked in
+      sym (both_nothing broken) ∙ done.rules_are
+
+  pub walked-scope : (broken start : Broken) (scope first : Scope) (items : List A) (i : ℕ) (all : List A) → length items ≤ i → Walked broken scope (drop i items) start first all
+      → scope ≡ behind_all entry first all
+  walked-scope broken start scope first items i all past walked =
+      let done : Walked broken scope [] start first all = rw (drop_all i items past) at walked in
+      done.scope_is

@@ -1,0 +1,196 @@
+-- The rules that definitions break inside (ES 201 873-1, 6 and 16).
+use Rattle.std.specs.Prelude.{ℕ, ◌+◌, Bool, true, false, not, ◌&&◌, ◌||◌, List, [], ◌∷◌, ◌++◌, bytes_eq, nat_eq, Option, Some, None, is_none, is_some}
+use Rattle.std.specs.List.{flat_map, list_any}
+use Rattle.ttcn_syntax.specs.declared.tree.definition.Definition.{Definition}
+use Rattle.ttcn_syntax.specs.declared.tree.definition.DefinitionKind.{DefinitionKind}
+use Rattle.ttcn_syntax.specs.declared.tree.definition.DefinitionKind.TheVariants as kind
+use Rattle.ttcn_syntax.specs.declared.tree.definition.EnumNumber.{EnumNumber}
+use Rattle.ttcn_syntax.specs.declared.tree.definition.Enumerator.{Enumerator}
+use Rattle.ttcn_syntax.specs.declared.tree.definition.Field.{Field}
+use Rattle.ttcn_syntax.specs.declared.tree.definition.Member.{Member}
+use Rattle.ttcn_syntax.specs.declared.tree.definition.Member.TheVariants as member
+use Rattle.ttcn_syntax.specs.declared.tree.definition.MemberVariable.{MemberVariable}
+use Rattle.ttcn_syntax.specs.declared.tree.definition.Parameter.{Parameter}
+use Rattle.ttcn_syntax.specs.declared.tree.definition.PortMessages.{PortMessages}
+use Rattle.ttcn_syntax.specs.declared.tree.definition.TemplateDefinition.{TemplateDefinition}
+use Rattle.ttcn_syntax.specs.declared.tree.statement.Constant.{Constant}
+use Rattle.ttcn_syntax.specs.declared.tree.value.TypeName.{TypeName}
+use Rattle.ttcn_syntax.specs.declared.tree.value.TypeName.TheVariants as type_name
+use Rattle.ttcn_syntax.specs.declared.tree.value.Value.{Value}
+use Rattle.check_expressions.specs.Declarations.{behind_all, one_by_one}
+use Rattle.check_scope.specs.Names.{Entry, Names, Scope, behind, component_meant, declaring, member_entries, module_names, port_type_meant, resolved}
+use Rattle.check_statements.specs.Statements.{Place, branch, statements}
+use Rattle.check_expressions.specs.Targets.{at_constants, at_new_name, at_timers, at_type}
+use Rattle.check_expressions.specs.Templates.{template}
+use Rattle.check_scope.specs.Typings.{target_of, unless}
+use Rattle.check_expressions.specs.Values.{value}
+use Rattle.check_scope.specs.declared.names.Meaning.{Meaning}
+use Rattle.check_scope.specs.declared.names.Meaning.TheVariants as meaning
+use Rattle.check_statements.specs.declared.place.Returns.{Returns}
+use Rattle.check_statements.specs.declared.place.Returns.TheVariants as returns
+use Rattle.check_scope.specs.declared.rule.Rule.{Rule}
+use Rattle.check_scope.specs.declared.rule.Rule.TheVariants as rule
+use Rattle.check_scope.specs.declared.types.DataType.{DataType}
+use Rattle.check_scope.specs.declared.types.Target.{Target}
+use Rattle.check_scope.specs.Scopes.{at_module_names, component_scope, module_scope, scope_on}
+
+-- ---- names
+
+-- ---- records, enumerations and ports
+
+-- a type that records and messages hold: no component, port or `default` type
+abbrev pub as_part : Option Meaning → List Rule
+as_part (Some (meaning.Record at)) = []
+as_part (Some (meaning.Enumerated at)) = []
+as_part (Some (meaning.Component at)) = rule.BadType ∷ []
+as_part (Some (meaning.PortType at)) = rule.BadType ∷ []
+as_part _ = rule.UnknownName ∷ []
+
+abbrev pub at_part : Names → TypeName → List Rule
+at_part names type_name.Integer = []
+at_part names type_name.Boolean = []
+at_part names type_name.Default = rule.BadType ∷ []
+at_part names (type_name.Named name) = as_part (names name)
+
+-- fields behind others with these names
+abbrev pub in_fields : Names → List (List ℕ) → List Field → List Rule
+in_fields names before [] = []
+in_fields names before (field ∷ fields) =
+    unless (not (list_any (bytes_eq field.name) before)) rule.DuplicateName ++ at_part names field.type_name ++
+    in_fields names (before ++ field.name ∷ []) fields
+
+abbrev pub same_sign : Bool → Bool → Bool
+same_sign true minus = minus
+same_sign false minus = not minus
+
+-- two given numbers are equal: `0` and `-0` are one
+abbrev pub same_number : EnumNumber → EnumNumber → Bool
+same_number n m = nat_eq n.magnitude m.magnitude && (nat_eq n.magnitude 0 || same_sign n.minus m.minus)
+
+-- a number is none of those before it
+abbrev pub at_number : List EnumNumber → Option EnumNumber → List Rule
+at_number before None = []
+at_number before (Some n) = unless (not (list_any (same_number n) before)) rule.EnumNumbers
+
+-- the numbers that are given, with a further one
+abbrev pub and_number : List EnumNumber → Option EnumNumber → List EnumNumber
+and_number before None = before
+and_number before (Some n) = before ++ n ∷ []
+
+abbrev pub in_numbers : List EnumNumber → List Enumerator → List Rule
+in_numbers before [] = []
+in_numbers before (enumerator ∷ enumerators) = at_number before enumerator.number ++ in_numbers (and_number before enumerator.number) enumerators
+
+abbrev pub in_messages : Names → PortMessages → List Rule
+in_messages names messages = flat_map (at_part names) messages.types
+
+-- ---- component types
+
+abbrev pub at_port_name : Scope → List ℕ → List Rule
+at_port_name scope name = at_new_name scope.names name
+
+abbrev pub port_entry : Option ℕ → Scope → List ℕ → Entry
+port_entry of scope name = (name, meaning.Port of)
+
+abbrev pub at_initial_value : Scope → Target → Option Value → List Rule
+at_initial_value scope target None = []
+at_initial_value scope target (Some v) = value v scope target
+
+abbrev pub at_member_variable : Option DataType → Scope → MemberVariable → List Rule
+at_member_variable of scope variable = at_new_name scope.names variable.name ++ at_initial_value scope (target_of of) variable.value
+
+abbrev pub member_variable_entry : Option DataType → Scope → MemberVariable → Entry
+member_variable_entry of scope variable = (variable.name, meaning.Variable of)
+
+abbrev pub in_member : Scope → Member → List Rule
+in_member scope (member.Ports port_type ports) =
+    unless (is_some (port_type_meant (scope.names port_type))) rule.UnknownName ++
+    one_by_one at_port_name (port_entry (port_type_meant (scope.names port_type))) scope ports
+in_member scope (member.Constants cs) = at_constants scope cs
+in_member scope (member.Variables of variables) = at_type scope.names true of ++
+    one_by_one (at_member_variable (resolved scope.names of)) (member_variable_entry (resolved scope.names of)) scope variables
+in_member scope (member.Timers timers) = at_timers scope timers
+
+abbrev pub in_members : Scope → List Member → List Rule
+in_members scope [] = []
+in_members scope (member ∷ members) = in_member scope member ++ in_members (declaring scope (member_entries scope.names member)) members
+
+-- ---- constants and templates
+
+-- the values of constants of the module; their names are judged with those of the module
+abbrev pub in_module_constants : Scope → Option DataType → List Constant → List Rule
+in_module_constants scope of constants = flat_map (λ constant. value constant.value scope (target_of of)) constants
+
+-- a parameter: it is visible in those behind it too
+abbrev pub at_parameter : Scope → Parameter → List Rule
+at_parameter scope parameter = at_new_name scope.names parameter.name ++ at_type scope.names true parameter.type_name
+
+abbrev pub parameter_entry : Scope → Parameter → Entry
+parameter_entry scope parameter = (parameter.name, meaning.Variable (resolved scope.names parameter.type_name))
+
+abbrev pub in_parameters : Scope → List Parameter → List Rule
+in_parameters scope parameters = one_by_one at_parameter parameter_entry scope parameters
+
+-- the scope that has the parameters
+abbrev pub with_parameters : Scope → List Parameter → Scope
+with_parameters scope parameters = behind_all parameter_entry scope parameters
+
+abbrev pub in_template : Scope → TemplateDefinition → List Rule
+in_template scope t =
+    at_type scope.names false t.type_name ++ in_parameters scope t.parameters ++
+    template t.template (with_parameters scope t.parameters) (target_of (resolved scope.names t.type_name))
+
+-- ---- behaviours
+
+abbrev pub component_on : List Definition → Option (List ℕ) → Option ℕ
+component_on definitions None = None
+component_on definitions (Some name) = component_meant (module_names definitions name)
+
+-- a name is that of a component type
+abbrev pub at_component_name : List Definition → Option (List ℕ) → List Rule
+at_component_name definitions None = []
+at_component_name definitions (Some name) = unless (is_some (component_meant (module_names definitions name))) rule.UnknownName
+
+abbrev pub at_result : List Definition → Option TypeName → List Rule
+at_result definitions None = []
+at_result definitions (Some name) = at_type (module_names definitions) false name
+
+-- what a function may return
+abbrev pub returning : List Definition → Option TypeName → Returns
+returning definitions None = returns.WithoutValue
+returning definitions (Some name) = returns.WithValue (resolved (module_names definitions) name)
+
+abbrev pub place_in : Scope → List Parameter → Returns → Place
+place_in scope parameters returns = record { scope = with_parameters scope parameters; returns = returns; in_branch = false }
+
+-- ---- definitions
+
+-- the rules that the definition at a position breaks inside
+abbrev pub in_definition : List Definition → ℕ → DefinitionKind → List Rule
+in_definition definitions at (kind.Record r) = in_fields (module_names definitions) [] r.fields
+in_definition definitions at (kind.Enumerated e) = in_numbers [] e.enumerators
+in_definition definitions at (kind.Port p) = flat_map (in_messages (module_names definitions)) p.messages
+in_definition definitions at (kind.Component c) =
+    in_members (component_scope definitions at) c.members
+in_definition definitions at (kind.Constants cs) =
+    at_type (module_names definitions) false cs.type_name ++
+    in_module_constants (module_scope definitions) (resolved (module_names definitions) cs.type_name) cs.constants
+in_definition definitions at (kind.Template t) = in_template (module_scope definitions) t
+in_definition definitions at (kind.Function f) =
+    at_component_name definitions f.runs_on ++ in_parameters (scope_on definitions (component_on definitions f.runs_on)) f.parameters ++
+    at_result definitions f.returns ++
+    statements f.body (place_in (scope_on definitions (component_on definitions f.runs_on)) f.parameters (returning definitions f.returns))
+in_definition definitions at (kind.Altstep a) =
+    at_component_name definitions a.runs_on ++ in_parameters (scope_on definitions (component_on definitions a.runs_on)) a.parameters ++
+    flat_map (λ b. branch b (place_in (scope_on definitions (component_on definitions a.runs_on)) a.parameters returns.Nowhere)) a.branches
+in_definition definitions at (kind.Testcase t) =
+    at_component_name definitions (Some t.runs_on) ++ at_component_name definitions t.system ++
+    statements t.body (place_in (scope_on definitions (component_on definitions (Some t.runs_on))) [] returns.Nowhere)
+
+abbrev pub in_definitions : List Definition → ℕ → List Definition → List Rule
+in_definitions all at [] = []
+in_definitions all at (definition ∷ definitions) = in_definition all at definition.kind ++ in_definitions all (at + 1) definitions
+
+-- the rules that the sites of a module break, each as often as there are sites that break it
+abbrev pub at_sites : List Definition → List Rule
+at_sites definitions = at_module_names definitions ++ in_definitions definitions 0 definitions

@@ -1,0 +1,186 @@
+-- The rules that receives and sends break (ES 201 873-1, 22.2).
+use Rattle.std.specs.Prelude.{ℕ, Bool, true, false, List, [], ◌∷◌, ◌++◌, map, Option, Some, None, is_none, is_some, if◌then◌else◌}
+use Rattle.std.specs.List.{flat_map, list_all, list_any}
+use Rattle.ttcn_syntax.specs.declared.tree.definition.Definition.{Definition}
+use Rattle.ttcn_syntax.specs.declared.tree.expression.ComponentRef.{ComponentRef}
+use Rattle.ttcn_syntax.specs.declared.tree.expression.Reference.{Reference}
+use Rattle.ttcn_syntax.specs.declared.tree.statement.Event.{Event}
+use Rattle.ttcn_syntax.specs.declared.tree.statement.Event.TheVariants as event
+use Rattle.ttcn_syntax.specs.declared.tree.statement.PortSelector.{PortSelector}
+use Rattle.ttcn_syntax.specs.declared.tree.statement.PortSelector.TheVariants as selector
+use Rattle.ttcn_syntax.specs.declared.tree.statement.Receive.{Receive}
+use Rattle.ttcn_syntax.specs.declared.tree.statement.Send.{Send}
+use Rattle.ttcn_syntax.specs.declared.tree.template.MessageTemplate.{MessageTemplate}
+use Rattle.ttcn_syntax.specs.declared.tree.template.Template.{Template}
+use Rattle.ttcn_syntax.specs.declared.tree.value.TypeName.{TypeName}
+use Rattle.check_expressions.specs.Expressions.{Judged, at_wanted_component}
+use Rattle.check_scope.specs.Names.{Scope, kind_at, module_names, resolved}
+use Rattle.check_expressions.specs.Targets.{at_target, at_type}
+use Rattle.check_scope.specs.Typings.{is_component, same_type, target_of, type_known, typed, unless}
+use Rattle.check_expressions.specs.Templates.{template, typing_of_template}
+use Rattle.check_scope.specs.declared.names.Meaning.{Meaning}
+use Rattle.check_scope.specs.declared.names.Meaning.TheVariants as meaning
+use Rattle.check_scope.specs.declared.rule.Rule.{Rule}
+use Rattle.check_scope.specs.declared.rule.Rule.TheVariants as rule
+use Rattle.check_scope.specs.declared.types.DataType.{DataType}
+use Rattle.check_scope.specs.declared.types.Typing.{Typing}
+use Rattle.check_scope.specs.declared.types.Typing.TheVariants as typing
+use Rattle.check_scope.specs.PortTypes.{agrees, only_type, types_of_port}
+
+-- ---- what a port lets pass
+
+-- the types of the messages that pass at a port: nothing is known where its own type isn't
+abbrev pub Passing : Type 0
+Passing = Option (List (Option DataType))
+
+abbrev pub passing_at : List Definition → Bool → Option ℕ → Passing
+passing_at definitions incoming None = None
+passing_at definitions incoming (Some at) = Some (types_of_port (module_names definitions) incoming (kind_at definitions at))
+
+-- the port that a name stands for: its type, which may be unknown
+abbrev pub port_meant : Option Meaning → Option (Option ℕ)
+port_meant (Some (meaning.Port at)) = Some at
+port_meant _ = None
+
+-- ---- the type of a message
+
+-- a port lists a type: not judged where nothing is known
+abbrev pub lists : Passing → DataType → Bool
+lists None t = true
+lists (Some types) t = list_any (agrees t) types
+
+-- the typing of a message, and whether the port lets it pass
+abbrev pub unknown_type : List Rule → Judged
+unknown_type broken = record { typing = typing.Unknown; broken = broken }
+
+-- a message that says nothing of its type by itself: it is of the only one that passes
+abbrev pub of_only : Option DataType → Judged
+of_only None = unknown_type (rule.PortType ∷ [])
+of_only (Some t) = record { typing = typing.Known t; broken = [] }
+
+abbrev pub type_by_port : Passing → Judged
+type_by_port None = unknown_type []
+type_by_port (Some types) = of_only (only_type types)
+
+-- a message whose type is known by itself: it is one of those that pass. Components are not, and `null` has no type
+abbrev pub type_by_itself : Passing → Typing → Judged
+type_by_itself passing (typing.Known t) = record { typing = typing.Known t; broken = unless (lists passing t) rule.PortType }
+type_by_itself passing typing.Null = unknown_type (rule.ValueType ∷ [])
+type_by_itself passing typing.AnyComponent = unknown_type (unless (is_none passing) rule.PortType)
+type_by_itself passing typing.NoValue = unknown_type (rule.PortType ∷ [])
+type_by_itself passing typing.Unknown = unknown_type []
+
+-- at `any port` the type has to be known by itself
+abbrev pub type_anywhere : Judged
+type_anywhere = unknown_type (rule.PortType ∷ [])
+
+abbrev pub by_template : Passing → Judged → Option Typing → Judged
+by_template passing otherwise None = otherwise
+by_template passing otherwise (Some t) = type_by_itself passing t
+
+abbrev pub by_type_name : Scope → Passing → Judged → Template → Option TypeName → Judged
+by_type_name scope passing otherwise t None = by_template passing otherwise (typing_of_template scope t)
+by_type_name scope passing otherwise t (Some name) = type_by_itself passing (typed (resolved scope.names name))
+
+-- what says of which type a message is: the type before it, else itself, else the port
+abbrev pub type_of_message : Scope → Passing → Judged → MessageTemplate → Judged
+type_of_message scope passing otherwise message = by_type_name scope passing otherwise message.template message.type_name
+
+abbrev pub at_type_name : Scope → Option TypeName → List Rule
+at_type_name scope None = []
+at_type_name scope (Some name) = at_type scope.names false name
+
+-- a message where messages of some types pass
+abbrev pub at_message : Scope → Passing → Judged → MessageTemplate → List Rule
+at_message scope passing otherwise message =
+    at_type_name scope message.type_name ++ (type_of_message scope passing otherwise message).broken ++
+    template message.template scope (target_of (type_known (type_of_message scope passing otherwise message).typing))
+
+-- ---- sends
+
+-- what is known where a message passes: the types that pass, and the type of a message that says nothing of it
+abbrev pub AtPort : Type 0
+AtPort = Passing × Judged
+
+-- at a port whose type stands at a position, if that is known
+abbrev pub at_port : List Definition → Bool → Option ℕ → AtPort
+at_port definitions incoming port = (passing_at definitions incoming port, type_by_port (passing_at definitions incoming port))
+
+abbrev pub at_to : Scope → Option ComponentRef → List Rule
+at_to scope None = []
+at_to scope (Some reference) = (at_wanted_component scope reference).broken
+
+abbrev pub at_sent : Scope → Option (Option ℕ) → MessageTemplate → List Rule
+at_sent scope None message = rule.UnknownName ∷ at_message scope None (type_by_port None) message
+at_sent scope (Some port) message = at_message scope (at_port scope.definitions false port).0 (at_port scope.definitions false port).1 message
+
+abbrev pub at_send : Scope → Send → List Rule
+at_send scope send = at_sent scope (port_meant (scope.names send.port)) send.message ++ at_to scope send.to
+
+-- ---- receives
+
+abbrev pub incoming_at : List Definition → Option (Option ℕ) → AtPort
+incoming_at definitions None = (None, type_by_port None)
+incoming_at definitions (Some port) = at_port definitions true port
+
+abbrev pub incoming : Scope → PortSelector → AtPort
+incoming scope selector.Any = (None, type_anywhere)
+incoming scope (selector.Named name) = incoming_at scope.definitions (port_meant (scope.names name))
+
+abbrev pub at_selector : Scope → PortSelector → List Rule
+at_selector scope selector.Any = []
+at_selector scope (selector.Named name) = unless (is_some (port_meant (scope.names name))) rule.UnknownName
+
+-- what is received: any message, or one that a template tells
+abbrev pub at_received : Scope → AtPort → Option MessageTemplate → List Rule
+at_received scope incoming None = []
+at_received scope incoming (Some message) = at_message scope incoming.0 incoming.1 message
+
+-- what is known of the type of what is received, where a template tells it
+abbrev pub received_type : Scope → AtPort → Option MessageTemplate → Option DataType
+received_type scope incoming None = None
+received_type scope incoming (Some message) = type_known (type_of_message scope incoming.0 incoming.1 message).typing
+
+-- ---- redirects
+
+-- a message goes to a target of its type: not judged where one of them is unknown
+abbrev pub stores : Option DataType → Typing → Bool
+stores None found = true
+stores (Some t) (typing.Known other) = same_type t other
+stores (Some t) _ = true
+
+-- a sender goes to a target of a component type
+abbrev pub stores_sender : Typing → Bool
+stores_sender (typing.Known t) = is_component t
+stores_sender _ = true
+
+abbrev pub at_value_redirect : Scope → Bool → Option DataType → Option Reference → List Rule
+at_value_redirect scope told of None = []
+at_value_redirect scope told of (Some reference) =
+    (at_target scope reference).broken ++ unless told rule.Redirect ++ unless (stores of (at_target scope reference).typing) rule.Redirect
+
+abbrev pub at_sender_redirect : Scope → Option Reference → List Rule
+at_sender_redirect scope None = []
+at_sender_redirect scope (Some reference) =
+    (at_target scope reference).broken ++ unless (stores_sender (at_target scope reference).typing) rule.Redirect
+
+-- ---- events
+
+abbrev pub at_receive : Scope → Receive → List Rule
+at_receive scope receive =
+    at_selector scope receive.port ++ at_received scope (incoming scope receive.port) receive.message ++ at_to scope receive.from ++
+    at_value_redirect scope (is_some receive.message) (received_type scope (incoming scope receive.port) receive.message) receive.value ++
+    at_sender_redirect scope receive.sender
+
+abbrev pub is_timer_name : Option Meaning → Bool
+is_timer_name (Some meaning.Timer) = true
+is_timer_name _ = false
+
+abbrev pub at_timer : Scope → List ℕ → List Rule
+at_timer scope name = unless (is_timer_name (scope.names name)) rule.UnknownName
+
+abbrev pub at_event : Scope → Event → List Rule
+at_event scope (event.Receive receive) = at_receive scope receive
+at_event scope (event.Timeout timer) = at_timer scope timer
+at_event scope (event.Done reference) = (at_wanted_component scope reference).broken
+at_event scope event.AllDone = []

@@ -1,0 +1,24 @@
+-- What is known where messages pass, in the words of the private contracts.
+use Rattle.std.specs.Prelude.{[], Some, None}
+use Rattle.check_expressions.specs.Expressions.{Judged}
+use Rattle.check_statements.specs.Messages as spec
+use Rattle.check_statements.specs.declared.message.Passing.{Passing}
+use Rattle.check_statements.specs.declared.message.Passing.TheVariants as at
+
+-- the types of the messages that pass
+abbrev pub passing : Passing → spec.Passing
+passing (at.Types listing) = Some listing.now.types.items
+passing at.Nothing = Some []
+passing at.Unknown = None
+passing at.Anywhere = None
+
+-- what is known of a message that says nothing of its type by itself
+abbrev pub otherwise : Passing → Judged
+otherwise (at.Types listing) = spec.type_by_port (Some listing.now.types.items)
+otherwise at.Nothing = spec.type_by_port (Some [])
+otherwise at.Unknown = spec.type_by_port None
+otherwise at.Anywhere = spec.type_anywhere
+
+-- both of these
+abbrev pub known : Passing → spec.AtPort
+known at = (passing at, otherwise at)

@@ -1,0 +1,263 @@
+-- The rules that statements break (ES 201 873-1, 19 to 24).
+use Rattle.std.specs.Prelude.{ℕ, Bool, true, false, not, nat_eq, List, [], ◌∷◌, ◌++◌, map, Option, Some, None, is_some, if◌then◌else◌}
+use Rattle.std.specs.List.{flat_map}
+use Rattle.ttcn_syntax.specs.declared.tree.definition.DefinitionKind.{DefinitionKind}
+use Rattle.ttcn_syntax.specs.declared.tree.definition.DefinitionKind.TheVariants as kind
+use Rattle.ttcn_syntax.specs.declared.tree.expression.ComponentRef.{ComponentRef}
+use Rattle.ttcn_syntax.specs.declared.tree.expression.Expr.{Expr}
+use Rattle.ttcn_syntax.specs.declared.tree.expression.Reference.{Reference}
+use Rattle.ttcn_syntax.specs.declared.tree.statement.Action.{Action, fold-Action}
+use Rattle.ttcn_syntax.specs.declared.tree.statement.Action.TheOpen.{Action-F, Alternative-F, Branch-F, Conditional-F, Statement-F}
+use Rattle.ttcn_syntax.specs.declared.tree.statement.ForStart.{ForStart}
+use Rattle.ttcn_syntax.specs.declared.tree.statement.ForStart.TheVariants as for_start
+use Rattle.ttcn_syntax.specs.declared.tree.statement.LogItem.{LogItem}
+use Rattle.ttcn_syntax.specs.declared.tree.statement.LogItem.TheVariants as log_item
+use Rattle.ttcn_syntax.specs.declared.tree.statement.Statement.{Statement, fold-Statement}
+use Rattle.ttcn_syntax.specs.declared.tree.statement.Alternative.{Alternative, fold-Alternative}
+use Rattle.ttcn_syntax.specs.declared.tree.statement.Assignment.{Assignment}
+use Rattle.ttcn_syntax.specs.declared.tree.statement.Branch.{Branch, fold-Branch}
+use Rattle.ttcn_syntax.specs.declared.tree.statement.Conditional.{Conditional, fold-Conditional}
+use Rattle.ttcn_syntax.specs.declared.tree.statement.Event.{Event}
+use Rattle.ttcn_syntax.specs.declared.tree.statement.Verdict.{Verdict}
+use Rattle.ttcn_syntax.specs.declared.tree.statement.Verdict.TheVariants as verdict
+use Rattle.ttcn_syntax.specs.declared.tree.value.Call.{Call}
+use Rattle.ttcn_syntax.specs.declared.tree.value.Value.{Value}
+use Rattle.check_expressions.specs.Calls.{at_activation, at_arguments, at_call, behaviour_meant, component_named, is_altstep, lone_arguments, parameters_of, runs_on_of, stands_alone}
+use Rattle.check_expressions.specs.Expressions.{at_component, at_reference, at_wanted_component, expression, names_timer}
+use Rattle.check_statements.specs.Messages.{at_event, at_send, at_timer}
+use Rattle.check_scope.specs.Names.{Scope, kind_at}
+use Rattle.check_expressions.specs.Targets.{at_assignment, at_constants, at_timers, at_variables, behind_constants, behind_timers, behind_variables}
+use Rattle.check_scope.specs.Typings.{is_default, refers_to_component, same_type, target_of, unless}
+use Rattle.check_expressions.specs.Values.{value}
+use Rattle.check_statements.specs.declared.place.Returns.{Returns}
+use Rattle.check_statements.specs.declared.place.Returns.TheVariants as returns
+use Rattle.check_scope.specs.declared.rule.Rule.{Rule}
+use Rattle.check_scope.specs.declared.rule.Rule.TheVariants as rule
+use Rattle.check_scope.specs.declared.types.DataType.TheVariants as type
+use Rattle.check_scope.specs.declared.types.Typing.{Typing}
+use Rattle.check_scope.specs.declared.types.Typing.TheVariants as typing
+
+-- ---- where a statement stands
+
+-- its scope, what may be returned, and whether it is inside the block of a branch
+pub record Place : Type 0 where
+  pub scope : Scope
+  pub returns : Returns
+  pub in_branch : Bool
+
+-- a place with another scope
+abbrev pub with_scope : Place → Scope → Place
+with_scope place scope = record { scope = scope; returns = place.returns; in_branch = place.in_branch }
+
+-- a place in the block of a branch
+abbrev pub inside_branch : Place → Place
+inside_branch place = record { scope = place.scope; returns = place.returns; in_branch = true }
+
+-- the rules that something breaks at a place
+abbrev pub AtPlace : Type 0
+AtPlace = Place → List Rule
+
+-- what is said of a statement: the rules that it breaks, and the scope behind it, which has what it declares
+pub record Stated : Type 0 where
+  pub broken : AtPlace
+  pub scope_behind : Scope → Scope
+
+-- one that declares nothing
+abbrev pub saying : AtPlace → Stated
+saying broken = record { broken = broken; scope_behind = λ scope. scope }
+
+-- ---- blocks and conditions
+
+-- statements one behind the other: what one declares is visible in those behind it
+abbrev pub in_block : List Stated → AtPlace
+in_block [] place = []
+in_block (statement ∷ statements) place =
+    statement.broken place ++ in_block statements (with_scope place (statement.scope_behind place.scope))
+
+abbrev pub in_block_if_any : Option (List Stated) → AtPlace
+in_block_if_any None place = []
+in_block_if_any (Some block) place = in_block block place
+
+abbrev pub as_condition : Typing → List Rule
+as_condition (typing.Known t) = unless (same_type type.Boolean t) rule.Condition
+as_condition typing.Null = rule.ValueType ∷ []
+as_condition typing.AnyComponent = rule.Condition ∷ []
+as_condition typing.NoValue = rule.Condition ∷ []
+as_condition typing.Unknown = []
+
+abbrev pub at_condition : Scope → Expr → List Rule
+at_condition scope e = (expression e scope false).broken ++ as_condition (expression e scope false).typing
+
+abbrev pub at_guard : Scope → Option Expr → List Rule
+at_guard scope None = []
+at_guard scope (Some e) = at_condition scope e
+
+-- ---- parts of statements
+
+abbrev pub at_for_start : Scope → ForStart → List Rule
+at_for_start scope (for_start.Variables vs) = at_variables scope vs
+at_for_start scope (for_start.Assign assignment) = at_assignment scope assignment
+
+abbrev pub behind_for_start : Scope → ForStart → Scope
+behind_for_start scope (for_start.Variables vs) = behind_variables scope vs
+behind_for_start scope (for_start.Assign assignment) = scope
+
+-- what stands in front of the block of a `for`
+abbrev pub at_for_head : Scope → ForStart → Expr → Assignment → List Rule
+at_for_head scope start condition step =
+    at_for_start scope start ++ at_condition (behind_for_start scope start) condition ++ at_assignment (behind_for_start scope start) step
+
+-- what stands in front of the block of a branch
+abbrev pub at_guarded_event : Scope → Option Expr → Event → List Rule
+at_guarded_event scope guard event = at_guard scope guard ++ at_event scope event
+
+abbrev pub at_guarded_call : Scope → Option Expr → Call → List Rule
+at_guarded_call scope guard call = at_guard scope guard ++ at_call scope is_altstep call
+
+-- what is logged: `mtc` may stand there
+abbrev pub at_log_item : Scope → LogItem → List Rule
+at_log_item scope log_item.Text = []
+at_log_item scope (log_item.Expr e) = (expression e scope true).broken
+
+-- what is logged, or the reasons of a verdict
+abbrev pub at_log : Scope → List LogItem → List Rule
+at_log scope items = flat_map (at_log_item scope) items
+
+abbrev pub is_error : Verdict → Bool
+is_error verdict.Error = true
+is_error _ = false
+
+abbrev pub at_setverdict : Scope → Verdict → List LogItem → List Rule
+at_setverdict scope verdict reasons = unless (not (is_error verdict)) rule.VerdictError ++ at_log scope reasons
+
+abbrev pub at_return : Scope → Returns → Option Value → List Rule
+at_return scope returns.Nowhere None = rule.ReturnPlace ∷ []
+at_return scope returns.Nowhere (Some v) = rule.ReturnPlace ∷ value v scope (target_of None)
+at_return scope returns.WithoutValue None = []
+at_return scope returns.WithoutValue (Some v) = rule.ReturnPlace ∷ value v scope (target_of None)
+at_return scope (returns.WithValue of) None = rule.ReturnPlace ∷ []
+at_return scope (returns.WithValue of) (Some v) = value v scope (target_of of)
+
+-- a default that goes
+abbrev pub refers_to_default : Typing → Bool
+refers_to_default (typing.Known t) = is_default t
+refers_to_default typing.Unknown = true
+refers_to_default _ = false
+
+abbrev pub at_deactivate : Scope → Option Reference → List Rule
+at_deactivate scope None = []
+at_deactivate scope (Some reference) =
+    (at_reference scope reference).broken ++ unless (refers_to_default (at_reference scope reference).typing) rule.UnknownName
+
+abbrev pub at_stop : Scope → ComponentRef → List Rule
+at_stop scope reference = if names_timer scope reference then [] else (at_wanted_component scope reference).broken
+
+-- both ends of a connection; the names of their ports are not judged
+abbrev pub at_ends : Scope → ComponentRef → ComponentRef → List Rule
+at_ends scope one other = (at_wanted_component scope one).broken ++ (at_wanted_component scope other).broken
+
+-- ---- starts of components
+
+-- a function runs on the started component's type: not judged where one of them is unknown
+abbrev pub runs_there : Typing → Option ℕ → Bool
+runs_there (typing.Known (type.Component at)) (Some behaviour) = nat_eq at behaviour
+runs_there _ _ = true
+
+-- a function that is started says on what it runs
+abbrev pub says_component : Option DefinitionKind → Bool
+says_component (Some (kind.Function f)) = is_some f.runs_on
+says_component _ = true
+
+abbrev pub is_function : Option DefinitionKind → Bool
+is_function (Some (kind.Function f)) = true
+is_function _ = false
+
+abbrev pub at_started : Scope → Typing → Call → Option ℕ → List Rule
+at_started scope started call None = rule.UnknownName ∷ lone_arguments scope call.arguments
+at_started scope started call (Some at) =
+    at_arguments scope (parameters_of (kind_at scope.definitions at)) call.arguments ++
+    unless (says_component (kind_at scope.definitions at)) rule.RunsOn ++
+    unless (runs_there started (component_named scope (runs_on_of (kind_at scope.definitions at)))) rule.RunsOn ++
+    unless (is_function (kind_at scope.definitions at)) rule.CallKind
+
+abbrev pub at_start : Scope → ComponentRef → Call → List Rule
+at_start scope reference call =
+    (at_component scope reference false).broken ++
+    unless (refers_to_component (at_component scope reference false).typing) rule.UnknownName ++
+    at_started scope (at_component scope reference false).typing call (behaviour_meant (scope.names call.name))
+
+-- ---- statements
+
+-- the rules that a statement breaks which has no block and declares nothing; of others nothing is said here
+abbrev pub undeclaring : {A B C D E : Type 0} → Action-F A B C D E → AtPlace
+undeclaring (Action-F.Assign assignment) place = at_assignment place.scope assignment
+undeclaring (Action-F.«Action::Call» call) place = at_call place.scope stands_alone call
+undeclaring (Action-F.«Action::Event» event) place = at_event place.scope event
+undeclaring Action-F.Repeat place = unless place.in_branch rule.RepeatPlace
+undeclaring (Action-F.Return v) place = at_return place.scope place.returns v
+undeclaring (Action-F.Log items) place = at_log place.scope items
+undeclaring (Action-F.Setverdict verdict reasons) place = at_setverdict place.scope verdict reasons
+undeclaring (Action-F.Connect one other) place = at_ends place.scope one.component other.component
+undeclaring (Action-F.Send send) place = at_send place.scope send
+undeclaring (Action-F.StartComponent reference call) place = at_start place.scope reference call
+undeclaring (Action-F.StartTimer timer) place = at_timer place.scope timer
+undeclaring (Action-F.StopOf reference) place = at_stop place.scope reference
+undeclaring (Action-F.Activate call) place = at_activation place.scope call
+undeclaring (Action-F.Deactivate reference) place = at_deactivate place.scope reference
+undeclaring _ place = []
+
+-- what is said of a statement without blocks
+abbrev pub plain : {A B C D E : Type 0} → Action-F A B C D E → Stated
+plain (Action-F.Variables vs) = record { broken = λ place. at_variables place.scope vs; scope_behind = λ scope. behind_variables scope vs }
+plain (Action-F.Constants cs) = record { broken = λ place. at_constants place.scope cs; scope_behind = λ scope. behind_constants scope cs }
+plain (Action-F.Timers timers) = record { broken = λ place. at_timers place.scope timers; scope_behind = λ scope. behind_timers scope timers }
+plain action = saying (undeclaring action)
+
+abbrev pub action_step : Action-F Stated AtPlace AtPlace AtPlace Stated → Stated
+action_step (Action-F.Alt branches) = saying (λ place. flat_map (λ branch. branch place) branches)
+action_step (Action-F.If conditionals last) = saying (λ place. flat_map (λ conditional. conditional place) conditionals ++ in_block_if_any last place)
+action_step (Action-F.While condition block) = saying (λ place. at_condition place.scope condition ++ in_block block place)
+action_step (Action-F.DoWhile block condition) = saying (λ place. in_block block place ++ at_condition place.scope condition)
+action_step (Action-F.For start condition step block) = saying (λ place.
+    at_for_head place.scope start condition step ++ in_block block (with_scope place (behind_for_start place.scope start)))
+action_step action = plain action
+
+abbrev pub statement_step : Statement-F Stated AtPlace AtPlace AtPlace Stated → Stated
+statement_step s = s.action
+
+abbrev pub conditional_step : Conditional-F Stated AtPlace AtPlace AtPlace Stated → AtPlace
+conditional_step c place = at_condition place.scope c.condition ++ in_block c.block place
+
+abbrev pub alternative_step : Alternative-F Stated AtPlace AtPlace AtPlace Stated → AtPlace
+alternative_step (Alternative-F.«Alternative::Event» guard event block) place =
+    at_guarded_event place.scope guard event ++ in_block_if_any block (inside_branch place)
+alternative_step (Alternative-F.«Alternative::Call» guard call block) place =
+    at_guarded_call place.scope guard call ++ in_block_if_any block (inside_branch place)
+alternative_step (Alternative-F.Else block) place = in_block block (inside_branch place)
+
+abbrev pub branch_step : Branch-F Stated AtPlace AtPlace AtPlace Stated → AtPlace
+branch_step b = b.alternative
+
+-- what is said of what a statement does
+abbrev pub action : Action → Stated
+action = fold-Action Stated AtPlace AtPlace AtPlace Stated action_step alternative_step branch_step conditional_step statement_step
+
+-- the rules that what stands in a branch breaks
+abbrev pub alternative : Alternative → AtPlace
+alternative = fold-Alternative Stated AtPlace AtPlace AtPlace Stated action_step alternative_step branch_step conditional_step statement_step
+
+-- what is said of a statement
+abbrev pub statement : Statement → Stated
+statement = fold-Statement Stated AtPlace AtPlace AtPlace Stated action_step alternative_step branch_step conditional_step statement_step
+
+-- the rules that a branch breaks
+abbrev pub branch : Branch → AtPlace
+branch = fold-Branch Stated AtPlace AtPlace AtPlace Stated action_step alternative_step branch_step conditional_step statement_step
+
+-- the rules that a condition with its block breaks
+abbrev pub conditional : Conditional → AtPlace
+conditional = fold-Conditional Stated AtPlace AtPlace AtPlace Stated action_step alternative_step branch_step conditional_step statement_step
+
+-- the rules that statements one behind the other break
+abbrev pub statements : List Statement → AtPlace
+statements body = in_block (map statement body)

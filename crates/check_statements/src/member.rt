@@ -1,0 +1,178 @@
+//! The declarations of component types (ES 201 873-1, 6.2.10).
+ghost use Rattle.std.specs.Prelude.{◌≡◌, [], ◌∷◌, IfOk, OnOk};
+ghost use Rattle.std.specs.Option.{option_map};
+ghost use Rattle.ttcn_syntax.specs.declared.tree.definition.Member.TheVariants as member;
+ghost use Rattle.check_scope.specs.Checking.{around, least, seen};
+ghost use Rattle.check_expressions.specs.Declarations.{behind_all, one_by_one};
+ghost use Rattle.check_statements.specs.Definitions as spec;
+ghost use Rattle.check_scope.specs.Names.{declaring, member_entries};
+
+use crate::declaration::{constants, timers};
+use check_expressions::target::{at_new_name, at_type};
+use check_expressions::value::value;
+use check_scope::broken::Broken;
+use check_scope::names::Meaning;
+use check_scope::rule::Rule;
+use check_scope::scope::{Scope, port_type_meant};
+use check_scope::types::{DataType, Target};
+use std::alloc::{AllocError, Global};
+use ttcn_syntax::{Member, MemberVariable, Name, TypeName, Value};
+
+// ---- ports
+
+/// A port of a type, which is visible behind its own part of the declaration.
+fn port<'a>(scope: &mut Scope<'a>, of: Option<usize>, name: &'a Name) -> Result<Broken, AllocError>
+    ensures broken { IfOk result (λ broken. broken ≡ least (spec.at_port_name (seen scope.old) name.now)) }
+    ensures seen { OnOk result (seen scope.new ≡ declaring (seen scope.old) (spec.port_entry of (seen scope.old) name.now ∷ [])) }
+    ensures around { OnOk result (around scope.new ≡ around scope.old) }
+{
+    let broken = at_new_name(scope, name);
+    scope.declare(name.as_bytes(), Meaning::Port(of))?;
+    Ok(broken)
+}
+
+/// Ports of a type.
+fn named_ports<'a>(
+    scope: &mut Scope<'a>,
+    of: Option<usize>,
+    names: &'a [Name],
+) -> Result<Broken, AllocError>
+    ensures broken { IfOk result (λ broken. broken ≡ least (one_by_one spec.at_port_name (spec.port_entry of) (seen scope.old) names.now)) }
+    ensures seen { OnOk result (seen scope.new ≡ behind_all (spec.port_entry of) (seen scope.old) names.now) }
+    ensures around { OnOk result (around scope.new ≡ around scope.old) }
+{
+    let mut broken = Broken::nothing();
+    for name in names {
+        let more = port(scope, of, name)?;
+        broken = broken.and(more);
+    }
+    Ok(broken)
+}
+
+/// A declaration of ports.
+#[tactic(auto, using(crate::proofs::Leasts::least_append))]
+fn in_ports<'a>(
+    scope: &mut Scope<'a>,
+    port_type: &Name,
+    names: &'a [Name],
+) -> Result<Broken, AllocError>
+    ensures broken { IfOk result (λ broken. broken ≡ least (spec.in_member (seen scope.old) (member.Ports port_type.now names.now))) }
+    ensures seen { OnOk result (seen scope.new ≡ declaring (seen scope.old) (member_entries (seen scope.old).names (member.Ports port_type.now names.now))) }
+    ensures around { OnOk result (around scope.new ≡ around scope.old) }
+{
+    let of = port_type_meant(scope.get(port_type.as_bytes()));
+    let typed = Broken::unless(of.is_some(), Rule::UnknownName);
+    let named = named_ports(scope, of, names)?;
+    Ok(typed.and(named))
+}
+
+// ---- variables
+
+/// An initial value, if there is one.
+fn at_initial_value(
+    alloc: Global,
+    scope: &Scope<'_>,
+    target: Target,
+    initial: Option<&Value>,
+) -> Result<Broken, AllocError>
+    ensures { IfOk result (λ broken. broken ≡ least (spec.at_initial_value (seen scope.now) target (option_map (λ initial. initial.now) initial.entry))) }
+{
+    match initial {
+        Some(initial) => value(alloc, scope, initial, target),
+        None => Ok(Broken::nothing()),
+    }
+}
+
+/// A variable of a type, which is visible behind its own part of the declaration.
+#[tactic(auto, using(crate::proofs::Leasts::least_append))]
+fn member_variable<'a>(
+    alloc: Global,
+    scope: &mut Scope<'a>,
+    of: Option<DataType>,
+    variable: &'a MemberVariable,
+) -> Result<Broken, AllocError>
+    ensures broken { IfOk result (λ broken. broken ≡ least (spec.at_member_variable of (seen scope.old) variable.now)) }
+    ensures seen { OnOk result (seen scope.new ≡ declaring (seen scope.old) (spec.member_variable_entry of (seen scope.old) variable.now ∷ [])) }
+    ensures around { OnOk result (around scope.new ≡ around scope.old) }
+{
+    let named = at_new_name(scope, &variable.name);
+    let initial = at_initial_value(alloc, scope, Target::of(of), variable.value.as_ref())?;
+    scope.declare(variable.name.as_bytes(), Meaning::Variable(of))?;
+    Ok(named.and(initial))
+}
+
+/// Variables of a type.
+fn member_variables<'a>(
+    alloc: Global,
+    scope: &mut Scope<'a>,
+    of: Option<DataType>,
+    variables: &'a [MemberVariable],
+) -> Result<Broken, AllocError>
+    ensures broken { IfOk result (λ broken. broken ≡ least (one_by_one (spec.at_member_variable of) (spec.member_variable_entry of) (seen scope.old) variables.now)) }
+    ensures seen { OnOk result (seen scope.new ≡ behind_all (spec.member_variable_entry of) (seen scope.old) variables.now) }
+    ensures around { OnOk result (around scope.new ≡ around scope.old) }
+{
+    let mut broken = Broken::nothing();
+    for variable in variables {
+        let more = member_variable(alloc, scope, of, variable)?;
+        broken = broken.and(more);
+    }
+    Ok(broken)
+}
+
+/// A declaration of variables.
+#[tactic(auto, using(crate::proofs::Leasts::least_append))]
+fn in_variables<'a>(
+    alloc: Global,
+    scope: &mut Scope<'a>,
+    type_name: &TypeName,
+    variables: &'a [MemberVariable],
+) -> Result<Broken, AllocError>
+    ensures broken { IfOk result (λ broken. broken ≡ least (spec.in_member (seen scope.old) (member.Variables type_name.now variables.now))) }
+    ensures seen { OnOk result (seen scope.new ≡ declaring (seen scope.old) (member_entries (seen scope.old).names (member.Variables type_name.now variables.now))) }
+    ensures around { OnOk result (around scope.new ≡ around scope.old) }
+{
+    let of = scope.resolved(type_name);
+    let typed = at_type(scope, true, type_name);
+    let named = member_variables(alloc, scope, of, variables)?;
+    Ok(typed.and(named))
+}
+
+// ---- all declarations
+
+/// A declaration, which is visible in those behind it.
+fn in_member<'a>(
+    alloc: Global,
+    scope: &mut Scope<'a>,
+    member: &'a Member,
+) -> Result<Broken, AllocError>
+    ensures broken { IfOk result (λ broken. broken ≡ least (spec.in_member (seen scope.old) member.now)) }
+    ensures seen { OnOk result (seen scope.new ≡ declaring (seen scope.old) (member_entries (seen scope.old).names member.now)) }
+    ensures around { OnOk result (around scope.new ≡ around scope.old) }
+{
+    match member {
+        Member::Ports(port_type, names) => in_ports(scope, port_type, names.as_slice()),
+        Member::Constants(declared) => constants(alloc, scope, declared),
+        Member::Variables(type_name, variables) => {
+            in_variables(alloc, scope, type_name, variables.as_slice())
+        }
+        Member::Timers(declared) => timers(scope, declared.as_slice()),
+    }
+}
+
+/// The declarations of a component type.
+pub(crate) fn in_members<'a>(
+    alloc: Global,
+    scope: &mut Scope<'a>,
+    members: &'a [Member],
+) -> Result<Broken, AllocError>
+    ensures broken { IfOk result (λ broken. broken ≡ least (spec.in_members (seen scope.old) members.now)) }
+    ensures around { OnOk result (around scope.new ≡ around scope.old) }
+{
+    let mut broken = Broken::nothing();
+    for member in members {
+        let more = in_member(alloc, scope, member)?;
+        broken = broken.and(more);
+    }
+    Ok(broken)
+}

@@ -1,0 +1,372 @@
+//! The rules that receives and sends break (ES 201 873-1, 22.2).
+ghost use Rattle.std.specs.Prelude.{◌≡◌, is_some, IfOk};
+ghost use Rattle.std.specs.List.{list_any};
+ghost use Rattle.std.specs.Option.{option_map};
+ghost use Rattle.check_scope.specs.Checking.{least, seen};
+ghost use Rattle.check_expressions.specs.Findings.{told};
+ghost use Rattle.check_statements.specs.Messages as spec;
+ghost use Rattle.check_statements.specs.Ports.{known, otherwise, passing};
+ghost use Rattle.check_scope.specs.declared.types.Typing.TheVariants as typing;
+
+use check_expressions::expression::at_wanted_component;
+use check_expressions::found::Found;
+use check_expressions::target::{at_target, at_type};
+use check_expressions::template::{template, typing_of_template};
+use check_scope::broken::Broken;
+use check_scope::names::Meaning;
+use check_scope::rule::Rule;
+use check_scope::scope::Scope;
+use check_scope::type_listing::Listing;
+use check_scope::types::{DataType, Target, Typing};
+use std::alloc::{AllocError, Global};
+use ttcn_syntax::{
+    ComponentRef, Event, MessageTemplate, Name, PortSelector, Receive, Reference, Send, TypeName,
+};
+
+/// What is known of the messages that pass where one is sent or received.
+#[derive(Clone, Copy)]
+pub(crate) enum Passing<'s> {
+    /// Those of a port.
+    Types(&'s Listing),
+    /// None.
+    Nothing,
+    /// Those of a port of which nothing is known.
+    Unknown,
+    /// Those of any port.
+    Anywhere,
+}
+
+// ---- what a port lets pass
+
+impl<'s> Passing<'s> {
+    /// At a port whose type stands at a position, if that is known.
+    fn at(scope: &'s Scope<'_>, incoming: bool, at: Option<usize>) -> Passing<'s>
+        ensures { known result ≡ spec.at_port (seen scope.now).definitions incoming at }
+    {
+        let Some(at) = at else {
+            return Passing::Unknown;
+        };
+        match scope.traffic(at) {
+            Some(traffic) => Passing::Types(traffic.towards(incoming)),
+            None => Passing::Nothing,
+        }
+    }
+
+    fn is_known(&self) -> bool
+        ensures { result ≡ is_some (passing self.now) }
+    {
+        matches!(self, Passing::Types(_) | Passing::Nothing)
+    }
+
+    /// Whether messages of the type pass. It isn't judged where nothing is known.
+    fn lists(&self, data_type: DataType) -> bool
+        ensures { result ≡ spec.lists (passing self.now) data_type }
+    {
+        match self {
+            Passing::Types(listing) => listing.lists(data_type),
+            Passing::Nothing => false,
+            Passing::Unknown | Passing::Anywhere => true,
+        }
+    }
+
+    /// What is known of a message that says nothing of its type by itself.
+    fn otherwise(&self) -> Found
+        ensures { result ≡ told (otherwise self.now) }
+    {
+        match self {
+            Passing::Types(listing) => of_only(listing.only_type()),
+            Passing::Nothing => of_only(None),
+            Passing::Unknown => of_unknown_type(Broken::nothing()),
+            Passing::Anywhere => of_unknown_type(Broken::of(Rule::PortType)),
+        }
+    }
+}
+
+/// The port that a name stands for: the position of its type, which may be unknown.
+fn port_meant(meaning: Option<Meaning>) -> Option<Option<usize>>
+    ensures { result ≡ spec.port_meant meaning }
+{
+    match meaning {
+        Some(Meaning::Port(at)) => Some(at),
+        _ => None,
+    }
+}
+
+// ---- the type of a message
+
+fn of_unknown_type(broken: Broken) -> Found
+    ensures typing { result.typing ≡ typing.Unknown }
+    ensures broken { result.broken ≡ broken }
+{
+    Found {
+        typing: Typing::Unknown,
+        broken,
+    }
+}
+
+/// A message that is of the only type that passes.
+fn of_only(data_type: Option<DataType>) -> Found
+    ensures { result ≡ told (spec.of_only data_type) }
+{
+    match data_type {
+        Some(data_type) => Found {
+            typing: Typing::Known(data_type),
+            broken: Broken::nothing(),
+        },
+        None => of_unknown_type(Broken::of(Rule::PortType)),
+    }
+}
+
+/// A message whose type is known by itself is of one of those that pass.
+fn type_by_itself(ports: &Passing<'_>, typing: Typing) -> Found
+    ensures { result ≡ told (spec.type_by_itself (passing ports.now) typing) }
+{
+    match typing {
+        Typing::Known(data_type) => Found {
+            typing,
+            broken: Broken::unless(ports.lists(data_type), Rule::PortType),
+        },
+        Typing::Null => of_unknown_type(Broken::of(Rule::ValueType)),
+        Typing::AnyComponent => {
+            of_unknown_type(Broken::unless(!ports.is_known(), Rule::PortType))
+        }
+        Typing::NoValue => of_unknown_type(Broken::of(Rule::PortType)),
+        Typing::Unknown => of_unknown_type(Broken::nothing()),
+    }
+}
+
+/// Of which type a message is: that before it says it, else itself, else the port.
+fn type_of_message(scope: &Scope<'_>, ports: &Passing<'_>, message: &MessageTemplate) -> Found
+    ensures { result ≡ told (spec.type_of_message (seen scope.now) (passing ports.now) (otherwise ports.now) message.now) }
+{
+    if let Some(type_name) = &message.type_name {
+        return type_by_itself(ports, Typing::of(scope.resolved(type_name)));
+    }
+    match typing_of_template(scope, &message.template) {
+        Some(typing) => type_by_itself(ports, typing),
+        None => ports.otherwise(),
+    }
+}
+
+fn at_type_name(scope: &Scope<'_>, type_name: Option<&TypeName>) -> Broken
+    ensures { result ≡ least (spec.at_type_name (seen scope.now) (option_map (λ name. name.now) type_name.entry)) }
+{
+    match type_name {
+        Some(type_name) => at_type(scope, false, type_name),
+        None => Broken::nothing(),
+    }
+}
+
+/// A message where messages of some types pass.
+#[tactic(auto, using(crate::proofs::Leasts::least_append))]
+fn at_message(
+    alloc: Global,
+    scope: &Scope<'_>,
+    ports: &Passing<'_>,
+    message: &MessageTemplate,
+) -> Result<Broken, AllocError>
+    ensures { IfOk result (λ broken. broken ≡ least (spec.at_message (seen scope.now) (passing ports.now) (otherwise ports.now) message.now)) }
+{
+    let named = at_type_name(scope, message.type_name.as_ref());
+    let found = type_of_message(scope, ports, message);
+    let target = Target::of(found.typing.known());
+    let matched = template(alloc, scope, &message.template, target)?;
+    Ok(named.and(found.broken).and(matched))
+}
+
+// ---- sends
+
+/// The receiver of a message, or its sender.
+fn at_to(scope: &Scope<'_>, component: Option<&ComponentRef>) -> Broken
+    ensures { result ≡ least (spec.at_to (seen scope.now) (option_map (λ component. component.now) component.entry)) }
+{
+    match component {
+        Some(component) => at_wanted_component(scope, component).broken,
+        None => Broken::nothing(),
+    }
+}
+
+#[tactic(auto, using(crate::proofs::Leasts::least_append))]
+fn at_sent(
+    alloc: Global,
+    scope: &Scope<'_>,
+    port: Option<Option<usize>>,
+    message: &MessageTemplate,
+) -> Result<Broken, AllocError>
+    ensures { IfOk result (λ broken. broken ≡ least (spec.at_sent (seen scope.now) port message.now)) }
+{
+    match port {
+        Some(port) => {
+            let ports = Passing::at(scope, false, port);
+            at_message(alloc, scope, &ports, message)
+        }
+        None => {
+            let broken = at_message(alloc, scope, &Passing::Unknown, message)?;
+            Ok(Broken::of(Rule::UnknownName).and(broken))
+        }
+    }
+}
+
+#[tactic(auto, using(crate::proofs::Leasts::least_append))]
+pub(crate) fn at_send(alloc: Global, scope: &Scope<'_>, send: &Send) -> Result<Broken, AllocError>
+    ensures { IfOk result (λ broken. broken ≡ least (spec.at_send (seen scope.now) send.now)) }
+{
+    let port = port_meant(scope.get(send.port.as_bytes()));
+    let sent = at_sent(alloc, scope, port, &send.message)?;
+    Ok(sent.and(at_to(scope, send.to.as_ref())))
+}
+
+// ---- receives
+
+impl<'s> Passing<'s> {
+    /// What is known where a message comes in.
+    fn incoming(scope: &'s Scope<'_>, selector: &PortSelector) -> Passing<'s>
+        ensures { known result ≡ spec.incoming (seen scope.now) selector.now }
+    {
+        let PortSelector::Named(name) = selector else {
+            return Passing::Anywhere;
+        };
+        match port_meant(scope.get(name.as_bytes())) {
+            Some(port) => Passing::at(scope, true, port),
+            None => Passing::Unknown,
+        }
+    }
+}
+
+fn at_selector(scope: &Scope<'_>, selector: &PortSelector) -> Broken
+    ensures { result ≡ least (spec.at_selector (seen scope.now) selector.now) }
+{
+    match selector {
+        PortSelector::Named(name) => {
+            let port = port_meant(scope.get(name.as_bytes()));
+            Broken::unless(port.is_some(), Rule::UnknownName)
+        }
+        PortSelector::Any => Broken::nothing(),
+    }
+}
+
+/// What is received: any message, or one that a template tells.
+fn at_received(
+    alloc: Global,
+    scope: &Scope<'_>,
+    ports: &Passing<'_>,
+    message: Option<&MessageTemplate>,
+) -> Result<Broken, AllocError>
+    ensures { IfOk result (λ broken. broken ≡ least (spec.at_received (seen scope.now) (known ports.now) (option_map (λ message. message.now) message.entry))) }
+{
+    match message {
+        Some(message) => at_message(alloc, scope, ports, message),
+        None => Ok(Broken::nothing()),
+    }
+}
+
+/// What is known of the type of what is received, where a template tells it.
+fn received_type(
+    scope: &Scope<'_>,
+    ports: &Passing<'_>,
+    message: Option<&MessageTemplate>,
+) -> Option<DataType>
+    ensures { result ≡ spec.received_type (seen scope.now) (known ports.now) (option_map (λ message. message.now) message.entry) }
+{
+    match message {
+        Some(message) => type_of_message(scope, ports, message).typing.known(),
+        None => None,
+    }
+}
+
+// ---- redirects
+
+/// Whether a message may go to a target. It isn't judged where the type of one is unknown.
+fn stores(data_type: Option<DataType>, found: Typing) -> bool
+    ensures { result ≡ spec.stores data_type found }
+{
+    match (data_type, found) {
+        (Some(data_type), Typing::Known(other)) => data_type.is_same(other),
+        _ => true,
+    }
+}
+
+/// Whether a sender may go to a target.
+fn stores_sender(found: Typing) -> bool
+    ensures { result ≡ spec.stores_sender found }
+{
+    match found {
+        Typing::Known(data_type) => data_type.is_component(),
+        _ => true,
+    }
+}
+
+#[tactic(auto, using(crate::proofs::Leasts::least_append))]
+fn at_value_redirect(
+    scope: &Scope<'_>,
+    is_told: bool,
+    data_type: Option<DataType>,
+    target: Option<&Reference>,
+) -> Broken
+    ensures { result ≡ least (spec.at_value_redirect (seen scope.now) is_told data_type (option_map (λ target. target.now) target.entry)) }
+{
+    let Some(target) = target else {
+        return Broken::nothing();
+    };
+    let found = at_target(scope, target);
+    let stored = Broken::unless(stores(data_type, found.typing), Rule::Redirect);
+    found
+        .broken
+        .and(Broken::unless(is_told, Rule::Redirect))
+        .and(stored)
+}
+
+#[tactic(auto, using(crate::proofs::Leasts::least_append))]
+fn at_sender_redirect(scope: &Scope<'_>, target: Option<&Reference>) -> Broken
+    ensures { result ≡ least (spec.at_sender_redirect (seen scope.now) (option_map (λ target. target.now) target.entry)) }
+{
+    let Some(target) = target else {
+        return Broken::nothing();
+    };
+    let found = at_target(scope, target);
+    let stored = stores_sender(found.typing);
+    found.broken.and(Broken::unless(stored, Rule::Redirect))
+}
+
+// ---- events
+
+#[tactic(auto, using(crate::proofs::Leasts::least_append))]
+fn at_receive(alloc: Global, scope: &Scope<'_>, receive: &Receive) -> Result<Broken, AllocError>
+    ensures { IfOk result (λ broken. broken ≡ least (spec.at_receive (seen scope.now) receive.now)) }
+{
+    let ports = Passing::incoming(scope, &receive.port);
+    let message = receive.message.as_ref();
+    let received = at_received(alloc, scope, &ports, message)?;
+    let data_type = received_type(scope, &ports, message);
+    let value = at_value_redirect(scope, message.is_some(), data_type, receive.value.as_ref());
+    let sender = at_sender_redirect(scope, receive.sender.as_ref());
+    Ok(
+        at_selector(scope, &receive.port)
+            .and(received)
+            .and(at_to(scope, receive.from.as_ref()))
+            .and(value)
+            .and(sender),
+    )
+}
+
+pub(crate) fn at_timer(scope: &Scope<'_>, name: &Name) -> Broken
+    ensures { result ≡ least (spec.at_timer (seen scope.now) name.now) }
+{
+    let is_timer = matches!(scope.get(name.as_bytes()), Some(Meaning::Timer));
+    Broken::unless(is_timer, Rule::UnknownName)
+}
+
+pub(crate) fn at_event(
+    alloc: Global,
+    scope: &Scope<'_>,
+    event: &Event,
+) -> Result<Broken, AllocError>
+    ensures { IfOk result (λ broken. broken ≡ least (spec.at_event (seen scope.now) event.now)) }
+{
+    match event {
+        Event::Receive(receive) => at_receive(alloc, scope, receive),
+        Event::Timeout(timer) => Ok(at_timer(scope, timer)),
+        Event::Done(component) => Ok(at_wanted_component(scope, component).broken),
+        Event::AllDone => Ok(Broken::nothing()),
+    }
+}

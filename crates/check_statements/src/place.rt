@@ -1,0 +1,37 @@
+//! Where a statement stands in a behaviour.
+ghost use Rattle.std.specs.Prelude.{◌≡◌};
+ghost use Rattle.check_statements.specs.Standing.{standing};
+ghost use Rattle.check_scope.specs.Names.{Scope};
+ghost use Rattle.check_statements.specs.Statements.{inside_branch};
+
+use check_scope::types::DataType;
+
+/// Whether `return` may stand in a behaviour, and with what.
+#[derive(Clone, Copy, Debug, PartialEq, Eq)]
+pub(crate) enum Returns {
+    /// An altstep or a test case.
+    Nowhere,
+    /// A function without a result.
+    WithoutValue,
+    /// A function with a result; its type is unknown where its declaration breaks a rule.
+    WithValue(Option<DataType>),
+}
+
+/// What a behaviour lets its statements return, and whether they are inside the block of a branch.
+#[derive(Clone, Copy, Debug, PartialEq, Eq)]
+pub(crate) struct Place {
+    pub(crate) returns: Returns,
+    pub(crate) in_branch: bool,
+}
+
+impl Place {
+    /// A place in the block of a branch.
+    pub(crate) fn inside_branch(self) -> Place
+        ensures { (scope : Scope) → standing scope result ≡ inside_branch (standing scope self) }
+    {
+        Place {
+            returns: self.returns,
+            in_branch: true,
+        }
+    }
+}

@@ -1,9 +1,0 @@
-use Rattle.std.proofs.Common.{◌≡◌, drop}
-use Rattle.ttcn_types.specs.Names.{behind_members}
-use Rattle.ttcn_types.specs.Tables.{either, said}
-use Rattle.ttcn_types.proofs.scope.members.table_of.Given as goal
-
--- the names so far, behind the declarations that are left, are those behind all
-abbrev pub invariant-loop-member : goal.invariant-loop-member
-invariant-loop-member l =
-    behind_members (either (said l.table) (said l.defined)) (drop l.member-index l.members) ≡ behind_members (said l.fn.defined) l.fn.members

@@ -1,9 +1,0 @@
-use mathlib.Core.Path.{fun_ext}
-use Rattle.std.proofs.Common.{◌∙◌, bytes_eq}
-use Rattle.ttcn_types.specs.Tables.{said}
-use Rattle.ttcn_types.proofs.Lookups.{put}
-use Rattle.ttcn_types.proofs.table.Table.insert.Goals as goal
-
-pub returns : goal.returns
-returns c = fun_ext (λ other. c.in_ok-insert.ensures.updates.0 (record c.args.name { now = other })
-    ∙ put (bytes_eq c.args.name.now other) c.args.meaning (said c.args.self.now other))

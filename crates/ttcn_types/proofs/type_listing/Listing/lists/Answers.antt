@@ -1,6 +1,0 @@
-use Rattle.std.proofs.Common.{ap, ◌∙◌}
-use Rattle.ttcn_types.proofs.PortTypes.{Lists}
-use Rattle.ttcn_types.proofs.type_listing.Listing.lists.Goals as goal
-
-pub returns : goal.returns
-returns c = c.lists.ensures ∙ ap (λ (lists : Lists). lists c.args.data_type) c.args.self.now.is_set

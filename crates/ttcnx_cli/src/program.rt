@@ -1,0 +1,125 @@
+//! What the program does: from its words to what it writes and the status that it exits with.
+use explore::NoGate;
+use std::alloc::AllocError;
+use std::io::{self, ErrorKind, Read};
+use std::rt::{Env, Files};
+use std::thread::Threads;
+use std::{env, fs};
+use ttcn_syntax::LONGEST_TEXT;
+use ttcnx::{
+    Fault, Line, LineError, check_answer, fault_line, read_line, run_text, status, to_text,
+};
+
+/// How many bytes of a file are read: a text that has them all is refused as too long.
+const ENOUGH: u64 = LONGEST_TEXT as u64 + 1;
+
+/// Why there is nothing to write to the standard output.
+#[derive(Debug, Drop)]
+enum Stop {
+    /// The words are at fault, as the text says.
+    Words(String),
+    Fault(Fault),
+}
+
+impl From<AllocError> for Stop {
+    fn from(_refused: AllocError) -> Stop {
+        Stop::Fault(Fault::Memory)
+    }
+}
+
+impl From<Fault> for Stop {
+    fn from(fault: Fault) -> Stop {
+        Stop::Fault(fault)
+    }
+}
+
+/// Does what the words ask for, and gives the status to exit with. Nothing is written before the whole answer
+/// is there.
+pub fn run<R>(rt: &R) -> u8
+where
+    R: Env + Files + Print + Eprint + AllocGlobal + Threads + Sync,
+{
+    match answer(rt) {
+        Ok(text) => match rt.print(&text) {
+            Ok(()) => 0,
+            Err(_) => tell(rt, &Fault::CannotWrite),
+        },
+        Err(Stop::Words(text)) => {
+            let _ = rt.eprint(&text);
+            2
+        }
+        Err(Stop::Fault(fault)) => tell(rt, &fault),
+    }
+}
+
+/// Writes the line of a fault, and gives its status.
+fn tell<R: Eprint + AllocGlobal>(rt: &R, fault: &Fault) -> u8 {
+    match fault_line(rt.alloc(), fault) {
+        Ok(line) => {
+            let _ = rt.eprintln(&line);
+            status(fault)
+        }
+        Err(_) => {
+            let _ = rt.eprintln(&Fault::Memory);
+            status(&Fault::Memory)
+        }
+    }
+}
+
+/// The text for the standard output.
+fn answer<R>(rt: &R) -> Result<String, Stop>
+where
+    R: Env + Files + AllocGlobal + Threads + Sync,
+{
+    let alloc = rt.alloc();
+    let words = words(rt)?;
+    let texts: Vec<&str> = words.iter().map(|word| word.as_str()).collect(alloc)?;
+    let line = match read_line(alloc, texts.get(1..).unwrap_or(&[])) {
+        Ok(line) => line,
+        Err(LineError::Help(text)) => return Ok(text),
+        Err(LineError::Bad(text)) => return Err(Stop::Words(text)),
+        Err(LineError::Memory(_)) => return Err(Stop::Fault(Fault::Memory)),
+    };
+    match line {
+        Line::Check { file } => {
+            let text = read_text(rt, file)?;
+            Ok(check_answer(alloc, &text)?)
+        }
+        Line::Run {
+            file,
+            testcase,
+            plan,
+        } => {
+            let text = read_text(rt, file)?;
+            let report = run_text(rt, alloc, &text, testcase.as_str(), &plan, &NoGate)?;
+            Ok(to_text(alloc, &report)?)
+        }
+    }
+}
+
+/// The words of the command line, the program's name first.
+fn words<R: Env + AllocGlobal>(rt: &R) -> Result<Vec<String>, Stop> {
+    match env::args(rt) {
+        Ok(words) => Ok(words.collect(rt.alloc())?),
+        Err(error) if error.kind() == ErrorKind::OutOfMemory => Err(Stop::Fault(Fault::Memory)),
+        Err(_) => {
+            let text = "error: a word of the command line is not UTF-8\n";
+            Err(Stop::Words(String::from_str(rt.alloc(), text)?))
+        }
+    }
+}
+
+/// The bytes of a file, as many as a text may have and one more.
+fn read_text<R: Files + AllocGlobal>(rt: &R, file: String) -> Result<Vec<u8>, Fault> {
+    match read_bytes(rt, file.as_str()) {
+        Ok(text) => Ok(text),
+        Err(error) if error.kind() == ErrorKind::OutOfMemory => Err(Fault::Memory),
+        Err(_) => Err(Fault::CannotRead(file)),
+    }
+}
+
+fn read_bytes<R: Files + AllocGlobal>(rt: &R, file: &str) -> io::Result<Vec<u8>> {
+    let mut text = Vec::new(rt.alloc());
+    fs::open(rt, file)?.take(ENOUGH).read_to_end(&mut text)?;
+    Ok(text)
+}
