@@ -3,12 +3,12 @@ use Rattle.std.proofs.Common.{◌≡◌, List}
 use Rattle.std.specs.Prelude.{Some, None}
 use Rattle.ttcn_syntax.specs.declared.token.Spanned.{Spanned}
 use Rattle.ttcn_syntax.specs.declared.tree.definition.Module.{Module}
-use Rattle.ttcn_parse.specs.Groups.{IsTooDeep}
-use Rattle.ttcn_parse.specs.LeftOut.{HasLeftOut}
-use Rattle.ttcn_parse.specs.Reader.{whole}
+use Rattle.parse_limits.specs.Groups.{IsTooDeep}
+use Rattle.parse_limits.specs.LeftOut.{HasLeftOut}
+use Rattle.parse_reader.specs.Modules.{whole}
 use Rattle.ttcn_parse.specs.Refused.{IsRead, IsUnread}
-use Rattle.ttcn_parse.proofs.Complete.{reads_whole}
-use Rattle.ttcn_parse.proofs.SoundDefinitions.{reads_module}
+use Rattle.parse_grammar.proofs.Complete.{reads_whole}
+use Rattle.parse_grammar.proofs.SoundDefinitions.{reads_module}
 
 pub parses : (tokens : List Spanned) (tree : Module) (rest : List Spanned) → (IsTooDeep tokens → ⊥) → (HasLeftOut tokens → ⊥)
     → whole tokens ≡ Some (tree, rest) → IsRead tokens tree

@@ -2,11 +2,11 @@
 use Rattle.std.specs.Prelude.{◌≡◌, List}
 use Rattle.ttcn_syntax.specs.declared.token.Spanned.{Spanned}
 use Rattle.ttcn_syntax.specs.declared.tree.definition.Module.{Module}
-use Rattle.ttcn_parse.specs.Grammar.{IsModule}
-use Rattle.ttcn_parse.specs.Groups.{IsTooDeep}
-use Rattle.ttcn_parse.specs.LeftOut.{HasLeftOut}
-use Rattle.ttcn_parse.specs.declared.error.ParseError.{ParseError}
-use Rattle.ttcn_parse.specs.declared.error.ParseError.TheVariants.{TooDeep, LeftOut, Unexpected, Memory}
+use Rattle.parse_grammar.specs.Grammar.{IsModule}
+use Rattle.parse_limits.specs.Groups.{IsTooDeep}
+use Rattle.parse_limits.specs.LeftOut.{HasLeftOut}
+use Rattle.parse_reader.specs.declared.error.ParseError.{ParseError}
+use Rattle.parse_reader.specs.declared.error.ParseError.TheVariants.{TooDeep, LeftOut, Unexpected, Memory}
 
 -- the tokens are read as this module
 pub record IsRead (tokens : List Spanned) (tree : Module) : Type 0 where

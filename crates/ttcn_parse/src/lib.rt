@@ -4,24 +4,13 @@
 ghost use Rattle.std.specs.Prelude.{IfErr, IfOk};
 ghost use Rattle.ttcn_parse.specs.Refused.{HasOneTree, IsRead, IsRefused};
 
-mod action;
-mod declaration;
 mod definition;
-mod error;
-mod event;
-mod expression;
-mod heads;
-mod limits;
-mod lists;
 mod module;
-mod parser;
-mod statement;
-mod template;
-mod value;
 
-pub use error::ParseError;
-pub use limits::{DEPTH, first_left_out, first_too_deep};
-use parser::Parser;
+use crate::module::whole;
+pub use parse_limits::{DEPTH, first_left_out, first_too_deep};
+pub use parse_reader::ParseError;
+use parse_reader::Parser;
 use std::alloc::Global;
 use ttcn_syntax::{Module, Spanned};
 
@@ -29,7 +18,7 @@ use ttcn_syntax::{Module, Spanned};
 ///
 /// Brackets that nest deeper than [`DEPTH`] are refused before what this subset leaves out, and that before what no
 /// module has. What stands behind `control` and `with` is ignored.
-#[tactic(auto, using(crate::proofs::Complete::one_tree, crate::proofs::Parses::parses, crate::proofs::Parses::refuses))]
+#[tactic(auto, using(parse_grammar::proofs::Complete::one_tree, crate::proofs::Parses::parses, crate::proofs::Parses::refuses))]
 pub fn parse(alloc: Global, tokens: &[Spanned]) -> Result<Module, ParseError>
     ensures read { IfOk result (λ tree. IsRead tokens.now tree) }
     ensures refused { IfErr result (λ error. IsRefused tokens.now error) }
@@ -41,5 +30,6 @@ pub fn parse(alloc: Global, tokens: &[Spanned]) -> Result<Module, ParseError>
     if let Some(place) = first_left_out(alloc, tokens)? {
         return Err(ParseError::LeftOut(place));
     }
-    Parser::new(alloc, tokens).whole()
+    let mut parser = Parser::new(alloc, tokens);
+    whole(&mut parser)
 }

@@ -1,154 +1,152 @@
 //! Modules, and what leaves no trace in their tree.
 ghost use Rattle.std.specs.Prelude.{◌≡◌, ◌∷◌, [], reverse};
-ghost use Rattle.ttcn_parse.specs.Reader as spec;
-ghost use Rattle.ttcn_parse.specs.Reader.{Reads};
+ghost use Rattle.parse_reader.specs.Reading as reading;
+ghost use Rattle.parse_reader.specs.Modules as spec;
+ghost use Rattle.parse_reader.specs.Reading.{Reads};
 ghost use Rattle.ttcn_syntax.specs.declared.token.Symbol.TheVariants as mark;
 
-use crate::ParseError;
-use crate::limits::{closes, partner};
-use crate::lists::Listed;
-use crate::parser::Parser;
+use crate::definition::definition;
+use parse_limits::{closes, partner};
+use parse_reader::{Listed, ParseError, Parser};
 use ttcn_syntax::{Definition, Module, Name, Seq, Symbol, Token, Word};
 
-impl Parser<'_> {
-    #[tactic(auto, using(crate::proofs::Readers::whole_split))]
-    pub(crate) fn whole(&mut self) -> Result<Module, ParseError>
-        ensures { Reads (spec.whole self.old) result self.new }
-    {
-        let name = self.module_head()?;
-        let definitions = self.definitions()?;
-        self.module_end()?;
-        Ok(Module { name, definitions })
-    }
+#[tactic(auto, using(crate::proofs::Readers::whole_split))]
+pub(crate) fn whole(parser: &mut Parser<'_>) -> Result<Module, ParseError>
+    ensures { Reads (spec.whole parser.old) result parser.new }
+{
+    let name = module_head(parser)?;
+    let definitions = definitions(parser)?;
+    module_end(parser)?;
+    Ok(Module { name, definitions })
+}
 
-    /// A module up to its definitions.
-    #[tactic(auto, unfolding(crate::specs::Reader::module_head))]
-    fn module_head(&mut self) -> Result<Name, ParseError>
-        ensures { Reads (spec.module_head self.old) result self.new }
-    {
-        self.word(Word::Module)?;
-        let name = self.name()?;
-        self.language()?;
-        self.symbol(Symbol::LeftBrace)?;
-        self.skip_semicolons();
-        Ok(name)
-    }
+/// A module up to its definitions.
+#[tactic(auto, unfolding(parse_reader::specs::Modules::module_head))]
+fn module_head(parser: &mut Parser<'_>) -> Result<Name, ParseError>
+    ensures { Reads (spec.module_head parser.old) result parser.new }
+{
+    parser.word(Word::Module)?;
+    let name = parser.name()?;
+    language(parser)?;
+    parser.symbol(Symbol::LeftBrace)?;
+    parser.skip_semicolons();
+    Ok(name)
+}
 
-    /// A module behind its definitions: no token is left.
-    #[tactic(auto, unfolding(crate::specs::Reader::module_end, crate::specs::Reader::at_end))]
-    fn module_end(&mut self) -> Result<(), ParseError>
-        ensures { Reads (spec.module_end self.old) result self.new }
-    {
-        self.control()?;
-        self.symbol(Symbol::RightBrace)?;
-        self.with()?;
-        self.skip_semicolons();
-        if self.left() > 0 {
-            return Err(self.unexpected());
+/// A module behind its definitions: no token is left.
+#[tactic(auto, unfolding(parse_reader::specs::Modules::module_end, parse_reader::specs::Modules::at_end))]
+fn module_end(parser: &mut Parser<'_>) -> Result<(), ParseError>
+    ensures { Reads (spec.module_end parser.old) result parser.new }
+{
+    control(parser)?;
+    parser.symbol(Symbol::RightBrace)?;
+    with(parser)?;
+    parser.skip_semicolons();
+    if parser.left() > 0 {
+        return Err(parser.unexpected());
+    }
+    Ok(())
+}
+
+/// The definitions, up to `control` or the closing brace.
+fn definitions(parser: &mut Parser<'_>) -> Result<Seq<Definition>, ParseError>
+    ensures { Reads (reading.items spec.at_last spec.definition_with parser.old) result parser.new }
+{
+    let mut definitions = Seq::new(parser.alloc);
+    for _turn in 0..parser.left() {
+        if parser.is_at(Symbol::RightBrace) || parser.is_at_word(Word::Control) {
+            return Ok(definitions);
         }
-        Ok(())
+        definitions.push(definition_with(parser)?)?;
+        parser.skip_semicolons();
     }
+    Ok(definitions)
+}
 
-    /// The definitions, up to `control` or the closing brace.
-    fn definitions(&mut self) -> Result<Seq<Definition>, ParseError>
-        ensures { Reads (spec.items spec.at_last spec.definition_with self.old) result self.new }
-    {
-        let mut definitions = Seq::new(self.alloc);
-        for _turn in 0..self.left() {
-            if self.is_at(Symbol::RightBrace) || self.is_at_word(Word::Control) {
-                return Ok(definitions);
-            }
-            definitions.push(self.definition_with()?)?;
-            self.skip_semicolons();
-        }
-        Ok(definitions)
+#[tactic(auto, unfolding(parse_reader::specs::Modules::definition_with))]
+fn definition_with(parser: &mut Parser<'_>) -> Result<Definition, ParseError>
+    ensures { Reads (spec.definition_with parser.old) result parser.new }
+{
+    let definition = definition(parser)?;
+    with(parser)?;
+    Ok(definition)
+}
+
+#[tactic(auto, unfolding(parse_reader::specs::Modules::language))]
+fn language(parser: &mut Parser<'_>) -> Result<(), ParseError>
+    ensures { Reads (spec.language parser.old) result parser.new }
+{
+    if parser.take_word(Word::Language) {
+        parser.separated::<AText>()?;
     }
+    Ok(())
+}
 
-    #[tactic(auto, unfolding(crate::specs::Reader::definition_with))]
-    fn definition_with(&mut self) -> Result<Definition, ParseError>
-        ensures { Reads (spec.definition_with self.old) result self.new }
-    {
-        let definition = self.definition()?;
-        self.with()?;
-        Ok(definition)
+#[tactic(auto, unfolding(parse_reader::specs::Modules::control))]
+fn control(parser: &mut Parser<'_>) -> Result<(), ParseError>
+    ensures { Reads (spec.control parser.old) result parser.new }
+{
+    if parser.take_word(Word::Control) {
+        group(parser)?;
+        with(parser)?;
+        parser.skip_semicolons();
     }
+    Ok(())
+}
 
-    #[tactic(auto, unfolding(crate::specs::Reader::language))]
-    fn language(&mut self) -> Result<(), ParseError>
-        ensures { Reads (spec.language self.old) result self.new }
-    {
-        if self.take_word(Word::Language) {
-            self.separated::<()>()?;
-        }
-        Ok(())
+#[tactic(auto, unfolding(parse_reader::specs::Modules::with_))]
+fn with(parser: &mut Parser<'_>) -> Result<(), ParseError>
+    ensures { Reads (spec.with_ parser.old) result parser.new }
+{
+    if parser.take_word(Word::With) {
+        group(parser)?;
     }
+    Ok(())
+}
 
-    #[tactic(auto, unfolding(crate::specs::Reader::control))]
-    fn control(&mut self) -> Result<(), ParseError>
-        ensures { Reads (spec.control self.old) result self.new }
-    {
-        if self.take_word(Word::Control) {
-            self.group()?;
-            self.with()?;
-            self.skip_semicolons();
-        }
-        Ok(())
-    }
+/// Braces with balanced brackets inside.
+#[tactic(auto, unfolding(parse_reader::specs::Modules::group))]
+fn group(parser: &mut Parser<'_>) -> Result<(), ParseError>
+    ensures { Reads (spec.group parser.old) result parser.new }
+{
+    parser.symbol(Symbol::LeftBrace)?;
+    balanced(parser)
+}
 
-    #[tactic(auto, unfolding(crate::specs::Reader::with_))]
-    fn with(&mut self) -> Result<(), ParseError>
-        ensures { Reads (spec.with_ self.old) result self.new }
-    {
-        if self.take_word(Word::With) {
-            self.group()?;
-        }
-        Ok(())
-    }
-
-    /// Braces with balanced brackets inside.
-    #[tactic(auto, unfolding(crate::specs::Reader::group))]
-    fn group(&mut self) -> Result<(), ParseError>
-        ensures { Reads (spec.group self.old) result self.new }
-    {
-        self.symbol(Symbol::LeftBrace)?;
-        self.balanced()
-    }
-
-    /// What stands behind an opening brace, to its closing one.
-    #[tactic(auto, using(crate::proofs::Readers::nothing_balanced))]
-    fn balanced(&mut self) -> Result<(), ParseError>
-        ensures { Reads (spec.balanced_from (mark.RightBrace ∷ []) self.old) result self.new }
-    {
-        let mut expected = Vec::new(self.alloc);
-        expected.push(Symbol::RightBrace)?;
-        while let Some(token) = self.token() {
-            self.over(token, &mut expected)?;
-            self.advance();
-            if expected.is_empty() {
-                return Ok(());
-            }
-        }
-        Err(self.unexpected())
-    }
-
-    /// What a token opens or closes of the brackets that are still to be closed, the innermost last.
-    fn over(&self, token: &Token, expected: &mut Vec<Symbol>) -> Result<(), ParseError>
-        ensures { spec.Goes (spec.over_token (reverse expected.old.items) token.now) result (reverse expected.new.items) }
-    {
-        let Token::Symbol(symbol) = token else {
+/// What stands behind an opening brace, to its closing one.
+#[tactic(auto, using(crate::proofs::Readers::nothing_balanced))]
+fn balanced(parser: &mut Parser<'_>) -> Result<(), ParseError>
+    ensures { Reads (spec.balanced_from (mark.RightBrace ∷ []) parser.old) result parser.new }
+{
+    let mut expected = Vec::new(parser.alloc);
+    expected.push(Symbol::RightBrace)?;
+    while let Some(token) = parser.token() {
+        over(parser, token, &mut expected)?;
+        parser.advance();
+        if expected.is_empty() {
             return Ok(());
-        };
-        if let Some(closing) = partner(*symbol) {
-            expected.push(closing)?;
-        } else if closes(*symbol) && !close(expected, *symbol) {
-            return Err(self.unexpected());
         }
-        Ok(())
     }
+    Err(parser.unexpected())
+}
+
+/// What a token opens or closes of the brackets that are still to be closed, the innermost last.
+fn over(parser: &Parser<'_>, token: &Token, expected: &mut Vec<Symbol>) -> Result<(), ParseError>
+    ensures { spec.Goes (spec.over_token (reverse expected.old.items) token.now) result (reverse expected.new.items) }
+{
+    let Token::Symbol(symbol) = token else {
+        return Ok(());
+    };
+    if let Some(closing) = partner(*symbol) {
+        expected.push(closing)?;
+    } else if closes(*symbol) && !close(expected, *symbol) {
+        return Err(parser.unexpected());
+    }
+    Ok(())
 }
 
 /// Takes the innermost of the brackets that are to be closed, if it is this one.
-#[tactic(auto, using(crate::proofs::Readers::top_first, crate::proofs::Readers::nothing_first), unfolding(crate::specs::Reader::same_symbol))]
+#[tactic(auto, using(crate::proofs::Readers::top_first, crate::proofs::Readers::nothing_first), unfolding(parse_reader::specs::Reading::same_symbol))]
 fn close(expected: &mut Vec<Symbol>, symbol: Symbol) -> bool
     ensures { spec.closes_one (reverse expected.old.items) symbol ≡ spec.left_if result (reverse expected.new.items) }
 {
@@ -158,11 +156,16 @@ fn close(expected: &mut Vec<Symbol>, symbol: Symbol) -> bool
     }
 }
 
-impl Listed for () {
+/// Texts in lists, whose content has no effect.
+pub struct AText;
+
+impl Listed for AText {
+    type Item = ();
+
     ghost reader = { spec.text };
 
     /// A text, whose content has no effect.
-    #[tactic(auto, unfolding(crate::specs::Reader::text))]
+    #[tactic(auto, unfolding(parse_reader::specs::Modules::text))]
     fn read(parser: &mut Parser<'_>) -> Result<(), ParseError> {
         let Some(Token::Text) = parser.token() else {
             return Err(parser.unexpected());

@@ -1,0 +1,14 @@
+pub mod Claims
+pub mod Complete
+pub mod CompleteDefinitions
+pub mod CompleteExpressions
+pub mod CompleteLists
+pub mod CompleteStatements
+pub mod CompleteTemplates
+pub mod Follow
+pub mod Sound
+pub mod SoundDefinitions
+pub mod SoundStatements
+pub mod SoundTemplates
+pub mod Spellings
+pub mod Tokens

@@ -1,0 +1,24 @@
+use Rattle.std.proofs.Common.{rules, arith}
+use Rattle.std.proofs.lemmas.Grind.{common_steps}
+use Rattle.ttcn_parse.proofs.Readers.{altstep_split}
+use Rattle.ttcn_parse.proofs.definition.altstep.Goals as goal
+
+pub returns-in_err-name : goal.returns-in_err-name
+returns-in_err-name c =
+    let e = altstep_split c.args.parser.now in
+    first_of (search rules, grind (arith, common_steps))
+
+pub returns-in_err-runs_on : goal.returns-in_err-runs_on
+returns-in_err-runs_on c =
+    let e = altstep_split c.args.parser.now in
+    first_of (search rules, grind (arith, common_steps))
+
+pub returns-in_err-branches : goal.returns-in_err-branches
+returns-in_err-branches c =
+    let e = altstep_split c.args.parser.now in
+    first_of (search rules, grind (arith, common_steps))
+
+pub returns : goal.returns
+returns c =
+    let e = altstep_split c.args.parser.now in
+    first_of (search rules, grind (arith, common_steps))
