@@ -18,7 +18,7 @@ use ttcn_syntax::{Module, Spanned};
 ///
 /// Brackets that nest deeper than [`DEPTH`] are refused before what this subset leaves out, and that before what no
 /// module has. What stands behind `control` and `with` is ignored.
-#[tactic(auto, using(parse_grammar::proofs::Complete::one_tree, crate::proofs::Parses::parses, crate::proofs::Parses::refuses))]
+#[tactic(auto, using(crate::proofs::Complete::one_tree, crate::proofs::Parses::parses, crate::proofs::Parses::refuses))]
 pub fn parse(alloc: Global, tokens: &[Spanned]) -> Result<Module, ParseError>
     ensures read { IfOk result (λ tree. IsRead tokens.now tree) }
     ensures refused { IfErr result (λ error. IsRefused tokens.now error) }

@@ -11,8 +11,8 @@ use Rattle.ttcn_syntax.specs.declared.tree.definition.Module.{Module}
 use Rattle.ttcn_syntax.proofs.Once.{reads_once}
 use Rattle.ttcn_parse.proofs.Complete.{one_tree}
 use Rattle.ttcn_parse.specs.Refused.{IsRead, IsRefused}
-use Rattle.ttcn_parse.specs.declared.error.ParseError.{ParseError}
-use Rattle.ttcn_parse.specs.declared.error.ParseError.TheVariants as reading
+use Rattle.ttcn_parse.specs.ParseError.{ParseError}
+use Rattle.ttcn_parse.specs.ParseError.TheVariants as reading
 use Rattle.check_scope.specs.Numbers.{number_of}
 use Rattle.ttcn_types.specs.Rules.{AreWellTyped, IsLeast, IsRefusal}
 use Rattle.ttcn_types.specs.declared.error.CheckError.{CheckError}

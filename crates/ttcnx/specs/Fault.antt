@@ -6,8 +6,8 @@ use Rattle.ttcn_syntax.specs.declared.error.LexError.{LexError}
 use Rattle.ttcn_syntax.specs.declared.error.LexError.TheVariants as lexical
 use Rattle.explore.specs.declared.plan.ExploreError.{ExploreError}
 use Rattle.explore.specs.declared.plan.ExploreError.TheVariants as searching
-use Rattle.ttcn_parse.specs.declared.error.ParseError as whole
-use Rattle.ttcn_parse.specs.declared.error.ParseError.TheVariants as reading
+use Rattle.ttcn_parse.specs.ParseError as whole
+use Rattle.ttcn_parse.specs.ParseError.TheVariants as reading
 use Rattle.ttcn_types.specs.declared.error.CheckError as typed
 use Rattle.ttcn_types.specs.declared.error.CheckError.TheVariants as typing
 use Rattle.check_scope.specs.declared.rule.Rule as all_rules
