@@ -5,6 +5,7 @@ pub mod CompleteExpressions
 pub mod CompleteLists
 pub mod CompleteStatements
 pub mod CompleteTemplates
+pub mod Examples
 pub mod Follow
 pub mod Sound
 pub mod SoundDefinitions

@@ -22,8 +22,7 @@ use Rattle.parse_limits.specs.Groups.{Balanced, Group, Is, closes, nothing, open
 use Rattle.parse_limits.specs.Groups as groups
 use Rattle.parse_grammar.specs.Grammar.{InTurn, IsModule, Part, Parts, Phrase, Spells, a_definition, a_field, a_kind, a_member, a_member_variable, a_module, a_number, a_template, a_type, a_value, a_with, a_control, an_enumerator, by, commas, direction_word, each, end, id, key, nil, one, optional, phrase, set_to, the_language, the_messages, the_parameters, this, turn, ◌▸◌}
 use Rattle.parse_grammar.specs.Grammar as spelled
-use Rattle.parse_reader.specs.Reading.{Parsed, Parser, after_semicolons, at_brace, behind, expect, expect_word, head_token, items, name, same_symbol, sees, sees_word, separated, separated_until}
-use Rattle.parse_reader.specs.Declarations.{constants, initial, timers}
+use Rattle.parse_reader.specs.Reading.{Parser, after_semicolons, at_brace, behind, head_token, name, same_symbol, sees, sees_word}
 use Rattle.parse_reader.specs.Definitions.{a_direction, component_type, def_altstep, def_function, def_template, def_testcase, definition, direction_of, enumerated_type, enumerator, field, int, int_of, kind_by, member_by, member_ports, member_variable, member_variables, messages, parameter, parameters, parameters_if_any, port_type, record_type, result_type, runs_on, runs_on_if_any, system_type, type_kind, type_kind_by}
 use Rattle.parse_reader.specs.Modules.{at_end, at_last, balanced_from, closes_one, control, definition_with, go_on, group, language, over_bracket, over_token, text, text_of, whole, with_}
 use Rattle.parse_reader.specs.Values as read_values

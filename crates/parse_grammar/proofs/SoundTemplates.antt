@@ -25,7 +25,6 @@ use Rattle.parse_grammar.specs.Grammar.{InTurn, Part, Parts, Spells, a_body, a_b
 use Rattle.parse_reader.specs.Trees.{template_of}
 use Rattle.parse_grammar.specs.Grammar as spelled
 use Rattle.parse_reader.specs.Reading.{Parsed, Parser, behind, expect, expect_word, head_token, is_symbol, name, second, sees, sees_word, separated}
-use Rattle.parse_reader.specs.Expressions.{expression}
 use Rattle.parse_reader.specs.Values.{activation, assigns, braced_value, call, calls, creates, field_value_by, type_by, value_by, value_expression, value_in}
 use Rattle.parse_reader.specs.Templates.{body_of, braced_template, closed_expression, complement, field_template_by, in_parens, in_parens_by, infinite, list_from, message, opened_by, range_from, shape_by, shape_expression, shape_in, template_by}
 use Rattle.parse_reader.specs.Reading as read

@@ -1,5 +1,5 @@
 -- What comes next in a list of tokens.
-use Rattle.std.proofs.Common.{◌≡◌, ℕ, ◌<◌, Bool, true, false, List, [], ◌∷◌, length, refl, sym, ap, ◌∙◌, arith, rules}
+use Rattle.std.proofs.Common.{◌≡◌, ℕ, Bool, true, false, List, [], ◌∷◌, refl, sym, ap, ◌∙◌, rules}
 use Rattle.std.specs.Prelude.{if◌then◌else◌, Option, Some, None}
 use denote.Enum.Bare.{same_true, true_same}
 use Rattle.ttcn_syntax.specs.contracts.token.Symbol as a_symbol
@@ -8,10 +8,9 @@ use Rattle.ttcn_syntax.specs.declared.token.Token.{Token}
 use Rattle.ttcn_syntax.specs.declared.token.Token.TheVariants as token
 use Rattle.ttcn_syntax.specs.declared.token.Spanned.{Spanned}
 use Rattle.ttcn_syntax.specs.declared.token.Symbol.{Symbol}
-use Rattle.ttcn_syntax.specs.declared.token.Symbol.TheVariants as mark
 use Rattle.ttcn_syntax.specs.declared.token.Word.{Word}
 use Rattle.parse_limits.specs.Groups.{Is}
-use Rattle.parse_reader.specs.Reading.{Parsed, Parser, and_then, taken, after_semicolons, behind, expect, expect_word, head_token, is_symbol, is_word, name, name_of, same_symbol, same_word, sees, sees_word}
+use Rattle.parse_reader.specs.Reading.{Parsed, Parser, and_then, taken, behind, expect, expect_word, head_token, is_symbol, is_word, name, name_of, same_symbol, same_word, sees, sees_word}
 
 -- ---- a token that is there is seen
 

@@ -1,5 +1,5 @@
 -- What several functions of the code read one behind the other, of definitions and modules, and groups that are balanced.
-use Rattle.std.proofs.Common.{◌≡◌, ◌+◌, ◌-◌, ◌<◌, List, [], ◌∷◌, ◌++◌, length, reverse, refl, ap, arith}
+use Rattle.std.proofs.Common.{◌≡◌, ◌<◌, List, [], ◌∷◌, ◌++◌, length, reverse, refl, ap, arith}
 use Rattle.std.proofs.lemmas.List.{length-reverse, reverse-append}
 use Rattle.std.specs.Prelude.{None, Some}
 use Rattle.ttcn_syntax.specs.declared.token.Spanned.{Spanned}
