@@ -1,9 +1,5 @@
-//! Tests of the checker: texts and trees, and what is answered for them.
+//! Tests of the checker on trees that are built by hand. Texts and their answers stand in the rows of `checker_corpus`.
 #![tactic(auto)]
 
-#[cfg(test)]
-mod answer;
-#[cfg(test)]
-mod tables;
 #[cfg(test)]
 mod trees;

@@ -1,5 +1,5 @@
-//! Tests of what expressions, values and templates give, in a crate of their own, since a crate with tests is proved
-//! twice.
+//! Tests of frames, values and templates that are built by hand. Texts and what they give stand in the rows of
+//! `evaluation_corpus`.
 #![tactic(auto)]
 
 #[cfg(test)]
@@ -9,6 +9,6 @@ mod basic_frames;
 #[cfg(test)]
 mod fault;
 #[cfg(test)]
-mod matching;
+mod frames;
 #[cfg(test)]
-mod values;
+mod matching;

@@ -1,19 +1,9 @@
-//! Tests of the way from texts to trees, in a crate of their own, since a crate with tests is proved twice.
+//! Tests of tokens and trees. Texts that are answered by `ok` or a refusal stand in the rows of `parser_corpus`.
 #![tactic(auto)]
 
 #[cfg(test)]
-mod answers;
-#[cfg(test)]
 mod basic_expressions;
 #[cfg(test)]
-mod large;
-#[cfg(test)]
 mod lexer;
-#[cfg(test)]
-mod limits;
-#[cfg(test)]
-mod productions;
-#[cfg(test)]
-mod refusals;
 #[cfg(test)]
 mod trees;

@@ -1,14 +1,13 @@
 //! Examples, and the trees that a person would write for them.
-use crate::answers::{answer, tokens};
 use std::alloc::Global;
 use std::test::Fail;
 use ttcn_parse::{ParseError, parse};
 use ttcn_syntax::{
     Action, Alternative, Branch, Call, ComponentRef, ComponentType, Definition, DefinitionKind,
-    Direction, Event, Expr, Function, Member, MessageTemplate, Module, Name, Parameter,
+    Direction, Event, Expr, Function, Member, Memory, MessageTemplate, Module, Name, Parameter,
     PortMessages, PortRef, PortSelector, PortType, Receive, Reference, Rhs, Send, Seq, Span,
-    Statement, Template, TemplateBody, Testcase, Timer, TypeName, Value, Variable, Variables,
-    Verdict,
+    Spanned, Statement, Template, TemplateBody, Testcase, Timer, TypeName, Value, Variable,
+    Variables, Verdict, lex,
 };
 
 const X2: &[u8] = b"module R {
@@ -49,132 +48,13 @@ alt {
 }
 ";
 
-/// The other examples.
-const EXAMPLES: [(&str, &[u8], &str); 7] = [
-    (
-        "x1",
-        b"module M {
-type component C {}
-testcase T() runs on C { setverdict(pass) }
+/// The tokens of a text that has no fault.
+fn tokens(alloc: Global, text: &[u8]) -> Result<Vec<Spanned>, Fail> {
+    match lex(alloc, text) {
+        Ok(tokens) => Ok(tokens),
+        Err(_) => Err(Fail::from(Memory)),
+    }
 }
-",
-        "ok",
-    ),
-    (
-        "x3",
-        b"module Q {
-type port P message { inout integer }
-type component C { port P p, q }
-testcase T() runs on C {
-connect(self:p, self:q);
-q.send(2);
-q.send(1);
-p.receive(1);
-setverdict(pass);
-}
-}
-",
-        "ok",
-    ),
-    (
-        "x4",
-        b"module Q {
-type port P message { inout integer }
-type component C { port P p, q }
-altstep d() runs on C {
-[] any port.receive { setverdict(fail) }
-}
-testcase T() runs on C {
-connect(self:p, self:q);
-q.send(2);
-q.send(1);
-activate(d());
-p.receive(1);
-setverdict(pass);
-}
-}
-",
-        "ok",
-    ),
-    (
-        "x5",
-        b"module Q {
-type port P message { inout integer }
-type component C { port P p, q }
-altstep late() runs on C {
-[] any port.receive { setverdict(inconc) }
-}
-altstep early() runs on C {
-[] any port.receive { setverdict(fail) }
-}
-testcase T() runs on C {
-connect(self:p, self:q);
-q.send(2);
-activate(early());
-activate(late());
-p.receive(1);
-}
-}
-",
-        "ok",
-    ),
-    (
-        "x7",
-        b"module G {
-type port P message { inout integer }
-type component M { port P p }
-type component W { port P q }
-function f() runs on W { }
-testcase T() runs on M {
-var W a := W.create;
-connect(self:p, a:q);
-a.start(f());
-a.done;
-p.send(1);
-setverdict(pass);
-}
-}
-",
-        "ok",
-    ),
-    (
-        "y1",
-        b"module Y {
-type port P message { in integer; out boolean }
-type component C { port P p; timer t := 1.0 }
-testcase T() runs on C system C {
-map(self:p, system:p);
-p.send(true);
-t.start;
-alt {
-[] p.receive(1) { setverdict(pass) }
-[] p.receive { setverdict(fail) }
-[] t.timeout { setverdict(inconc) }
-}
-}
-}
-",
-        "P3",
-    ),
-    (
-        "y1 without its map",
-        b"module Y {
-type port P message { in integer; out boolean }
-type component C { port P p; timer t := 1.0 }
-testcase T() runs on C system C {
-p.send(true);
-t.start;
-alt {
-[] p.receive(1) { setverdict(pass) }
-[] p.receive { setverdict(fail) }
-[] t.timeout { setverdict(inconc) }
-}
-}
-}
-",
-        "ok",
-    ),
-];
 
 /// A list that is written by hand.
 #[derive(Drop)]
@@ -493,13 +373,5 @@ fn examples_have_the_trees_that_a_person_would_write(rt: HostRuntime) -> Result<
     assert!(rt; tree.is_ok() && parse(alloc, &tokens(alloc, X2)?) == tree);
     let tree = hand.guarded_wait();
     assert!(rt; tree.is_ok() && parse(alloc, &tokens(alloc, X6)?) == tree);
-    Ok(())
-}
-
-#[test]
-fn the_other_examples_are_modules(rt: HostRuntime) -> Result<(), Fail> {
-    for (name, text, expected) in EXAMPLES {
-        assert_eq!(rt; answer(rt.alloc(), text)?, expected, "{name}");
-    }
     Ok(())
 }

@@ -1,0 +1,119 @@
+//! What a module's `A` gives, and whether its `T` matches that.
+use crate::notation::notation;
+use std::alloc::{AllocError, Global};
+use ttcn_syntax::{Action, DefinitionKind, Seq, Value as Written};
+use ttcn_types::{DataType, Definitions, Meaning};
+use ttcn_values::{ComponentId, Fault, Frame, Path, Value, eval_template, eval_value, matches};
+
+/// What is told of a module: what `A` gives, or whether `T` matches that.
+pub fn told(alloc: Global, definitions: &Definitions<'_>) -> Result<String, AllocError> {
+    let running = [path(alloc, &[])?];
+    let itself = component(alloc, &[1])?;
+    let mtc = component(alloc, &[])?;
+    let frame = Frame {
+        definitions,
+        locals: &[],
+        members: &[],
+        local_timers: &[],
+        member_timers: &[],
+        running: &running,
+        itself: &itself,
+        mtc: &mtc,
+    };
+    let Some((written, wanted)) = subject(definitions) else {
+        return String::from_str(alloc, "no A");
+    };
+    let value = eval_value(alloc, written, wanted, &frame);
+    match definitions.meaning(b"T") {
+        Some(Meaning::Template(at)) => matched(alloc, &frame, at, value),
+        _ => given(alloc, definitions, value),
+    }
+}
+
+/// The path of these numbers.
+fn path(alloc: Global, numbers: &[u32]) -> Result<Path, AllocError> {
+    let numbers = Vec::from_slice(alloc, numbers)?;
+    Ok(Path {
+        numbers: Seq::from_vec(numbers),
+    })
+}
+
+/// The MTC, or another component.
+fn component(alloc: Global, numbers: &[u32]) -> Result<ComponentId, AllocError> {
+    Ok(ComponentId {
+        path: path(alloc, numbers)?,
+        component_type: 0,
+    })
+}
+
+/// The value of the constant `A` and its type, or what stands behind `return` where the function `A` begins.
+fn subject<'a>(definitions: &Definitions<'a>) -> Option<(&'a Written, Option<DataType>)> {
+    match definitions.meaning(b"A")? {
+        Meaning::ModuleConstant(at, item) => {
+            let constant = definitions.constant(at, item)?;
+            Some((&constant.value, definitions.constants_type(at)))
+        }
+        Meaning::Function(at) => returned(definitions, at),
+        _ => None,
+    }
+}
+
+/// What stands behind `return` where the function at a position begins, and the type of that.
+fn returned<'a>(
+    definitions: &Definitions<'a>,
+    at: usize,
+) -> Option<(&'a Written, Option<DataType>)> {
+    let DefinitionKind::Function(function) = definitions.kind(at)? else {
+        return None;
+    };
+    match &function.body.as_slice().first()?.action {
+        Action::Return(Some(value)) => {
+            let wanted = function
+                .returns
+                .as_ref()
+                .and_then(|name| definitions.resolved(name));
+            Some((value, wanted))
+        }
+        _ => None,
+    }
+}
+
+/// What `A` gives.
+fn given(
+    alloc: Global,
+    definitions: &Definitions<'_>,
+    value: Result<Value, Fault>,
+) -> Result<String, AllocError> {
+    match value {
+        Ok(value) => notation(alloc, definitions, &value),
+        Err(Fault::Dynamic) => String::from_str(alloc, "dynamic error"),
+        Err(Fault::Memory) => Err(AllocError),
+    }
+}
+
+/// Whether the template at a position matches what `A` gives.
+fn matched(
+    alloc: Global,
+    frame: &Frame<'_>,
+    at: usize,
+    value: Result<Value, Fault>,
+) -> Result<String, AllocError> {
+    let value = match value {
+        Ok(value) => value,
+        Err(Fault::Dynamic) => return String::from_str(alloc, "A is a dynamic error"),
+        Err(Fault::Memory) => return Err(AllocError),
+    };
+    let Some(named) = frame.definitions.template(at) else {
+        return String::from_str(alloc, "no T");
+    };
+    let wanted = frame.definitions.resolved(&named.type_name);
+    match eval_template(alloc, &named.template, wanted, frame) {
+        Ok(template) => String::from_str(alloc, match_word(matches(&template, &value))),
+        Err(Fault::Dynamic) => String::from_str(alloc, "dynamic error"),
+        Err(Fault::Memory) => Err(AllocError),
+    }
+}
+
+fn match_word(matches: bool) -> &'static str {
+    if matches { "matches" } else { "does not match" }
+}

@@ -1,0 +1,61 @@
+//! Answers rows of texts by the lexer and the parser: `ok` for the text of a module, or why it is refused.
+#![tactic(auto)]
+
+use anyhow::Result;
+use corpus::{Settings, Subject, answer_files};
+use refusals::Refusal;
+use std::alloc::{AllocError, Global};
+use std::process::ExitCode;
+use ttcn_parse::{first_left_out, first_too_deep, parse};
+use ttcn_syntax::{Span, Spanned, lex};
+
+struct Parser;
+
+impl Subject for Parser {
+    fn keys(&self) -> &'static [&'static str] {
+        &["find"]
+    }
+
+    /// With `-- find left out` or `-- find too deep`, what is found in the tokens before they are read as a module.
+    fn answer(
+        &self,
+        alloc: Global,
+        text: &str,
+        settings: &Settings<'_>,
+    ) -> Result<String, AllocError> {
+        let tokens = match lex(alloc, text.as_bytes()) {
+            Ok(tokens) => tokens,
+            Err(error) => return Refusal::from(error).to_string(alloc),
+        };
+        match settings.get("find") {
+            None => parsed(alloc, tokens.as_slice()),
+            Some("left out") => {
+                let place = first_left_out(alloc, tokens.as_slice())?;
+                found(alloc, "left out", place)
+            }
+            Some("too deep") => found(alloc, "too deep", first_too_deep(tokens.as_slice())),
+            Some(what) => format!(in alloc; "no search for what is {what}"),
+        }
+    }
+}
+
+/// `ok` for a module. The tokens are read twice, and trees of one text are equal however long they are.
+fn parsed(alloc: Global, tokens: &[Spanned]) -> Result<String, AllocError> {
+    match (parse(alloc, tokens), parse(alloc, tokens)) {
+        (Ok(tree), Ok(again)) if tree == again => String::from_str(alloc, "ok"),
+        (Err(error), Err(again)) if error == again => Refusal::from(error).to_string(alloc),
+        _ => String::from_str(alloc, "two answers"),
+    }
+}
+
+/// What is told of the first place where tokens are left out or too deep.
+fn found(alloc: Global, what: &str, place: Option<Span>) -> Result<String, AllocError> {
+    match place {
+        Some(Span { line, column }) => format!(in alloc; "{what} at {line}:{column}"),
+        None => String::from_str(alloc, "nothing"),
+    }
+}
+
+fn main(rt: HostRuntime) -> Result<ExitCode> {
+    Ok(answer_files(&rt, &Parser)?)
+}
