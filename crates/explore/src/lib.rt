@@ -6,8 +6,6 @@ pub mod example;
 mod layers;
 mod plan;
 mod runs;
-#[cfg(test)]
-mod tests;
 mod visited;
 
 pub use answer::{Answer, explore};

@@ -12,6 +12,3 @@ pub use error::NoSeat;
 pub use seen::view::{SeenKey, SeenView};
 pub use seen::{Seen, SeenSeat};
 pub use std::alloc::AllocError as Memory;
-
-#[cfg(test)]
-mod tests;

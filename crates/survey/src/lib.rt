@@ -4,8 +4,6 @@
 mod findings;
 mod search;
 mod size;
-#[cfg(test)]
-mod tests;
 mod thing;
 
 pub use findings::{Findings, survey};

@@ -1,6 +1,6 @@
 use Rattle.std.proofs.Common.{◌≡◌, false}
 use Rattle.shared.specs.BoardSeats.{view, IsSeatOf}
-use Rattle.shared.proofs.tests.boards.draw_all.Given as goal
+use Rattle.shared_tests.proofs.boards.draw_all.Given as goal
 
 abbrev pub invariant-loop-turn : goal.invariant-loop-turn
 invariant-loop-turn l = record {

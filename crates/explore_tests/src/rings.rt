@@ -1,7 +1,7 @@
-use super::*;
-use crate::example::{Residues, Ring, Turns};
+//! Rings: what is found of them, and which plans are refused.
+use explore::example::{Residues, Ring, Turns};
+use explore::{Answer, ExploreError, NoGate, Plan, explore};
 use std::alloc::Global;
-use std::cell::RefCell;
 use std::process::Abort;
 use std::test::Fail;
 use std::thread::Threads;
@@ -68,7 +68,7 @@ fn is_row(answer: &Answer<Shown, u8>, row: &Row) -> bool {
         && is_best(answer.best.as_slice(), row.best)
 }
 
-fn ring(rt: &impl Abort, size: u32) -> Ring {
+pub(super) fn ring(rt: &impl Abort, size: u32) -> Ring {
     assert!(rt; 1 <= size && size <= 1_000_000);
     Ring::new(size)
 }
@@ -118,7 +118,7 @@ fn count<R: Threads + Sync + Abort>(
     Ok(answer.count)
 }
 
-const PLAN: Plan = Plan {
+pub(super) const PLAN: Plan = Plan {
     steps: 5,
     limit: 1_000_000,
     workers: 1,
@@ -155,6 +155,26 @@ fn a_large_ring_is_explored(rt: HostRuntime) -> Result<(), Fail> {
     Ok(())
 }
 
+#[test]
+fn more_than_65_536_states_are_found(rt: HostRuntime) {
+    // Without the ring, n steps reach the numbers t whose binary form has at most n + 1 digits and ones together: a step
+    // for each digit behind the first, and one for each 1. At 24 steps these have 120,651 remainders by 1,000,000.
+    let within = Plan {
+        steps: 24,
+        limit: 120_651,
+        ..PLAN
+    };
+    assert_eq!(rt; count(&rt, rt.alloc(), 1_000_000, &within), Ok(120_651));
+    let beyond = Plan {
+        limit: 120_650,
+        ..within
+    };
+    assert_eq!(rt;
+        count(&rt, rt.alloc(), 1_000_000, &beyond),
+        Err(ExploreError::TooMany)
+    );
+}
+
 #[rattlefmt::skip]
 const OUTSIDE: [Plan; 7] = [
     Plan { steps: 100_001, limit: 1_000_000, workers: 1, piece: 256 },
@@ -184,68 +204,4 @@ fn plans_outside_the_limits_are_refused(rt: HostRuntime) {
     for plan in &WITHIN {
         assert_eq!(rt; count(&rt, rt.alloc(), 1, plan), Ok(1), "{plan:?}");
     }
-}
-
-/// A gate that notes the calls that it hears.
-#[derive(Drop)]
-struct Notes {
-    calls: RefCell<Vec<[u64; 4]>>,
-}
-
-impl Gate for Notes {
-    fn enter(&self, worker: u64, layer: u64, piece: u64, pieces: u64) {
-        if let Ok(mut calls) = self.calls.try_borrow_mut() {
-            let _ = calls.push([worker, layer, piece, pieces]);
-        }
-    }
-}
-
-fn check_gate<R: Threads + Sync + Abort>(
-    rt: &R,
-    alloc: Global,
-    piece: u64,
-    calls: &[[u64; 4]],
-) -> Result<(), Fail> {
-    let plan = Plan {
-        steps: 3,
-        piece,
-        ..PLAN
-    };
-    let notes = Notes {
-        calls: RefCell::new(Vec::new(alloc)),
-    };
-    explore::<Ring, Verdicts, Notes, R>(rt, alloc, &ring(rt, 10), &plan, &notes)?;
-    let heard = notes.calls.into_inner();
-    assert!(rt; heard.as_slice() == calls, "pieces of {piece}: {heard:?}");
-    Ok(())
-}
-
-#[test]
-fn the_gate_hears_each_piece(rt: HostRuntime) -> Result<(), Fail> {
-    // The layers are 0, then 1, then 2: one state each, with two candidates.
-    check_gate(
-        &rt,
-        rt.alloc(),
-        1,
-        &[
-            [0, 0, 0, 2],
-            [0, 0, 1, 2],
-            [0, 1, 0, 2],
-            [0, 1, 1, 2],
-            [0, 2, 0, 2],
-            [0, 2, 1, 2],
-        ],
-    )?;
-    check_gate(
-        &rt,
-        rt.alloc(),
-        2,
-        &[[0, 0, 0, 1], [0, 1, 0, 1], [0, 2, 0, 1]],
-    )?;
-    check_gate(
-        &rt,
-        rt.alloc(),
-        65_536,
-        &[[0, 0, 0, 1], [0, 1, 0, 1], [0, 2, 0, 1]],
-    )
 }

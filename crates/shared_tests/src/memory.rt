@@ -1,6 +1,6 @@
 //! Want of memory. Under `rt try --test --fail-alloc N` the Nth request for memory of each test is refused, and these
 //! tests pass at each N.
-use crate::{Board, Memory, NoSeat, Seen};
+use shared::{Board, Memory, NoSeat, Seen};
 use std::alloc::Global;
 use std::test::Fail;
 

@@ -4,7 +4,7 @@ ghost use Rattle.std.specs.Thread.{IsSync};
 ghost use Rattle.shared.specs.SeenRule.{IsSameSeat};
 ghost use Rattle.shared.specs.SeenSeats.{view, items_of, IsSeatOf};
 
-use crate::{Memory, Seen, SeenSeat};
+use shared::{Memory, Seen, SeenSeat};
 use std::alloc::Global;
 use std::hash::Hash;
 use std::test::Fail;

@@ -3,7 +3,7 @@ ghost use Rattle.std.specs.Prelude.{◌≡◌, true, false, IfOk};
 ghost use Rattle.std.specs.Thread.{IsSync};
 ghost use Rattle.shared.specs.BoardSeats.{view, IsSeatOf};
 
-use crate::{Board, BoardSeat, Memory};
+use shared::{Board, BoardSeat, Memory};
 use std::alloc::Global;
 use std::test::Fail;
 use std::thread::{Threads, join_mut};

@@ -1,7 +1,7 @@
-use crate::{Findings, Thing, is_complete, survey};
 use std::alloc::{AllocError, Global};
 use std::process::Abort;
 use std::test::Fail;
+use survey::{Findings, Thing, is_complete, survey};
 use ttcn_syntax::Seq;
 
 const NONE: Findings = Findings::Sizes {

@@ -6,7 +6,7 @@ ghost use Rattle.shared.specs.SeenRule.{IsSameSeat};
 ghost use Rattle.shared.specs.SeenSeats.{view, items_of, IsSeatOf};
 
 use super::items::place_all;
-use crate::{Seen, SeenSeat};
+use shared::{Seen, SeenSeat};
 use std::hash::{Hash, Hasher};
 use std::sync::atomic::AtomicU64;
 use std::sync::atomic::Ordering::SeqCst;

@@ -1,6 +1,6 @@
 use Rattle.shared.specs.SeenRule.{IsSameSeat}
 use Rattle.shared.specs.SeenSeats.{view, IsSeatOf}
-use Rattle.shared.proofs.tests.items.place_all.Given as goal
+use Rattle.shared_tests.proofs.items.place_all.Given as goal
 
 abbrev pub invariant-loop-position : goal.invariant-loop-position
 invariant-loop-position g l = record {
