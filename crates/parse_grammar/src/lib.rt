@@ -11,7 +11,7 @@ use ttcn_syntax::Spanned;
 
 /// What is read of tokens as a module is spelled by them, and what they spell is read, to the last of them.
 #[tactic(auto, using(crate::proofs::SoundDefinitions::reads_module, crate::proofs::Complete::reads_whole))]
-pub fn reads_what_is_spelled(_tokens: &[Spanned])
-    ensures spelled { (tree : Module) (rest : List Spanned) → whole _tokens.now ≡ Some (tree, rest) → IsModule _tokens.now tree }
-    ensures read { (tree : Module) → IsModule _tokens.now tree → whole _tokens.now ≡ Some (tree, []) }
+pub fn reads_what_is_spelled(tokens: &[Spanned])
+    ensures spelled { (tree : Module) (rest : List Spanned) → whole tokens.now ≡ Some (tree, rest) → IsModule tokens.now tree }
+    ensures read { (tree : Module) → IsModule tokens.now tree → whole tokens.now ≡ Some (tree, []) }
 {}
