@@ -15,7 +15,7 @@ use ttcn_syntax::{BasicExpr, Name, Seq};
 use ttcn_values::{BasicFrame, Fault, eval_basic};
 
 /// A test case that runs on its main test component alone: its statements.
-#[derive(Debug, Drop)]
+#[derive(Drop)]
 pub struct Machine {
     pub body: Seq<Statement>,
 }
