@@ -1,5 +1,5 @@
 -- Texts that begin with a text, or have it in them.
-use Rattle.std.proofs.Common.{◌≡◌, ℕ, List, [], ◌++◌, ◌⊎◌, ⊎_elim, ◌∙◌, sym, append-nil, codes}
+use Rattle.std.proofs.Common.{ℕ, List, [], ◌++◌, ⊎_elim, ◌∙◌, sym, append-nil, codes}
 use Rattle.std.specs.Str.Pattern.{LacksTextAt}
 use Rattle.corpus.specs.Answer.{IsWanted}
 

@@ -20,10 +20,10 @@ pub trait Subject {
 }
 
 /// How many rows there are, and how many of these are answered otherwise than they want.
-#[derive(Clone, Copy, Debug, PartialEq, Eq)]
-pub struct Count {
-    pub rows: usize,
-    pub otherwise: usize,
+#[derive(Clone, Copy)]
+struct Count {
+    rows: usize,
+    otherwise: usize,
 }
 
 impl Count {

@@ -7,7 +7,7 @@ use std::alloc::AllocError;
 pub(crate) const GAP: &str = "<<row>>";
 
 /// What stands before and behind the gap of a frame, with repeats written out.
-#[derive(Debug, Drop)]
+#[derive(Drop)]
 pub struct Frame {
     pub before: String,
     pub behind: String,

@@ -4,7 +4,7 @@ ghost use Rattle.corpus.specs.Rows.{is_title};
 
 /// What a line of a file is, by how it begins. In the middle of a row's text it is text whatever it looks like, unless it
 /// is a title or an answer.
-#[derive(Clone, Copy, Debug, PartialEq, Eq)]
+#[derive(Clone, Copy, PartialEq, Eq)]
 pub(crate) enum Kind {
     Blank,
     /// `# ..`

@@ -11,12 +11,10 @@ mod reading;
 mod repeat;
 mod row;
 mod settings;
-#[cfg(test)]
-mod tests;
 
 pub use answer::is_wanted;
 pub use error::{CorpusError, RowsError};
-pub use files::{Count, Subject, answer_files};
+pub use files::{Subject, answer_files};
 pub use frame::Frame;
 pub use reading::read_rows;
 pub use repeat::written_out;

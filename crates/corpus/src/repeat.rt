@@ -8,7 +8,7 @@ use crate::RowsError;
 use std::alloc::{AllocError, Global};
 
 /// A pattern, and how often it is repeated.
-#[derive(Clone, Copy, Debug)]
+#[derive(Clone, Copy)]
 struct Repeat<'a> {
     times: u64,
     pattern: &'a str,

@@ -3,7 +3,7 @@ use crate::{Frame, RowsError, Settings, written_out};
 use std::alloc::{AllocError, Global};
 
 /// The rows of a file.
-#[derive(Debug, Drop)]
+#[derive(Drop)]
 pub struct Rows<'a> {
     /// What each row's text is put into; without a frame a row's text is the whole one.
     pub frame: Option<Frame>,
@@ -11,7 +11,7 @@ pub struct Rows<'a> {
 }
 
 /// A text, and the answer that it wants.
-#[derive(Clone, Copy, Debug)]
+#[derive(Clone, Copy)]
 pub struct Row<'a> {
     /// The number of the title's line.
     pub line: u64,

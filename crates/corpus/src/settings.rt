@@ -1,7 +1,7 @@
 //! Settings of rows.
 
 /// The settings of a row: its own, and those at the head of its file. Each is a line `-- key value`.
-#[derive(Clone, Copy, Debug)]
+#[derive(Clone, Copy)]
 pub struct Settings<'a> {
     pub(crate) file: &'a [&'a str],
     pub(crate) row: &'a [&'a str],

@@ -1,5 +1,5 @@
 //! Files as a person writes them, and what is read from them.
-use crate::{Rows, RowsError, is_wanted, read_rows};
+use corpus::{Rows, RowsError, is_wanted, read_rows};
 use std::alloc::{AllocError, Global};
 use std::test::Fail;
 
