@@ -11,9 +11,9 @@ use refusals::program;
 use std::alloc::{AllocError, Global};
 use std::process::ExitCode;
 
-struct Evaluation;
+struct Evaluator;
 
-impl Subject for Evaluation {
+impl Subject for Evaluator {
     fn keys(&self) -> &'static [&'static str] {
         &[]
     }
@@ -32,5 +32,5 @@ impl Subject for Evaluation {
 }
 
 fn main(rt: HostRuntime) -> Result<ExitCode> {
-    Ok(answer_files(&rt, &Evaluation)?)
+    Ok(answer_files(&rt, &Evaluator)?)
 }
