@@ -217,7 +217,7 @@ fn timers(
 }
 
 /// What a call gave, unless memory was refused.
-fn outcome(given: Result<Value, Fault>) -> Result<Outcome, Fault> {
+fn outcome_of(given: Result<Value, Fault>) -> Result<Outcome, Fault> {
     match given {
         Ok(value) => Ok(Outcome::Value(value)),
         Err(Fault::Dynamic) => Ok(Outcome::DynamicError),
@@ -233,11 +233,11 @@ fn other(
     want: &Outcome,
 ) -> Result<Option<Outcome>, Fault> {
     let expr = form.expression(alloc)?;
-    let given = outcome(eval(alloc, &expr, frame))?;
+    let given = outcome_of(eval(alloc, &expr, frame))?;
     if given != *want {
         return Ok(Some(given));
     }
-    let given = outcome(eval_value(alloc, &Written::Expr(expr), None, frame))?;
+    let given = outcome_of(eval_value(alloc, &Written::Expr(expr), None, frame))?;
     if given != *want {
         return Ok(Some(given));
     }
