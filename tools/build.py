@@ -6,9 +6,9 @@ What a library's proof prints goes into its out/build.log, which is shown where 
 import copy
 import os
 import sys
-import threading
 from concurrent.futures import FIRST_COMPLETED, ThreadPoolExecutor, wait
 
+sys.dont_write_bytecode = True
 import toolchain
 
 
