@@ -34,9 +34,13 @@ opened = count_by (λ k. opens k.token)
 abbrev pub closed : List Spanned → ℕ
 closed = count_by (λ k. closes k.token)
 
--- brackets nest deeper than 200: some front of the tokens opens over 200 more than it closes
+-- the most brackets that may stand open in one another, this tool's choice
+abbrev pub deepest : ℕ
+deepest = 200
+
+-- brackets nest too deep: some front of the tokens opens more of them than that beside those that it closes
 abbrev pub IsTooDeep : List Spanned → Type 0
-IsTooDeep tokens = (n : ℕ) × (200 + closed (take n tokens) < opened (take n tokens))
+IsTooDeep tokens = (n : ℕ) × (deepest + closed (take n tokens) < opened (take n tokens))
 
 -- ---- groups
 

@@ -2,6 +2,7 @@ pub mod Characters
 pub mod Cut
 pub mod Expression
 pub mod Front
+pub mod Limits
 pub mod Operators
 pub mod Places
 pub mod Symbols

@@ -6,9 +6,15 @@ use std::hash::{Hash, Hasher};
 use std::marker::Model;
 
 /// A `Box` that contracts see as the value in it.
-#[derive(Debug, Drop)]
+#[derive(Debug)]
 pub struct Boxed<T> {
     inner: Box<T>,
+}
+
+impl<T: Drop> Drop for Boxed<T> {
+    fn drop(self) {
+        let Boxed { inner: _inner } = self;
+    }
 }
 
 impl<T> Model for Boxed<T> {

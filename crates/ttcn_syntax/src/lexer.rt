@@ -1,6 +1,7 @@
 //! Cutting a text into tokens.
 ghost use Rattle.std.specs.Prelude.{◌≡◌, ◌+◌, ◌^◌, ◌<◌, ◌≤◌, ◌⊎◌, ◌↔◌, length, fold, IfOk, IfErr};
 ghost use Rattle.ttcn_syntax.specs.Cut.{IsCut, IsLeftmostFault, HasOneReading};
+ghost use Rattle.ttcn_syntax.specs.Limits.{longest_text};
 ghost use Rattle.ttcn_syntax.specs.Places.{next_place};
 
 use crate::piece::piece_at;
@@ -34,7 +35,7 @@ fn place_behind(place: Span, bytes: &[u8]) -> Span
 
 /// Cuts the text into its tokens, each with its place.
 pub fn lex(alloc: Global, text: &[u8]) -> Result<Vec<Spanned>, LexError>
-    ensures too_long { (result ≡ Err LexError.TextTooLong) ↔ (1048576 < length text.now) }
+    ensures too_long { (result ≡ Err LexError.TextTooLong) ↔ (longest_text < length text.now) }
     ensures tokens { IfOk result (λ tokens. IsCut text.now tokens.items) }
 
     // One of these three, and the first by `too_long`.

@@ -13,9 +13,14 @@ use std::hash::{Hash, Hasher};
 use std::marker::Model;
 
 /// A name as the text spells it. A contract sees its bytes.
-#[derive(Drop)]
 pub struct Name {
     bytes: Vec<u8>,
+}
+
+impl Drop for Name {
+    fn drop(self) {
+        let Name { bytes: _bytes } = self;
+    }
 }
 
 impl Model for Name {

@@ -7,9 +7,17 @@ use std::hash::{Hash, Hasher};
 use std::marker::Model;
 
 /// A `Vec` that contracts see as the list of its elements, so that equal trees are equal values.
-#[derive(Debug, Drop)]
+#[derive(Debug)]
 pub struct Seq<T> {
     elements: Vec<T>,
+}
+
+impl<T: Drop> Drop for Seq<T> {
+    fn drop(self) {
+        let Seq {
+            elements: _elements,
+        } = self;
+    }
 }
 
 impl<T> Model for Seq<T> {

@@ -2,6 +2,9 @@
 //!
 //! Parentheses leave no trace in it, nor do `language`, `control` and `with`. What a text may write without end is a
 //! list; only what stands within brackets nests.
+//!
+//! Drops are written out: a crate that drops a tree by a derived one proves the drops of all types in it once more. In a
+//! cycle of types one is written out, which ends that proof.
 mod definition;
 mod expression;
 mod statement;

@@ -19,7 +19,7 @@ pub enum ComponentRef {
 
 /// An expression. Operands joined by operators of one binding level are one chain, read from left to right.
 #[cycle(expression)]
-#[derive(Drop, PartialEq, Eq)]
+#[derive(PartialEq, Eq)]
 pub enum Expr {
     Int(u64),
     Bool(bool),
@@ -34,6 +34,23 @@ pub enum Expr {
     Signed(Sign, Boxed<Expr>),
     /// The first operand, and the operators with the operands behind them.
     Chain(Boxed<Expr>, Seq<Link>),
+}
+
+impl Drop for Expr {
+    #[cycle(drop_expression)]
+    fn drop(self) {
+        match self {
+            Expr::Int(_value) => {}
+            Expr::Bool(_value) => {}
+            Expr::Null => {}
+            Expr::Reference(_reference) => {}
+            Expr::Running(_component) => {}
+            Expr::Ispresent(_reference) => {}
+            Expr::Not(_operand) => {}
+            Expr::Signed(_sign, _operand) => {}
+            Expr::Chain(_first, _links) => {}
+        }
+    }
 }
 
 /// An operator and the operand behind it.

@@ -5,10 +5,20 @@ use crate::{
 
 /// A statement, and where its first token stands.
 #[cycle(statement)]
-#[derive(Drop, PartialEq, Eq)]
+#[derive(PartialEq, Eq)]
 pub struct Statement {
     pub place: Span,
     pub action: Action,
+}
+
+impl Drop for Statement {
+    #[cycle(drop_statement)]
+    fn drop(self) {
+        let Statement {
+            place: _place,
+            action: _action,
+        } = self;
+    }
 }
 
 /// What a statement does.
@@ -48,48 +58,108 @@ pub enum Action {
 }
 
 /// The variables of one declaration.
-#[derive(Drop, PartialEq, Eq)]
+#[derive(PartialEq, Eq)]
 pub struct Variables {
     pub type_name: TypeName,
     pub variables: Seq<Variable>,
 }
 
-#[derive(Drop, PartialEq, Eq)]
+impl Drop for Variables {
+    fn drop(self) {
+        let Variables {
+            type_name: _type_name,
+            variables: _variables,
+        } = self;
+    }
+}
+
+#[derive(PartialEq, Eq)]
 pub struct Variable {
     pub name: Name,
     pub value: Option<Rhs>,
 }
 
+impl Drop for Variable {
+    fn drop(self) {
+        let Variable {
+            name: _name,
+            value: _value,
+        } = self;
+    }
+}
+
 /// The constants of one declaration.
-#[derive(Drop, PartialEq, Eq)]
+#[derive(PartialEq, Eq)]
 pub struct Constants {
     pub type_name: TypeName,
     pub constants: Seq<Constant>,
 }
 
-#[derive(Drop, PartialEq, Eq)]
+impl Drop for Constants {
+    fn drop(self) {
+        let Constants {
+            type_name: _type_name,
+            constants: _constants,
+        } = self;
+    }
+}
+
+#[derive(PartialEq, Eq)]
 pub struct Constant {
     pub name: Name,
     pub value: Value,
 }
 
+impl Drop for Constant {
+    fn drop(self) {
+        let Constant {
+            name: _name,
+            value: _value,
+        } = self;
+    }
+}
+
 /// A timer of a declaration. Its duration has no value here.
-#[derive(Drop, PartialEq, Eq)]
+#[derive(PartialEq, Eq)]
 pub struct Timer {
     pub name: Name,
 }
 
-#[derive(Drop, PartialEq, Eq)]
+impl Drop for Timer {
+    fn drop(self) {
+        let Timer { name: _name } = self;
+    }
+}
+
+#[derive(PartialEq, Eq)]
 pub struct Assignment {
     pub target: Reference,
     pub value: Rhs,
 }
 
+impl Drop for Assignment {
+    fn drop(self) {
+        let Assignment {
+            target: _target,
+            value: _value,
+        } = self;
+    }
+}
+
 /// What a `for` begins with.
-#[derive(Drop, PartialEq, Eq)]
+#[derive(PartialEq, Eq)]
 pub enum ForStart {
     Variables(Variables),
     Assign(Assignment),
+}
+
+impl Drop for ForStart {
+    fn drop(self) {
+        match self {
+            ForStart::Variables(_variables) => {}
+            ForStart::Assign(_assignment) => {}
+        }
+    }
 }
 
 /// A condition, and the block that it guards.
@@ -121,7 +191,7 @@ pub enum Alternative {
 }
 
 /// What a component can wait for.
-#[derive(Drop, PartialEq, Eq)]
+#[derive(PartialEq, Eq)]
 pub enum Event {
     Receive(Receive),
     /// `t.timeout`
@@ -132,8 +202,19 @@ pub enum Event {
     AllDone,
 }
 
+impl Drop for Event {
+    fn drop(self) {
+        match self {
+            Event::Receive(_receive) => {}
+            Event::Timeout(_timer) => {}
+            Event::Done(_component) => {}
+            Event::AllDone => {}
+        }
+    }
+}
+
 /// A receive: the message's template and sender, and where message and sender go.
-#[derive(Drop, PartialEq, Eq)]
+#[derive(PartialEq, Eq)]
 pub struct Receive {
     pub port: PortSelector,
     pub message: Option<MessageTemplate>,
@@ -142,32 +223,81 @@ pub struct Receive {
     pub sender: Option<Reference>,
 }
 
-#[derive(Drop, PartialEq, Eq)]
+impl Drop for Receive {
+    fn drop(self) {
+        let Receive {
+            port: _port,
+            message: _message,
+            from: _from,
+            value: _value,
+            sender: _sender,
+        } = self;
+    }
+}
+
+#[derive(PartialEq, Eq)]
 pub enum PortSelector {
     Named(Name),
     /// `any port`
     Any,
 }
 
-#[derive(Drop, PartialEq, Eq)]
+impl Drop for PortSelector {
+    fn drop(self) {
+        match self {
+            PortSelector::Named(_name) => {}
+            PortSelector::Any => {}
+        }
+    }
+}
+
+#[derive(PartialEq, Eq)]
 pub struct Send {
     pub port: Name,
     pub message: MessageTemplate,
     pub to: Option<ComponentRef>,
 }
 
+impl Drop for Send {
+    fn drop(self) {
+        let Send {
+            port: _port,
+            message: _message,
+            to: _to,
+        } = self;
+    }
+}
+
 /// A component's port: `c:p`.
-#[derive(Drop, PartialEq, Eq)]
+#[derive(PartialEq, Eq)]
 pub struct PortRef {
     pub component: ComponentRef,
     pub port: Name,
 }
 
+impl Drop for PortRef {
+    fn drop(self) {
+        let PortRef {
+            component: _component,
+            port: _port,
+        } = self;
+    }
+}
+
 /// An argument of `log`, or a reason of a verdict.
-#[derive(Drop, PartialEq, Eq)]
+#[derive(PartialEq, Eq)]
 pub enum LogItem {
     Text,
     Expr(Expr),
+}
+
+impl Drop for LogItem {
+    fn drop(self) {
+        match self {
+            LogItem::Text => {}
+            LogItem::Expr(_expression) => {}
+        }
+    }
 }
 
 /// The verdicts, from the best to the worst.

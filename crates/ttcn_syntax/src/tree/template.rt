@@ -3,10 +3,20 @@ use crate::{Call, Expr, Name, Seq, TypeName};
 
 /// A template: its body, and whether `ifpresent` stands behind it.
 #[cycle(template)]
-#[derive(Drop, PartialEq, Eq)]
+#[derive(PartialEq, Eq)]
 pub struct Template {
     pub body: TemplateBody,
     pub ifpresent: bool,
+}
+
+impl Drop for Template {
+    #[cycle(drop_template)]
+    fn drop(self) {
+        let Template {
+            body: _body,
+            ifpresent: _ifpresent,
+        } = self;
+    }
 }
 
 #[cycle(template)]
@@ -40,15 +50,33 @@ pub struct FieldTemplate {
 }
 
 /// An end of a range. An infinite one bounds nothing, whatever its sign.
-#[derive(Drop, PartialEq, Eq)]
+#[derive(PartialEq, Eq)]
 pub enum Bound {
     Expr(Expr),
     Infinity,
 }
 
+impl Drop for Bound {
+    fn drop(self) {
+        match self {
+            Bound::Expr(_expression) => {}
+            Bound::Infinity => {}
+        }
+    }
+}
+
 /// The template of a message, with its type where the text names it.
-#[derive(Drop, PartialEq, Eq)]
+#[derive(PartialEq, Eq)]
 pub struct MessageTemplate {
     pub type_name: Option<TypeName>,
     pub template: Template,
+}
+
+impl Drop for MessageTemplate {
+    fn drop(self) {
+        let MessageTemplate {
+            type_name: _type_name,
+            template: _template,
+        } = self;
+    }
 }

@@ -2,7 +2,7 @@
 use crate::{Expr, Name, Seq};
 
 /// A type, as a declaration names it.
-#[derive(Drop, PartialEq, Eq)]
+#[derive(PartialEq, Eq)]
 pub enum TypeName {
     Integer,
     Boolean,
@@ -10,9 +10,20 @@ pub enum TypeName {
     Named(Name),
 }
 
+impl Drop for TypeName {
+    fn drop(self) {
+        match self {
+            TypeName::Integer => {}
+            TypeName::Boolean => {}
+            TypeName::Default => {}
+            TypeName::Named(_name) => {}
+        }
+    }
+}
+
 /// A value: an expression, `omit`, or a record literal.
 #[cycle(value)]
-#[derive(Drop, PartialEq, Eq)]
+#[derive(PartialEq, Eq)]
 pub enum Value {
     Expr(Expr),
     Omit,
@@ -20,6 +31,18 @@ pub enum Value {
     Listed(Seq<Value>),
     /// `{ f := 1, g := 2 }`: the fields by their names.
     Assigned(Seq<FieldValue>),
+}
+
+impl Drop for Value {
+    #[cycle(drop_value)]
+    fn drop(self) {
+        match self {
+            Value::Expr(_expression) => {}
+            Value::Omit => {}
+            Value::Listed(_values) => {}
+            Value::Assigned(_fields) => {}
+        }
+    }
 }
 
 /// A field of a record literal.
@@ -31,18 +54,38 @@ pub struct FieldValue {
 }
 
 /// A name with arguments: of a function, an altstep, a test case or a template.
-#[derive(Drop, PartialEq, Eq)]
+#[derive(PartialEq, Eq)]
 pub struct Call {
     pub name: Name,
     pub arguments: Seq<Value>,
 }
 
+impl Drop for Call {
+    fn drop(self) {
+        let Call {
+            name: _name,
+            arguments: _arguments,
+        } = self;
+    }
+}
+
 /// What may stand on the right of `:=`.
-#[derive(Drop, PartialEq, Eq)]
+#[derive(PartialEq, Eq)]
 pub enum Rhs {
     Value(Value),
     /// `C.create`
     Create(Name),
     Call(Call),
     Activate(Call),
+}
+
+impl Drop for Rhs {
+    fn drop(self) {
+        match self {
+            Rhs::Value(_value) => {}
+            Rhs::Create(_component) => {}
+            Rhs::Call(_call) => {}
+            Rhs::Activate(_call) => {}
+        }
+    }
 }

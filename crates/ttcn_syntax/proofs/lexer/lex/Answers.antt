@@ -4,11 +4,12 @@ use Rattle.ttcn_syntax.proofs.Cuts.{read_gap, read_token, read_all, read_fault, 
 use Rattle.ttcn_syntax.proofs.Once.{reads_once}
 use Rattle.ttcn_syntax.proofs.lexer.lex.Goals as goal
 use Rattle.ttcn_syntax.proofs.lexer.lex.Goals.{in-Some+in_ok-push, in_default}
+use Rattle.ttcn_syntax.specs.Limits.{longest_text}
 
 pub returns-in_err-token-clause-too_long : goal.returns-in_err-token-clause-too_long
 returns-in_err-token-clause-too_long c =
     let p = err_from_is_err_and c.from_residual.result c.from_residual.ensures.1 in
-    other_fault _ 1048576 c.from_residual.result c.in_err-token.field-0.0 (rw p.2 at p.1) c.in_err-token.ensures.fault c.if-text-gt-LONGEST_TEXT.false
+    other_fault _ longest_text c.from_residual.result c.in_err-token.field-0.0 (rw p.2 at p.1) c.in_err-token.ensures.fault c.if-text-gt-LONGEST_TEXT.false
 
 pub returns-in_err-token-clause-fault : goal.returns-in_err-token-clause-fault
 returns-in_err-token-clause-fault c =
