@@ -3,29 +3,29 @@ use Rattle.std.proofs.Common.{◌≡◌, ◌≤◌, ℕ, ◌+◌, ◌<◌, Bool,
 use Rattle.std.proofs.lemmas.List.{drop_all}
 use Rattle.ttcn_syntax.specs.declared.tree.definition.Definition.{Definition}
 use Rattle.check_scope.specs.Checking.{least}
-use Rattle.check_expressions.specs.Findings.{told, with_before}
+use Rattle.check_expressions.specs.Findings.{finding, with_before}
 use Rattle.check_expressions.specs.Expressions.{along, within}
 use Rattle.check_expressions.specs.Targets.{last_optional, optional_in}
-use Rattle.check_expressions.specs.declared.found.Found.{Found}
+use Rattle.check_expressions.specs.declared.finding.Finding.{Finding}
 use Rattle.check_scope.specs.declared.types.Typing.{Typing}
 use Rattle.check_scope.proofs.Leasts.{both_assoc, both_nothing}
-use Rattle.check_expressions.proofs.Findings.{told_after}
+use Rattle.check_expressions.proofs.Findings.{finding_after}
 use Rattle.check_scope.proofs.Lookups.{drop-next}
 
 -- what was found of the fields so far, with those that are left
-abbrev pub left : List Definition → Found → List (List ℕ) → Found
-left definitions found names = with_before found.broken (told (along definitions found.typing names))
+abbrev pub left : List Definition → Finding → List (List ℕ) → Finding
+left definitions found names = with_before found.broken (finding (along definitions found.typing names))
 
-pub along-next : (definitions : List Definition) (names : List (List ℕ)) (i : ℕ) (name : List ℕ) (found next : Found) → i < length names → name ≡ get_or names i name
-    → next ≡ with_before found.broken (told (within definitions found.typing name)) → left definitions found (drop i names) ≡ left definitions next (drop (i + 1) names)
+pub along-next : (definitions : List Definition) (names : List (List ℕ)) (i : ℕ) (name : List ℕ) (found next : Finding) → i < length names → name ≡ get_or names i name
+    → next ≡ with_before found.broken (finding (within definitions found.typing name)) → left definitions found (drop i names) ≡ left definitions next (drop (i + 1) names)
 along-next definitions names i name found next inside is next_is =
     ap (left definitions found) (drop-next names i name inside is)
-    ∙ ap (with_before found.broken) (told_after (within definitions found.typing name).broken (along definitions (within definitions found.typing name).typing (drop (i + 1) names)))
+    ∙ ap (with_before found.broken) (finding_after (within definitions found.typing name).broken (along definitions (within definitions found.typing name).typing (drop (i + 1) names)))
     ∙ ap (λ b. record { typing = (along definitions (within definitions found.typing name).typing (drop (i + 1) names)).typing; broken = b })
     (sym (both_assoc found.broken (least (within definitions found.typing name).broken) (least (along definitions (within definitions found.typing name).typing (drop (i + 1) names)).broken)))
     ∙ sym (ap (λ n. left definitions n (drop (i + 1) names)) next_is)
 
-pub along-end : (definitions : List Definition) (names : List (List ℕ)) (i : ℕ) (found : Found) → length names ≤ i → left definitions found (drop i names) ≡ found
+pub along-end : (definitions : List Definition) (names : List (List ℕ)) (i : ℕ) (found : Finding) → length names ≤ i → left definitions found (drop i names) ≡ found
 along-end definitions names i found past = ap (left definitions found) (drop_all i names past) ∙ ap (λ b. record { typing = found.typing; broken = b }) (both_nothing found.broken)
 
 -- whether the last may be omitted, where there is one more

@@ -10,16 +10,16 @@ use Rattle.ttcn_syntax.specs.declared.tree.expression.Expr.TheFolds.{fold-roll-E
 use Rattle.ttcn_syntax.specs.declared.tree.expression.Expr.TheOpen.{Expr-F}
 use Rattle.ttcn_syntax.specs.declared.tree.expression.Link.{Link, fold_out-Link, out-Link}
 use Rattle.ttcn_syntax.specs.declared.tree.expression.Reference.{Reference}
-use Rattle.check_expressions.specs.Findings.{free_before, told, with_before}
+use Rattle.check_expressions.specs.Findings.{free_before, finding, with_before}
 use Rattle.check_scope.specs.Checking.{least}
 use Rattle.check_expressions.specs.Expressions.{Judged, Judgement, after, at_component, at_ispresent, at_running, between, chained, expression, expression_step, fine, joined, link, link_step, of_type, operand}
 use Rattle.check_scope.specs.Names.{Scope}
 use Rattle.check_scope.specs.Typings.{compares}
-use Rattle.check_expressions.specs.declared.found.Found.{Found}
+use Rattle.check_expressions.specs.declared.finding.Finding.{Finding}
 use Rattle.check_scope.specs.declared.types.DataType.{DataType}
 use Rattle.check_scope.specs.declared.types.DataType.TheVariants as type
 use Rattle.check_scope.specs.declared.types.Typing.TheVariants as typing
-use Rattle.check_expressions.proofs.Findings.{told_after}
+use Rattle.check_expressions.proofs.Findings.{finding_after}
 use Rattle.check_scope.proofs.Lookups.{drop-next}
 
 -- ---- forms
@@ -49,66 +49,66 @@ module _ (scope : Scope) (free : Bool) where
   pub expression-Signed : (sign : Sign) (inner : Expr) → expression (form.Signed sign inner) scope free ≡ operand type.Integer (expression inner scope false)
   expression-Signed sign inner = ap (λ (j : Judgement). j scope free) (ap expression (sym (form.rolls-Signed sign inner)) ∙ fold-roll-Expr Judgement (Operator × Judgement) expression_step link_step (Expr-F.Signed sign inner))
 
-expression-Chain : (first : Expr) (links : List Link) → expression (form.Chain first links) ≡ chained (expression first) (map link links)
+pub expression-Chain : (first : Expr) (links : List Link) → expression (form.Chain first links) ≡ chained (expression first) (map link links)
 expression-Chain first links = ap expression (sym (form.rolls-Chain first links)) ∙ fold-roll-Expr Judgement (Operator × Judgement) expression_step link_step (Expr-F.Chain first links)
 
-link-out : (l : Link) → link l ≡ ((out-Link l).operator, expression (out-Link l).operand)
+pub link-out : (l : Link) → link l ≡ ((out-Link l).operator, expression (out-Link l).operand)
 link-out l = fold_out-Link Judgement (Operator × Judgement) expression_step link_step l
 
 -- ---- chains
 
 -- what a link makes of what was found before it
-abbrev pub linked : Scope → Found → Operator × Judgement → Found
-linked scope found l = with_before found.broken (with_before (least (l.1 scope (compares l.0)).broken) (told (between l.0 found.typing (l.1 scope (compares l.0)).typing)))
+abbrev pub linked : Scope → Finding → Operator × Judgement → Finding
+linked scope found l = with_before found.broken (with_before (least (l.1 scope (compares l.0)).broken) (finding (between l.0 found.typing (l.1 scope (compares l.0)).typing)))
 
-abbrev pub all_linked : Scope → Found → List (Operator × Judgement) → Found
+abbrev pub all_linked : Scope → Finding → List (Operator × Judgement) → Finding
 all_linked scope found [] = found
 all_linked scope found (l ∷ links) = all_linked scope (linked scope found l) links
 
-told-joined : (scope : Scope) (free : Bool) (op : Operator) (left right : Judgement) → told (joined op left right scope free) ≡ linked scope (told (left scope (compares op))) (op, right)
-told-joined scope free op left right =
-    told_after (left scope (compares op)).broken (after (right scope (compares op)).broken (between op (left scope (compares op)).typing (right scope (compares op)).typing))
+finding-joined : (scope : Scope) (free : Bool) (op : Operator) (left right : Judgement) → finding (joined op left right scope free) ≡ linked scope (finding (left scope (compares op))) (op, right)
+finding-joined scope free op left right =
+    finding_after (left scope (compares op)).broken (after (right scope (compares op)).broken (between op (left scope (compares op)).typing (right scope (compares op)).typing))
     ∙ ap (with_before (least (left scope (compares op)).broken))
-    (told_after (right scope (compares op)).broken (between op (left scope (compares op)).typing (right scope (compares op)).typing))
+    (finding_after (right scope (compares op)).broken (between op (left scope (compares op)).typing (right scope (compares op)).typing))
 
-told-chained : (scope : Scope) (free : Bool) (first : Judgement) (links : List (Operator × Judgement))
-    → told (chained first links scope free) ≡ all_linked scope (told (first scope (free_before links free))) links
-told-chained scope free first [] = refl
-told-chained scope free first (l ∷ links) =
-    told-chained scope free (joined l.0 first l.1) links
-    ∙ ap (λ f. all_linked scope f links) (told-joined scope (free_before links free) l.0 first l.1)
+finding-chained : (scope : Scope) (free : Bool) (first : Judgement) (links : List (Operator × Judgement))
+    → finding (chained first links scope free) ≡ all_linked scope (finding (first scope (free_before links free))) links
+finding-chained scope free first [] = refl
+finding-chained scope free first (l ∷ links) =
+    finding-chained scope free (joined l.0 first l.1) links
+    ∙ ap (λ f. all_linked scope f links) (finding-joined scope (free_before links free) l.0 first l.1)
 
 -- the first operand, with all links
-pub chain-first : (scope : Scope) (free : Bool) (first : Expr) (links : List Link) (found : Found)
-    → found ≡ told (expression first scope (free_before (map link links) free))
-    → all_linked scope found (map link (drop 0 links)) ≡ told (expression (form.Chain first links) scope free)
+pub chain-first : (scope : Scope) (free : Bool) (first : Expr) (links : List Link) (found : Finding)
+    → found ≡ finding (expression first scope (free_before (map link links) free))
+    → all_linked scope found (map link (drop 0 links)) ≡ finding (expression (form.Chain first links) scope free)
 chain-first scope free first links found is =
     ap (λ f. all_linked scope f (map link links)) is
-    ∙ sym (told-chained scope free (expression first) (map link links))
-    ∙ sym (ap (λ (j : Judgement). told (j scope free)) (expression-Chain first links))
+    ∙ sym (finding-chained scope free (expression first) (map link links))
+    ∙ sym (ap (λ (j : Judgement). finding (j scope free)) (expression-Chain first links))
 
 -- one link less is left behind it
-pub chain-next : (scope : Scope) (links : List Link) (i : ℕ) (l : Link) (found right next : Found) → i < length links → l ≡ get_or links i l
-    → right ≡ told (expression (out-Link l).operand scope (compares (out-Link l).operator))
-    → next ≡ with_before found.broken (with_before right.broken (told (between (out-Link l).operator found.typing right.typing)))
+pub chain-next : (scope : Scope) (links : List Link) (i : ℕ) (l : Link) (found right next : Finding) → i < length links → l ≡ get_or links i l
+    → right ≡ finding (expression (out-Link l).operand scope (compares (out-Link l).operator))
+    → next ≡ with_before found.broken (with_before right.broken (finding (between (out-Link l).operator found.typing right.typing)))
     → all_linked scope found (map link (drop i links)) ≡ all_linked scope next (map link (drop (i + 1) links))
 chain-next scope links i l found right next inside is right_is next_is =
     ap (λ ls. all_linked scope found (map link ls)) (drop-next links i l inside is)
     ∙ ap (λ x. all_linked scope (linked scope found x) (map link (drop (i + 1) links))) (link-out l)
     ∙ ap (λ f. all_linked scope f (map link (drop (i + 1) links)))
-    (sym (next_is ∙ ap (λ r. with_before found.broken (with_before r.broken (told (between (out-Link l).operator found.typing r.typing)))) right_is))
+    (sym (next_is ∙ ap (λ r. with_before found.broken (with_before r.broken (finding (between (out-Link l).operator found.typing r.typing)))) right_is))
 
 -- none is left
-pub chain-end : (scope : Scope) (links : List Link) (i : ℕ) (found : Found) → length links ≤ i → all_linked scope found (map link (drop i links)) ≡ found
+pub chain-end : (scope : Scope) (links : List Link) (i : ℕ) (found : Finding) → length links ≤ i → all_linked scope found (map link (drop i links)) ≡ found
 chain-end scope links i found past = ap (λ ls. all_linked scope found (map link ls)) (drop_all i links past)
 
 -- ---- operands
 
 -- an operand that must be of a type, by what was found of it
-pub operand-found : (wanted : DataType) (judged whole : Judged) (found of next : Found) → whole ≡ operand wanted judged → found ≡ told judged → of ≡ told (of_type wanted found.typing)
-    → next ≡ with_before found.broken of → next ≡ told whole
+pub operand-found : (wanted : DataType) (judged whole : Judged) (found of next : Finding) → whole ≡ operand wanted judged → found ≡ finding judged → of ≡ finding (of_type wanted found.typing)
+    → next ≡ with_before found.broken of → next ≡ finding whole
 operand-found wanted judged whole found of next whole_is found_is of_is next_is =
     next_is ∙ ap (with_before found.broken) of_is
-    ∙ ap (λ (f : Found). with_before f.broken (told (of_type wanted f.typing))) found_is
-    ∙ sym (told_after judged.broken (of_type wanted judged.typing))
-    ∙ sym (ap told whole_is)
+    ∙ ap (λ (f : Finding). with_before f.broken (finding (of_type wanted f.typing))) found_is
+    ∙ sym (finding_after judged.broken (of_type wanted judged.typing))
+    ∙ sym (ap finding whole_is)

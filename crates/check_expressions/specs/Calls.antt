@@ -81,9 +81,9 @@ runs_here (Some at) (Some caller) = nat_eq at caller
 runs_here (Some at) None = false
 runs_here None caller = true
 
-abbrev pub component_named : Scope → Option (List ℕ) → Option ℕ
-component_named scope None = None
-component_named scope (Some name) = component_meant (module_names scope.definitions name)
+abbrev pub component_named : List Definition → Option (List ℕ) → Option ℕ
+component_named definitions None = None
+component_named definitions (Some name) = component_meant (module_names definitions name)
 
 -- what a name means as a behaviour: its position
 abbrev pub behaviour_meant : Option Meaning → Option ℕ
@@ -98,7 +98,7 @@ abbrev pub at_behaviour : Scope → (Option DefinitionKind → Bool) → Call �
 at_behaviour scope callable call None = rule.UnknownName ∷ lone_arguments scope call.arguments
 at_behaviour scope callable call (Some at) =
     at_arguments scope (parameters_of (kind_at scope.definitions at)) call.arguments ++
-    unless (runs_here (component_named scope (runs_on_of (kind_at scope.definitions at))) scope.itself) rule.RunsOn ++
+    unless (runs_here (component_named scope.definitions (runs_on_of (kind_at scope.definitions at))) scope.itself) rule.RunsOn ++
     unless (callable (kind_at scope.definitions at)) rule.CallKind
 
 abbrev pub at_call : Scope → (Option DefinitionKind → Bool) → Call → List Rule

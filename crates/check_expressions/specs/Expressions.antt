@@ -33,10 +33,9 @@ fine t = record { typing = t; broken = [] }
 abbrev pub wrong : Rule → Judged
 wrong r = record { typing = typing.Unknown; broken = r ∷ [] }
 
--- of this type if a demand is kept, which is not judged again where the type is not known
+-- an operation is of its type whether its demand is kept or not
 abbrev pub demanding : Bool → Rule → DataType → Judged
-demanding true r t = fine (typing.Known t)
-demanding false r t = wrong r
+demanding kept r t = record { typing = typing.Known t; broken = unless kept r }
 
 -- and so with what is broken before it
 abbrev pub after : List Rule → Judged → Judged
@@ -105,9 +104,8 @@ abbrev pub names_timer : Scope → ComponentRef → Bool
 names_timer scope (component.Named reference) = is_timer reference.fields (scope.names reference.name)
 names_timer scope _ = false
 
--- whether a component runs: unknown where its reference is
+-- whether a component runs
 abbrev pub runs : Typing → Judged
-runs typing.Unknown = fine typing.Unknown
 runs found = demanding (refers_to_component found) rule.UnknownName type.Boolean
 
 -- `.running`, of a timer or a component
@@ -116,33 +114,31 @@ at_running scope reference =
     if names_timer scope reference then fine (typing.Known type.Boolean)
     else (let found = at_component scope reference true in after found.broken (runs found.typing))
 
--- whether a field is present
-abbrev pub presence : Typing → List (List ℕ) → Judged
-presence typing.Unknown fields = fine typing.Unknown
-presence found [] = wrong rule.Fields
-presence found (field ∷ fields) = fine (typing.Known type.Boolean)
+-- a reference names a field
+abbrev pub names_field : List (List ℕ) → Bool
+names_field [] = false
+names_field (field ∷ fields) = true
 
 -- `ispresent`, of a field
 abbrev pub at_ispresent : Scope → Reference → Judged
-at_ispresent scope reference = let found = at_reference scope reference in after found.broken (presence found.typing reference.fields)
+at_ispresent scope reference = after (at_reference scope reference).broken (demanding (names_field reference.fields) rule.Fields type.Boolean)
 
 -- ---- operators
 
--- an operand that must be of a type, which is then that of the whole
+-- an operand that must be of a type, which is that of the whole
 abbrev pub of_type : DataType → Typing → Judged
-of_type wanted typing.Unknown = fine typing.Unknown
 of_type wanted found = demanding (is_of wanted found) rule.OperandType wanted
 
 abbrev pub operand : DataType → Judged → Judged
 operand wanted judged = after judged.broken (of_type wanted judged.typing)
 
--- an operator between two operands: not judged where the type of one is unknown
+-- an operator takes two operands: `==` and `!=` compare them, each other operator takes each by itself
+abbrev pub takes : Operator → Typing → Typing → Bool
+takes op left right = if compares op then comparable left right else (is_of (operands_of op) left && is_of (operands_of op) right)
+
+-- an operator between two operands
 abbrev pub between : Operator → Typing → Typing → Judged
-between op typing.Unknown right = fine typing.Unknown
-between op left typing.Unknown = fine typing.Unknown
-between op left right = demanding
-    (if compares op then comparable left right else (is_of (operands_of op) left && is_of (operands_of op) right))
-    rule.OperandType (result_of op)
+between op left right = demanding (takes op left right) rule.OperandType (result_of op)
 
 -- ---- expressions
 

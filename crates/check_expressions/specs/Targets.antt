@@ -34,9 +34,10 @@ use Rattle.check_scope.specs.Typings.{type_known}
 
 -- the type of what is declared: `default` for variables and parameters alone
 abbrev pub at_type : Names → Bool → TypeName → List Rule
+at_type names with_default type_name.Integer = []
+at_type names with_default type_name.Boolean = []
 at_type names with_default type_name.Default = unless with_default rule.BadType
 at_type names with_default (type_name.Named name) = unless (is_some (type_meant (names name))) rule.UnknownName
-at_type names with_default _ = []
 
 -- a new name: no visible one
 abbrev pub at_new_name : Names → List ℕ → List Rule

@@ -2,7 +2,7 @@
 ghost use Rattle.std.specs.Prelude.{◌≡◌, IfOk};
 ghost use Rattle.std.specs.Option.{option_map};
 ghost use Rattle.check_expressions.specs.Calls as spec;
-ghost use Rattle.check_scope.specs.Checking.{least, seen};
+ghost use Rattle.check_scope.specs.Checking.{least, view};
 ghost use Rattle.check_scope.specs.Names.{component_meant};
 
 use crate::value::value;
@@ -74,7 +74,7 @@ pub(crate) fn result_type_of<'a>(kind: Option<&'a DefinitionKind>) -> Option<&'a
 
 /// The type of a template.
 pub(crate) fn template_type(scope: &Scope<'_>, kind: Option<&DefinitionKind>) -> Option<DataType>
-    ensures { result ≡ spec.template_type (seen scope.now).definitions (option_map (λ kind. kind.now) kind.entry) }
+    ensures { result ≡ spec.template_type (view scope.now).definitions (option_map (λ kind. kind.now) kind.entry) }
 {
     match kind {
         Some(DefinitionKind::Template(template)) => {
@@ -86,7 +86,7 @@ pub(crate) fn template_type(scope: &Scope<'_>, kind: Option<&DefinitionKind>) ->
 
 /// What the first argument goes to.
 fn parameter_target(scope: &Scope<'_>, parameters: &[Parameter]) -> Target
-    ensures { result ≡ spec.parameter_target (seen scope.now) parameters.now }
+    ensures { result ≡ spec.parameter_target (view scope.now) parameters.now }
 {
     match parameters {
         [parameter, ..] => Target::of(scope.resolved_in_module(&parameter.type_name)),
@@ -111,7 +111,7 @@ fn arguments(
     parameters: &[Parameter],
     given: &[Value],
 ) -> Result<Broken, AllocError>
-    ensures { IfOk result (λ broken. broken ≡ least (spec.arguments (seen scope.now) parameters.now given.now)) }
+    ensures { IfOk result (λ broken. broken ≡ least (spec.arguments (view scope.now) parameters.now given.now)) }
 {
     let mut broken = Broken::nothing();
     let mut left = parameters;
@@ -125,13 +125,13 @@ fn arguments(
 
 /// As many arguments as parameters, each of the parameter's type.
 #[tactic(auto, using(crate::proofs::Findings::least_append))]
-pub fn at_arguments(
+pub fn check_arguments(
     alloc: Global,
     scope: &Scope<'_>,
     parameters: &[Parameter],
     given: &[Value],
 ) -> Result<Broken, AllocError>
-    ensures { IfOk result (λ broken. broken ≡ least (spec.at_arguments (seen scope.now) parameters.now given.now)) }
+    ensures { IfOk result (λ broken. broken ≡ least (spec.at_arguments (view scope.now) parameters.now given.now)) }
 {
     let number = Broken::unless(given.len() == parameters.len(), Rule::Arguments);
     let each = arguments(alloc, scope, parameters, given)?;
@@ -144,7 +144,7 @@ pub fn lone_arguments(
     scope: &Scope<'_>,
     given: &[Value],
 ) -> Result<Broken, AllocError>
-    ensures { IfOk result (λ broken. broken ≡ least (spec.lone_arguments (seen scope.now) given.now)) }
+    ensures { IfOk result (λ broken. broken ≡ least (spec.lone_arguments (view scope.now) given.now)) }
 {
     arguments(alloc, scope, &[], given)
 }
@@ -162,7 +162,7 @@ fn runs_here(at: Option<usize>, caller: Option<usize>) -> bool
 
 /// The position of the component type that a name in the module's text stands for.
 pub fn component_named(scope: &Scope<'_>, name: Option<&Name>) -> Option<usize>
-    ensures { result ≡ spec.component_named (seen scope.now) (option_map (λ name. name.now) name.entry) }
+    ensures { result ≡ spec.component_named (view scope.now).definitions (option_map (λ name. name.now) name.entry) }
 {
     component_meant(scope.in_module(name?.as_bytes()))
 }
@@ -190,14 +190,14 @@ pub fn behaviour_meant(meaning: Option<Meaning>) -> Option<usize>
 /// The call of a behaviour: with arguments for its parameters, running on what its caller runs on, and of a kind that may
 /// be called here.
 #[tactic(auto, using(crate::proofs::Findings::least_append))]
-fn at_behaviour(
+fn check_behaviour(
     alloc: Global,
     scope: &Scope<'_>,
     place: CallPlace,
     call: &Call,
     at: Option<usize>,
 ) -> Result<Broken, AllocError>
-    ensures { IfOk result (λ broken. broken ≡ least (spec.at_behaviour (seen scope.now) (spec.callable place) call.now at)) }
+    ensures { IfOk result (λ broken. broken ≡ least (spec.at_behaviour (view scope.now) (spec.callable place) call.now at)) }
 {
     let given = call.arguments.as_slice();
     let Some(at) = at else {
@@ -205,27 +205,27 @@ fn at_behaviour(
         return Ok(Broken::of(Rule::UnknownName).and(given));
     };
     let kind = scope.kind(at);
-    let given = at_arguments(alloc, scope, parameters_of(kind), given)?;
+    let given = check_arguments(alloc, scope, parameters_of(kind), given)?;
     let runs = runs_here(component_named(scope, runs_on_of(kind)), scope.itself());
     let called = Broken::unless(place.may_call(kind), Rule::CallKind);
     Ok(given.and(Broken::unless(runs, Rule::RunsOn)).and(called))
 }
 
-pub fn at_call(
+pub fn check_call(
     alloc: Global,
     scope: &Scope<'_>,
     place: CallPlace,
     call: &Call,
 ) -> Result<Broken, AllocError>
-    ensures { IfOk result (λ broken. broken ≡ least (spec.at_call (seen scope.now) (spec.callable place) call.now)) }
+    ensures { IfOk result (λ broken. broken ≡ least (spec.at_call (view scope.now) (spec.callable place) call.now)) }
 {
     let meant = behaviour_meant(scope.get(call.name.as_bytes()));
-    at_behaviour(alloc, scope, place, call, meant)
+    check_behaviour(alloc, scope, place, call, meant)
 }
 
 /// What is known of the result of a call.
 pub(crate) fn result_typing(scope: &Scope<'_>, type_name: Option<&TypeName>) -> Typing
-    ensures { result ≡ spec.result_typing (seen scope.now) (option_map (λ name. name.now) type_name.entry) }
+    ensures { result ≡ spec.result_typing (view scope.now) (option_map (λ name. name.now) type_name.entry) }
 {
     match type_name {
         Some(type_name) => Typing::of(scope.resolved_in_module(type_name)),
@@ -244,9 +244,9 @@ fn altstep_meant(meaning: Option<Meaning>) -> Option<usize>
 }
 
 /// An altstep that is activated, and runs on what its activator runs on.
-pub fn at_activation(alloc: Global, scope: &Scope<'_>, call: &Call) -> Result<Broken, AllocError>
-    ensures { IfOk result (λ broken. broken ≡ least (spec.at_activation (seen scope.now) call.now)) }
+pub fn check_activation(alloc: Global, scope: &Scope<'_>, call: &Call) -> Result<Broken, AllocError>
+    ensures { IfOk result (λ broken. broken ≡ least (spec.at_activation (view scope.now) call.now)) }
 {
     let meant = altstep_meant(scope.get(call.name.as_bytes()));
-    at_behaviour(alloc, scope, CallPlace::Branch, call, meant)
+    check_behaviour(alloc, scope, CallPlace::Branch, call, meant)
 }

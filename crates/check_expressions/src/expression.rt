@@ -1,11 +1,11 @@
 //! The types of expressions, and the rules that are broken in them (ES 201 873-1, 7).
 ghost use Rattle.std.specs.Prelude.{◌≡◌, map, Some};
 ghost use Rattle.std.specs.Option.{option_map};
-ghost use Rattle.check_expressions.specs.Findings.{free_before, told, with_before};
-ghost use Rattle.check_scope.specs.Checking.{seen};
+ghost use Rattle.check_expressions.specs.Findings.{free_before, finding, with_before};
+ghost use Rattle.check_scope.specs.Checking.{view};
 ghost use Rattle.check_expressions.specs.Expressions as spec;
 
-use crate::found::Found;
+use crate::finding::Finding;
 use check_scope::broken::Broken;
 use check_scope::names::Meaning;
 use check_scope::rule::Rule;
@@ -15,84 +15,84 @@ use check_scope::typing::{compares, operands_of, result_of};
 use ttcn_syntax::{ComponentRef, Expr, Link, Name, Operator, Reference};
 
 /// What a name stands for as a value.
-pub(crate) fn at_meaning(scope: &Scope<'_>, meaning: Option<Meaning>) -> Found
-    ensures { result ≡ told (spec.at_meaning (seen scope.now).definitions meaning) }
+pub(crate) fn check_meaning(scope: &Scope<'_>, meaning: Option<Meaning>) -> Finding
+    ensures { result ≡ finding (spec.at_meaning (view scope.now).definitions meaning) }
 {
     match meaning {
         Some(Meaning::Variable(data_type) | Meaning::Constant(data_type)) => {
-            Found::fine(Typing::of(data_type))
+            Finding::fine(Typing::of(data_type))
         }
-        Some(Meaning::ModuleConstant(at, _)) => Found::fine(Typing::of(scope.constants_type(at))),
-        Some(Meaning::Enumerator(at)) => Found::fine(Typing::Known(DataType::Enumerated(at))),
-        Some(Meaning::Port(_) | Meaning::Timer) => Found::fine(Typing::NoValue),
-        _ => Found::wrong(Rule::UnknownName),
+        Some(Meaning::ModuleConstant(at, _)) => Finding::fine(Typing::of(scope.constants_type(at))),
+        Some(Meaning::Enumerator(at)) => Finding::fine(Typing::Known(DataType::Enumerated(at))),
+        Some(Meaning::Port(_) | Meaning::Timer) => Finding::fine(Typing::NoValue),
+        _ => Finding::wrong(Rule::UnknownName),
     }
 }
 
 /// What a field of something is.
-pub fn within(scope: &Scope<'_>, typing: Typing, name: &Name) -> Found
-    ensures { result ≡ told (spec.within (seen scope.now).definitions typing name.now) }
+pub fn within(scope: &Scope<'_>, typing: Typing, name: &Name) -> Finding
+    ensures { result ≡ finding (spec.within (view scope.now).definitions typing name.now) }
 {
     match typing {
         Typing::Known(DataType::Record(at)) => match scope.field(at, name) {
-            Some(field) => Found::fine(Typing::of(scope.resolved_in_module(&field.type_name))),
-            None => Found::wrong(Rule::Fields),
+            Some(field) => Finding::fine(Typing::of(scope.resolved_in_module(&field.type_name))),
+            None => Finding::wrong(Rule::Fields),
         },
-        Typing::Unknown => Found::fine(Typing::Unknown),
-        _ => Found::wrong(Rule::Fields),
+        Typing::Unknown => Finding::fine(Typing::Unknown),
+        _ => Finding::wrong(Rule::Fields),
     }
 }
 
 /// What fields of fields are.
-pub(crate) fn along(scope: &Scope<'_>, typing: Typing, names: &[Name]) -> Found
-    ensures { result ≡ told (spec.along (seen scope.now).definitions typing names.now) }
+pub(crate) fn along(scope: &Scope<'_>, typing: Typing, names: &[Name]) -> Finding
+    ensures { result ≡ finding (spec.along (view scope.now).definitions typing names.now) }
 {
-    let mut found = Found::fine(typing);
+    let mut found = Finding::fine(typing);
     for name in names {
         found = within(scope, found.typing, name).after(found.broken);
     }
     found
 }
 
-#[tactic(auto, using(crate::proofs::Findings::least_append, crate::proofs::Findings::told_after))]
-pub fn at_reference(scope: &Scope<'_>, reference: &Reference) -> Found
-    ensures { result ≡ told (spec.at_reference (seen scope.now) reference.now) }
+#[tactic(auto, using(crate::proofs::Findings::least_append, crate::proofs::Findings::finding_after))]
+pub fn check_reference(scope: &Scope<'_>, reference: &Reference) -> Finding
+    ensures { result ≡ finding (spec.at_reference (view scope.now) reference.now) }
 {
-    let found = at_meaning(scope, scope.get(reference.name.as_bytes()));
+    let found = check_meaning(scope, scope.get(reference.name.as_bytes()));
     along(scope, found.typing, reference.fields.as_slice()).after(found.broken)
 }
 
 /// `mtc`, or `self` of no known type.
-fn any_component(free: bool) -> Found
-    ensures { result ≡ told (spec.any_component free) }
+fn any_component(free: bool) -> Finding
+    ensures { result ≡ finding (spec.any_component free) }
 {
-    Found {
+    Finding {
         typing: Typing::AnyComponent,
         broken: Broken::unless(free, Rule::MtcPlace),
     }
 }
 
-pub fn at_component(scope: &Scope<'_>, component: &ComponentRef, free: bool) -> Found
-    ensures { result ≡ told (spec.at_component (seen scope.now) component.now free) }
+pub fn check_component(scope: &Scope<'_>, component: &ComponentRef, free: bool) -> Finding
+    ensures { result ≡ finding (spec.at_component (view scope.now) component.now free) }
 {
     match component {
         ComponentRef::Itself => match scope.itself() {
-            Some(at) => Found::fine(Typing::Known(DataType::Component(at))),
+            Some(at) => Finding::fine(Typing::Known(DataType::Component(at))),
             None => any_component(free),
         },
         ComponentRef::Mtc => any_component(free),
-        ComponentRef::Named(reference) => at_reference(scope, reference),
+        ComponentRef::Named(reference) => check_reference(scope, reference),
     }
 }
 
 /// A place where a component is wanted, `mtc` among them.
-#[tactic(auto, using(crate::proofs::Findings::least_append, crate::proofs::Findings::told_after))]
-pub fn at_wanted_component(scope: &Scope<'_>, component: &ComponentRef) -> Found
-    ensures { result ≡ told (spec.at_wanted_component (seen scope.now) component.now) }
+#[tactic(auto, using(crate::proofs::Findings::least_append, crate::proofs::Findings::finding_after))]
+pub fn check_wanted_component(scope: &Scope<'_>, component: &ComponentRef) -> Finding
+    ensures { result ≡ finding (spec.at_wanted_component (view scope.now) component.now) }
 {
-    let found = at_component(scope, component, true);
+    let found = check_component(scope, component, true);
     let is_component = found.typing.refers_to_component();
-    Found {
+    Finding {
         typing: found.typing,
         broken: found
             .broken
@@ -102,7 +102,7 @@ pub fn at_wanted_component(scope: &Scope<'_>, component: &ComponentRef) -> Found
 
 /// Whether it is the mere name of a timer.
 pub fn names_timer(scope: &Scope<'_>, component: &ComponentRef) -> bool
-    ensures { result ≡ spec.names_timer (seen scope.now) component.now }
+    ensures { result ≡ spec.names_timer (view scope.now) component.now }
 {
     match component {
         ComponentRef::Named(reference) => {
@@ -114,82 +114,76 @@ pub fn names_timer(scope: &Scope<'_>, component: &ComponentRef) -> bool
 }
 
 /// `.running`, of a timer or a component.
-#[tactic(auto, using(crate::proofs::Findings::least_append, crate::proofs::Findings::told_after))]
-fn at_running(scope: &Scope<'_>, component: &ComponentRef) -> Found
-    ensures { result ≡ told (spec.at_running (seen scope.now) component.now) }
+#[tactic(auto, using(crate::proofs::Findings::least_append, crate::proofs::Findings::finding_after))]
+fn check_running(scope: &Scope<'_>, component: &ComponentRef) -> Finding
+    ensures { result ≡ finding (spec.at_running (view scope.now) component.now) }
 {
     if names_timer(scope, component) {
-        return Found::fine(Typing::Known(DataType::Boolean));
+        return Finding::fine(Typing::Known(DataType::Boolean));
     }
-    let found = at_component(scope, component, true);
+    let found = check_component(scope, component, true);
     runs(found.typing).after(found.broken)
 }
 
 /// Whether a component runs.
-fn runs(typing: Typing) -> Found
-    ensures { result ≡ told (spec.runs typing) }
+fn runs(typing: Typing) -> Finding
+    ensures { result ≡ finding (spec.runs typing) }
 {
-    match typing {
-        Typing::Unknown => Found::fine(Typing::Unknown),
-        typing => Found::demanding(
-            typing.refers_to_component(),
-            Rule::UnknownName,
-            DataType::Boolean,
-        ),
-    }
+    Finding::demanding(
+        typing.refers_to_component(),
+        Rule::UnknownName,
+        DataType::Boolean,
+    )
 }
 
 /// `ispresent`, of a field.
-#[tactic(auto, using(crate::proofs::Findings::least_append, crate::proofs::Findings::told_after))]
-fn at_ispresent(scope: &Scope<'_>, reference: &Reference) -> Found
-    ensures { result ≡ told (spec.at_ispresent (seen scope.now) reference.now) }
+#[tactic(auto, using(crate::proofs::Findings::least_append, crate::proofs::Findings::finding_after))]
+fn check_ispresent(scope: &Scope<'_>, reference: &Reference) -> Finding
+    ensures { result ≡ finding (spec.at_ispresent (view scope.now) reference.now) }
 {
-    let found = at_reference(scope, reference);
-    let presence = match (found.typing, reference.fields.as_slice()) {
-        (Typing::Unknown, _) => Found::fine(Typing::Unknown),
-        (_, []) => Found::wrong(Rule::Fields),
-        _ => Found::fine(Typing::Known(DataType::Boolean)),
-    };
-    presence.after(found.broken)
+    let found = check_reference(scope, reference);
+    let is_field = names_field(reference.fields.as_slice());
+    Finding::demanding(is_field, Rule::Fields, DataType::Boolean).after(found.broken)
 }
 
-/// An operand that must be of a type, which is then that of the whole.
-fn of_type(wanted: DataType, typing: Typing) -> Found
-    ensures { result ≡ told (spec.of_type wanted typing) }
+/// Whether a reference names a field.
+fn names_field(fields: &[Name]) -> bool
+    ensures { result ≡ spec.names_field fields.now }
 {
-    match typing {
-        Typing::Unknown => Found::fine(Typing::Unknown),
-        typing => Found::demanding(typing.is_of(wanted), Rule::OperandType, wanted),
-    }
+    matches!(fields, [_, ..])
+}
+
+/// An operand that must be of a type, which is that of the whole.
+fn of_type(wanted: DataType, typing: Typing) -> Finding
+    ensures { result ≡ finding (spec.of_type wanted typing) }
+{
+    Finding::demanding(typing.is_of(wanted), Rule::OperandType, wanted)
 }
 
 /// An operator between two operands.
-fn between(operator: Operator, left: Typing, right: Typing) -> Found
-    ensures { result ≡ told (spec.between operator left right) }
+fn between(operator: Operator, left: Typing, right: Typing) -> Finding
+    ensures { result ≡ finding (spec.between operator left right) }
 {
-    if left == Typing::Unknown || right == Typing::Unknown {
-        return Found::fine(Typing::Unknown);
-    }
-    let fit = if compares(operator) {
+    let takes = if compares(operator) {
         left.is_comparable(right)
     } else {
         left.is_of(operands_of(operator)) && right.is_of(operands_of(operator))
     };
-    Found::demanding(fit, Rule::OperandType, result_of(operator))
+    Finding::demanding(takes, Rule::OperandType, result_of(operator))
 }
 
 /// What is known of an expression's type, and the least rule that is broken in it. `mtc` may be the whole of it where it
 /// is `free`.
-pub fn expression(scope: &Scope<'_>, expr: &Expr, free: bool) -> Found
-    ensures { result ≡ told (spec.expression expr.now (seen scope.now) free) }
+pub fn expression(scope: &Scope<'_>, expr: &Expr, free: bool) -> Finding
+    ensures { result ≡ finding (spec.expression expr.now (view scope.now) free) }
 {
     match expr {
-        Expr::Int(_) => Found::fine(Typing::Known(DataType::Integer)),
-        Expr::Bool(_) => Found::fine(Typing::Known(DataType::Boolean)),
-        Expr::Null => Found::fine(Typing::Null),
-        Expr::Reference(component) => at_component(scope, component, free),
-        Expr::Running(component) => at_running(scope, component),
-        Expr::Ispresent(reference) => at_ispresent(scope, reference),
+        Expr::Int(_) => Finding::fine(Typing::Known(DataType::Integer)),
+        Expr::Bool(_) => Finding::fine(Typing::Known(DataType::Boolean)),
+        Expr::Null => Finding::fine(Typing::Null),
+        Expr::Reference(component) => check_component(scope, component, free),
+        Expr::Running(component) => check_running(scope, component),
+        Expr::Ispresent(reference) => check_ispresent(scope, reference),
         Expr::Not(operand) => {
             let found = expression(scope, operand.get(), false);
             of_type(DataType::Boolean, found.typing).after(found.broken)

@@ -3,7 +3,7 @@
 
 pub mod call;
 pub mod expression;
-pub mod found;
+pub mod finding;
 pub mod target;
 pub mod template;
 pub mod value;

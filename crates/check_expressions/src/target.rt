@@ -1,16 +1,16 @@
 //! The rules that declarations, assignments and what they store break (ES 201 873-1, 8 and 19.1).
 ghost use Rattle.std.specs.Prelude.{◌≡◌, IfOk};
 ghost use Rattle.std.specs.Option.{option_map};
-ghost use Rattle.check_scope.specs.Checking.{least, seen};
-ghost use Rattle.check_expressions.specs.Findings.{told};
+ghost use Rattle.check_scope.specs.Checking.{least, view};
+ghost use Rattle.check_expressions.specs.Findings.{finding};
 ghost use Rattle.check_expressions.specs.Targets as spec;
 
 use crate::call::{
-    CallPlace, at_activation, at_call, behaviour_meant, component_meant, result_type_of,
+    CallPlace, behaviour_meant, check_activation, check_call, component_meant, result_type_of,
     result_typing,
 };
-use crate::expression::{along, at_meaning, within};
-use crate::found::Found;
+use crate::expression::{along, check_meaning, within};
+use crate::finding::Finding;
 use crate::value::value;
 use check_scope::broken::Broken;
 use check_scope::names::Meaning;
@@ -23,8 +23,8 @@ use ttcn_syntax::{Assignment, Name, Reference, Rhs, TypeName};
 // ---- declarations
 
 /// The type of what is declared.
-pub fn at_type(scope: &Scope<'_>, with_default: bool, type_name: &TypeName) -> Broken
-    ensures { result ≡ least (spec.at_type (seen scope.now).names with_default type_name.now) }
+pub fn check_type(scope: &Scope<'_>, with_default: bool, type_name: &TypeName) -> Broken
+    ensures { result ≡ least (spec.at_type (view scope.now).names with_default type_name.now) }
 {
     match type_name {
         TypeName::Integer | TypeName::Boolean => Broken::nothing(),
@@ -36,8 +36,8 @@ pub fn at_type(scope: &Scope<'_>, with_default: bool, type_name: &TypeName) -> B
 }
 
 /// A new name is no visible one.
-pub fn at_new_name(scope: &Scope<'_>, name: &Name) -> Broken
-    ensures { result ≡ least (spec.at_new_name (seen scope.now).names name.now) }
+pub fn check_new_name(scope: &Scope<'_>, name: &Name) -> Broken
+    ensures { result ≡ least (spec.at_new_name (view scope.now).names name.now) }
 {
     let visible = scope.get(name.as_bytes());
     Broken::unless(visible.is_none(), Rule::DuplicateName)
@@ -47,7 +47,7 @@ pub fn at_new_name(scope: &Scope<'_>, name: &Name) -> Broken
 
 /// What is known of the result of a call.
 fn call_typing(scope: &Scope<'_>, at: Option<usize>) -> Typing
-    ensures { result ≡ spec.call_typing (seen scope.now) at }
+    ensures { result ≡ spec.call_typing (view scope.now) at }
 {
     match at {
         Some(at) => result_typing(scope, result_type_of(scope.kind(at))),
@@ -56,7 +56,7 @@ fn call_typing(scope: &Scope<'_>, at: Option<usize>) -> Typing
 }
 
 /// A new component of the type at a position.
-fn at_created(wanted: Option<DataType>, at: Option<usize>) -> Broken
+fn check_created(wanted: Option<DataType>, at: Option<usize>) -> Broken
     ensures { result ≡ least (spec.at_created wanted at) }
 {
     match at {
@@ -69,28 +69,28 @@ fn at_created(wanted: Option<DataType>, at: Option<usize>) -> Broken
 }
 
 #[tactic(auto, using(crate::proofs::Findings::least_append))]
-pub(crate) fn at_rhs(
+pub(crate) fn check_rhs(
     alloc: Global,
     scope: &Scope<'_>,
     target: Target,
     right: &Rhs,
 ) -> Result<Broken, AllocError>
-    ensures { IfOk result (λ broken. broken ≡ least (spec.at_rhs (seen scope.now) target right.now)) }
+    ensures { IfOk result (λ broken. broken ≡ least (spec.at_rhs (view scope.now) target right.now)) }
 {
     match right {
         Rhs::Value(right) => value(alloc, scope, right, target),
-        Rhs::Create(name) => Ok(at_created(
+        Rhs::Create(name) => Ok(check_created(
             target.data_type,
             component_meant(scope.get(name.as_bytes())),
         )),
         Rhs::Call(call) => {
-            let called = at_call(alloc, scope, CallPlace::Value, call)?;
+            let called = check_call(alloc, scope, CallPlace::Value, call)?;
             let meant = behaviour_meant(scope.get(call.name.as_bytes()));
             let fits = call_typing(scope, meant).fits(target.data_type);
             Ok(called.and(Broken::unless(fits, Rule::ValueType)))
         }
         Rhs::Activate(call) => {
-            let activated = at_activation(alloc, scope, call)?;
+            let activated = check_activation(alloc, scope, call)?;
             let fits = Typing::Known(DataType::Default).fits(target.data_type);
             Ok(activated.and(Broken::unless(fits, Rule::ValueType)))
         }
@@ -98,16 +98,16 @@ pub(crate) fn at_rhs(
 }
 
 /// An initial value, if there is one.
-pub fn at_initial(
+pub fn check_initial(
     alloc: Global,
     scope: &Scope<'_>,
     target: Target,
     right: Option<&Rhs>,
 ) -> Result<Broken, AllocError>
-    ensures { IfOk result (λ broken. broken ≡ least (spec.at_initial (seen scope.now) target (option_map (λ right. right.now) right.entry))) }
+    ensures { IfOk result (λ broken. broken ≡ least (spec.at_initial (view scope.now) target (option_map (λ right. right.now) right.entry))) }
 {
     match right {
-        Some(right) => at_rhs(alloc, scope, target, right),
+        Some(right) => check_rhs(alloc, scope, target, right),
         None => Ok(Broken::nothing()),
     }
 }
@@ -115,19 +115,19 @@ pub fn at_initial(
 // ---- what is assigned
 
 /// What a name is as a target: a variable or a parameter, but no constant.
-fn as_target(scope: &Scope<'_>, meaning: Option<Meaning>) -> Found
-    ensures { result ≡ told (spec.as_target (seen scope.now).definitions meaning) }
+fn as_target(scope: &Scope<'_>, meaning: Option<Meaning>) -> Finding
+    ensures { result ≡ finding (spec.as_target (view scope.now).definitions meaning) }
 {
     match meaning {
-        Some(Meaning::Variable(data_type)) => Found {
+        Some(Meaning::Variable(data_type)) => Finding {
             typing: Typing::of(data_type),
             broken: Broken::nothing(),
         },
-        Some(Meaning::Constant(_) | Meaning::ModuleConstant(_, _)) => Found {
-            typing: at_meaning(scope, meaning).typing,
+        Some(Meaning::Constant(_) | Meaning::ModuleConstant(_, _)) => Finding {
+            typing: check_meaning(scope, meaning).typing,
             broken: Broken::of(Rule::NotAssignable),
         },
-        _ => Found {
+        _ => Finding {
             typing: Typing::Unknown,
             broken: Broken::of(Rule::UnknownName),
         },
@@ -135,9 +135,9 @@ fn as_target(scope: &Scope<'_>, meaning: Option<Meaning>) -> Found
 }
 
 /// What is said of a target with its fields.
-#[tactic(auto, using(crate::proofs::Findings::least_append, crate::proofs::Findings::told_after))]
-pub fn at_target(scope: &Scope<'_>, reference: &Reference) -> Found
-    ensures { result ≡ told (spec.at_target (seen scope.now) reference.now) }
+#[tactic(auto, using(crate::proofs::Findings::least_append, crate::proofs::Findings::finding_after))]
+pub fn check_target(scope: &Scope<'_>, reference: &Reference) -> Finding
+    ensures { result ≡ finding (spec.at_target (view scope.now) reference.now) }
 {
     let found = as_target(scope, scope.get(reference.name.as_bytes()));
     along(scope, found.typing, reference.fields.as_slice()).after(found.broken)
@@ -145,7 +145,7 @@ pub fn at_target(scope: &Scope<'_>, reference: &Reference) -> Found
 
 /// Whether a field may be omitted. It isn't judged where the field isn't known.
 fn optional_in(scope: &Scope<'_>, typing: Typing, name: &Name) -> bool
-    ensures { result ≡ spec.optional_in (seen scope.now).definitions typing name.now }
+    ensures { result ≡ spec.optional_in (view scope.now).definitions typing name.now }
 {
     match typing {
         Typing::Known(DataType::Record(at)) => match scope.field(at, name) {
@@ -158,7 +158,7 @@ fn optional_in(scope: &Scope<'_>, typing: Typing, name: &Name) -> bool
 
 /// Whether the last of fields of fields may be omitted; `optional` answers where there is none.
 fn last_optional(scope: &Scope<'_>, typing: Typing, optional: bool, names: &[Name]) -> bool
-    ensures { result ≡ spec.last_optional (seen scope.now).definitions typing optional names.now }
+    ensures { result ≡ spec.last_optional (view scope.now).definitions typing optional names.now }
 {
     let mut around = typing;
     let mut last = optional;
@@ -170,27 +170,27 @@ fn last_optional(scope: &Scope<'_>, typing: Typing, optional: bool, names: &[Nam
 }
 
 /// What goes to a reference.
-#[tactic(auto, using(crate::proofs::Findings::least_append, crate::proofs::Findings::told_after))]
+#[tactic(auto, using(crate::proofs::Findings::least_append, crate::proofs::Findings::finding_after))]
 fn target_at(scope: &Scope<'_>, reference: &Reference) -> Target
-    ensures { result ≡ spec.target_at (seen scope.now) reference.now }
+    ensures { result ≡ spec.target_at (view scope.now) reference.now }
 {
     let found = as_target(scope, scope.get(reference.name.as_bytes()));
     Target {
-        data_type: at_target(scope, reference).typing.known(),
+        data_type: check_target(scope, reference).typing.known(),
         optional: last_optional(scope, found.typing, false, reference.fields.as_slice()),
     }
 }
 
 #[tactic(auto, using(crate::proofs::Findings::least_append))]
-pub fn at_assignment(
+pub fn check_assignment(
     alloc: Global,
     scope: &Scope<'_>,
     assignment: &Assignment,
 ) -> Result<Broken, AllocError>
-    ensures { IfOk result (λ broken. broken ≡ least (spec.at_assignment (seen scope.now) assignment.now)) }
+    ensures { IfOk result (λ broken. broken ≡ least (spec.at_assignment (view scope.now) assignment.now)) }
 {
-    let found = at_target(scope, &assignment.target);
+    let found = check_target(scope, &assignment.target);
     let target = target_at(scope, &assignment.target);
-    let right = at_rhs(alloc, scope, target, &assignment.value)?;
+    let right = check_rhs(alloc, scope, target, &assignment.value)?;
     Ok(found.broken.and(right))
 }

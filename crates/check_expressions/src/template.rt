@@ -4,16 +4,16 @@ ghost use Rattle.std.specs.List.{list_all, list_any};
 ghost use Rattle.std.specs.Option.{option_map};
 ghost use Rattle.ttcn_syntax.specs.declared.tree.expression.Expr.{out-Expr};
 ghost use Rattle.ttcn_syntax.specs.declared.tree.template.FieldTemplate.{out-FieldTemplate};
-ghost use Rattle.check_scope.specs.Checking.{least, seen};
+ghost use Rattle.check_scope.specs.Checking.{least, view};
 ghost use Rattle.check_scope.specs.Tables.{has};
 ghost use Rattle.check_expressions.specs.Templates as spec;
 ghost use Rattle.check_expressions.specs.Values.{by_name, in_order, wanted_fields};
 
-use crate::call::{at_arguments, lone_arguments, parameters_of, template_type};
+use crate::call::{check_arguments, lone_arguments, parameters_of, template_type};
 use crate::expression::expression;
 use crate::value::{
-    at_braces, at_expression, at_field_name, at_number, first_target, next_fields, target_named,
-    wanted_fields,
+    check_braces, check_expression, check_field_name, check_number, first_target, next_fields,
+    target_named, wanted_fields,
 };
 use check_scope::broken::Broken;
 use check_scope::name_set::NameSet;
@@ -29,7 +29,7 @@ use ttcn_syntax::{
 // ---- named templates
 
 /// The position of the template that a name stands for.
-fn template_meant(meaning: Option<Meaning>) -> Option<usize>
+pub fn template_meant(meaning: Option<Meaning>) -> Option<usize>
     ensures { result ≡ spec.template_meant meaning }
 {
     match meaning {
@@ -56,7 +56,7 @@ fn bare_name(expr: &Expr) -> Option<&Name>
 
 /// The position of the template that an expression names without arguments.
 fn template_named(scope: &Scope<'_>, expr: &Expr) -> Option<usize>
-    ensures { result ≡ spec.template_named (seen scope.now) expr.now }
+    ensures { result ≡ spec.template_named (view scope.now) expr.now }
 {
     match bare_name(expr) {
         Some(name) => template_meant(scope.get(name.as_bytes())),
@@ -65,73 +65,75 @@ fn template_named(scope: &Scope<'_>, expr: &Expr) -> Option<usize>
 }
 
 fn type_of_template(scope: &Scope<'_>, at: usize) -> Option<DataType>
-    ensures { result ≡ spec.type_of_template (seen scope.now) at }
+    ensures { result ≡ spec.type_of_template (view scope.now) at }
 {
     template_type(scope, scope.kind(at))
 }
 
 /// A template with arguments, where a template of a type is wanted.
 #[tactic(auto, using(crate::proofs::Findings::least_append))]
-fn at_template(
+fn check_template(
     alloc: Global,
     scope: &Scope<'_>,
     target: Target,
     given: &[Value],
     at: Option<usize>,
 ) -> Result<Broken, AllocError>
-    ensures { IfOk result (λ broken. broken ≡ least (spec.at_template (seen scope.now) target given.now at)) }
+    ensures { IfOk result (λ broken. broken ≡ least (spec.at_template (view scope.now) target given.now at)) }
 {
     let Some(at) = at else {
         let given = lone_arguments(alloc, scope, given)?;
         return Ok(Broken::of(Rule::UnknownName).and(given));
     };
-    let given = at_arguments(alloc, scope, parameters_of(scope.kind(at)), given)?;
+    let given = check_arguments(alloc, scope, parameters_of(scope.kind(at)), given)?;
     let typing = Typing::of(type_of_template(scope, at));
     let fits = typing.fits(target.data_type);
     Ok(given.and(Broken::unless(fits, Rule::ValueType)))
 }
 
 /// An expression, or the name of a template.
-fn at_name(
+fn check_name(
     alloc: Global,
     scope: &Scope<'_>,
     target: Target,
     expr: &Expr,
     at: Option<usize>,
 ) -> Result<Broken, AllocError>
-    ensures { IfOk result (λ broken. broken ≡ least (spec.at_name (seen scope.now) target expr.now at)) }
+    ensures { IfOk result (λ broken. broken ≡ least (spec.at_name (view scope.now) target expr.now at)) }
 {
     match at {
-        Some(_) => at_template(alloc, scope, target, &[], at),
-        None => Ok(at_expression(scope, target.data_type, expr)),
+        Some(_) => check_template(alloc, scope, target, &[], at),
+        None => Ok(check_expression(scope, target.data_type, expr)),
     }
 }
 
 // ---- ranges
 
-fn at_bound(scope: &Scope<'_>, bound: &Bound) -> Broken
-    ensures { result ≡ least (spec.at_bound (seen scope.now) bound.now) }
+fn check_bound(scope: &Scope<'_>, bound: &Bound) -> Broken
+    ensures { result ≡ least (spec.at_bound (view scope.now) bound.now) }
 {
     match bound {
-        Bound::Expr(expr) => at_expression(scope, Some(DataType::Integer), expr),
+        Bound::Expr(expr) => check_expression(scope, Some(DataType::Integer), expr),
         Bound::Infinity => Broken::nothing(),
     }
 }
 
 /// A range, where integers are wanted.
 #[tactic(auto, using(crate::proofs::Findings::least_append))]
-fn at_range(scope: &Scope<'_>, target: Target, low: &Bound, high: &Bound) -> Broken
-    ensures { result ≡ least (spec.at_range (seen scope.now) target low.now high.now) }
+fn check_range(scope: &Scope<'_>, target: Target, low: &Bound, high: &Bound) -> Broken
+    ensures { result ≡ least (spec.at_range (view scope.now) target low.now high.now) }
 {
     let fits = Typing::Known(DataType::Integer).fits(target.data_type);
     let range = Broken::unless(fits, Rule::ValueType);
-    range.and(at_bound(scope, low)).and(at_bound(scope, high))
+    range
+        .and(check_bound(scope, low))
+        .and(check_bound(scope, high))
 }
 
 // ---- the type of a template by itself
 
 fn typing_at_name(scope: &Scope<'_>, expr: &Expr, at: Option<usize>) -> Typing
-    ensures { result ≡ spec.typing_at_name (seen scope.now) expr.now at }
+    ensures { result ≡ spec.typing_at_name (view scope.now) expr.now at }
 {
     match at {
         Some(at) => Typing::of(type_of_template(scope, at)),
@@ -140,7 +142,7 @@ fn typing_at_name(scope: &Scope<'_>, expr: &Expr, at: Option<usize>) -> Typing
 }
 
 fn typing_by_position(scope: &Scope<'_>, at: Option<usize>) -> Typing
-    ensures { result ≡ spec.typing_by_position (seen scope.now) at }
+    ensures { result ≡ spec.typing_by_position (view scope.now) at }
 {
     match at {
         Some(at) => Typing::of(type_of_template(scope, at)),
@@ -150,7 +152,7 @@ fn typing_by_position(scope: &Scope<'_>, at: Option<usize>) -> Typing
 
 /// What is known of the type of a template by itself, where it says something.
 pub fn typing_of_template(scope: &Scope<'_>, template: &Template) -> Option<Typing>
-    ensures { result ≡ spec.typing_of_template (seen scope.now) template.now }
+    ensures { result ≡ spec.typing_of_template (view scope.now) template.now }
 {
     match &template.body {
         TemplateBody::Expr(expr) => {
@@ -210,9 +212,9 @@ pub fn template(
     template: &Template,
     target: Target,
 ) -> Result<Broken, AllocError>
-    ensures { IfOk result (λ broken. broken ≡ least (spec.template template.now (seen scope.now) target)) }
+    ensures { IfOk result (λ broken. broken ≡ least (spec.template template.now (view scope.now) target)) }
 {
-    let body = at_body(alloc, scope, &template.body, target)?;
+    let body = check_body(alloc, scope, &template.body, target)?;
     let may_be_left_out = !template.ifpresent || target.optional;
     Ok(body.and(Broken::unless(may_be_left_out, Rule::Fields)))
 }
@@ -220,13 +222,13 @@ pub fn template(
 /// The same, but for `ifpresent`.
 #[cycle(template)]
 #[tactic(auto, using(crate::proofs::TemplateForms::template_forms))]
-fn at_body(
+fn check_body(
     alloc: Global,
     scope: &Scope<'_>,
     body: &TemplateBody,
     target: Target,
 ) -> Result<Broken, AllocError>
-    ensures { IfOk result (λ broken. broken ≡ least (spec.body body.now (seen scope.now) target)) }
+    ensures { IfOk result (λ broken. broken ≡ least (spec.body body.now (view scope.now) target)) }
 {
     match body {
         TemplateBody::Any => Ok(Broken::nothing()),
@@ -236,24 +238,24 @@ fn at_body(
         TemplateBody::Complement(parts) | TemplateBody::List(parts) => {
             each(alloc, scope, parts.as_slice(), target)
         }
-        TemplateBody::Range(low, high) => Ok(at_range(scope, target, low, high)),
+        TemplateBody::Range(low, high) => Ok(check_range(scope, target, low, high)),
         TemplateBody::Call(call) => {
             let meant = template_meant(scope.get(call.name.as_bytes()));
-            at_template(alloc, scope, target, call.arguments.as_slice(), meant)
+            check_template(alloc, scope, target, call.arguments.as_slice(), meant)
         }
         TemplateBody::Expr(expr) => {
-            at_name(alloc, scope, target, expr, template_named(scope, expr))
+            check_name(alloc, scope, target, expr, template_named(scope, expr))
         }
         TemplateBody::Listed(parts) => {
             let fields = wanted_fields(scope, target.data_type);
-            let whole = at_braces(target.data_type).and(at_number(fields, parts.len()));
+            let whole = check_braces(target.data_type).and(check_number(fields, parts.len()));
             let parts = in_order(alloc, scope, fields, parts.as_slice())?;
             Ok(whole.and(parts))
         }
         TemplateBody::Assigned(parts) => {
             let fields = wanted_fields(scope, target.data_type);
             let all = has_all(alloc, fields, parts.as_slice())?;
-            let whole = at_braces(target.data_type).and(Broken::unless(all, Rule::Fields));
+            let whole = check_braces(target.data_type).and(Broken::unless(all, Rule::Fields));
             let parts = by_name(alloc, scope, target.data_type, parts.as_slice())?;
             Ok(whole.and(parts))
         }
@@ -268,7 +270,7 @@ fn each(
     parts: &[Template],
     target: Target,
 ) -> Result<Broken, AllocError>
-    ensures { IfOk result (λ broken. broken ≡ least (spec.each (map spec.template parts.now) (seen scope.now) target)) }
+    ensures { IfOk result (λ broken. broken ≡ least (spec.each (map spec.template parts.now) (view scope.now) target)) }
 {
     let mut broken = Broken::nothing();
     for part in parts {
@@ -285,7 +287,7 @@ fn in_order(
     fields: Option<&[Field]>,
     elements: &[Template],
 ) -> Result<Broken, AllocError>
-    ensures { IfOk result (λ broken. broken ≡ least (in_order (option_map (λ fields. fields.now) fields.entry) (map spec.template elements.now) (seen scope.now))) }
+    ensures { IfOk result (λ broken. broken ≡ least (in_order (option_map (λ fields. fields.now) fields.entry) (map spec.template elements.now) (view scope.now))) }
 {
     let mut broken = Broken::nothing();
     let mut left = fields;
@@ -305,13 +307,13 @@ fn by_name(
     wanted: Option<DataType>,
     elements: &[FieldTemplate],
 ) -> Result<Broken, AllocError>
-    ensures { IfOk result (λ broken. broken ≡ least (by_name (wanted_fields (seen scope.now).definitions wanted) [] (map spec.field_template elements.now) (seen scope.now))) }
+    ensures { IfOk result (λ broken. broken ≡ least (by_name (wanted_fields (view scope.now).definitions wanted) [] (map spec.field_template elements.now) (view scope.now))) }
 {
     let mut broken = Broken::nothing();
     let mut names = NameSet::new(alloc);
     for element in elements {
         let is_new = names.insert(element.name.as_bytes())?;
-        let named = at_field_name(scope, wanted, &element.name, is_new);
+        let named = check_field_name(scope, wanted, &element.name, is_new);
         let target = target_named(scope, wanted, &element.name);
         let part = template(alloc, scope, &element.template, target)?;
         broken = broken.and(named).and(part);

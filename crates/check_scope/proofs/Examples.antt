@@ -1,9 +1,9 @@
 -- What names stand for and what fits what, by examples (ES 201 873-1, 5.2, 6 and 7.1).
-use Rattle.std.proofs.Common.{◌≡◌, refl, ℕ, Bool, true, false, List, [], ◌∷◌, Option, Some, None}
+use Rattle.std.proofs.Common.{◌≡◌, refl, ℕ, true, false, List, [], ◌∷◌, Some, None}
 use Rattle.check_scope.specs.Names.{Names, behind, listed, type_meant}
 use Rattle.check_scope.specs.Numbers.{lesser}
 use Rattle.check_scope.specs.Scopes.{at_new_entries}
-use Rattle.check_scope.specs.Typings.{comparable, fits, goes_to}
+use Rattle.check_scope.specs.Typings.{comparable, fits, goes_to, is_of}
 use Rattle.check_scope.specs.declared.names.Meaning.TheVariants as meaning
 use Rattle.check_scope.specs.declared.rule.Rule.TheVariants as rule
 use Rattle.check_scope.specs.declared.types.DataType.TheVariants as type
@@ -59,6 +59,16 @@ components_compare = refl
 
 defaults_do_not_compare : comparable (typing.Known type.Default) (typing.Known type.Default) ≡ false
 defaults_do_not_compare = refl
+
+-- an operand of an unknown type isn't judged, but what stands beside it is
+unknown_operand : is_of type.Integer typing.Unknown ≡ true
+unknown_operand = refl
+
+unknown_compares : comparable (typing.Known type.Boolean) typing.Unknown ≡ true
+unknown_compares = refl
+
+ports_do_not_compare : comparable typing.NoValue typing.Unknown ≡ false
+ports_do_not_compare = refl
 
 -- of two broken rules the one of the lesser number is answered
 lesser_rule : lesser rule.ValueType rule.DuplicateName ≡ rule.DuplicateName

@@ -3,7 +3,7 @@ use Rattle.std.proofs.Common.{◌≡◌, ◌≤◌, ℕ, ◌+◌, ◌<◌, List,
 use Rattle.std.proofs.lemmas.List.{drop_all}
 use Rattle.std.specs.Option.{option_or}
 use mathlib.Core.Path.{fun_ext}
-use Rattle.check_scope.specs.Checking.{Around, inside, seen_in}
+use Rattle.check_scope.specs.Checking.{Around, inside, view_in}
 use Rattle.check_scope.specs.Names.{Entry, Names, behind, declaring, listed}
 use Rattle.check_scope.specs.Tables.{member, said, said_in}
 use Rattle.check_scope.specs.declared.names.Meaning.{Meaning}
@@ -46,15 +46,15 @@ said-append (first ∷ tables) table name =
     ap (λ o. option_or o (said first name)) (said-append tables table name) ∙ or-assoc (said table name) (said_in tables name) (said first name)
 
 -- a block in which nothing is declared
-pub seen-inside : (a : Around) (block empty : Table) → said empty ≡ (λ name. None) → seen_in (inside a block) empty ≡ seen_in a block
-seen-inside a block empty is = ap (λ (names : Names). record { definitions = a.definitions; names = names; itself = a.itself }) (fun_ext (λ name.
+pub view-inside : (a : Around) (block empty : Table) → said empty ≡ (λ name. None) → view_in (inside a block) empty ≡ view_in a block
+view-inside a block empty is = ap (λ (names : Names). record { definitions = a.definitions; names = names; itself = a.itself }) (fun_ext (λ name.
     ap (λ (n : Names). option_or (n name) (option_or (said_in (a.blocks ++ block ∷ []) name) (option_or (member a.members a.runs_on name) (said a.defined name)))) is
     ∙ ap (λ o. option_or o (option_or (member a.members a.runs_on name) (said a.defined name))) (said-append a.blocks block name)
     ∙ or-assoc (said block name) (said_in a.blocks name) (option_or (member a.members a.runs_on name) (said a.defined name))))
 
 -- a block in which something more is declared
-pub seen-declaring : (a : Around) (block next : Table) (entries : List Entry) → said next ≡ behind (said block) entries
-    → seen_in a next ≡ declaring (seen_in a block) entries
-seen-declaring a block next entries is = ap (λ (names : Names). record { definitions = a.definitions; names = names; itself = a.itself }) (fun_ext (λ name.
+pub view-declaring : (a : Around) (block next : Table) (entries : List Entry) → said next ≡ behind (said block) entries
+    → view_in a next ≡ declaring (view_in a block) entries
+view-declaring a block next entries is = ap (λ (names : Names). record { definitions = a.definitions; names = names; itself = a.itself }) (fun_ext (λ name.
     ap (λ (n : Names). option_or (n name) (option_or (said_in a.blocks name) (option_or (member a.members a.runs_on name) (said a.defined name)))) is
     ∙ or-assoc (listed entries name) (said block name) (option_or (said_in a.blocks name) (option_or (member a.members a.runs_on name) (said a.defined name)))))

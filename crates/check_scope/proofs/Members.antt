@@ -4,7 +4,7 @@ use Rattle.std.proofs.lemmas.List.{drop_all, length-take-le, take_all, take_more
 use Rattle.ttcn_syntax.specs.declared.tree.definition.Definition.{Definition}
 use Rattle.ttcn_syntax.specs.declared.tree.definition.Member.{Member}
 use Rattle.check_scope.specs.Names.{Names, behind, behind_members, kind_at, member_entries, members_of, module_names, names_on}
-use Rattle.check_scope.specs.Checking.{seen_in, visible_in}
+use Rattle.check_scope.specs.Checking.{view_in, visible_in}
 use Rattle.check_scope.specs.Scopes.{outer_names, outside}
 use Rattle.check_scope.specs.Tables.{either, member, said}
 use Rattle.check_scope.specs.declared.table.Table.{Table}
@@ -63,10 +63,10 @@ visible-outside definitions defined empty tables None itself nothing whole all =
 visible-outside definitions defined empty tables (Some at) itself nothing whole all =
     ap (λ (n : Names). either n (either (member tables (Some at)) (said defined))) nothing ∙ all at
 
-pub seen-outside : (definitions : List Definition) (defined empty : Table) (tables : List Table) (runs_on itself : Option ℕ) → said empty ≡ (λ name. None)
+pub view-outside : (definitions : List Definition) (defined empty : Table) (tables : List Table) (runs_on itself : Option ℕ) → said empty ≡ (λ name. None)
     → said defined ≡ module_names definitions → ((at : ℕ) → either (member tables (Some at)) (said defined) ≡ names_on definitions at)
-    → seen_in (record { definitions = definitions; defined = defined; members = tables; runs_on = runs_on; itself = itself; blocks = [] }) empty ≡ outside definitions runs_on itself
-seen-outside definitions defined empty tables runs_on itself nothing whole all =
+    → view_in (record { definitions = definitions; defined = defined; members = tables; runs_on = runs_on; itself = itself; blocks = [] }) empty ≡ outside definitions runs_on itself
+view-outside definitions defined empty tables runs_on itself nothing whole all =
     ap (λ (n : Names). record { definitions = definitions; names = n; itself = itself }) (visible-outside definitions defined empty tables runs_on itself nothing whole all)
 
 -- the tables of a module

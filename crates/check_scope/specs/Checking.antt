@@ -1,5 +1,5 @@
 -- What the parts of the checker give, in the words of their private contracts. The rules themselves stand in the other files.
-use Rattle.std.specs.Prelude.{ℕ, Bool, List, [], ◌∷◌, ◌++◌, Option, Some, None}
+use Rattle.std.specs.Prelude.{ℕ, List, [], ◌∷◌, ◌++◌, Option, Some, None}
 use Rattle.std.specs.Option.{option_map, option_or}
 use Rattle.ttcn_syntax.specs.declared.tree.definition.Definition.{Definition}
 use Rattle.check_scope.specs.declared.table.Table.{Table}
@@ -69,8 +69,8 @@ abbrev pub visible_in : Around → Table → Names
 visible_in a block name = option_or (said block name) (option_or (said_in a.blocks name) (option_or (member a.members a.runs_on name) (said a.defined name)))
 
 -- a scope, as the rules speak of it
-abbrev pub seen_in : Around → Table → spec.Scope
-seen_in a block = record { definitions = a.definitions; names = visible_in a block; itself = a.itself }
+abbrev pub view_in : Around → Table → spec.Scope
+view_in a block = record { definitions = a.definitions; names = visible_in a block; itself = a.itself }
 
-abbrev pub seen : Scope → spec.Scope
-seen scope = seen_in (around scope) scope.locals
+abbrev pub view : Scope → spec.Scope
+view scope = view_in (around scope) scope.locals

@@ -1,5 +1,5 @@
--- The rules by their numbers.
-use Rattle.std.specs.Prelude.{ℕ, nat_lt, if◌then◌else◌}
+-- The rules by their numbers and names.
+use Rattle.std.specs.Prelude.{ℕ, List, codes, nat_lt, if◌then◌else◌}
 use Rattle.check_scope.specs.declared.rule.Rule.{Rule}
 use Rattle.check_scope.specs.declared.rule.Rule.TheVariants.{DuplicateName, UnknownName, BadType, Cycle, Size, EnumNumbers, OperandType, ValueType, NotAssignable, Arguments, Fields, Condition, RunsOn, PortType, Redirect, CallKind, ReturnPlace, RepeatPlace, VerdictError, MtcPlace}
 
@@ -25,6 +25,29 @@ number_of ReturnPlace = 17
 number_of RepeatPlace = 18
 number_of VerdictError = 19
 number_of MtcPlace = 20
+
+-- the name of a rule
+abbrev pub name_of : Rule → List ℕ
+name_of DuplicateName = codes "DuplicateName"
+name_of UnknownName = codes "UnknownName"
+name_of BadType = codes "BadType"
+name_of Cycle = codes "Cycle"
+name_of Size = codes "Size"
+name_of EnumNumbers = codes "EnumNumbers"
+name_of OperandType = codes "OperandType"
+name_of ValueType = codes "ValueType"
+name_of NotAssignable = codes "NotAssignable"
+name_of Arguments = codes "Arguments"
+name_of Fields = codes "Fields"
+name_of Condition = codes "Condition"
+name_of RunsOn = codes "RunsOn"
+name_of PortType = codes "PortType"
+name_of Redirect = codes "Redirect"
+name_of CallKind = codes "CallKind"
+name_of ReturnPlace = codes "ReturnPlace"
+name_of RepeatPlace = codes "RepeatPlace"
+name_of VerdictError = codes "VerdictError"
+name_of MtcPlace = codes "MtcPlace"
 
 -- the rule of the lesser number
 abbrev pub lesser : Rule → Rule → Rule

@@ -1,6 +1,5 @@
 -- Names that are declared once, and what is visible outside of all blocks (ES 201 873-1, 5.2).
-use Rattle.std.specs.Prelude.{ℕ, ◌+◌, Bool, true, false, not, ◌&&◌, ◌||◌, List, [], ◌∷◌, ◌++◌, bytes_eq, nat_eq, Option, Some, None, is_none, is_some}
-use Rattle.std.specs.List.{flat_map, list_any}
+use Rattle.std.specs.Prelude.{ℕ, List, [], ◌∷◌, ◌++◌, Option, Some, None, is_none}
 use Rattle.ttcn_syntax.specs.declared.tree.definition.Definition.{Definition}
 use Rattle.check_scope.specs.Names.{Entry, Names, Scope, behind, entries_from, module_names, names_on}
 use Rattle.check_scope.specs.Typings.{unless}

@@ -1,5 +1,5 @@
 -- What is known of types, and what fits what (ES 201 873-1, 6 and 7.1).
-use Rattle.std.specs.Prelude.{Bool, List, None, Option, Some, [], bytes_eq, false, if◌then◌else◌, is_none, is_some, length, nat_eq, not, true, ℕ, ◌&&◌, ◌++◌, ◌∷◌}
+use Rattle.std.specs.Prelude.{Bool, List, None, Option, Some, [], false, if◌then◌else◌, nat_eq, not, true, ◌&&◌, ◌∷◌}
 use Rattle.ttcn_syntax.specs.declared.operator.Operator.{Operator}
 use Rattle.ttcn_syntax.specs.declared.operator.Operator.TheVariants as operator
 use Rattle.check_scope.specs.declared.rule.Rule.{Rule}
@@ -7,7 +7,6 @@ use Rattle.check_scope.specs.declared.types.DataType.{DataType}
 use Rattle.check_scope.specs.declared.types.DataType.TheVariants as type
 use Rattle.check_scope.specs.declared.types.Typing.{Typing}
 use Rattle.check_scope.specs.declared.types.Typing.TheVariants as typing
-use Rattle.std.specs.List.{list_any}
 use Rattle.check_scope.specs.declared.types.Target.{Target}
 
 -- a rule is broken, unless this holds
@@ -81,8 +80,17 @@ operands_of operator.Xor = type.Boolean
 operands_of operator.And = type.Boolean
 operands_of _ = type.Integer
 
--- `==` and `!=` have these operands: of one type, but not `default`; all references to components and `null` are of one
+-- something of this typing may stand beside `==` and `!=`: no port, timer or default may
+abbrev pub has_equality : Typing → Bool
+has_equality (typing.Known type) = not (is_default type)
+has_equality typing.NoValue = false
+has_equality _ = true
+
+-- `==` and `!=` have these operands: of one type, but not `default`; all references to components and `null` are of one.
+-- Where the typing of one is unknown, the other is judged by itself
 abbrev pub comparable : Typing → Typing → Bool
+comparable typing.Unknown other = has_equality other
+comparable one typing.Unknown = has_equality one
 comparable (typing.Known type) (typing.Known other) =
     if is_component type then is_component other else (same_type type other && not (is_default type))
 comparable (typing.Known type) typing.Null = is_component type
@@ -95,13 +103,14 @@ comparable typing.AnyComponent typing.Null = true
 comparable typing.AnyComponent typing.AnyComponent = true
 comparable _ typing.NoValue = false
 comparable typing.NoValue _ = false
-comparable typing.Unknown _ = true
-comparable _ typing.Unknown = true
 
--- something of this typing is of a type
+-- something of this typing is of a type: not judged where the typing is unknown
 abbrev pub is_of : DataType → Typing → Bool
 is_of wanted (typing.Known type) = same_type wanted type
-is_of wanted _ = false
+is_of wanted typing.Null = false
+is_of wanted typing.AnyComponent = false
+is_of wanted typing.NoValue = false
+is_of wanted typing.Unknown = true
 
 -- a target of a type, which has a value
 abbrev pub target_of : Option DataType → Target

@@ -1,6 +1,6 @@
 //! What fits what (ES 201 873-1, 6 and 7.1).
 ghost use Rattle.std.specs.Prelude.{◌≡◌};
-ghost use Rattle.check_scope.specs.Typings.{any_target, comparable, compares, fits, goes_to, is_component, is_default, is_of, operands_of, refers_to_component, result_of, same_type, target_of, type_known, typed};
+ghost use Rattle.check_scope.specs.Typings.{any_target, comparable, compares, fits, goes_to, has_equality, is_component, is_default, is_of, operands_of, refers_to_component, result_of, same_type, target_of, type_known, typed};
 
 use crate::types::{DataType, Target, Typing};
 use ttcn_syntax::Operator;
@@ -78,18 +78,34 @@ impl Typing {
         }
     }
 
-    /// Whether it is of the type.
+    /// Whether it is of the type. It isn't judged where nothing is known.
     pub fn is_of(self, wanted: DataType) -> bool
         ensures { result ≡ is_of wanted self }
     {
-        matches!(self, Typing::Known(data_type) if wanted.is_same(data_type))
+        match self {
+            Typing::Known(data_type) => wanted.is_same(data_type),
+            Typing::Null | Typing::AnyComponent | Typing::NoValue => false,
+            Typing::Unknown => true,
+        }
     }
 
-    /// Whether `==` may stand between the two.
+    /// Whether something of it may stand beside `==` and `!=`: no port, timer or default may.
+    fn has_equality(self) -> bool
+        ensures { result ≡ has_equality self }
+    {
+        match self {
+            Typing::Known(known) => !known.is_default(),
+            Typing::NoValue => false,
+            Typing::Null | Typing::AnyComponent | Typing::Unknown => true,
+        }
+    }
+
+    /// Whether `==` may stand between the two. It isn't judged where nothing is known of one.
     pub fn is_comparable(self, other: Typing) -> bool
         ensures { result ≡ comparable self other }
     {
         match (self, other) {
+            (Typing::Unknown, typing) | (typing, Typing::Unknown) => typing.has_equality(),
             (Typing::Known(one), Typing::Known(other)) => {
                 if one.is_component() {
                     other.is_component()
@@ -100,7 +116,7 @@ impl Typing {
             (Typing::Known(known), Typing::Null | Typing::AnyComponent)
             | (Typing::Null | Typing::AnyComponent, Typing::Known(known)) => known.is_component(),
             (_, Typing::NoValue) | (Typing::NoValue, _) => false,
-            _ => true,
+            (Typing::Null | Typing::AnyComponent, Typing::Null | Typing::AnyComponent) => true,
         }
     }
 

@@ -18,8 +18,8 @@ use Rattle.check_statements.proofs.Insides.{parts-next, rest_of_parts}
 use Rattle.check_scope.proofs.Leasts.{both_assoc, both_nothing, least_append}
 use Rattle.check_scope.proofs.Lookups.{drop-next}
 use Rattle.check_statements.proofs.StatementForms.{behind_for, branch_out, conditional_least, of_alt, of_call_block, of_do_while, of_else, of_event_block, of_for, of_if, of_if_else, of_while, statement_out}
-use Rattle.check_scope.specs.Checking.{around, both, least, seen, seen_in}
-use Rattle.check_statements.specs.Standing.{standing}
+use Rattle.check_scope.specs.Checking.{around, both, least, view, view_in}
+use Rattle.check_statements.specs.Places.{place_with}
 use Rattle.check_scope.specs.Names.{Scope}
 use Rattle.check_statements.specs.Statements as spec
 use Rattle.check_statements.specs.Statements.{AtPlace, Stated, action, alternative, at_condition, at_for_head, at_guarded_call, at_guarded_event, behind_for_start, branch, conditional, inside_branch, statement, statements, with_scope}
@@ -29,16 +29,16 @@ use Rattle.check_scope.specs.declared.scope.Scope as code
 
 -- what was found so far, with what the statements that are left break in their scope
 abbrev pub rest_of_block : Place → Scope → List Statement → Broken → Broken
-rest_of_block place scope body found = both found (least (statements body (standing scope place)))
+rest_of_block place scope body found = both found (least (statements body (place_with scope place)))
 
 -- one statement more
 pub block-next : (place : Place) (scope behind : Scope) (body : List Statement) (i : ℕ) (s : Statement) (found next : Broken) → i < length body → s ≡ get_or body i s
-    → next ≡ both found (least ((statement s).broken (standing scope place))) → behind ≡ (statement s).scope_behind scope
+    → next ≡ both found (least ((statement s).broken (place_with scope place))) → behind ≡ (statement s).scope_behind scope
     → rest_of_block place behind (drop (i + 1) body) next ≡ rest_of_block place scope (drop i body) found
 block-next place scope behind body i s found next inside is next_is behind_is =
     let rest = drop (i + 1) body in
-    let broken = (statement s).broken (standing scope place) in
-    let others = statements rest (standing ((statement s).scope_behind scope) place) in
+    let broken = (statement s).broken (place_with scope place) in
+    let others = statements rest (place_with ((statement s).scope_behind scope) place) in
     ap (λ sc. rest_of_block place sc rest next) behind_is
     ∙ ap (λ b. both b (least others)) next_is
     ∙ both_assoc found (least broken) (least others)
@@ -52,17 +52,17 @@ block-end place scope body i found past = ap (λ all. rest_of_block place scope 
 -- one condition with its block more
 pub conditional-next : (place : Place) (scope : Scope) (all : List Conditional) (i : ℕ) (c : Conditional) (found noted next condition : Broken) → i < length all → c ≡ get_or all i c
     → condition ≡ least (at_condition scope (out-Conditional c).condition) → noted ≡ both found condition
-    → next ≡ both noted (least (statements (out-Conditional c).block (standing scope place)))
-    → rest_of_parts (λ c. conditional c (standing scope place)) (drop i all) found ≡ rest_of_parts (λ c. conditional c (standing scope place)) (drop (i + 1) all) next
+    → next ≡ both noted (least (statements (out-Conditional c).block (place_with scope place)))
+    → rest_of_parts (λ c. conditional c (place_with scope place)) (drop i all) found ≡ rest_of_parts (λ c. conditional c (place_with scope place)) (drop (i + 1) all) next
 conditional-next place scope all i c found noted next condition inside is condition_is noted_is next_is =
-    parts-next (λ c. conditional c (standing scope place)) all i c found (both condition (least (statements (out-Conditional c).block (standing scope place)))) next inside is
-    (ap (λ b. both b (least (statements (out-Conditional c).block (standing scope place)))) condition_is ∙ sym (conditional_least c (standing scope place)))
-    (next_is ∙ ap (λ b. both b (least (statements (out-Conditional c).block (standing scope place)))) noted_is
-    ∙ both_assoc found condition (least (statements (out-Conditional c).block (standing scope place))))
+    parts-next (λ c. conditional c (place_with scope place)) all i c found (both condition (least (statements (out-Conditional c).block (place_with scope place)))) next inside is
+    (ap (λ b. both b (least (statements (out-Conditional c).block (place_with scope place)))) condition_is ∙ sym (conditional_least c (place_with scope place)))
+    (next_is ∙ ap (λ b. both b (least (statements (out-Conditional c).block (place_with scope place)))) noted_is
+    ∙ both_assoc found condition (least (statements (out-Conditional c).block (place_with scope place))))
 
 -- a block has ended: what is seen is what was seen round it
-pub left-seen : (before after : code.Scope) → around after ≡ around before → after.locals ≡ before.locals → seen after ≡ seen before
-left-seen before after around_is locals_is = ap (λ a. seen_in a after.locals) around_is ∙ ap (seen_in (around before)) locals_is
+pub left-seen : (before after : code.Scope) → around after ≡ around before → after.locals ≡ before.locals → view after ≡ view before
+left-seen before after around_is locals_is = ap (λ a. view_in a after.locals) around_is ∙ ap (view_in (around before)) locals_is
 
 -- ---- statements with blocks, with what was found before them
 

@@ -14,7 +14,7 @@ use Rattle.check_scope.proofs.Lookups.{drop-next}
 use Rattle.check_scope.specs.Checking.{both, least}
 use Rattle.check_statements.specs.Definitions.{and_number, at_number, at_part, in_fields, in_numbers, same_number, same_sign}
 use Rattle.check_scope.specs.Names.{Names}
-use Rattle.check_statements.specs.Standing.{AreGiven, given, is_negative}
+use Rattle.check_statements.specs.Places.{AreGiven, given, is_negative}
 use Rattle.check_scope.specs.Tables.{has}
 use Rattle.check_scope.specs.Typings.{unless}
 use Rattle.check_scope.specs.declared.broken.Broken.{Broken}

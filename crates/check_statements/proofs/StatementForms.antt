@@ -27,62 +27,62 @@ use Rattle.ttcn_syntax.specs.declared.tree.value.Call.{Call}
 use Rattle.ttcn_syntax.specs.declared.tree.value.Value.{Value}
 use Rattle.check_scope.proofs.Leasts.{both_assoc, both_nothing, least_append}
 use Rattle.check_scope.specs.Checking.{both, least}
-use Rattle.check_statements.specs.Statements.{AtPlace, Place, Stated, action, action_step, alternative, alternative_step, at_condition, at_for_head, at_guarded_call, at_guarded_event, behind_for_start, branch, branch_step, conditional, conditional_step, inside_branch, plain, statement, statement_step, statements, with_scope}
+use Rattle.check_statements.specs.Statements.{AtPlace, Place, Stated, action, action_step, alternative, alternative_step, at_condition, at_for_head, at_guarded_call, at_guarded_event, behind_for_start, branch, branch_step, conditional, conditional_step, inside_branch, leaf, statement, statement_step, statements, with_scope}
 
 -- ---- statements without blocks
 
-pub of_variables : (vs : Variables) → action (form.Variables vs) ≡ plain {A = Action} {B = Alternative} {C = Branch} {D = Conditional} {E = Statement} (Action-F.Variables vs)
+pub of_variables : (vs : Variables) → action (form.Variables vs) ≡ leaf {A = Action} {B = Alternative} {C = Branch} {D = Conditional} {E = Statement} (Action-F.Variables vs)
 of_variables vs = ap action (sym (form.rolls-Variables vs)) ∙ fold-roll-Action Stated AtPlace AtPlace AtPlace Stated action_step alternative_step branch_step conditional_step statement_step (Action-F.Variables vs)
 
-pub of_constants : (cs : Constants) → action (form.Constants cs) ≡ plain {A = Action} {B = Alternative} {C = Branch} {D = Conditional} {E = Statement} (Action-F.Constants cs)
+pub of_constants : (cs : Constants) → action (form.Constants cs) ≡ leaf {A = Action} {B = Alternative} {C = Branch} {D = Conditional} {E = Statement} (Action-F.Constants cs)
 of_constants cs = ap action (sym (form.rolls-Constants cs)) ∙ fold-roll-Action Stated AtPlace AtPlace AtPlace Stated action_step alternative_step branch_step conditional_step statement_step (Action-F.Constants cs)
 
-pub of_timers : (timers : List Timer) → action (form.Timers timers) ≡ plain {A = Action} {B = Alternative} {C = Branch} {D = Conditional} {E = Statement} (Action-F.Timers timers)
+pub of_timers : (timers : List Timer) → action (form.Timers timers) ≡ leaf {A = Action} {B = Alternative} {C = Branch} {D = Conditional} {E = Statement} (Action-F.Timers timers)
 of_timers timers = ap action (sym (form.rolls-Timers timers)) ∙ fold-roll-Action Stated AtPlace AtPlace AtPlace Stated action_step alternative_step branch_step conditional_step statement_step (Action-F.Timers timers)
 
-pub of_assign : (assignment : Assignment) → action (form.Assign assignment) ≡ plain {A = Action} {B = Alternative} {C = Branch} {D = Conditional} {E = Statement} (Action-F.Assign assignment)
+pub of_assign : (assignment : Assignment) → action (form.Assign assignment) ≡ leaf {A = Action} {B = Alternative} {C = Branch} {D = Conditional} {E = Statement} (Action-F.Assign assignment)
 of_assign assignment = ap action (sym (form.rolls-Assign assignment)) ∙ fold-roll-Action Stated AtPlace AtPlace AtPlace Stated action_step alternative_step branch_step conditional_step statement_step (Action-F.Assign assignment)
 
-pub of_call : (call : Call) → action (form.Call call) ≡ plain {A = Action} {B = Alternative} {C = Branch} {D = Conditional} {E = Statement} (Action-F.«Action::Call» call)
+pub of_call : (call : Call) → action (form.Call call) ≡ leaf {A = Action} {B = Alternative} {C = Branch} {D = Conditional} {E = Statement} (Action-F.«Action::Call» call)
 of_call call = ap action (sym (form.rolls-Call call)) ∙ fold-roll-Action Stated AtPlace AtPlace AtPlace Stated action_step alternative_step branch_step conditional_step statement_step (Action-F.«Action::Call» call)
 
-pub of_event : (event : Event) → action (form.Event event) ≡ plain {A = Action} {B = Alternative} {C = Branch} {D = Conditional} {E = Statement} (Action-F.«Action::Event» event)
+pub of_event : (event : Event) → action (form.Event event) ≡ leaf {A = Action} {B = Alternative} {C = Branch} {D = Conditional} {E = Statement} (Action-F.«Action::Event» event)
 of_event event = ap action (sym (form.rolls-Event event)) ∙ fold-roll-Action Stated AtPlace AtPlace AtPlace Stated action_step alternative_step branch_step conditional_step statement_step (Action-F.«Action::Event» event)
 
-pub of_repeat : action form.Repeat ≡ plain {A = Action} {B = Alternative} {C = Branch} {D = Conditional} {E = Statement} Action-F.Repeat
+pub of_repeat : action form.Repeat ≡ leaf {A = Action} {B = Alternative} {C = Branch} {D = Conditional} {E = Statement} Action-F.Repeat
 of_repeat = ap action (sym form.rolls-Repeat) ∙ fold-roll-Action Stated AtPlace AtPlace AtPlace Stated action_step alternative_step branch_step conditional_step statement_step Action-F.Repeat
 
-pub of_return : (v : Option Value) → action (form.Return v) ≡ plain {A = Action} {B = Alternative} {C = Branch} {D = Conditional} {E = Statement} (Action-F.Return v)
+pub of_return : (v : Option Value) → action (form.Return v) ≡ leaf {A = Action} {B = Alternative} {C = Branch} {D = Conditional} {E = Statement} (Action-F.Return v)
 of_return v = ap action (sym (form.rolls-Return v)) ∙ fold-roll-Action Stated AtPlace AtPlace AtPlace Stated action_step alternative_step branch_step conditional_step statement_step (Action-F.Return v)
 
-pub of_stop : action form.Stop ≡ plain {A = Action} {B = Alternative} {C = Branch} {D = Conditional} {E = Statement} Action-F.Stop
+pub of_stop : action form.Stop ≡ leaf {A = Action} {B = Alternative} {C = Branch} {D = Conditional} {E = Statement} Action-F.Stop
 of_stop = ap action (sym form.rolls-Stop) ∙ fold-roll-Action Stated AtPlace AtPlace AtPlace Stated action_step alternative_step branch_step conditional_step statement_step Action-F.Stop
 
-pub of_log : (items : List LogItem) → action (form.Log items) ≡ plain {A = Action} {B = Alternative} {C = Branch} {D = Conditional} {E = Statement} (Action-F.Log items)
+pub of_log : (items : List LogItem) → action (form.Log items) ≡ leaf {A = Action} {B = Alternative} {C = Branch} {D = Conditional} {E = Statement} (Action-F.Log items)
 of_log items = ap action (sym (form.rolls-Log items)) ∙ fold-roll-Action Stated AtPlace AtPlace AtPlace Stated action_step alternative_step branch_step conditional_step statement_step (Action-F.Log items)
 
-pub of_setverdict : (verdict : Verdict) (reasons : List LogItem) → action (form.Setverdict verdict reasons) ≡ plain {A = Action} {B = Alternative} {C = Branch} {D = Conditional} {E = Statement} (Action-F.Setverdict verdict reasons)
+pub of_setverdict : (verdict : Verdict) (reasons : List LogItem) → action (form.Setverdict verdict reasons) ≡ leaf {A = Action} {B = Alternative} {C = Branch} {D = Conditional} {E = Statement} (Action-F.Setverdict verdict reasons)
 of_setverdict verdict reasons = ap action (sym (form.rolls-Setverdict verdict reasons)) ∙ fold-roll-Action Stated AtPlace AtPlace AtPlace Stated action_step alternative_step branch_step conditional_step statement_step (Action-F.Setverdict verdict reasons)
 
-pub of_connect : (one : PortRef) (other : PortRef) → action (form.Connect one other) ≡ plain {A = Action} {B = Alternative} {C = Branch} {D = Conditional} {E = Statement} (Action-F.Connect one other)
+pub of_connect : (one : PortRef) (other : PortRef) → action (form.Connect one other) ≡ leaf {A = Action} {B = Alternative} {C = Branch} {D = Conditional} {E = Statement} (Action-F.Connect one other)
 of_connect one other = ap action (sym (form.rolls-Connect one other)) ∙ fold-roll-Action Stated AtPlace AtPlace AtPlace Stated action_step alternative_step branch_step conditional_step statement_step (Action-F.Connect one other)
 
-pub of_send : (send : Send) → action (form.Send send) ≡ plain {A = Action} {B = Alternative} {C = Branch} {D = Conditional} {E = Statement} (Action-F.Send send)
+pub of_send : (send : Send) → action (form.Send send) ≡ leaf {A = Action} {B = Alternative} {C = Branch} {D = Conditional} {E = Statement} (Action-F.Send send)
 of_send send = ap action (sym (form.rolls-Send send)) ∙ fold-roll-Action Stated AtPlace AtPlace AtPlace Stated action_step alternative_step branch_step conditional_step statement_step (Action-F.Send send)
 
-pub of_start_component : (reference : ComponentRef) (call : Call) → action (form.StartComponent reference call) ≡ plain {A = Action} {B = Alternative} {C = Branch} {D = Conditional} {E = Statement} (Action-F.StartComponent reference call)
+pub of_start_component : (reference : ComponentRef) (call : Call) → action (form.StartComponent reference call) ≡ leaf {A = Action} {B = Alternative} {C = Branch} {D = Conditional} {E = Statement} (Action-F.StartComponent reference call)
 of_start_component reference call = ap action (sym (form.rolls-StartComponent reference call)) ∙ fold-roll-Action Stated AtPlace AtPlace AtPlace Stated action_step alternative_step branch_step conditional_step statement_step (Action-F.StartComponent reference call)
 
-pub of_start_timer : (timer : List ℕ) → action (form.StartTimer timer) ≡ plain {A = Action} {B = Alternative} {C = Branch} {D = Conditional} {E = Statement} (Action-F.StartTimer timer)
+pub of_start_timer : (timer : List ℕ) → action (form.StartTimer timer) ≡ leaf {A = Action} {B = Alternative} {C = Branch} {D = Conditional} {E = Statement} (Action-F.StartTimer timer)
 of_start_timer timer = ap action (sym (form.rolls-StartTimer timer)) ∙ fold-roll-Action Stated AtPlace AtPlace AtPlace Stated action_step alternative_step branch_step conditional_step statement_step (Action-F.StartTimer timer)
 
-pub of_stop_of : (reference : ComponentRef) → action (form.StopOf reference) ≡ plain {A = Action} {B = Alternative} {C = Branch} {D = Conditional} {E = Statement} (Action-F.StopOf reference)
+pub of_stop_of : (reference : ComponentRef) → action (form.StopOf reference) ≡ leaf {A = Action} {B = Alternative} {C = Branch} {D = Conditional} {E = Statement} (Action-F.StopOf reference)
 of_stop_of reference = ap action (sym (form.rolls-StopOf reference)) ∙ fold-roll-Action Stated AtPlace AtPlace AtPlace Stated action_step alternative_step branch_step conditional_step statement_step (Action-F.StopOf reference)
 
-pub of_activate : (call : Call) → action (form.Activate call) ≡ plain {A = Action} {B = Alternative} {C = Branch} {D = Conditional} {E = Statement} (Action-F.Activate call)
+pub of_activate : (call : Call) → action (form.Activate call) ≡ leaf {A = Action} {B = Alternative} {C = Branch} {D = Conditional} {E = Statement} (Action-F.Activate call)
 of_activate call = ap action (sym (form.rolls-Activate call)) ∙ fold-roll-Action Stated AtPlace AtPlace AtPlace Stated action_step alternative_step branch_step conditional_step statement_step (Action-F.Activate call)
 
-pub of_deactivate : (reference : Option Reference) → action (form.Deactivate reference) ≡ plain {A = Action} {B = Alternative} {C = Branch} {D = Conditional} {E = Statement} (Action-F.Deactivate reference)
+pub of_deactivate : (reference : Option Reference) → action (form.Deactivate reference) ≡ leaf {A = Action} {B = Alternative} {C = Branch} {D = Conditional} {E = Statement} (Action-F.Deactivate reference)
 of_deactivate reference = ap action (sym (form.rolls-Deactivate reference)) ∙ fold-roll-Action Stated AtPlace AtPlace AtPlace Stated action_step alternative_step branch_step conditional_step statement_step (Action-F.Deactivate reference)
 
 -- ---- statements with blocks

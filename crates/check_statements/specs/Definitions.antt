@@ -1,5 +1,5 @@
 -- The rules that definitions break inside (ES 201 873-1, 6 and 16).
-use Rattle.std.specs.Prelude.{ℕ, ◌+◌, Bool, true, false, not, ◌&&◌, ◌||◌, List, [], ◌∷◌, ◌++◌, bytes_eq, nat_eq, Option, Some, None, is_none, is_some}
+use Rattle.std.specs.Prelude.{ℕ, ◌+◌, Bool, true, false, not, ◌&&◌, ◌||◌, List, [], ◌∷◌, ◌++◌, bytes_eq, nat_eq, Option, Some, None, is_some}
 use Rattle.std.specs.List.{flat_map, list_any}
 use Rattle.ttcn_syntax.specs.declared.tree.definition.Definition.{Definition}
 use Rattle.ttcn_syntax.specs.declared.tree.definition.DefinitionKind.{DefinitionKind}
@@ -17,8 +17,9 @@ use Rattle.ttcn_syntax.specs.declared.tree.statement.Constant.{Constant}
 use Rattle.ttcn_syntax.specs.declared.tree.value.TypeName.{TypeName}
 use Rattle.ttcn_syntax.specs.declared.tree.value.TypeName.TheVariants as type_name
 use Rattle.ttcn_syntax.specs.declared.tree.value.Value.{Value}
+use Rattle.check_expressions.specs.Calls.{component_named}
 use Rattle.check_expressions.specs.Declarations.{behind_all, one_by_one}
-use Rattle.check_scope.specs.Names.{Entry, Names, Scope, behind, component_meant, declaring, member_entries, module_names, port_type_meant, resolved}
+use Rattle.check_scope.specs.Names.{Entry, Names, Scope, component_meant, declaring, member_entries, module_names, port_type_meant, resolved}
 use Rattle.check_statements.specs.Statements.{Place, branch, statements}
 use Rattle.check_expressions.specs.Targets.{at_constants, at_new_name, at_timers, at_type}
 use Rattle.check_expressions.specs.Templates.{template}
@@ -142,10 +143,6 @@ in_template scope t =
 
 -- ---- behaviours
 
-abbrev pub component_on : List Definition → Option (List ℕ) → Option ℕ
-component_on definitions None = None
-component_on definitions (Some name) = component_meant (module_names definitions name)
-
 -- a name is that of a component type
 abbrev pub at_component_name : List Definition → Option (List ℕ) → List Rule
 at_component_name definitions None = []
@@ -156,9 +153,9 @@ at_result definitions None = []
 at_result definitions (Some name) = at_type (module_names definitions) false name
 
 -- what a function may return
-abbrev pub returning : List Definition → Option TypeName → Returns
-returning definitions None = returns.WithoutValue
-returning definitions (Some name) = returns.WithValue (resolved (module_names definitions) name)
+abbrev pub returns_of : List Definition → Option TypeName → Returns
+returns_of definitions None = returns.WithoutValue
+returns_of definitions (Some name) = returns.WithValue (resolved (module_names definitions) name)
 
 abbrev pub place_in : Scope → List Parameter → Returns → Place
 place_in scope parameters returns = record { scope = with_parameters scope parameters; returns = returns; in_branch = false }
@@ -177,15 +174,15 @@ in_definition definitions at (kind.Constants cs) =
     in_module_constants (module_scope definitions) (resolved (module_names definitions) cs.type_name) cs.constants
 in_definition definitions at (kind.Template t) = in_template (module_scope definitions) t
 in_definition definitions at (kind.Function f) =
-    at_component_name definitions f.runs_on ++ in_parameters (scope_on definitions (component_on definitions f.runs_on)) f.parameters ++
+    at_component_name definitions f.runs_on ++ in_parameters (scope_on definitions (component_named definitions f.runs_on)) f.parameters ++
     at_result definitions f.returns ++
-    statements f.body (place_in (scope_on definitions (component_on definitions f.runs_on)) f.parameters (returning definitions f.returns))
+    statements f.body (place_in (scope_on definitions (component_named definitions f.runs_on)) f.parameters (returns_of definitions f.returns))
 in_definition definitions at (kind.Altstep a) =
-    at_component_name definitions a.runs_on ++ in_parameters (scope_on definitions (component_on definitions a.runs_on)) a.parameters ++
-    flat_map (λ b. branch b (place_in (scope_on definitions (component_on definitions a.runs_on)) a.parameters returns.Nowhere)) a.branches
+    at_component_name definitions a.runs_on ++ in_parameters (scope_on definitions (component_named definitions a.runs_on)) a.parameters ++
+    flat_map (λ b. branch b (place_in (scope_on definitions (component_named definitions a.runs_on)) a.parameters returns.Nowhere)) a.branches
 in_definition definitions at (kind.Testcase t) =
     at_component_name definitions (Some t.runs_on) ++ at_component_name definitions t.system ++
-    statements t.body (place_in (scope_on definitions (component_on definitions (Some t.runs_on))) [] returns.Nowhere)
+    statements t.body (place_in (scope_on definitions (component_named definitions (Some t.runs_on))) [] returns.Nowhere)
 
 abbrev pub in_definitions : List Definition → ℕ → List Definition → List Rule
 in_definitions all at [] = []

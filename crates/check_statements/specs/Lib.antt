@@ -1,5 +1,5 @@
 pub mod Definitions
 pub mod Messages
 pub mod Ports
-pub mod Standing
+pub mod Places
 pub mod Statements

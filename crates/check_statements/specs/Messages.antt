@@ -1,6 +1,6 @@
 -- The rules that receives and sends break (ES 201 873-1, 22.2).
-use Rattle.std.specs.Prelude.{ℕ, Bool, true, false, List, [], ◌∷◌, ◌++◌, map, Option, Some, None, is_none, is_some, if◌then◌else◌}
-use Rattle.std.specs.List.{flat_map, list_all, list_any}
+use Rattle.std.specs.Prelude.{ℕ, Bool, true, false, List, [], ◌∷◌, ◌++◌, Option, Some, None, is_none, is_some}
+use Rattle.std.specs.List.{list_any}
 use Rattle.ttcn_syntax.specs.declared.tree.definition.Definition.{Definition}
 use Rattle.ttcn_syntax.specs.declared.tree.expression.ComponentRef.{ComponentRef}
 use Rattle.ttcn_syntax.specs.declared.tree.expression.Reference.{Reference}
@@ -147,17 +147,23 @@ received_type scope incoming (Some message) = type_known (type_of_message scope 
 abbrev pub stores : Option DataType → Typing → Bool
 stores None found = true
 stores (Some t) (typing.Known other) = same_type t other
-stores (Some t) _ = true
+stores (Some t) typing.Null = true
+stores (Some t) typing.AnyComponent = true
+stores (Some t) typing.NoValue = true
+stores (Some t) typing.Unknown = true
 
 -- a sender goes to a target of a component type
 abbrev pub stores_sender : Typing → Bool
 stores_sender (typing.Known t) = is_component t
-stores_sender _ = true
+stores_sender typing.Null = true
+stores_sender typing.AnyComponent = true
+stores_sender typing.NoValue = true
+stores_sender typing.Unknown = true
 
 abbrev pub at_value_redirect : Scope → Bool → Option DataType → Option Reference → List Rule
-at_value_redirect scope told of None = []
-at_value_redirect scope told of (Some reference) =
-    (at_target scope reference).broken ++ unless told rule.Redirect ++ unless (stores of (at_target scope reference).typing) rule.Redirect
+at_value_redirect scope finding of None = []
+at_value_redirect scope finding of (Some reference) =
+    (at_target scope reference).broken ++ unless finding rule.Redirect ++ unless (stores of (at_target scope reference).typing) rule.Redirect
 
 abbrev pub at_sender_redirect : Scope → Option Reference → List Rule
 at_sender_redirect scope None = []

@@ -63,8 +63,8 @@ pub record Stated : Type 0 where
   pub scope_behind : Scope → Scope
 
 -- one that declares nothing
-abbrev pub saying : AtPlace → Stated
-saying broken = record { broken = broken; scope_behind = λ scope. scope }
+abbrev pub without_declaration : AtPlace → Stated
+without_declaration broken = record { broken = broken; scope_behind = λ scope. scope }
 
 -- ---- blocks and conditions
 
@@ -177,7 +177,7 @@ at_started scope started call None = rule.UnknownName ∷ lone_arguments scope c
 at_started scope started call (Some at) =
     at_arguments scope (parameters_of (kind_at scope.definitions at)) call.arguments ++
     unless (says_component (kind_at scope.definitions at)) rule.RunsOn ++
-    unless (runs_there started (component_named scope (runs_on_of (kind_at scope.definitions at)))) rule.RunsOn ++
+    unless (runs_there started (component_named scope.definitions (runs_on_of (kind_at scope.definitions at)))) rule.RunsOn ++
     unless (is_function (kind_at scope.definitions at)) rule.CallKind
 
 abbrev pub at_start : Scope → ComponentRef → Call → List Rule
@@ -188,39 +188,47 @@ at_start scope reference call =
 
 -- ---- statements
 
--- the rules that a statement breaks which has no block and declares nothing; of others nothing is said here
-abbrev pub undeclaring : {A B C D E : Type 0} → Action-F A B C D E → AtPlace
-undeclaring (Action-F.Assign assignment) place = at_assignment place.scope assignment
-undeclaring (Action-F.«Action::Call» call) place = at_call place.scope stands_alone call
-undeclaring (Action-F.«Action::Event» event) place = at_event place.scope event
-undeclaring Action-F.Repeat place = unless place.in_branch rule.RepeatPlace
-undeclaring (Action-F.Return v) place = at_return place.scope place.returns v
-undeclaring (Action-F.Log items) place = at_log place.scope items
-undeclaring (Action-F.Setverdict verdict reasons) place = at_setverdict place.scope verdict reasons
-undeclaring (Action-F.Connect one other) place = at_ends place.scope one.component other.component
-undeclaring (Action-F.Send send) place = at_send place.scope send
-undeclaring (Action-F.StartComponent reference call) place = at_start place.scope reference call
-undeclaring (Action-F.StartTimer timer) place = at_timer place.scope timer
-undeclaring (Action-F.StopOf reference) place = at_stop place.scope reference
-undeclaring (Action-F.Activate call) place = at_activation place.scope call
-undeclaring (Action-F.Deactivate reference) place = at_deactivate place.scope reference
-undeclaring _ place = []
+-- the rules that a statement breaks which has no block and declares nothing: declarations and blocks are judged below
+abbrev pub leaf_rules : {A B C D E : Type 0} → Action-F A B C D E → AtPlace
+leaf_rules (Action-F.Assign assignment) place = at_assignment place.scope assignment
+leaf_rules (Action-F.«Action::Call» call) place = at_call place.scope stands_alone call
+leaf_rules (Action-F.«Action::Event» event) place = at_event place.scope event
+leaf_rules Action-F.Repeat place = unless place.in_branch rule.RepeatPlace
+leaf_rules (Action-F.Return v) place = at_return place.scope place.returns v
+leaf_rules Action-F.Stop place = []
+leaf_rules (Action-F.Log items) place = at_log place.scope items
+leaf_rules (Action-F.Setverdict verdict reasons) place = at_setverdict place.scope verdict reasons
+leaf_rules (Action-F.Connect one other) place = at_ends place.scope one.component other.component
+leaf_rules (Action-F.Send send) place = at_send place.scope send
+leaf_rules (Action-F.StartComponent reference call) place = at_start place.scope reference call
+leaf_rules (Action-F.StartTimer timer) place = at_timer place.scope timer
+leaf_rules (Action-F.StopOf reference) place = at_stop place.scope reference
+leaf_rules (Action-F.Activate call) place = at_activation place.scope call
+leaf_rules (Action-F.Deactivate reference) place = at_deactivate place.scope reference
+leaf_rules (Action-F.Variables vs) place = []
+leaf_rules (Action-F.Constants cs) place = []
+leaf_rules (Action-F.Timers timers) place = []
+leaf_rules (Action-F.Alt branches) place = []
+leaf_rules (Action-F.If conditionals last) place = []
+leaf_rules (Action-F.While condition block) place = []
+leaf_rules (Action-F.DoWhile block condition) place = []
+leaf_rules (Action-F.For start condition step block) place = []
 
 -- what is said of a statement without blocks
-abbrev pub plain : {A B C D E : Type 0} → Action-F A B C D E → Stated
-plain (Action-F.Variables vs) = record { broken = λ place. at_variables place.scope vs; scope_behind = λ scope. behind_variables scope vs }
-plain (Action-F.Constants cs) = record { broken = λ place. at_constants place.scope cs; scope_behind = λ scope. behind_constants scope cs }
-plain (Action-F.Timers timers) = record { broken = λ place. at_timers place.scope timers; scope_behind = λ scope. behind_timers scope timers }
-plain action = saying (undeclaring action)
+abbrev pub leaf : {A B C D E : Type 0} → Action-F A B C D E → Stated
+leaf (Action-F.Variables vs) = record { broken = λ place. at_variables place.scope vs; scope_behind = λ scope. behind_variables scope vs }
+leaf (Action-F.Constants cs) = record { broken = λ place. at_constants place.scope cs; scope_behind = λ scope. behind_constants scope cs }
+leaf (Action-F.Timers timers) = record { broken = λ place. at_timers place.scope timers; scope_behind = λ scope. behind_timers scope timers }
+leaf action = without_declaration (leaf_rules action)
 
 abbrev pub action_step : Action-F Stated AtPlace AtPlace AtPlace Stated → Stated
-action_step (Action-F.Alt branches) = saying (λ place. flat_map (λ branch. branch place) branches)
-action_step (Action-F.If conditionals last) = saying (λ place. flat_map (λ conditional. conditional place) conditionals ++ in_block_if_any last place)
-action_step (Action-F.While condition block) = saying (λ place. at_condition place.scope condition ++ in_block block place)
-action_step (Action-F.DoWhile block condition) = saying (λ place. in_block block place ++ at_condition place.scope condition)
-action_step (Action-F.For start condition step block) = saying (λ place.
+action_step (Action-F.Alt branches) = without_declaration (λ place. flat_map (λ branch. branch place) branches)
+action_step (Action-F.If conditionals last) = without_declaration (λ place. flat_map (λ conditional. conditional place) conditionals ++ in_block_if_any last place)
+action_step (Action-F.While condition block) = without_declaration (λ place. at_condition place.scope condition ++ in_block block place)
+action_step (Action-F.DoWhile block condition) = without_declaration (λ place. in_block block place ++ at_condition place.scope condition)
+action_step (Action-F.For start condition step block) = without_declaration (λ place.
     at_for_head place.scope start condition step ++ in_block block (with_scope place (behind_for_start place.scope start)))
-action_step action = plain action
+action_step action = leaf action
 
 abbrev pub statement_step : Statement-F Stated AtPlace AtPlace AtPlace Stated → Stated
 statement_step s = s.action

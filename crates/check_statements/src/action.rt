@@ -2,21 +2,21 @@
 ghost use Rattle.std.specs.Prelude.{◌≡◌, IfOk, OnOk};
 ghost use Rattle.std.specs.Option.{option_map};
 ghost use Rattle.ttcn_syntax.specs.declared.tree.statement.Action.{out-Action};
-ghost use Rattle.check_scope.specs.Checking.{around, least, seen};
-ghost use Rattle.check_statements.specs.Standing.{standing};
+ghost use Rattle.check_scope.specs.Checking.{around, least, view};
+ghost use Rattle.check_statements.specs.Places.{place_with};
 ghost use Rattle.check_statements.specs.Statements as spec;
 
 use crate::declaration::{constants, timers, variables};
-use crate::message::{at_event, at_send, at_timer};
+use crate::message::{check_event, check_send, check_timer};
 use crate::place::{Place, Returns};
 use check_expressions::call::{
-    CallPlace, at_activation, at_arguments, at_call, behaviour_meant, component_named,
+    CallPlace, behaviour_meant, check_activation, check_arguments, check_call, component_named,
     lone_arguments, parameters_of, runs_on_of,
 };
 use check_expressions::expression::{
-    at_component, at_reference, at_wanted_component, expression, names_timer,
+    check_component, check_reference, check_wanted_component, expression, names_timer,
 };
-use check_expressions::target::at_assignment;
+use check_expressions::target::check_assignment;
 use check_expressions::value::value;
 use check_scope::broken::Broken;
 use check_scope::rule::Rule;
@@ -44,27 +44,27 @@ fn as_condition(typing: Typing) -> Broken
 }
 
 #[tactic(auto, using(crate::proofs::Leasts::least_append))]
-pub(crate) fn at_condition(scope: &Scope<'_>, condition: &Expr) -> Broken
-    ensures { result ≡ least (spec.at_condition (seen scope.now) condition.now) }
+pub(crate) fn check_condition(scope: &Scope<'_>, condition: &Expr) -> Broken
+    ensures { result ≡ least (spec.at_condition (view scope.now) condition.now) }
 {
     let found = expression(scope, condition, false);
     found.broken.and(as_condition(found.typing))
 }
 
 /// The guard of a branch, if it has one.
-pub(crate) fn at_guard(scope: &Scope<'_>, guard: Option<&Expr>) -> Broken
-    ensures { result ≡ least (spec.at_guard (seen scope.now) (option_map (λ guard. guard.now) guard.entry)) }
+pub(crate) fn check_guard(scope: &Scope<'_>, guard: Option<&Expr>) -> Broken
+    ensures { result ≡ least (spec.at_guard (view scope.now) (option_map (λ guard. guard.now) guard.entry)) }
 {
     match guard {
-        Some(guard) => at_condition(scope, guard),
+        Some(guard) => check_condition(scope, guard),
         None => Broken::nothing(),
     }
 }
 
 // ---- what is logged
 
-fn at_log_item(scope: &Scope<'_>, item: &LogItem) -> Broken
-    ensures { result ≡ least (spec.at_log_item (seen scope.now) item.now) }
+fn check_log_item(scope: &Scope<'_>, item: &LogItem) -> Broken
+    ensures { result ≡ least (spec.at_log_item (view scope.now) item.now) }
 {
     match item {
         LogItem::Text => Broken::nothing(),
@@ -73,35 +73,35 @@ fn at_log_item(scope: &Scope<'_>, item: &LogItem) -> Broken
 }
 
 /// What is logged, or the reasons of a verdict.
-fn at_log(scope: &Scope<'_>, items: &[LogItem]) -> Broken
-    ensures { result ≡ least (spec.at_log (seen scope.now) items.now) }
+fn check_log(scope: &Scope<'_>, items: &[LogItem]) -> Broken
+    ensures { result ≡ least (spec.at_log (view scope.now) items.now) }
 {
     let mut broken = Broken::nothing();
     for item in items {
-        broken = broken.and(at_log_item(scope, item));
+        broken = broken.and(check_log_item(scope, item));
     }
     broken
 }
 
 #[tactic(auto, using(crate::proofs::Leasts::least_append))]
-fn at_setverdict(scope: &Scope<'_>, verdict: Verdict, reasons: &[LogItem]) -> Broken
-    ensures { result ≡ least (spec.at_setverdict (seen scope.now) verdict reasons.now) }
+fn check_setverdict(scope: &Scope<'_>, verdict: Verdict, reasons: &[LogItem]) -> Broken
+    ensures { result ≡ least (spec.at_setverdict (view scope.now) verdict reasons.now) }
 {
     let may_be_set = !matches!(verdict, Verdict::Error);
-    Broken::unless(may_be_set, Rule::VerdictError).and(at_log(scope, reasons))
+    Broken::unless(may_be_set, Rule::VerdictError).and(check_log(scope, reasons))
 }
 
 // ---- returns
 
 /// A `return`, with a value or without.
 #[tactic(auto, using(crate::proofs::Leasts::least_append))]
-fn at_return(
+fn check_return(
     alloc: Global,
     scope: &Scope<'_>,
     returns: Returns,
     given: Option<&Value>,
 ) -> Result<Broken, AllocError>
-    ensures { IfOk result (λ broken. broken ≡ least (spec.at_return (seen scope.now) returns (option_map (λ value. value.now) given.entry))) }
+    ensures { IfOk result (λ broken. broken ≡ least (spec.at_return (view scope.now) returns (option_map (λ value. value.now) given.entry))) }
 {
     let misplaced = Broken::of(Rule::ReturnPlace);
     let Some(given) = given else {
@@ -129,13 +129,13 @@ fn refers_to_default(typing: Typing) -> bool
 }
 
 #[tactic(auto, using(crate::proofs::Leasts::least_append))]
-fn at_deactivate(scope: &Scope<'_>, reference: Option<&Reference>) -> Broken
-    ensures { result ≡ least (spec.at_deactivate (seen scope.now) (option_map (λ reference. reference.now) reference.entry)) }
+fn check_deactivate(scope: &Scope<'_>, reference: Option<&Reference>) -> Broken
+    ensures { result ≡ least (spec.at_deactivate (view scope.now) (option_map (λ reference. reference.now) reference.entry)) }
 {
     let Some(reference) = reference else {
         return Broken::nothing();
     };
-    let found = at_reference(scope, reference);
+    let found = check_reference(scope, reference);
     let is_default = refers_to_default(found.typing);
     found
         .broken
@@ -143,13 +143,13 @@ fn at_deactivate(scope: &Scope<'_>, reference: Option<&Reference>) -> Broken
 }
 
 /// `.stop`, of a timer or a component.
-fn at_stop(scope: &Scope<'_>, component: &ComponentRef) -> Broken
-    ensures { result ≡ least (spec.at_stop (seen scope.now) component.now) }
+fn check_stop(scope: &Scope<'_>, component: &ComponentRef) -> Broken
+    ensures { result ≡ least (spec.at_stop (view scope.now) component.now) }
 {
     if names_timer(scope, component) {
         Broken::nothing()
     } else {
-        at_wanted_component(scope, component).broken
+        check_wanted_component(scope, component).broken
     }
 }
 
@@ -181,14 +181,14 @@ fn is_function(kind: Option<&DefinitionKind>) -> bool
 
 /// A behaviour that a component is started with.
 #[tactic(auto, using(crate::proofs::Leasts::least_append))]
-fn at_started(
+fn check_started(
     alloc: Global,
     scope: &Scope<'_>,
     started: Typing,
     call: &Call,
     behaviour: Option<usize>,
 ) -> Result<Broken, AllocError>
-    ensures { IfOk result (λ broken. broken ≡ least (spec.at_started (seen scope.now) started call.now behaviour)) }
+    ensures { IfOk result (λ broken. broken ≡ least (spec.at_started (view scope.now) started call.now behaviour)) }
 {
     let given = call.arguments.as_slice();
     let Some(at) = behaviour else {
@@ -196,7 +196,7 @@ fn at_started(
         return Ok(Broken::of(Rule::UnknownName).and(arguments));
     };
     let kind = scope.kind(at);
-    let arguments = at_arguments(alloc, scope, parameters_of(kind), given)?;
+    let arguments = check_arguments(alloc, scope, parameters_of(kind), given)?;
     let fits = runs_there(started, component_named(scope, runs_on_of(kind)));
     Ok(
         arguments
@@ -208,18 +208,18 @@ fn at_started(
 
 /// The start of a component.
 #[tactic(auto, using(crate::proofs::Leasts::least_append))]
-fn at_start(
+fn check_start(
     alloc: Global,
     scope: &Scope<'_>,
     component: &ComponentRef,
     call: &Call,
 ) -> Result<Broken, AllocError>
-    ensures { IfOk result (λ broken. broken ≡ least (spec.at_start (seen scope.now) component.now call.now)) }
+    ensures { IfOk result (λ broken. broken ≡ least (spec.at_start (view scope.now) component.now call.now)) }
 {
-    let found = at_component(scope, component, false);
+    let found = check_component(scope, component, false);
     let is_component = found.typing.refers_to_component();
     let behaviour = behaviour_meant(scope.get(call.name.as_bytes()));
-    let started = at_started(alloc, scope, found.typing, call, behaviour)?;
+    let started = check_started(alloc, scope, found.typing, call, behaviour)?;
     Ok(
         found
             .broken
@@ -230,11 +230,11 @@ fn at_start(
 
 /// Both ends of a connection.
 #[tactic(auto, using(crate::proofs::Leasts::least_append))]
-fn at_ends(scope: &Scope<'_>, one: &ComponentRef, other: &ComponentRef) -> Broken
-    ensures { result ≡ least (spec.at_ends (seen scope.now) one.now other.now) }
+fn check_ends(scope: &Scope<'_>, one: &ComponentRef, other: &ComponentRef) -> Broken
+    ensures { result ≡ least (spec.at_ends (view scope.now) one.now other.now) }
 {
-    let one = at_wanted_component(scope, one);
-    let other = at_wanted_component(scope, other);
+    let one = check_wanted_component(scope, one);
+    let other = check_wanted_component(scope, other);
     one.broken.and(other.broken)
 }
 
@@ -242,50 +242,59 @@ fn at_ends(scope: &Scope<'_>, one: &ComponentRef, other: &ComponentRef) -> Broke
 
 /// A statement that holds no block and declares nothing.
 #[tactic(auto, using(crate::proofs::Leasts::least_append))]
-fn undeclaring(
+fn check_action(
     alloc: Global,
     scope: &Scope<'_>,
     place: Place,
     action: &Action,
 ) -> Result<Broken, AllocError>
-    ensures { IfOk result (λ broken. broken ≡ least (spec.undeclaring (out-Action action.now) (standing (seen scope.now) place))) }
+    ensures { IfOk result (λ broken. broken ≡ least (spec.leaf_rules (out-Action action.now) (place_with (view scope.now) place))) }
 {
     match action {
-        Action::Assign(assignment) => at_assignment(alloc, scope, assignment),
-        Action::Call(call) => at_call(alloc, scope, CallPlace::Alone, call),
-        Action::Event(event) => at_event(alloc, scope, event),
+        Action::Assign(assignment) => check_assignment(alloc, scope, assignment),
+        Action::Call(call) => check_call(alloc, scope, CallPlace::Alone, call),
+        Action::Event(event) => check_event(alloc, scope, event),
         Action::Repeat => Ok(Broken::unless(place.in_branch, Rule::RepeatPlace)),
-        Action::Return(given) => at_return(alloc, scope, place.returns, given.as_ref()),
-        Action::Log(items) => Ok(at_log(scope, items.as_slice())),
+        Action::Return(given) => check_return(alloc, scope, place.returns, given.as_ref()),
+        Action::Stop => Ok(Broken::nothing()),
+        Action::Log(items) => Ok(check_log(scope, items.as_slice())),
         Action::Setverdict(verdict, reasons) => {
-            Ok(at_setverdict(scope, *verdict, reasons.as_slice()))
+            Ok(check_setverdict(scope, *verdict, reasons.as_slice()))
         }
-        Action::Connect(one, other) => Ok(at_ends(scope, &one.component, &other.component)),
-        Action::Send(send) => at_send(alloc, scope, send),
-        Action::StartComponent(component, call) => at_start(alloc, scope, component, call),
-        Action::StartTimer(timer) => Ok(at_timer(scope, timer)),
-        Action::StopOf(component) => Ok(at_stop(scope, component)),
-        Action::Activate(call) => at_activation(alloc, scope, call),
-        Action::Deactivate(reference) => Ok(at_deactivate(scope, reference.as_ref())),
-        _ => Ok(Broken::nothing()),
+        Action::Connect(one, other) => Ok(check_ends(scope, &one.component, &other.component)),
+        Action::Send(send) => check_send(alloc, scope, send),
+        Action::StartComponent(component, call) => check_start(alloc, scope, component, call),
+        Action::StartTimer(timer) => Ok(check_timer(scope, timer)),
+        Action::StopOf(component) => Ok(check_stop(scope, component)),
+        Action::Activate(call) => check_activation(alloc, scope, call),
+        Action::Deactivate(reference) => Ok(check_deactivate(scope, reference.as_ref())),
+        // Declarations and statements with blocks are judged by the callers.
+        Action::Variables(_)
+        | Action::Constants(_)
+        | Action::Timers(_)
+        | Action::Alt(_)
+        | Action::If(_, _)
+        | Action::While(_, _)
+        | Action::DoWhile(_, _)
+        | Action::For(_, _, _, _) => Ok(Broken::nothing()),
     }
 }
 
 /// A statement that holds no block.
-pub(crate) fn plain<'a>(
+pub(crate) fn check_leaf<'a>(
     alloc: Global,
     scope: &mut Scope<'a>,
     place: Place,
     action: &'a Action,
 ) -> Result<Broken, AllocError>
-    ensures broken { IfOk result (λ broken. broken ≡ least ((spec.plain (out-Action action.now)).broken (standing (seen scope.old) place))) }
-    ensures seen { OnOk result (seen scope.new ≡ (spec.plain (out-Action action.now)).scope_behind (seen scope.old)) }
+    ensures broken { IfOk result (λ broken. broken ≡ least ((spec.leaf (out-Action action.now)).broken (place_with (view scope.old) place))) }
+    ensures view { OnOk result (view scope.new ≡ (spec.leaf (out-Action action.now)).scope_behind (view scope.old)) }
     ensures around { OnOk result (around scope.new ≡ around scope.old) }
 {
     match action {
         Action::Variables(declared) => variables(alloc, scope, declared),
         Action::Constants(declared) => constants(alloc, scope, declared),
         Action::Timers(declared) => timers(scope, declared.as_slice()),
-        action => undeclaring(alloc, scope, place, action),
+        action => check_action(alloc, scope, place, action),
     }
 }

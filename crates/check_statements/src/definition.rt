@@ -2,19 +2,21 @@
 ghost use Rattle.std.specs.Prelude.{◌≡◌, ◌++◌, IfOk, OnOk};
 ghost use Rattle.std.specs.Option.{option_map};
 ghost use Rattle.ttcn_syntax.specs.declared.tree.definition.DefinitionKind.TheVariants as kind;
-ghost use Rattle.check_scope.specs.Checking.{around, both, least, least_in, seen};
+ghost use Rattle.check_expressions.specs.Calls.{component_named};
+ghost use Rattle.check_scope.specs.Checking.{around, both, least, least_in, view};
 ghost use Rattle.check_scope.specs.Scopes.{scope_on};
 ghost use Rattle.check_statements.specs.Definitions as spec;
 
 use crate::kinds::{
-    at_component_name, at_result, component_on, in_constants, in_fields, in_numbers, in_port,
-    returning,
+    check_component_name, check_constants, check_fields, check_numbers, check_port, check_result,
+    returns_of,
 };
-use crate::member::in_members;
-use crate::parameter::in_parameters;
+use crate::member::check_members;
+use crate::parameter::check_parameters;
 use crate::place::{Place, Returns};
 use crate::statement::{block, branches};
-use check_expressions::target::at_type;
+use check_expressions::call::component_named;
+use check_expressions::target::check_type;
 use check_expressions::template::template;
 use check_scope::broken::Broken;
 use check_scope::least::Least;
@@ -29,45 +31,45 @@ use ttcn_syntax::{
 // ---- types
 
 /// A record type.
-fn in_record(
+fn check_record(
     alloc: Global,
     scope: &Scope<'_>,
     place: Span,
     record: &RecordType,
     found: &mut Least,
 ) -> Result<(), AllocError>
-    ensures found { OnOk result (least_in found.new ≡ both (least_in found.old) (least (spec.in_definition (seen scope.now).definitions 0 (kind.Record «record».now)))) }
+    ensures found { OnOk result (least_in found.new ≡ both (least_in found.old) (least (spec.in_definition (view scope.now).definitions 0 (kind.Record «record».now)))) }
 {
-    let broken = in_fields(alloc, scope, record.fields.as_slice())?;
+    let broken = check_fields(alloc, scope, record.fields.as_slice())?;
     found.note(broken, place);
     Ok(())
 }
 
 /// An enumeration.
-fn in_enumerated(
+fn check_enumerated(
     alloc: Global,
     scope: &Scope<'_>,
     place: Span,
     enumerated: &EnumeratedType,
     found: &mut Least,
 ) -> Result<(), AllocError>
-    ensures found { OnOk result (least_in found.new ≡ both (least_in found.old) (least (spec.in_definition (seen scope.now).definitions 0 (kind.Enumerated enumerated.now)))) }
+    ensures found { OnOk result (least_in found.new ≡ both (least_in found.old) (least (spec.in_definition (view scope.now).definitions 0 (kind.Enumerated enumerated.now)))) }
 {
-    let broken = in_numbers(alloc, enumerated.enumerators.as_slice())?;
+    let broken = check_numbers(alloc, enumerated.enumerators.as_slice())?;
     found.note(broken, place);
     Ok(())
 }
 
 /// A type of ports.
-fn in_port_type(scope: &Scope<'_>, place: Span, port: &PortType, found: &mut Least)
-    ensures { least_in found.new ≡ both (least_in found.old) (least (spec.in_definition (seen scope.now).definitions 0 (kind.Port port.now))) }
+fn check_port_type(scope: &Scope<'_>, place: Span, port: &PortType, found: &mut Least)
+    ensures { least_in found.new ≡ both (least_in found.old) (least (spec.in_definition (view scope.now).definitions 0 (kind.Port port.now))) }
 {
-    let broken = in_port(scope, port.messages.as_slice());
+    let broken = check_port(scope, port.messages.as_slice());
     found.note(broken, place);
 }
 
 /// The component type at a position.
-fn in_component<'a>(
+fn check_component_type<'a>(
     alloc: Global,
     scope: &mut Scope<'a>,
     at: usize,
@@ -75,11 +77,11 @@ fn in_component<'a>(
     component: &'a ComponentType,
     found: &mut Least,
 ) -> Result<(), AllocError>
-    ensures found { OnOk result (least_in found.new ≡ both (least_in found.old) (least (spec.in_definition (seen scope.old).definitions at (kind.Component component.now)))) }
-    ensures definitions { OnOk result ((seen scope.new).definitions ≡ (seen scope.old).definitions) }
+    ensures found { OnOk result (least_in found.new ≡ both (least_in found.old) (least (spec.in_definition (view scope.old).definitions at (kind.Component component.now)))) }
+    ensures definitions { OnOk result ((view scope.new).definitions ≡ (view scope.old).definitions) }
 {
     scope.go_to_component(alloc, at);
-    let broken = in_members(alloc, scope, component.members.as_slice())?;
+    let broken = check_members(alloc, scope, component.members.as_slice())?;
     found.note(broken, place);
     Ok(())
 }
@@ -87,52 +89,52 @@ fn in_component<'a>(
 // ---- constants and templates
 
 /// A declaration of constants.
-fn in_declaration<'a>(
+fn check_declaration<'a>(
     alloc: Global,
     scope: &mut Scope<'a>,
     place: Span,
     constants: &'a Constants,
     found: &mut Least,
 ) -> Result<(), AllocError>
-    ensures found { OnOk result (least_in found.new ≡ both (least_in found.old) (least (spec.in_definition (seen scope.old).definitions 0 (kind.Constants constants.now)))) }
-    ensures definitions { OnOk result ((seen scope.new).definitions ≡ (seen scope.old).definitions) }
+    ensures found { OnOk result (least_in found.new ≡ both (least_in found.old) (least (spec.in_definition (view scope.old).definitions 0 (kind.Constants constants.now)))) }
+    ensures definitions { OnOk result ((view scope.new).definitions ≡ (view scope.old).definitions) }
 {
     scope.go_to_module(alloc);
-    let broken = in_constants(alloc, scope, constants)?;
+    let broken = check_constants(alloc, scope, constants)?;
     found.note(broken, place);
     Ok(())
 }
 
 /// A named template. Its type is not that of a parameter's name.
 #[tactic(auto, using(crate::proofs::Leasts::least_append))]
-fn at_template<'a>(
+fn check_template<'a>(
     alloc: Global,
     scope: &mut Scope<'a>,
     definition: &'a TemplateDefinition,
 ) -> Result<Broken, AllocError>
-    ensures broken { IfOk result (λ broken. broken ≡ least (spec.in_template (seen scope.old) definition.now)) }
+    ensures broken { IfOk result (λ broken. broken ≡ least (spec.in_template (view scope.old) definition.now)) }
     ensures around { OnOk result (around scope.new ≡ around scope.old) }
 {
-    let typed = at_type(scope, false, &definition.type_name);
+    let typed = check_type(scope, false, &definition.type_name);
     let target = Target::of(scope.resolved(&definition.type_name));
-    let parameters = in_parameters(scope, definition.parameters.as_slice())?;
+    let parameters = check_parameters(scope, definition.parameters.as_slice())?;
     let body = template(alloc, scope, &definition.template, target)?;
     Ok(typed.and(parameters).and(body))
 }
 
 /// A named template of the module.
-fn in_template<'a>(
+fn check_named_template<'a>(
     alloc: Global,
     scope: &mut Scope<'a>,
     place: Span,
     definition: &'a TemplateDefinition,
     found: &mut Least,
 ) -> Result<(), AllocError>
-    ensures found { OnOk result (least_in found.new ≡ both (least_in found.old) (least (spec.in_definition (seen scope.old).definitions 0 (kind.Template definition.now)))) }
-    ensures definitions { OnOk result ((seen scope.new).definitions ≡ (seen scope.old).definitions) }
+    ensures found { OnOk result (least_in found.new ≡ both (least_in found.old) (least (spec.in_definition (view scope.old).definitions 0 (kind.Template definition.now)))) }
+    ensures definitions { OnOk result ((view scope.new).definitions ≡ (view scope.old).definitions) }
 {
     scope.go_to_module(alloc);
-    let broken = at_template(alloc, scope, definition)?;
+    let broken = check_template(alloc, scope, definition)?;
     found.note(broken, place);
     Ok(())
 }
@@ -148,33 +150,33 @@ fn go_into_behaviour<'a>(
     parameters: &'a [Parameter],
 ) -> Result<Broken, AllocError>
     ensures broken { let runs_on = option_map (λ name. name.now) runs_on.entry in
-        let definitions = (seen scope.old).definitions in
-        IfOk result (λ broken. broken ≡ least (spec.at_component_name definitions runs_on ++ spec.in_parameters (scope_on definitions (spec.component_on definitions runs_on)) parameters.now)) }
-    ensures seen { let runs_on = option_map (λ name. name.now) runs_on.entry in
-        let definitions = (seen scope.old).definitions in
-        OnOk result (seen scope.new ≡ spec.with_parameters (scope_on definitions (spec.component_on definitions runs_on)) parameters.now) }
-    ensures definitions { OnOk result ((seen scope.new).definitions ≡ (seen scope.old).definitions) }
+        let definitions = (view scope.old).definitions in
+        IfOk result (λ broken. broken ≡ least (spec.at_component_name definitions runs_on ++ spec.in_parameters (scope_on definitions (component_named definitions runs_on)) parameters.now)) }
+    ensures view { let runs_on = option_map (λ name. name.now) runs_on.entry in
+        let definitions = (view scope.old).definitions in
+        OnOk result (view scope.new ≡ spec.with_parameters (scope_on definitions (component_named definitions runs_on)) parameters.now) }
+    ensures definitions { OnOk result ((view scope.new).definitions ≡ (view scope.old).definitions) }
 {
-    let named = at_component_name(scope, runs_on);
-    let at = component_on(scope, runs_on);
+    let named = check_component_name(scope, runs_on);
+    let at = component_named(scope, runs_on);
     scope.go_to_behaviour(alloc, at);
-    let parameters = in_parameters(scope, parameters)?;
+    let parameters = check_parameters(scope, parameters)?;
     Ok(named.and(parameters))
 }
 
 /// A function.
-fn in_function<'a>(
+fn check_function<'a>(
     alloc: Global,
     scope: &mut Scope<'a>,
     place: Span,
     function: &'a Function,
     found: &mut Least,
 ) -> Result<(), AllocError>
-    ensures found { OnOk result (least_in found.new ≡ both (least_in found.old) (least (spec.in_definition (seen scope.old).definitions 0 (kind.Function function.now)))) }
-    ensures definitions { OnOk result ((seen scope.new).definitions ≡ (seen scope.old).definitions) }
+    ensures found { OnOk result (least_in found.new ≡ both (least_in found.old) (least (spec.in_definition (view scope.old).definitions 0 (kind.Function function.now)))) }
+    ensures definitions { OnOk result ((view scope.new).definitions ≡ (view scope.old).definitions) }
 {
-    let result = at_result(scope, function.returns.as_ref());
-    let returns = returning(scope, function.returns.as_ref());
+    let result = check_result(scope, function.returns.as_ref());
+    let returns = returns_of(scope, function.returns.as_ref());
     let runs_on = function.runs_on.as_ref();
     let head = go_into_behaviour(alloc, scope, runs_on, function.parameters.as_slice())?;
     found.note(head.and(result), place);
@@ -186,15 +188,15 @@ fn in_function<'a>(
 }
 
 /// An altstep.
-fn in_altstep<'a>(
+fn check_altstep<'a>(
     alloc: Global,
     scope: &mut Scope<'a>,
     place: Span,
     altstep: &'a Altstep,
     found: &mut Least,
 ) -> Result<(), AllocError>
-    ensures found { OnOk result (least_in found.new ≡ both (least_in found.old) (least (spec.in_definition (seen scope.old).definitions 0 (kind.Altstep altstep.now)))) }
-    ensures definitions { OnOk result ((seen scope.new).definitions ≡ (seen scope.old).definitions) }
+    ensures found { OnOk result (least_in found.new ≡ both (least_in found.old) (least (spec.in_definition (view scope.old).definitions 0 (kind.Altstep altstep.now)))) }
+    ensures definitions { OnOk result ((view scope.new).definitions ≡ (view scope.old).definitions) }
 {
     let runs_on = altstep.runs_on.as_ref();
     let head = go_into_behaviour(alloc, scope, runs_on, altstep.parameters.as_slice())?;
@@ -207,17 +209,17 @@ fn in_altstep<'a>(
 }
 
 /// A test case.
-fn in_testcase<'a>(
+fn check_testcase<'a>(
     alloc: Global,
     scope: &mut Scope<'a>,
     place: Span,
     testcase: &'a Testcase,
     found: &mut Least,
 ) -> Result<(), AllocError>
-    ensures found { OnOk result (least_in found.new ≡ both (least_in found.old) (least (spec.in_definition (seen scope.old).definitions 0 (kind.Testcase testcase.now)))) }
-    ensures definitions { OnOk result ((seen scope.new).definitions ≡ (seen scope.old).definitions) }
+    ensures found { OnOk result (least_in found.new ≡ both (least_in found.old) (least (spec.in_definition (view scope.old).definitions 0 (kind.Testcase testcase.now)))) }
+    ensures definitions { OnOk result ((view scope.new).definitions ≡ (view scope.old).definitions) }
 {
-    let system = at_component_name(scope, testcase.system.as_ref());
+    let system = check_component_name(scope, testcase.system.as_ref());
     let head = go_into_behaviour(alloc, scope, Some(&testcase.runs_on), &[])?;
     found.note(head.and(system), place);
     let inside = Place {
@@ -230,50 +232,52 @@ fn in_testcase<'a>(
 // ---- all definitions
 
 /// The definition at a position. Statements have places of their own.
-fn in_definition<'a>(
+fn check_definition<'a>(
     alloc: Global,
     scope: &mut Scope<'a>,
     at: usize,
     definition: &'a Definition,
     found: &mut Least,
 ) -> Result<(), AllocError>
-    ensures found { OnOk result (least_in found.new ≡ both (least_in found.old) (least (spec.in_definition (seen scope.old).definitions at definition.now.kind))) }
-    ensures definitions { OnOk result ((seen scope.new).definitions ≡ (seen scope.old).definitions) }
+    ensures found { OnOk result (least_in found.new ≡ both (least_in found.old) (least (spec.in_definition (view scope.old).definitions at definition.now.kind))) }
+    ensures definitions { OnOk result ((view scope.new).definitions ≡ (view scope.old).definitions) }
 {
     let place = definition.place;
     match &definition.kind {
-        DefinitionKind::Record(record) => in_record(alloc, scope, place, record, found),
+        DefinitionKind::Record(record) => check_record(alloc, scope, place, record, found),
         DefinitionKind::Enumerated(enumerated) => {
-            in_enumerated(alloc, scope, place, enumerated, found)
+            check_enumerated(alloc, scope, place, enumerated, found)
         }
         DefinitionKind::Port(port) => {
-            in_port_type(scope, place, port, found);
+            check_port_type(scope, place, port, found);
             Ok(())
         }
         DefinitionKind::Component(component) => {
-            in_component(alloc, scope, at, place, component, found)
+            check_component_type(alloc, scope, at, place, component, found)
         }
         DefinitionKind::Constants(constants) => {
-            in_declaration(alloc, scope, place, constants, found)
+            check_declaration(alloc, scope, place, constants, found)
         }
-        DefinitionKind::Template(template) => in_template(alloc, scope, place, template, found),
-        DefinitionKind::Function(function) => in_function(alloc, scope, place, function, found),
-        DefinitionKind::Altstep(altstep) => in_altstep(alloc, scope, place, altstep, found),
-        DefinitionKind::Testcase(testcase) => in_testcase(alloc, scope, place, testcase, found),
+        DefinitionKind::Template(template) => check_named_template(
+            alloc, scope, place, template, found,
+        ),
+        DefinitionKind::Function(function) => check_function(alloc, scope, place, function, found),
+        DefinitionKind::Altstep(altstep) => check_altstep(alloc, scope, place, altstep, found),
+        DefinitionKind::Testcase(testcase) => check_testcase(alloc, scope, place, testcase, found),
     }
 }
 
 /// The definitions of a module.
-pub fn in_definitions<'a>(
+pub fn check_definitions<'a>(
     alloc: Global,
     scope: &mut Scope<'a>,
     definitions: &'a [Definition],
     found: &mut Least,
 ) -> Result<(), AllocError>
-    ensures { OnOk result (least_in found.new ≡ both (least_in found.old) (least (spec.in_definitions (seen scope.old).definitions 0 definitions.now))) }
+    ensures { OnOk result (least_in found.new ≡ both (least_in found.old) (least (spec.in_definitions (view scope.old).definitions 0 definitions.now))) }
 {
     for (at, definition) in definitions.iter().enumerate() {
-        in_definition(alloc, scope, at, definition, found)?;
+        check_definition(alloc, scope, at, definition, found)?;
     }
     Ok(())
 }

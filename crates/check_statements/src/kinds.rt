@@ -3,16 +3,16 @@ ghost use Rattle.std.specs.Prelude.{◌≡◌, ◌++◌, List, [], IfOk, OnOk, f
 ghost use Rattle.std.specs.List.{flat_map};
 ghost use Rattle.std.specs.Option.{option_map};
 ghost use Rattle.ttcn_syntax.specs.declared.tree.definition.EnumNumber.{EnumNumber};
-ghost use Rattle.check_scope.specs.Checking.{least, seen};
+ghost use Rattle.check_scope.specs.Checking.{least, view};
 ghost use Rattle.check_statements.specs.Definitions as spec;
 ghost use Rattle.check_scope.specs.Names.{module_names, resolved};
-ghost use Rattle.check_statements.specs.Standing.{AreGiven};
+ghost use Rattle.check_statements.specs.Places.{AreGiven};
 ghost use Rattle.check_expressions.specs.Targets.{at_type};
 
 use crate::number_set::NumberSet;
 use crate::place::Returns;
 use check_expressions::call::component_named;
-use check_expressions::target::at_type;
+use check_expressions::target::check_type;
 use check_expressions::value::value;
 use check_scope::broken::Broken;
 use check_scope::name_set::NameSet;
@@ -39,8 +39,8 @@ fn as_part(meaning: Option<Meaning>) -> Broken
 }
 
 /// A type that records and messages hold.
-fn at_part(scope: &Scope<'_>, type_name: &TypeName) -> Broken
-    ensures { result ≡ least (spec.at_part (module_names (seen scope.now).definitions) type_name.now) }
+fn check_part(scope: &Scope<'_>, type_name: &TypeName) -> Broken
+    ensures { result ≡ least (spec.at_part (module_names (view scope.now).definitions) type_name.now) }
 {
     match type_name {
         TypeName::Integer | TypeName::Boolean => Broken::nothing(),
@@ -50,19 +50,19 @@ fn at_part(scope: &Scope<'_>, type_name: &TypeName) -> Broken
 }
 
 /// The fields of a record. Each has a name of its own.
-pub(crate) fn in_fields(
+pub(crate) fn check_fields(
     alloc: Global,
     scope: &Scope<'_>,
     fields: &[Field],
 ) -> Result<Broken, AllocError>
-    ensures { IfOk result (λ broken. broken ≡ least (spec.in_fields (module_names (seen scope.now).definitions) [] fields.now)) }
+    ensures { IfOk result (λ broken. broken ≡ least (spec.in_fields (module_names (view scope.now).definitions) [] fields.now)) }
 {
     let mut broken = Broken::nothing();
     let mut names = NameSet::new(alloc);
     for field in fields {
         let is_new = names.insert(field.name.as_bytes())?;
         let named = Broken::unless(is_new, Rule::DuplicateName);
-        let part = at_part(scope, &field.type_name);
+        let part = check_part(scope, &field.type_name);
         broken = broken.and(named).and(part);
     }
     Ok(broken)
@@ -85,7 +85,7 @@ fn add_number(numbers: &mut NumberSet, number: Option<EnumNumber>) -> Result<Bro
 }
 
 /// The names of an enumeration. Each number that is given is another one.
-pub(crate) fn in_numbers(alloc: Global, enumerators: &[Enumerator]) -> Result<Broken, AllocError>
+pub(crate) fn check_numbers(alloc: Global, enumerators: &[Enumerator]) -> Result<Broken, AllocError>
     ensures { IfOk result (λ broken. broken ≡ least (spec.in_numbers [] enumerators.now)) }
 {
     let mut broken = Broken::nothing();
@@ -100,23 +100,23 @@ pub(crate) fn in_numbers(alloc: Global, enumerators: &[Enumerator]) -> Result<Br
 // ---- ports
 
 /// The types of messages that a port lets pass in a direction.
-fn in_messages(scope: &Scope<'_>, messages: &PortMessages) -> Broken
-    ensures { result ≡ least (spec.in_messages (module_names (seen scope.now).definitions) messages.now) }
+fn check_messages(scope: &Scope<'_>, messages: &PortMessages) -> Broken
+    ensures { result ≡ least (spec.in_messages (module_names (view scope.now).definitions) messages.now) }
 {
     let mut broken = Broken::nothing();
     for type_name in messages.types.as_slice() {
-        broken = broken.and(at_part(scope, type_name));
+        broken = broken.and(check_part(scope, type_name));
     }
     broken
 }
 
 /// The types of messages that a port lets pass.
-pub(crate) fn in_port(scope: &Scope<'_>, messages: &[PortMessages]) -> Broken
-    ensures { result ≡ least (flat_map (spec.in_messages (module_names (seen scope.now).definitions)) messages.now) }
+pub(crate) fn check_port(scope: &Scope<'_>, messages: &[PortMessages]) -> Broken
+    ensures { result ≡ least (flat_map (spec.in_messages (module_names (view scope.now).definitions)) messages.now) }
 {
     let mut broken = Broken::nothing();
     for direction in messages {
-        broken = broken.and(in_messages(scope, direction));
+        broken = broken.and(check_messages(scope, direction));
     }
     broken
 }
@@ -124,13 +124,13 @@ pub(crate) fn in_port(scope: &Scope<'_>, messages: &[PortMessages]) -> Broken
 // ---- constants
 
 /// The values of constants of the module.
-fn in_module_constants(
+fn check_module_constants(
     alloc: Global,
     scope: &Scope<'_>,
     data_type: Option<DataType>,
     constants: &[Constant],
 ) -> Result<Broken, AllocError>
-    ensures { IfOk result (λ broken. broken ≡ least (spec.in_module_constants (seen scope.now) data_type constants.now)) }
+    ensures { IfOk result (λ broken. broken ≡ least (spec.in_module_constants (view scope.now) data_type constants.now)) }
 {
     let mut broken = Broken::nothing();
     for constant in constants {
@@ -142,39 +142,32 @@ fn in_module_constants(
 
 /// A declaration of constants of the module.
 #[tactic(auto, using(crate::proofs::Leasts::least_append))]
-pub(crate) fn in_constants(
+pub(crate) fn check_constants(
     alloc: Global,
     scope: &Scope<'_>,
     constants: &Constants,
 ) -> Result<Broken, AllocError>
-    ensures { IfOk result (λ broken. broken ≡ least (at_type (seen scope.now).names false constants.now.type_name ++ spec.in_module_constants (seen scope.now) (resolved (seen scope.now).names constants.now.type_name) constants.now.constants)) }
+    ensures { IfOk result (λ broken. broken ≡ least (at_type (view scope.now).names false constants.now.type_name ++ spec.in_module_constants (view scope.now) (resolved (view scope.now).names constants.now.type_name) constants.now.constants)) }
 {
-    let typed = at_type(scope, false, &constants.type_name);
+    let typed = check_type(scope, false, &constants.type_name);
     let data_type = scope.resolved(&constants.type_name);
-    let values = in_module_constants(alloc, scope, data_type, constants.constants.as_slice())?;
+    let values = check_module_constants(alloc, scope, data_type, constants.constants.as_slice())?;
     Ok(typed.and(values))
 }
 
 // ---- behaviours
 
-/// The component type that a behaviour runs on, if its name is that of one.
-pub(crate) fn component_on(scope: &Scope<'_>, name: Option<&Name>) -> Option<usize>
-    ensures { result ≡ spec.component_on (seen scope.now).definitions (option_map (λ name. name.now) name.entry) }
-{
-    component_named(scope, name)
-}
-
 /// The name of a component type, if there is one.
-pub(crate) fn at_component_name(scope: &Scope<'_>, name: Option<&Name>) -> Broken
-    ensures { result ≡ least (spec.at_component_name (seen scope.now).definitions (option_map (λ name. name.now) name.entry)) }
+pub(crate) fn check_component_name(scope: &Scope<'_>, name: Option<&Name>) -> Broken
+    ensures { result ≡ least (spec.at_component_name (view scope.now).definitions (option_map (λ name. name.now) name.entry)) }
 {
-    let is_component = name.is_none() || component_on(scope, name).is_some();
+    let is_component = name.is_none() || component_named(scope, name).is_some();
     Broken::unless(is_component, Rule::UnknownName)
 }
 
 /// The type of the result of a function, if it has one.
-pub(crate) fn at_result(scope: &Scope<'_>, type_name: Option<&TypeName>) -> Broken
-    ensures { result ≡ least (spec.at_result (seen scope.now).definitions (option_map (λ name. name.now) type_name.entry)) }
+pub(crate) fn check_result(scope: &Scope<'_>, type_name: Option<&TypeName>) -> Broken
+    ensures { result ≡ least (spec.at_result (view scope.now).definitions (option_map (λ name. name.now) type_name.entry)) }
 {
     match type_name {
         None => Broken::nothing(),
@@ -187,8 +180,8 @@ pub(crate) fn at_result(scope: &Scope<'_>, type_name: Option<&TypeName>) -> Brok
 }
 
 /// What a function may return.
-pub(crate) fn returning(scope: &Scope<'_>, type_name: Option<&TypeName>) -> Returns
-    ensures { result ≡ spec.returning (seen scope.now).definitions (option_map (λ name. name.now) type_name.entry) }
+pub(crate) fn returns_of(scope: &Scope<'_>, type_name: Option<&TypeName>) -> Returns
+    ensures { result ≡ spec.returns_of (view scope.now).definitions (option_map (λ name. name.now) type_name.entry) }
 {
     match type_name {
         Some(type_name) => Returns::WithValue(scope.resolved_in_module(type_name)),

@@ -12,4 +12,4 @@ mod parameter;
 mod place;
 mod statement;
 
-pub use definition::in_definitions;
+pub use definition::check_definitions;

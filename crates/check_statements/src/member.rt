@@ -2,13 +2,13 @@
 ghost use Rattle.std.specs.Prelude.{◌≡◌, [], ◌∷◌, IfOk, OnOk};
 ghost use Rattle.std.specs.Option.{option_map};
 ghost use Rattle.ttcn_syntax.specs.declared.tree.definition.Member.TheVariants as member;
-ghost use Rattle.check_scope.specs.Checking.{around, least, seen};
+ghost use Rattle.check_scope.specs.Checking.{around, least, view};
 ghost use Rattle.check_expressions.specs.Declarations.{behind_all, one_by_one};
 ghost use Rattle.check_statements.specs.Definitions as spec;
 ghost use Rattle.check_scope.specs.Names.{declaring, member_entries};
 
 use crate::declaration::{constants, timers};
-use check_expressions::target::{at_new_name, at_type};
+use check_expressions::target::{check_new_name, check_type};
 use check_expressions::value::value;
 use check_scope::broken::Broken;
 use check_scope::names::Meaning;
@@ -22,11 +22,11 @@ use ttcn_syntax::{Member, MemberVariable, Name, TypeName, Value};
 
 /// A port of a type, which is visible behind its own part of the declaration.
 fn port<'a>(scope: &mut Scope<'a>, of: Option<usize>, name: &'a Name) -> Result<Broken, AllocError>
-    ensures broken { IfOk result (λ broken. broken ≡ least (spec.at_port_name (seen scope.old) name.now)) }
-    ensures seen { OnOk result (seen scope.new ≡ declaring (seen scope.old) (spec.port_entry of (seen scope.old) name.now ∷ [])) }
+    ensures broken { IfOk result (λ broken. broken ≡ least (spec.at_port_name (view scope.old) name.now)) }
+    ensures view { OnOk result (view scope.new ≡ declaring (view scope.old) (spec.port_entry of (view scope.old) name.now ∷ [])) }
     ensures around { OnOk result (around scope.new ≡ around scope.old) }
 {
-    let broken = at_new_name(scope, name);
+    let broken = check_new_name(scope, name);
     scope.declare(name.as_bytes(), Meaning::Port(of))?;
     Ok(broken)
 }
@@ -37,8 +37,8 @@ fn named_ports<'a>(
     of: Option<usize>,
     names: &'a [Name],
 ) -> Result<Broken, AllocError>
-    ensures broken { IfOk result (λ broken. broken ≡ least (one_by_one spec.at_port_name (spec.port_entry of) (seen scope.old) names.now)) }
-    ensures seen { OnOk result (seen scope.new ≡ behind_all (spec.port_entry of) (seen scope.old) names.now) }
+    ensures broken { IfOk result (λ broken. broken ≡ least (one_by_one spec.at_port_name (spec.port_entry of) (view scope.old) names.now)) }
+    ensures view { OnOk result (view scope.new ≡ behind_all (spec.port_entry of) (view scope.old) names.now) }
     ensures around { OnOk result (around scope.new ≡ around scope.old) }
 {
     let mut broken = Broken::nothing();
@@ -51,13 +51,13 @@ fn named_ports<'a>(
 
 /// A declaration of ports.
 #[tactic(auto, using(crate::proofs::Leasts::least_append))]
-fn in_ports<'a>(
+fn check_ports<'a>(
     scope: &mut Scope<'a>,
     port_type: &Name,
     names: &'a [Name],
 ) -> Result<Broken, AllocError>
-    ensures broken { IfOk result (λ broken. broken ≡ least (spec.in_member (seen scope.old) (member.Ports port_type.now names.now))) }
-    ensures seen { OnOk result (seen scope.new ≡ declaring (seen scope.old) (member_entries (seen scope.old).names (member.Ports port_type.now names.now))) }
+    ensures broken { IfOk result (λ broken. broken ≡ least (spec.in_member (view scope.old) (member.Ports port_type.now names.now))) }
+    ensures view { OnOk result (view scope.new ≡ declaring (view scope.old) (member_entries (view scope.old).names (member.Ports port_type.now names.now))) }
     ensures around { OnOk result (around scope.new ≡ around scope.old) }
 {
     let of = port_type_meant(scope.get(port_type.as_bytes()));
@@ -69,13 +69,13 @@ fn in_ports<'a>(
 // ---- variables
 
 /// An initial value, if there is one.
-fn at_initial_value(
+fn check_initial_value(
     alloc: Global,
     scope: &Scope<'_>,
     target: Target,
     initial: Option<&Value>,
 ) -> Result<Broken, AllocError>
-    ensures { IfOk result (λ broken. broken ≡ least (spec.at_initial_value (seen scope.now) target (option_map (λ initial. initial.now) initial.entry))) }
+    ensures { IfOk result (λ broken. broken ≡ least (spec.at_initial_value (view scope.now) target (option_map (λ initial. initial.now) initial.entry))) }
 {
     match initial {
         Some(initial) => value(alloc, scope, initial, target),
@@ -91,12 +91,12 @@ fn member_variable<'a>(
     of: Option<DataType>,
     variable: &'a MemberVariable,
 ) -> Result<Broken, AllocError>
-    ensures broken { IfOk result (λ broken. broken ≡ least (spec.at_member_variable of (seen scope.old) variable.now)) }
-    ensures seen { OnOk result (seen scope.new ≡ declaring (seen scope.old) (spec.member_variable_entry of (seen scope.old) variable.now ∷ [])) }
+    ensures broken { IfOk result (λ broken. broken ≡ least (spec.at_member_variable of (view scope.old) variable.now)) }
+    ensures view { OnOk result (view scope.new ≡ declaring (view scope.old) (spec.member_variable_entry of (view scope.old) variable.now ∷ [])) }
     ensures around { OnOk result (around scope.new ≡ around scope.old) }
 {
-    let named = at_new_name(scope, &variable.name);
-    let initial = at_initial_value(alloc, scope, Target::of(of), variable.value.as_ref())?;
+    let named = check_new_name(scope, &variable.name);
+    let initial = check_initial_value(alloc, scope, Target::of(of), variable.value.as_ref())?;
     scope.declare(variable.name.as_bytes(), Meaning::Variable(of))?;
     Ok(named.and(initial))
 }
@@ -108,8 +108,8 @@ fn member_variables<'a>(
     of: Option<DataType>,
     variables: &'a [MemberVariable],
 ) -> Result<Broken, AllocError>
-    ensures broken { IfOk result (λ broken. broken ≡ least (one_by_one (spec.at_member_variable of) (spec.member_variable_entry of) (seen scope.old) variables.now)) }
-    ensures seen { OnOk result (seen scope.new ≡ behind_all (spec.member_variable_entry of) (seen scope.old) variables.now) }
+    ensures broken { IfOk result (λ broken. broken ≡ least (one_by_one (spec.at_member_variable of) (spec.member_variable_entry of) (view scope.old) variables.now)) }
+    ensures view { OnOk result (view scope.new ≡ behind_all (spec.member_variable_entry of) (view scope.old) variables.now) }
     ensures around { OnOk result (around scope.new ≡ around scope.old) }
 {
     let mut broken = Broken::nothing();
@@ -122,18 +122,18 @@ fn member_variables<'a>(
 
 /// A declaration of variables.
 #[tactic(auto, using(crate::proofs::Leasts::least_append))]
-fn in_variables<'a>(
+fn check_variables<'a>(
     alloc: Global,
     scope: &mut Scope<'a>,
     type_name: &TypeName,
     variables: &'a [MemberVariable],
 ) -> Result<Broken, AllocError>
-    ensures broken { IfOk result (λ broken. broken ≡ least (spec.in_member (seen scope.old) (member.Variables type_name.now variables.now))) }
-    ensures seen { OnOk result (seen scope.new ≡ declaring (seen scope.old) (member_entries (seen scope.old).names (member.Variables type_name.now variables.now))) }
+    ensures broken { IfOk result (λ broken. broken ≡ least (spec.in_member (view scope.old) (member.Variables type_name.now variables.now))) }
+    ensures view { OnOk result (view scope.new ≡ declaring (view scope.old) (member_entries (view scope.old).names (member.Variables type_name.now variables.now))) }
     ensures around { OnOk result (around scope.new ≡ around scope.old) }
 {
     let of = scope.resolved(type_name);
-    let typed = at_type(scope, true, type_name);
+    let typed = check_type(scope, true, type_name);
     let named = member_variables(alloc, scope, of, variables)?;
     Ok(typed.and(named))
 }
@@ -141,37 +141,37 @@ fn in_variables<'a>(
 // ---- all declarations
 
 /// A declaration, which is visible in those behind it.
-fn in_member<'a>(
+fn check_member<'a>(
     alloc: Global,
     scope: &mut Scope<'a>,
     member: &'a Member,
 ) -> Result<Broken, AllocError>
-    ensures broken { IfOk result (λ broken. broken ≡ least (spec.in_member (seen scope.old) member.now)) }
-    ensures seen { OnOk result (seen scope.new ≡ declaring (seen scope.old) (member_entries (seen scope.old).names member.now)) }
+    ensures broken { IfOk result (λ broken. broken ≡ least (spec.in_member (view scope.old) member.now)) }
+    ensures view { OnOk result (view scope.new ≡ declaring (view scope.old) (member_entries (view scope.old).names member.now)) }
     ensures around { OnOk result (around scope.new ≡ around scope.old) }
 {
     match member {
-        Member::Ports(port_type, names) => in_ports(scope, port_type, names.as_slice()),
+        Member::Ports(port_type, names) => check_ports(scope, port_type, names.as_slice()),
         Member::Constants(declared) => constants(alloc, scope, declared),
         Member::Variables(type_name, variables) => {
-            in_variables(alloc, scope, type_name, variables.as_slice())
+            check_variables(alloc, scope, type_name, variables.as_slice())
         }
         Member::Timers(declared) => timers(scope, declared.as_slice()),
     }
 }
 
 /// The declarations of a component type.
-pub(crate) fn in_members<'a>(
+pub(crate) fn check_members<'a>(
     alloc: Global,
     scope: &mut Scope<'a>,
     members: &'a [Member],
 ) -> Result<Broken, AllocError>
-    ensures broken { IfOk result (λ broken. broken ≡ least (spec.in_members (seen scope.old) members.now)) }
+    ensures broken { IfOk result (λ broken. broken ≡ least (spec.in_members (view scope.old) members.now)) }
     ensures around { OnOk result (around scope.new ≡ around scope.old) }
 {
     let mut broken = Broken::nothing();
     for member in members {
-        let more = in_member(alloc, scope, member)?;
+        let more = check_member(alloc, scope, member)?;
         broken = broken.and(more);
     }
     Ok(broken)

@@ -2,15 +2,15 @@
 ghost use Rattle.std.specs.Prelude.{◌≡◌, is_some, IfOk};
 ghost use Rattle.std.specs.List.{list_any};
 ghost use Rattle.std.specs.Option.{option_map};
-ghost use Rattle.check_scope.specs.Checking.{least, seen};
-ghost use Rattle.check_expressions.specs.Findings.{told};
+ghost use Rattle.check_scope.specs.Checking.{least, view};
+ghost use Rattle.check_expressions.specs.Findings.{finding};
 ghost use Rattle.check_statements.specs.Messages as spec;
 ghost use Rattle.check_statements.specs.Ports.{known, otherwise, passing};
 ghost use Rattle.check_scope.specs.declared.types.Typing.TheVariants as typing;
 
-use check_expressions::expression::at_wanted_component;
-use check_expressions::found::Found;
-use check_expressions::target::{at_target, at_type};
+use check_expressions::expression::check_wanted_component;
+use check_expressions::finding::Finding;
+use check_expressions::target::{check_target, check_type};
 use check_expressions::template::{template, typing_of_template};
 use check_scope::broken::Broken;
 use check_scope::names::Meaning;
@@ -41,7 +41,7 @@ pub(crate) enum Passing<'s> {
 impl<'s> Passing<'s> {
     /// At a port whose type stands at a position, if that is known.
     fn at(scope: &'s Scope<'_>, incoming: bool, at: Option<usize>) -> Passing<'s>
-        ensures { known result ≡ spec.at_port (seen scope.now).definitions incoming at }
+        ensures { known result ≡ spec.at_port (view scope.now).definitions incoming at }
     {
         let Some(at) = at else {
             return Passing::Unknown;
@@ -70,8 +70,8 @@ impl<'s> Passing<'s> {
     }
 
     /// What is known of a message that says nothing of its type by itself.
-    fn otherwise(&self) -> Found
-        ensures { result ≡ told (otherwise self.now) }
+    fn otherwise(&self) -> Finding
+        ensures { result ≡ finding (otherwise self.now) }
     {
         match self {
             Passing::Types(listing) => of_only(listing.only_type()),
@@ -94,22 +94,22 @@ fn port_meant(meaning: Option<Meaning>) -> Option<Option<usize>>
 
 // ---- the type of a message
 
-fn of_unknown_type(broken: Broken) -> Found
+fn of_unknown_type(broken: Broken) -> Finding
     ensures typing { result.typing ≡ typing.Unknown }
     ensures broken { result.broken ≡ broken }
 {
-    Found {
+    Finding {
         typing: Typing::Unknown,
         broken,
     }
 }
 
 /// A message that is of the only type that passes.
-fn of_only(data_type: Option<DataType>) -> Found
-    ensures { result ≡ told (spec.of_only data_type) }
+fn of_only(data_type: Option<DataType>) -> Finding
+    ensures { result ≡ finding (spec.of_only data_type) }
 {
     match data_type {
-        Some(data_type) => Found {
+        Some(data_type) => Finding {
             typing: Typing::Known(data_type),
             broken: Broken::nothing(),
         },
@@ -118,11 +118,11 @@ fn of_only(data_type: Option<DataType>) -> Found
 }
 
 /// A message whose type is known by itself is of one of those that pass.
-fn type_by_itself(ports: &Passing<'_>, typing: Typing) -> Found
-    ensures { result ≡ told (spec.type_by_itself (passing ports.now) typing) }
+fn type_by_itself(ports: &Passing<'_>, typing: Typing) -> Finding
+    ensures { result ≡ finding (spec.type_by_itself (passing ports.now) typing) }
 {
     match typing {
-        Typing::Known(data_type) => Found {
+        Typing::Known(data_type) => Finding {
             typing,
             broken: Broken::unless(ports.lists(data_type), Rule::PortType),
         },
@@ -136,8 +136,8 @@ fn type_by_itself(ports: &Passing<'_>, typing: Typing) -> Found
 }
 
 /// Of which type a message is: that before it says it, else itself, else the port.
-fn type_of_message(scope: &Scope<'_>, ports: &Passing<'_>, message: &MessageTemplate) -> Found
-    ensures { result ≡ told (spec.type_of_message (seen scope.now) (passing ports.now) (otherwise ports.now) message.now) }
+fn type_of_message(scope: &Scope<'_>, ports: &Passing<'_>, message: &MessageTemplate) -> Finding
+    ensures { result ≡ finding (spec.type_of_message (view scope.now) (passing ports.now) (otherwise ports.now) message.now) }
 {
     if let Some(type_name) = &message.type_name {
         return type_by_itself(ports, Typing::of(scope.resolved(type_name)));
@@ -148,26 +148,26 @@ fn type_of_message(scope: &Scope<'_>, ports: &Passing<'_>, message: &MessageTemp
     }
 }
 
-fn at_type_name(scope: &Scope<'_>, type_name: Option<&TypeName>) -> Broken
-    ensures { result ≡ least (spec.at_type_name (seen scope.now) (option_map (λ name. name.now) type_name.entry)) }
+fn check_type_name(scope: &Scope<'_>, type_name: Option<&TypeName>) -> Broken
+    ensures { result ≡ least (spec.at_type_name (view scope.now) (option_map (λ name. name.now) type_name.entry)) }
 {
     match type_name {
-        Some(type_name) => at_type(scope, false, type_name),
+        Some(type_name) => check_type(scope, false, type_name),
         None => Broken::nothing(),
     }
 }
 
 /// A message where messages of some types pass.
 #[tactic(auto, using(crate::proofs::Leasts::least_append))]
-fn at_message(
+fn check_message(
     alloc: Global,
     scope: &Scope<'_>,
     ports: &Passing<'_>,
     message: &MessageTemplate,
 ) -> Result<Broken, AllocError>
-    ensures { IfOk result (λ broken. broken ≡ least (spec.at_message (seen scope.now) (passing ports.now) (otherwise ports.now) message.now)) }
+    ensures { IfOk result (λ broken. broken ≡ least (spec.at_message (view scope.now) (passing ports.now) (otherwise ports.now) message.now)) }
 {
-    let named = at_type_name(scope, message.type_name.as_ref());
+    let named = check_type_name(scope, message.type_name.as_ref());
     let found = type_of_message(scope, ports, message);
     let target = Target::of(found.typing.known());
     let matched = template(alloc, scope, &message.template, target)?;
@@ -177,43 +177,47 @@ fn at_message(
 // ---- sends
 
 /// The receiver of a message, or its sender.
-fn at_to(scope: &Scope<'_>, component: Option<&ComponentRef>) -> Broken
-    ensures { result ≡ least (spec.at_to (seen scope.now) (option_map (λ component. component.now) component.entry)) }
+fn check_recipient(scope: &Scope<'_>, component: Option<&ComponentRef>) -> Broken
+    ensures { result ≡ least (spec.at_to (view scope.now) (option_map (λ component. component.now) component.entry)) }
 {
     match component {
-        Some(component) => at_wanted_component(scope, component).broken,
+        Some(component) => check_wanted_component(scope, component).broken,
         None => Broken::nothing(),
     }
 }
 
 #[tactic(auto, using(crate::proofs::Leasts::least_append))]
-fn at_sent(
+fn check_sent(
     alloc: Global,
     scope: &Scope<'_>,
     port: Option<Option<usize>>,
     message: &MessageTemplate,
 ) -> Result<Broken, AllocError>
-    ensures { IfOk result (λ broken. broken ≡ least (spec.at_sent (seen scope.now) port message.now)) }
+    ensures { IfOk result (λ broken. broken ≡ least (spec.at_sent (view scope.now) port message.now)) }
 {
     match port {
         Some(port) => {
             let ports = Passing::at(scope, false, port);
-            at_message(alloc, scope, &ports, message)
+            check_message(alloc, scope, &ports, message)
         }
         None => {
-            let broken = at_message(alloc, scope, &Passing::Unknown, message)?;
+            let broken = check_message(alloc, scope, &Passing::Unknown, message)?;
             Ok(Broken::of(Rule::UnknownName).and(broken))
         }
     }
 }
 
 #[tactic(auto, using(crate::proofs::Leasts::least_append))]
-pub(crate) fn at_send(alloc: Global, scope: &Scope<'_>, send: &Send) -> Result<Broken, AllocError>
-    ensures { IfOk result (λ broken. broken ≡ least (spec.at_send (seen scope.now) send.now)) }
+pub(crate) fn check_send(
+    alloc: Global,
+    scope: &Scope<'_>,
+    send: &Send,
+) -> Result<Broken, AllocError>
+    ensures { IfOk result (λ broken. broken ≡ least (spec.at_send (view scope.now) send.now)) }
 {
     let port = port_meant(scope.get(send.port.as_bytes()));
-    let sent = at_sent(alloc, scope, port, &send.message)?;
-    Ok(sent.and(at_to(scope, send.to.as_ref())))
+    let sent = check_sent(alloc, scope, port, &send.message)?;
+    Ok(sent.and(check_recipient(scope, send.to.as_ref())))
 }
 
 // ---- receives
@@ -221,7 +225,7 @@ pub(crate) fn at_send(alloc: Global, scope: &Scope<'_>, send: &Send) -> Result<B
 impl<'s> Passing<'s> {
     /// What is known where a message comes in.
     fn incoming(scope: &'s Scope<'_>, selector: &PortSelector) -> Passing<'s>
-        ensures { known result ≡ spec.incoming (seen scope.now) selector.now }
+        ensures { known result ≡ spec.incoming (view scope.now) selector.now }
     {
         let PortSelector::Named(name) = selector else {
             return Passing::Anywhere;
@@ -233,8 +237,8 @@ impl<'s> Passing<'s> {
     }
 }
 
-fn at_selector(scope: &Scope<'_>, selector: &PortSelector) -> Broken
-    ensures { result ≡ least (spec.at_selector (seen scope.now) selector.now) }
+fn check_selector(scope: &Scope<'_>, selector: &PortSelector) -> Broken
+    ensures { result ≡ least (spec.at_selector (view scope.now) selector.now) }
 {
     match selector {
         PortSelector::Named(name) => {
@@ -246,16 +250,16 @@ fn at_selector(scope: &Scope<'_>, selector: &PortSelector) -> Broken
 }
 
 /// What is received: any message, or one that a template tells.
-fn at_received(
+fn check_received(
     alloc: Global,
     scope: &Scope<'_>,
     ports: &Passing<'_>,
     message: Option<&MessageTemplate>,
 ) -> Result<Broken, AllocError>
-    ensures { IfOk result (λ broken. broken ≡ least (spec.at_received (seen scope.now) (known ports.now) (option_map (λ message. message.now) message.entry))) }
+    ensures { IfOk result (λ broken. broken ≡ least (spec.at_received (view scope.now) (known ports.now) (option_map (λ message. message.now) message.entry))) }
 {
     match message {
-        Some(message) => at_message(alloc, scope, ports, message),
+        Some(message) => check_message(alloc, scope, ports, message),
         None => Ok(Broken::nothing()),
     }
 }
@@ -266,7 +270,7 @@ fn received_type(
     ports: &Passing<'_>,
     message: Option<&MessageTemplate>,
 ) -> Option<DataType>
-    ensures { result ≡ spec.received_type (seen scope.now) (known ports.now) (option_map (λ message. message.now) message.entry) }
+    ensures { result ≡ spec.received_type (view scope.now) (known ports.now) (option_map (λ message. message.now) message.entry) }
 {
     match message {
         Some(message) => type_of_message(scope, ports, message).typing.known(),
@@ -280,9 +284,12 @@ fn received_type(
 fn stores(data_type: Option<DataType>, found: Typing) -> bool
     ensures { result ≡ spec.stores data_type found }
 {
-    match (data_type, found) {
-        (Some(data_type), Typing::Known(other)) => data_type.is_same(other),
-        _ => true,
+    let Some(data_type) = data_type else {
+        return true;
+    };
+    match found {
+        Typing::Known(other) => data_type.is_same(other),
+        Typing::Null | Typing::AnyComponent | Typing::NoValue | Typing::Unknown => true,
     }
 }
 
@@ -292,23 +299,23 @@ fn stores_sender(found: Typing) -> bool
 {
     match found {
         Typing::Known(data_type) => data_type.is_component(),
-        _ => true,
+        Typing::Null | Typing::AnyComponent | Typing::NoValue | Typing::Unknown => true,
     }
 }
 
 #[tactic(auto, using(crate::proofs::Leasts::least_append))]
-fn at_value_redirect(
+fn check_value_redirect(
     scope: &Scope<'_>,
     is_told: bool,
     data_type: Option<DataType>,
     target: Option<&Reference>,
 ) -> Broken
-    ensures { result ≡ least (spec.at_value_redirect (seen scope.now) is_told data_type (option_map (λ target. target.now) target.entry)) }
+    ensures { result ≡ least (spec.at_value_redirect (view scope.now) is_told data_type (option_map (λ target. target.now) target.entry)) }
 {
     let Some(target) = target else {
         return Broken::nothing();
     };
-    let found = at_target(scope, target);
+    let found = check_target(scope, target);
     let stored = Broken::unless(stores(data_type, found.typing), Rule::Redirect);
     found
         .broken
@@ -317,13 +324,13 @@ fn at_value_redirect(
 }
 
 #[tactic(auto, using(crate::proofs::Leasts::least_append))]
-fn at_sender_redirect(scope: &Scope<'_>, target: Option<&Reference>) -> Broken
-    ensures { result ≡ least (spec.at_sender_redirect (seen scope.now) (option_map (λ target. target.now) target.entry)) }
+fn check_sender_redirect(scope: &Scope<'_>, target: Option<&Reference>) -> Broken
+    ensures { result ≡ least (spec.at_sender_redirect (view scope.now) (option_map (λ target. target.now) target.entry)) }
 {
     let Some(target) = target else {
         return Broken::nothing();
     };
-    let found = at_target(scope, target);
+    let found = check_target(scope, target);
     let stored = stores_sender(found.typing);
     found.broken.and(Broken::unless(stored, Rule::Redirect))
 }
@@ -331,42 +338,42 @@ fn at_sender_redirect(scope: &Scope<'_>, target: Option<&Reference>) -> Broken
 // ---- events
 
 #[tactic(auto, using(crate::proofs::Leasts::least_append))]
-fn at_receive(alloc: Global, scope: &Scope<'_>, receive: &Receive) -> Result<Broken, AllocError>
-    ensures { IfOk result (λ broken. broken ≡ least (spec.at_receive (seen scope.now) receive.now)) }
+fn check_receive(alloc: Global, scope: &Scope<'_>, receive: &Receive) -> Result<Broken, AllocError>
+    ensures { IfOk result (λ broken. broken ≡ least (spec.at_receive (view scope.now) receive.now)) }
 {
     let ports = Passing::incoming(scope, &receive.port);
     let message = receive.message.as_ref();
-    let received = at_received(alloc, scope, &ports, message)?;
+    let received = check_received(alloc, scope, &ports, message)?;
     let data_type = received_type(scope, &ports, message);
-    let value = at_value_redirect(scope, message.is_some(), data_type, receive.value.as_ref());
-    let sender = at_sender_redirect(scope, receive.sender.as_ref());
+    let value = check_value_redirect(scope, message.is_some(), data_type, receive.value.as_ref());
+    let sender = check_sender_redirect(scope, receive.sender.as_ref());
     Ok(
-        at_selector(scope, &receive.port)
+        check_selector(scope, &receive.port)
             .and(received)
-            .and(at_to(scope, receive.from.as_ref()))
+            .and(check_recipient(scope, receive.from.as_ref()))
             .and(value)
             .and(sender),
     )
 }
 
-pub(crate) fn at_timer(scope: &Scope<'_>, name: &Name) -> Broken
-    ensures { result ≡ least (spec.at_timer (seen scope.now) name.now) }
+pub(crate) fn check_timer(scope: &Scope<'_>, name: &Name) -> Broken
+    ensures { result ≡ least (spec.at_timer (view scope.now) name.now) }
 {
     let is_timer = matches!(scope.get(name.as_bytes()), Some(Meaning::Timer));
     Broken::unless(is_timer, Rule::UnknownName)
 }
 
-pub(crate) fn at_event(
+pub(crate) fn check_event(
     alloc: Global,
     scope: &Scope<'_>,
     event: &Event,
 ) -> Result<Broken, AllocError>
-    ensures { IfOk result (λ broken. broken ≡ least (spec.at_event (seen scope.now) event.now)) }
+    ensures { IfOk result (λ broken. broken ≡ least (spec.at_event (view scope.now) event.now)) }
 {
     match event {
-        Event::Receive(receive) => at_receive(alloc, scope, receive),
-        Event::Timeout(timer) => Ok(at_timer(scope, timer)),
-        Event::Done(component) => Ok(at_wanted_component(scope, component).broken),
+        Event::Receive(receive) => check_receive(alloc, scope, receive),
+        Event::Timeout(timer) => Ok(check_timer(scope, timer)),
+        Event::Done(component) => Ok(check_wanted_component(scope, component).broken),
         Event::AllDone => Ok(Broken::nothing()),
     }
 }

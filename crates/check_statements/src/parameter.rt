@@ -1,10 +1,10 @@
 //! Formal parameters (ES 201 873-1, 5.4.1).
 ghost use Rattle.std.specs.Prelude.{◌≡◌, [], ◌∷◌, IfOk, OnOk};
-ghost use Rattle.check_scope.specs.Checking.{around, least, seen};
+ghost use Rattle.check_scope.specs.Checking.{around, least, view};
 ghost use Rattle.check_statements.specs.Definitions as spec;
 ghost use Rattle.check_scope.specs.Names.{declaring};
 
-use check_expressions::target::{at_new_name, at_type};
+use check_expressions::target::{check_new_name, check_type};
 use check_scope::broken::Broken;
 use check_scope::names::Meaning;
 use check_scope::scope::Scope;
@@ -14,24 +14,24 @@ use ttcn_syntax::Parameter;
 /// A parameter, which is visible in those behind it too.
 #[tactic(auto, using(crate::proofs::Leasts::least_append))]
 fn parameter<'a>(scope: &mut Scope<'a>, parameter: &'a Parameter) -> Result<Broken, AllocError>
-    ensures broken { IfOk result (λ broken. broken ≡ least (spec.at_parameter (seen scope.old) parameter.now)) }
-    ensures seen { OnOk result (seen scope.new ≡ declaring (seen scope.old) (spec.parameter_entry (seen scope.old) parameter.now ∷ [])) }
+    ensures broken { IfOk result (λ broken. broken ≡ least (spec.at_parameter (view scope.old) parameter.now)) }
+    ensures view { OnOk result (view scope.new ≡ declaring (view scope.old) (spec.parameter_entry (view scope.old) parameter.now ∷ [])) }
     ensures around { OnOk result (around scope.new ≡ around scope.old) }
 {
-    let named = at_new_name(scope, &parameter.name);
-    let typed = at_type(scope, true, &parameter.type_name);
+    let named = check_new_name(scope, &parameter.name);
+    let typed = check_type(scope, true, &parameter.type_name);
     let of = scope.resolved(&parameter.type_name);
     scope.declare(parameter.name.as_bytes(), Meaning::Variable(of))?;
     Ok(named.and(typed))
 }
 
 /// The parameters of a behaviour or a template.
-pub(crate) fn in_parameters<'a>(
+pub(crate) fn check_parameters<'a>(
     scope: &mut Scope<'a>,
     parameters: &'a [Parameter],
 ) -> Result<Broken, AllocError>
-    ensures broken { IfOk result (λ broken. broken ≡ least (spec.in_parameters (seen scope.old) parameters.now)) }
-    ensures seen { OnOk result (seen scope.new ≡ spec.with_parameters (seen scope.old) parameters.now) }
+    ensures broken { IfOk result (λ broken. broken ≡ least (spec.in_parameters (view scope.old) parameters.now)) }
+    ensures view { OnOk result (view scope.new ≡ spec.with_parameters (view scope.old) parameters.now) }
     ensures around { OnOk result (around scope.new ≡ around scope.old) }
 {
     let mut broken = Broken::nothing();

@@ -1,6 +1,6 @@
 //! Where a statement stands in a behaviour.
 ghost use Rattle.std.specs.Prelude.{◌≡◌};
-ghost use Rattle.check_statements.specs.Standing.{standing};
+ghost use Rattle.check_statements.specs.Places.{place_with};
 ghost use Rattle.check_scope.specs.Names.{Scope};
 ghost use Rattle.check_statements.specs.Statements.{inside_branch};
 
@@ -27,7 +27,7 @@ pub(crate) struct Place {
 impl Place {
     /// A place in the block of a branch.
     pub(crate) fn inside_branch(self) -> Place
-        ensures { (scope : Scope) → standing scope result ≡ inside_branch (standing scope self) }
+        ensures { (scope : Scope) → place_with scope result ≡ inside_branch (place_with scope self) }
     {
         Place {
             returns: self.returns,

@@ -2,16 +2,16 @@
 ghost use Rattle.std.specs.Prelude.{◌≡◌, IfOk, OnOk};
 ghost use Rattle.std.specs.List.{flat_map};
 ghost use Rattle.std.specs.Option.{option_map};
-ghost use Rattle.check_scope.specs.Checking.{around, both, least, least_in, seen};
-ghost use Rattle.check_statements.specs.Standing.{standing};
+ghost use Rattle.check_scope.specs.Checking.{around, both, least, least_in, view};
+ghost use Rattle.check_statements.specs.Places.{place_with};
 ghost use Rattle.check_statements.specs.Statements as spec;
 
-use crate::action::{at_condition, at_guard, plain};
+use crate::action::{check_condition, check_guard, check_leaf};
 use crate::declaration::variables;
-use crate::message::at_event;
+use crate::message::check_event;
 use crate::place::Place;
-use check_expressions::call::{CallPlace, at_call};
-use check_expressions::target::at_assignment;
+use check_expressions::call::{CallPlace, check_call};
+use check_expressions::target::check_assignment;
 use check_scope::broken::Broken;
 use check_scope::least::Least;
 use check_scope::scope::Scope;
@@ -24,67 +24,67 @@ use ttcn_syntax::{
 // ---- what stands in front of blocks
 
 /// What a `for` begins with.
-fn at_for_start<'a>(
+fn check_for_start<'a>(
     alloc: Global,
     scope: &mut Scope<'a>,
     start: &'a ForStart,
 ) -> Result<Broken, AllocError>
-    ensures broken { IfOk result (λ broken. broken ≡ least (spec.at_for_start (seen scope.old) start.now)) }
-    ensures seen { OnOk result (seen scope.new ≡ spec.behind_for_start (seen scope.old) start.now) }
+    ensures broken { IfOk result (λ broken. broken ≡ least (spec.at_for_start (view scope.old) start.now)) }
+    ensures view { OnOk result (view scope.new ≡ spec.behind_for_start (view scope.old) start.now) }
     ensures around { OnOk result (around scope.new ≡ around scope.old) }
 {
     match start {
         ForStart::Variables(declared) => variables(alloc, scope, declared),
-        ForStart::Assign(assignment) => at_assignment(alloc, scope, assignment),
+        ForStart::Assign(assignment) => check_assignment(alloc, scope, assignment),
     }
 }
 
 /// The head of a `for`.
 #[tactic(auto, using(crate::proofs::Leasts::least_append))]
-fn at_for_head<'a>(
+fn check_for_head<'a>(
     alloc: Global,
     scope: &mut Scope<'a>,
     start: &'a ForStart,
     condition: &Expr,
     step: &Assignment,
 ) -> Result<Broken, AllocError>
-    ensures broken { IfOk result (λ broken. broken ≡ least (spec.at_for_head (seen scope.old) start.now condition.now step.now)) }
-    ensures seen { OnOk result (seen scope.new ≡ spec.behind_for_start (seen scope.old) start.now) }
+    ensures broken { IfOk result (λ broken. broken ≡ least (spec.at_for_head (view scope.old) start.now condition.now step.now)) }
+    ensures view { OnOk result (view scope.new ≡ spec.behind_for_start (view scope.old) start.now) }
     ensures around { OnOk result (around scope.new ≡ around scope.old) }
 {
-    let start = at_for_start(alloc, scope, start)?;
-    let condition = at_condition(scope, condition);
-    let step = at_assignment(alloc, scope, step)?;
+    let start = check_for_start(alloc, scope, start)?;
+    let condition = check_condition(scope, condition);
+    let step = check_assignment(alloc, scope, step)?;
     Ok(start.and(condition).and(step))
 }
 
 /// A branch's guard and event.
 #[tactic(auto, using(crate::proofs::Leasts::least_append))]
-fn at_guarded_event(
+fn check_guarded_event(
     alloc: Global,
     scope: &Scope<'_>,
     guard: Option<&Expr>,
     event: &Event,
 ) -> Result<Broken, AllocError>
-    ensures { IfOk result (λ broken. broken ≡ least (spec.at_guarded_event (seen scope.now) (option_map (λ guard. guard.now) guard.entry) event.now)) }
+    ensures { IfOk result (λ broken. broken ≡ least (spec.at_guarded_event (view scope.now) (option_map (λ guard. guard.now) guard.entry) event.now)) }
 {
-    let guard = at_guard(scope, guard);
-    let event = at_event(alloc, scope, event)?;
+    let guard = check_guard(scope, guard);
+    let event = check_event(alloc, scope, event)?;
     Ok(guard.and(event))
 }
 
 /// A branch's guard and call of an altstep.
 #[tactic(auto, using(crate::proofs::Leasts::least_append))]
-fn at_guarded_call(
+fn check_guarded_call(
     alloc: Global,
     scope: &Scope<'_>,
     guard: Option<&Expr>,
     call: &Call,
 ) -> Result<Broken, AllocError>
-    ensures { IfOk result (λ broken. broken ≡ least (spec.at_guarded_call (seen scope.now) (option_map (λ guard. guard.now) guard.entry) call.now)) }
+    ensures { IfOk result (λ broken. broken ≡ least (spec.at_guarded_call (view scope.now) (option_map (λ guard. guard.now) guard.entry) call.now)) }
 {
-    let guard = at_guard(scope, guard);
-    let call = at_call(alloc, scope, CallPlace::Branch, call)?;
+    let guard = check_guard(scope, guard);
+    let call = check_call(alloc, scope, CallPlace::Branch, call)?;
     Ok(guard.and(call))
 }
 
@@ -99,8 +99,8 @@ pub(crate) fn block<'a>(
     body: &'a [Statement],
     found: &mut Least,
 ) -> Result<(), AllocError>
-    ensures found { OnOk result (least_in found.new ≡ both (least_in found.old) (least (spec.statements body.now (standing (seen scope.old) place)))) }
-    ensures seen { OnOk result (seen scope.new ≡ seen scope.old) }
+    ensures found { OnOk result (least_in found.new ≡ both (least_in found.old) (least (spec.statements body.now (place_with (view scope.old) place)))) }
+    ensures view { OnOk result (view scope.new ≡ view scope.old) }
     ensures around { OnOk result (around scope.new ≡ around scope.old) }
 {
     scope.enter(alloc)?;
@@ -121,12 +121,12 @@ fn conditionals<'a>(
     at: Span,
     found: &mut Least,
 ) -> Result<(), AllocError>
-    ensures found { OnOk result (least_in found.new ≡ both (least_in found.old) (least (flat_map (λ conditional. spec.conditional conditional (standing (seen scope.old) place)) conditionals.now))) }
-    ensures seen { OnOk result (seen scope.new ≡ seen scope.old) }
+    ensures found { OnOk result (least_in found.new ≡ both (least_in found.old) (least (flat_map (λ conditional. spec.conditional conditional (place_with (view scope.old) place)) conditionals.now))) }
+    ensures view { OnOk result (view scope.new ≡ view scope.old) }
     ensures around { OnOk result (around scope.new ≡ around scope.old) }
 {
     for conditional in conditionals {
-        found.note(at_condition(scope, &conditional.condition), at);
+        found.note(check_condition(scope, &conditional.condition), at);
         block(alloc, scope, place, conditional.block.as_slice(), found)?;
     }
     Ok(())
@@ -142,14 +142,14 @@ fn branch<'a>(
     branch: &'a Branch,
     found: &mut Least,
 ) -> Result<(), AllocError>
-    ensures found { OnOk result (least_in found.new ≡ both (least_in found.old) (least (spec.branch branch.now (standing (seen scope.old) place)))) }
-    ensures seen { OnOk result (seen scope.new ≡ seen scope.old) }
+    ensures found { OnOk result (least_in found.new ≡ both (least_in found.old) (least (spec.branch branch.now (place_with (view scope.old) place)))) }
+    ensures view { OnOk result (view scope.new ≡ view scope.old) }
     ensures around { OnOk result (around scope.new ≡ around scope.old) }
 {
     let inside = place.inside_branch();
     match &branch.alternative {
         Alternative::Event(guard, event, body) => {
-            let broken = at_guarded_event(alloc, scope, guard.as_ref(), event)?;
+            let broken = check_guarded_event(alloc, scope, guard.as_ref(), event)?;
             found.note(broken, branch.place);
             match body {
                 Some(body) => block(alloc, scope, inside, body.as_slice(), found),
@@ -157,7 +157,7 @@ fn branch<'a>(
             }
         }
         Alternative::Call(guard, call, body) => {
-            let broken = at_guarded_call(alloc, scope, guard.as_ref(), call)?;
+            let broken = check_guarded_call(alloc, scope, guard.as_ref(), call)?;
             found.note(broken, branch.place);
             match body {
                 Some(body) => block(alloc, scope, inside, body.as_slice(), found),
@@ -177,8 +177,8 @@ pub(crate) fn branches<'a>(
     branches: &'a [Branch],
     found: &mut Least,
 ) -> Result<(), AllocError>
-    ensures found { OnOk result (least_in found.new ≡ both (least_in found.old) (least (flat_map (λ branch. spec.branch branch (standing (seen scope.old) place)) branches.now))) }
-    ensures seen { OnOk result (seen scope.new ≡ seen scope.old) }
+    ensures found { OnOk result (least_in found.new ≡ both (least_in found.old) (least (flat_map (λ branch. spec.branch branch (place_with (view scope.old) place)) branches.now))) }
+    ensures view { OnOk result (view scope.new ≡ view scope.old) }
     ensures around { OnOk result (around scope.new ≡ around scope.old) }
 {
     for item in branches {
@@ -196,8 +196,8 @@ fn statement<'a>(
     statement: &'a Statement,
     found: &mut Least,
 ) -> Result<(), AllocError>
-    ensures found { OnOk result (least_in found.new ≡ both (least_in found.old) (least ((spec.statement statement.now).broken (standing (seen scope.old) place)))) }
-    ensures seen { OnOk result (seen scope.new ≡ (spec.statement statement.now).scope_behind (seen scope.old)) }
+    ensures found { OnOk result (least_in found.new ≡ both (least_in found.old) (least ((spec.statement statement.now).broken (place_with (view scope.old) place)))) }
+    ensures view { OnOk result (view scope.new ≡ (spec.statement statement.now).scope_behind (view scope.old)) }
     ensures around { OnOk result (around scope.new ≡ around scope.old) }
 {
     let at = statement.place;
@@ -211,24 +211,24 @@ fn statement<'a>(
             }
         }
         Action::While(condition, body) => {
-            found.note(at_condition(scope, condition), at);
+            found.note(check_condition(scope, condition), at);
             block(alloc, scope, place, body.as_slice(), found)
         }
         Action::DoWhile(body, condition) => {
             block(alloc, scope, place, body.as_slice(), found)?;
-            found.note(at_condition(scope, condition), at);
+            found.note(check_condition(scope, condition), at);
             Ok(())
         }
         Action::For(start, condition, step, body) => {
             scope.enter(alloc)?;
-            let head = at_for_head(alloc, scope, start, condition, step)?;
+            let head = check_for_head(alloc, scope, start, condition, step)?;
             found.note(head, at);
             block(alloc, scope, place, body.as_slice(), found)?;
             scope.leave();
             Ok(())
         }
         action => {
-            let broken = plain(alloc, scope, place, action)?;
+            let broken = check_leaf(alloc, scope, place, action)?;
             found.note(broken, at);
             Ok(())
         }

@@ -65,14 +65,14 @@ module _ (scope : Scope) where
   resolves-to callable call (Some at) is nothing =
       let k : Option DefinitionKind = kind_at scope.definitions at in
       let given : List Rule = at_arguments scope (parameters_of k) call.arguments in
-      let on : List Rule = unless (runs_here (component_named scope (runs_on_of k)) scope.itself) rule.RunsOn in
+      let on : List Rule = unless (runs_here (component_named scope.definitions (runs_on_of k)) scope.itself) rule.RunsOn in
       let called : List Rule = unless (callable k) rule.CallKind in
       let front : given ++ on ≡ [] = nothing-first (given ++ on) called nothing in
       record {
         at = at;
         meant = is;
         arguments = arguments_fit (parameters_of k) call.arguments (nothing-first given on front);
-        runs = kept (runs_here (component_named scope (runs_on_of k)) scope.itself) rule.RunsOn (nothing-rest given on front);
+        runs = kept (runs_here (component_named scope.definitions (runs_on_of k)) scope.itself) rule.RunsOn (nothing-rest given on front);
         kind = kept (callable k) rule.CallKind (nothing-rest (given ++ on) called nothing);
       }
 

@@ -23,9 +23,9 @@ use Rattle.ttcn_syntax.specs.declared.tree.value.TypeName.TheVariants as type_na
 use Rattle.ttcn_types.proofs.Meanings.{EachMeans, means-append}
 use Rattle.checker_laws.proofs.Nothing.{kept, nothing-first, nothing-rest}
 use Rattle.check_expressions.specs.Declarations.{behind_all, one_by_one}
-use Rattle.check_statements.specs.Definitions.{as_part, at_component_name, at_result, component_on, place_in, returning, at_member_variable, at_parameter, at_part, at_port_name, at_sites, in_definition, in_definitions, in_fields, in_member, in_members, in_module_constants, in_parameters, member_variable_entry, parameter_entry, port_entry, with_parameters}
+use Rattle.check_statements.specs.Definitions.{as_part, at_component_name, at_result, place_in, returns_of, at_member_variable, at_parameter, at_part, at_port_name, at_sites, in_definition, in_definitions, in_fields, in_member, in_members, in_module_constants, in_parameters, member_variable_entry, parameter_entry, port_entry, with_parameters}
 use Rattle.check_scope.specs.Scopes.{at_module_names, component_scope, module_scope, scope_on}
-use Rattle.check_expressions.specs.Calls.{result_type_of, template_type}
+use Rattle.check_expressions.specs.Calls.{component_named, result_type_of, template_type}
 use Rattle.checker_laws.specs.Laws.{HasFieldType, IsKnown, IsWhole}
 use Rattle.check_scope.specs.Names.{Entry, Names, Scope, behind_members, fields_of, constant_entries, constants_type, declaring, entries_at, entries_from, kind_at, listed, member_entries, members_of, module_names, port_type_meant, resolved, type_meant}
 use Rattle.ttcn_types.specs.Rules.{AreWellTyped}
@@ -233,11 +233,11 @@ module _ (definitions : List Definition) (well : AreWellTyped definitions) where
   function-known : (at : ℕ) (f : Function) → kind_at definitions at ≡ Some (kind.Function f)
       → IfSome (result_type_of (kind_at definitions at)) (λ of. is_some (resolved (module_names definitions) of) ≡ true)
   function-known at f is =
-      let scope : Scope = scope_on definitions (component_on definitions f.runs_on) in
+      let scope : Scope = scope_on definitions (component_named definitions f.runs_on) in
       let named : List Rule = at_component_name definitions f.runs_on in
       let parameters : List Rule = in_parameters scope f.parameters in
       let result : List Rule = at_result definitions f.returns in
-      let body : List Rule = statements f.body (place_in scope f.parameters (returning definitions f.returns)) in
+      let body : List Rule = statements f.body (place_in scope f.parameters (returns_of definitions f.returns)) in
       subst (λ k. IfSome (result_type_of k) (λ of. is_some (resolved (module_names definitions) of) ≡ true)) (sym is)
       (result-known f.returns (nothing-rest (named ++ parameters) result
       (nothing-first ((named ++ parameters) ++ result) body (definition_is_fine definitions well at (kind.Function f) is))))

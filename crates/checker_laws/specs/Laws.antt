@@ -76,5 +76,5 @@ pub record Resolves (scope : Scope) (callable : Option DefinitionKind → Bool) 
   pub at : ℕ
   pub meant : behaviour_meant (scope.names call.name) ≡ Some at
   pub arguments : AreArguments scope (parameters_of (kind_at scope.definitions at)) call.arguments
-  pub runs : runs_here (component_named scope (runs_on_of (kind_at scope.definitions at))) scope.itself ≡ true
+  pub runs : runs_here (component_named scope.definitions (runs_on_of (kind_at scope.definitions at))) scope.itself ≡ true
   pub kind : callable (kind_at scope.definitions at) ≡ true

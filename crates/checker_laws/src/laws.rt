@@ -1,7 +1,11 @@
 //! Laws of programs, for the layers above: they run no code.
-ghost use Rattle.std.specs.Prelude.{◌≡◌, ◌≢◌, ℕ, Bool, true, false, List, [], ◌∷◌, map, Option, Some, is_some};
+ghost use Rattle.std.specs.Prelude.{◌≡◌, ◌≢◌, ℕ, Bool, true, false, List, [], ◌∷◌, ◌++◌, map, Option, Some, is_some};
 ghost use Rattle.ttcn_syntax.specs.declared.tree.definition.DefinitionKind.{DefinitionKind};
+ghost use Rattle.ttcn_syntax.specs.declared.operator.Sign.{Sign};
+ghost use Rattle.ttcn_syntax.specs.declared.tree.expression.ComponentRef.{ComponentRef};
 ghost use Rattle.ttcn_syntax.specs.declared.tree.expression.Expr.{Expr};
+ghost use Rattle.ttcn_syntax.specs.declared.tree.expression.Expr.TheVariants as expression_form;
+ghost use Rattle.ttcn_syntax.specs.declared.tree.expression.Link.{Link, out-Link};
 ghost use Rattle.ttcn_syntax.specs.declared.tree.definition.Parameter.{Parameter};
 ghost use Rattle.ttcn_syntax.specs.declared.tree.expression.Reference.{Reference};
 ghost use Rattle.ttcn_syntax.specs.declared.tree.statement.Statement.{Statement};
@@ -20,7 +24,7 @@ ghost use Rattle.checker_laws.specs.Laws.{AreArguments, AreElements, AreNamedEle
 ghost use Rattle.check_scope.specs.Names.{Scope, fields_at, kind_at};
 ghost use Rattle.check_statements.specs.Statements.{Place, statement, statements, with_scope};
 ghost use Rattle.check_expressions.specs.Templates.{at_template, body, field_template, has_all, template, type_of_template};
-ghost use Rattle.check_scope.specs.Typings.{goes_to};
+ghost use Rattle.check_scope.specs.Typings.{goes_to, result_of};
 ghost use Rattle.check_expressions.specs.Values.{at_expression, field_value, value};
 ghost use Rattle.check_scope.specs.declared.names.Meaning.TheVariants as meaning;
 ghost use Rattle.check_scope.specs.declared.types.DataType.{DataType};
@@ -52,6 +56,16 @@ pub fn scopes_are_whole(program: &Program)
 #[tactic(auto, using(crate::proofs::Typed::expression_typed))]
 pub fn expressions_have_types()
     ensures { (e : Expr) (scope : Scope) (free : Bool) → IsWhole scope → IsTyped (expression e scope free) }
+{}
+
+/// The type of an operation is known, whatever is broken in it: that of a chain is what its last operator gives.
+#[tactic(auto, using(crate::proofs::Typed::negation_typed, crate::proofs::Typed::signed_typed, crate::proofs::Typed::presence_typed, crate::proofs::Typed::running_typed, crate::proofs::Typed::chain_typed))]
+pub fn operations_have_types()
+    ensures negation { (e : Expr) (scope : Scope) (free : Bool) → (expression (expression_form.Not e) scope free).typing ≡ typing.Known type.Boolean }
+    ensures sign { (sign : Sign) (e : Expr) (scope : Scope) (free : Bool) → (expression (expression_form.Signed sign e) scope free).typing ≡ typing.Known type.Integer }
+    ensures presence { (reference : Reference) (scope : Scope) (free : Bool) → (expression (expression_form.Ispresent reference) scope free).typing ≡ typing.Known type.Boolean }
+    ensures running { (component : ComponentRef) (scope : Scope) (free : Bool) → (expression (expression_form.Running component) scope free).typing ≡ typing.Known type.Boolean }
+    ensures chain { (first : Expr) (links : List Link) (last : Link) (scope : Scope) (free : Bool) → (expression (expression_form.Chain first (links ++ last ∷ [])) scope free).typing ≡ typing.Known (result_of (out-Link last).operator) }
 {}
 
 /// A call that breaks no rule resolves, with as many arguments as parameters, each of its parameter's type.

@@ -5,7 +5,7 @@ use std::alloc::Global;
 use std::fmt;
 use ttcn_parse::{ParseError, parse};
 use ttcn_syntax::{LexError, Span, lex};
-use ttcn_types::{CheckError, Program, Rule, check};
+use ttcn_types::{CheckError, Program, check};
 
 /// Why a text is refused. It is shown by its number, name and place, as `C8 ValueType at 24:31`.
 #[derive(Debug, Drop)]
@@ -45,7 +45,11 @@ impl fmt::Display for Refusal {
         let (name, place) = match self {
             Refusal::Text(error) => of_text(error),
             Refusal::Grammar(error) => of_grammar(error),
-            Refusal::Types(error) => of_types(error),
+            Refusal::Types(CheckError::Broken(rule, Span { line, column })) => {
+                let (number, name) = (rule.number(), rule.name());
+                return write!(f, "C{number} {name} at {line}:{column}");
+            }
+            Refusal::Types(CheckError::Memory(_)) => (NO_MEMORY, None),
         };
         match place {
             Some(Span { line, column }) => write!(f, "{name} at {line}:{column}"),
@@ -77,38 +81,5 @@ fn of_grammar(error: &ParseError) -> (&'static str, Option<Span>) {
         ParseError::TooDeep(place) => ("P2 TooDeep", Some(*place)),
         ParseError::LeftOut(place) => ("P3 LeftOut", Some(*place)),
         ParseError::Memory => (NO_MEMORY, None),
-    }
-}
-
-/// The same of a module that isn't well typed.
-fn of_types(error: &CheckError) -> (&'static str, Option<Span>) {
-    match error {
-        CheckError::Broken(rule, place) => (of_rule(*rule), Some(*place)),
-        CheckError::Memory(_) => (NO_MEMORY, None),
-    }
-}
-
-fn of_rule(rule: Rule) -> &'static str {
-    match rule {
-        Rule::DuplicateName => "C1 DuplicateName",
-        Rule::UnknownName => "C2 UnknownName",
-        Rule::BadType => "C3 BadType",
-        Rule::Cycle => "C4 Cycle",
-        Rule::Size => "C5 Size",
-        Rule::EnumNumbers => "C6 EnumNumbers",
-        Rule::OperandType => "C7 OperandType",
-        Rule::ValueType => "C8 ValueType",
-        Rule::NotAssignable => "C9 NotAssignable",
-        Rule::Arguments => "C10 Arguments",
-        Rule::Fields => "C11 Fields",
-        Rule::Condition => "C12 Condition",
-        Rule::RunsOn => "C13 RunsOn",
-        Rule::PortType => "C14 PortType",
-        Rule::Redirect => "C15 Redirect",
-        Rule::CallKind => "C16 CallKind",
-        Rule::ReturnPlace => "C17 ReturnPlace",
-        Rule::RepeatPlace => "C18 RepeatPlace",
-        Rule::VerdictError => "C19 VerdictError",
-        Rule::MtcPlace => "C20 MtcPlace",
     }
 }

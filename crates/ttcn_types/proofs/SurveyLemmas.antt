@@ -8,6 +8,7 @@ use Rattle.survey.specs.declared.findings.Findings.TheVariants.{Circle, Sizes}
 use Rattle.survey.specs.declared.thing.Thing.{Thing}
 use Rattle.survey.proofs.Chains.{chain_head, weigh_within}
 use Rattle.check_scope.specs.Numbers.{number_of}
+use Rattle.ttcn_types.specs.Limits.{longest_chain}
 use Rattle.ttcn_types.specs.Rules.{AreTooLarge}
 use Rattle.ttcn_types.specs.Surveys.{BreaksAmong, IsLeastWhere}
 use Rattle.ttcn_types.specs.Surveys.BreaksAmong.{in_circle, too_large}
@@ -40,12 +41,12 @@ module _ (things : List Thing) (heaviest : ℕ) (circle : Rule) where
   size_below none _ (too_large large) = omega arith
 
   abbrev LongAt : Option ℕ → Type 0
-  LongAt too_long = MatchOption too_long (AllChainsWithin things 200) (IsFirst (BeginsLongerChain things 200))
+  LongAt too_long = MatchOption too_long (AllChainsWithin things longest_chain) (IsFirst (BeginsLongerChain things longest_chain))
 
   abbrev HeavyAt : Option ℕ → Type 0
   HeavyAt too_heavy = MatchOption too_heavy (AllWeighWithin things heaviest) (IsFirst (WeighsMore things heaviest))
 
-  too_large_at : (too_long too_heavy : Option ℕ) (i : ℕ) → option_or too_long too_heavy ≡ Some i → LongAt too_long → HeavyAt too_heavy → AreTooLarge things 200 heaviest × (i < length things)
+  too_large_at : (too_long too_heavy : Option ℕ) (i : ℕ) → option_or too_long too_heavy ≡ Some i → LongAt too_long → HeavyAt too_heavy → AreTooLarge things longest_chain heaviest × (i < length things)
   too_large_at (Some k) too_heavy i is long heavy =
       let same : k ≡ i = cc in
       (inl (k, long.0), subst (λ m. m < length things) same (chain_head things k long.0.0 long.0.1))
@@ -54,7 +55,7 @@ module _ (things : List Thing) (heaviest : ℕ) (circle : Rule) where
       (inr (k, heavy.0), subst (λ m. m < length things) same (weigh_within things k heavy.0.0 heavy.0.1))
   too_large_at None None i is long heavy = absurd (cc)
 
-  not_too_large : (too_long too_heavy : Option ℕ) → option_or too_long too_heavy ≡ None → LongAt too_long → HeavyAt too_heavy → AreTooLarge things 200 heaviest → ⊥
+  not_too_large : (too_long too_heavy : Option ℕ) → option_or too_long too_heavy ≡ None → LongAt too_long → HeavyAt too_heavy → AreTooLarge things longest_chain heaviest → ⊥
   not_too_large (Some k) too_heavy is long heavy large = cc
   not_too_large None (Some k) is long heavy large = cc
   not_too_large None None is long heavy (inl (i, (rest, chain, more))) = (let bound = long (i ∷ rest) chain in absurd (omega (arith, bound, more)))

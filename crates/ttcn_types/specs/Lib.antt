@@ -1,3 +1,4 @@
+pub mod Limits
 pub mod Numbering
 pub mod Parts
 pub mod ProgramFields

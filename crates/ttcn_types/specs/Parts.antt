@@ -69,17 +69,20 @@ of_meaning definitions (Some (meaning.ModuleConstant at item)) = parts 0 ((numbe
 of_meaning definitions _ = leaf
 
 abbrev pub of_component : Scope → ComponentRef → Thing
+of_component scope component.Itself = leaf
+of_component scope component.Mtc = leaf
 of_component scope (component.Named reference) = of_meaning scope.definitions (scope.names reference.name)
-of_component scope _ = leaf
 
 abbrev pub expression_parts_step : Scope → Expr-F Thing Thing → Thing
+expression_parts_step scope (Expr-F.Int n) = leaf
+expression_parts_step scope (Expr-F.Bool b) = leaf
+expression_parts_step scope Expr-F.Null = leaf
 expression_parts_step scope (Expr-F.Reference reference) = of_component scope reference
 expression_parts_step scope (Expr-F.Running reference) = of_component scope reference
 expression_parts_step scope (Expr-F.Ispresent reference) = of_meaning scope.definitions (scope.names reference.name)
 expression_parts_step scope (Expr-F.Not operand) = operand
 expression_parts_step scope (Expr-F.Signed sign operand) = operand
 expression_parts_step scope (Expr-F.Chain first links) = beside first (all_of links)
-expression_parts_step scope _ = leaf
 
 abbrev pub link_parts_step : Link-F Thing Thing → Thing
 link_parts_step link = link.operand
@@ -128,6 +131,9 @@ abbrev pub call_parts : Scope → Call → Thing
 call_parts scope call = beside (of_template scope.definitions (template_meant (scope.names call.name))) (all_of (map (value_parts scope) call.arguments))
 
 abbrev pub body_parts_step : Scope → TemplateBody-F Thing Thing Thing → Thing
+body_parts_step scope TemplateBody-F.Any = leaf
+body_parts_step scope TemplateBody-F.AnyOrOmit = leaf
+body_parts_step scope TemplateBody-F.Omit = leaf
 body_parts_step scope (TemplateBody-F.Complement elements) = all_of elements
 body_parts_step scope (TemplateBody-F.List elements) = all_of elements
 body_parts_step scope (TemplateBody-F.Range low high) = beside (of_bound scope low) (of_bound scope high)
@@ -135,7 +141,6 @@ body_parts_step scope (TemplateBody-F.Call call) = call_parts scope call
 body_parts_step scope (TemplateBody-F.Expr e) = of_name scope e (template_named scope e)
 body_parts_step scope (TemplateBody-F.Listed elements) = braced elements
 body_parts_step scope (TemplateBody-F.Assigned elements) = braced elements
-body_parts_step scope _ = leaf
 
 abbrev pub template_parts_step : Template-F Thing Thing Thing → Thing
 template_parts_step t = t.body
@@ -191,8 +196,9 @@ altstep_part None = leaf
 altstep_part (Some at) = parts 0 (at ∷ [])
 
 abbrev pub alternative_parts : List Definition → Alternative-F Action Alternative Branch Conditional Statement → Thing
+alternative_parts definitions (Alternative-F.«Alternative::Event» guard event block) = leaf
 alternative_parts definitions (Alternative-F.«Alternative::Call» guard call block) = altstep_part (altstep_meant (module_names definitions call.name))
-alternative_parts definitions _ = leaf
+alternative_parts definitions (Alternative-F.Else block) = leaf
 
 abbrev pub branch_parts : List Definition → Branch → Thing
 branch_parts definitions b = alternative_parts definitions (out-Alternative (out-Branch b).alternative)

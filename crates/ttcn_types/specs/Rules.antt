@@ -5,6 +5,7 @@ use Rattle.survey.specs.declared.thing.Thing.{Thing}
 use Rattle.ttcn_syntax.specs.declared.tree.definition.Definition.{Definition}
 use Rattle.check_statements.specs.Definitions.{at_sites}
 use Rattle.check_scope.specs.Numbers.{number_of}
+use Rattle.ttcn_types.specs.Limits.{longest_chain, most_fields, most_parts}
 use Rattle.ttcn_types.specs.Parts.{altsteps, records, written_out}
 use Rattle.ttcn_types.specs.declared.error.CheckError.{CheckError}
 use Rattle.ttcn_types.specs.declared.error.CheckError.TheVariants.{Broken, Memory}
@@ -32,9 +33,9 @@ pub data Breaks (definitions : List Definition) : Rule → Type 0 where
   circle : HasCircle (written_out definitions) → Breaks definitions rule.Cycle
   altstep_circle : HasCircle (altsteps definitions) → Breaks definitions rule.Cycle
   -- sizes
-  record_size : AreTooLarge (records definitions) 200 1000 → Breaks definitions rule.Size
-  size : AreTooLarge (written_out definitions) 200 10000 → Breaks definitions rule.Size
-  altstep_size : AreTooLarge (altsteps definitions) 200 10000 → Breaks definitions rule.Size
+  record_size : AreTooLarge (records definitions) longest_chain most_fields → Breaks definitions rule.Size
+  size : AreTooLarge (written_out definitions) longest_chain most_parts → Breaks definitions rule.Size
+  altstep_size : AreTooLarge (altsteps definitions) longest_chain most_parts → Breaks definitions rule.Size
 
 -- a module is well typed where it breaks no rule
 abbrev pub AreWellTyped : List Definition → Type 0

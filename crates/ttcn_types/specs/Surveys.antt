@@ -4,6 +4,7 @@ use Rattle.std.specs.Option.{option_map}
 use Rattle.survey.specs.declared.thing.Thing.{Thing}
 use Rattle.ttcn_syntax.specs.declared.tree.definition.Definition.{Definition}
 use Rattle.check_scope.specs.Numbers.{number_of}
+use Rattle.ttcn_types.specs.Limits.{longest_chain, most_fields, most_parts}
 use Rattle.ttcn_types.specs.Parts.{altsteps, records, written_out}
 use Rattle.ttcn_types.specs.Rules.{AreTooLarge, HasCircle}
 use Rattle.check_scope.specs.declared.rule.Rule.{Rule}
@@ -21,16 +22,16 @@ rule_of fault = option_map (λ f. f.0) fault
 -- what things that refer to one another break: a rule where there is a circle, and another where they are too large
 pub data BreaksAmong (things : List Thing) (heaviest : ℕ) (circle : Rule) : Rule → Type 0 where
   in_circle : HasCircle things → BreaksAmong things heaviest circle circle
-  too_large : AreTooLarge things 200 heaviest → BreaksAmong things heaviest circle rule.Size
+  too_large : AreTooLarge things longest_chain heaviest → BreaksAmong things heaviest circle rule.Size
 
 abbrev pub BreaksInRecords : List Definition → Rule → Type 0
-BreaksInRecords definitions = BreaksAmong (records definitions) 1000 rule.BadType
+BreaksInRecords definitions = BreaksAmong (records definitions) most_fields rule.BadType
 
 abbrev pub BreaksWritten : List Definition → Rule → Type 0
-BreaksWritten definitions = BreaksAmong (written_out definitions) 10000 rule.Cycle
+BreaksWritten definitions = BreaksAmong (written_out definitions) most_parts rule.Cycle
 
 abbrev pub BreaksInAltsteps : List Definition → Rule → Type 0
-BreaksInAltsteps definitions = BreaksAmong (altsteps definitions) 10000 rule.Cycle
+BreaksInAltsteps definitions = BreaksAmong (altsteps definitions) most_parts rule.Cycle
 
 -- what definitions break by circles and sizes
 abbrev pub BreaksBySurvey : List Definition → Rule → Type 0

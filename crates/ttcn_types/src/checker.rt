@@ -12,7 +12,7 @@ use crate::program::Program;
 use check_scope::least::Least;
 use check_scope::rule::Rule;
 use check_scope::scope::Scope;
-use check_statements::in_definitions;
+use check_statements::check_definitions;
 use std::alloc::{AllocError, Global};
 use survey::{Findings, Thing, survey};
 use ttcn_syntax::{Definition, Module};
@@ -20,9 +20,15 @@ use ttcn_syntax::{Definition, Module};
 /// How many members a chain may have, of records, of constants and templates, or of altsteps.
 const LONGEST: u32 = 200;
 
+/// How many fields a record may have, those of the records in it among them.
+const MOST_FIELDS: u32 = 1_000;
+
+/// How many parts a constant, a template or an altstep may have, written out.
+const MOST_PARTS: u32 = 10_000;
+
 /// The least rule that things break by circles or sizes, and a thing that breaks it. A circle breaks the rule that is
 /// given.
-fn in_survey(
+fn check_survey(
     alloc: Global,
     things: &[Thing],
     heaviest: u32,
@@ -46,7 +52,7 @@ fn in_survey(
 }
 
 /// A fault at the place of the definition that it is about.
-fn at_definition(definitions: &[Definition], fault: Option<(Rule, usize)>) -> Least
+fn least_at(definitions: &[Definition], fault: Option<(Rule, usize)>) -> Least
     requires { IfSome fault (λ f. f.1 < length definitions.now) }
     ensures { (least_in result).least ≡ rule_of fault }
 {
@@ -60,21 +66,21 @@ fn at_definition(definitions: &[Definition], fault: Option<(Rule, usize)>) -> Le
 
 /// A record that contains itself, or is too large.
 #[tactic(auto, using(crate::proofs::Complete::records_complete))]
-fn in_records(alloc: Global, scope: &Scope<'_>) -> Result<Least, AllocError>
+fn check_records(alloc: Global, scope: &Scope<'_>) -> Result<Least, AllocError>
     ensures { IfOk result (λ found. IsLeastWhere (BreaksInRecords scope.now.definitions.now) (least_in found).least) }
 {
     let things = records(alloc, scope)?;
-    let fault = in_survey(alloc, things.as_slice(), 1_000, Rule::BadType)?;
-    Ok(at_definition(scope.definitions, fault))
+    let fault = check_survey(alloc, things.as_slice(), MOST_FIELDS, Rule::BadType)?;
+    Ok(least_at(scope.definitions, fault))
 }
 
 /// A constant or a template that refers to itself, or is too large.
 #[tactic(auto, using(crate::proofs::WrittenOut::written_complete, crate::proofs::WrittenOut::length_written))]
-fn in_written(alloc: Global, scope: &Scope<'_>) -> Result<Least, AllocError>
+fn check_written(alloc: Global, scope: &Scope<'_>) -> Result<Least, AllocError>
     ensures { IfOk result (λ found. IsLeastWhere (BreaksWritten scope.now.definitions.now) (least_in found).least) }
 {
     let things = written_out(alloc, scope)?;
-    let fault = match in_survey(alloc, things.as_slice(), 10_000, Rule::Cycle)? {
+    let fault = match check_survey(alloc, things.as_slice(), MOST_PARTS, Rule::Cycle)? {
         Some((rule, number)) => Some((rule, place_of(scope.definitions, number))),
         None => None,
     };
@@ -83,22 +89,22 @@ fn in_written(alloc: Global, scope: &Scope<'_>) -> Result<Least, AllocError>
 
 /// An altstep that is a branch of itself, or too large.
 #[tactic(auto, using(crate::proofs::Complete::altsteps_complete))]
-fn in_altsteps(alloc: Global, scope: &Scope<'_>) -> Result<Least, AllocError>
+fn check_altsteps(alloc: Global, scope: &Scope<'_>) -> Result<Least, AllocError>
     ensures { IfOk result (λ found. IsLeastWhere (BreaksInAltsteps scope.now.definitions.now) (least_in found).least) }
 {
     let things = altsteps(alloc, scope)?;
-    let fault = in_survey(alloc, things.as_slice(), 10_000, Rule::Cycle)?;
-    Ok(at_definition(scope.definitions, fault))
+    let fault = check_survey(alloc, things.as_slice(), MOST_PARTS, Rule::Cycle)?;
+    Ok(least_at(scope.definitions, fault))
 }
 
 /// The least rule that the definitions break by circles and sizes.
 #[tactic(auto, using(crate::proofs::LeastWhere::where_either))]
-fn in_surveys(alloc: Global, scope: &Scope<'_>) -> Result<Least, AllocError>
+fn check_surveys(alloc: Global, scope: &Scope<'_>) -> Result<Least, AllocError>
     ensures { IfOk result (λ found. IsLeastWhere (BreaksBySurvey scope.now.definitions.now) (least_in found).least) }
 {
-    let records = in_records(alloc, scope)?;
-    let written = in_written(alloc, scope)?;
-    let altsteps = in_altsteps(alloc, scope)?;
+    let records = check_records(alloc, scope)?;
+    let written = check_written(alloc, scope)?;
+    let altsteps = check_altsteps(alloc, scope)?;
     Ok(records.and(written).and(altsteps))
 }
 
@@ -108,8 +114,8 @@ fn least_broken(alloc: Global, definitions: &[Definition]) -> Result<Least, Allo
 {
     let mut found = Least { fault: None };
     let mut scope = Scope::new(alloc, definitions, &mut found)?;
-    found = found.and(in_surveys(alloc, &scope)?);
-    in_definitions(alloc, &mut scope, definitions, &mut found)?;
+    found = found.and(check_surveys(alloc, &scope)?);
+    check_definitions(alloc, &mut scope, definitions, &mut found)?;
     Ok(found)
 }
 

@@ -7,7 +7,7 @@ use ttcn_syntax::Span;
 /// Why a module isn't well typed: the least rule that is broken, and a place that breaks it.
 #[derive(Debug, Drop, Error)]
 pub enum CheckError {
-    #[error("a rule is broken")]
+    #[error("{0}")]
     Broken(Rule, Span),
     #[error(transparent)]
     Memory(AllocError),

@@ -1,6 +1,6 @@
 //! Blocks, and what is declared in them.
 ghost use Rattle.std.specs.Prelude.{◌≡◌, [], ◌∷◌, OnOk};
-ghost use Rattle.check_scope.specs.Checking.{Around, around, inside, seen};
+ghost use Rattle.check_scope.specs.Checking.{Around, around, inside, view};
 ghost use Rattle.check_scope.specs.Names.{declaring};
 ghost use Rattle.check_scope.specs.declared.table.Table.{Table};
 
@@ -13,7 +13,7 @@ use std::mem::replace;
 impl<'a> Scope<'a> {
     /// Adds a name to the innermost block.
     pub fn declare(&mut self, name: &'a [u8], meaning: Meaning) -> Result<(), AllocError>
-        ensures seen { OnOk result (seen self.new ≡ declaring (seen self.old) ((name.now, meaning) ∷ [])) }
+        ensures view { OnOk result (view self.new ≡ declaring (view self.old) ((name.now, meaning) ∷ [])) }
         ensures around { OnOk result (around self.new ≡ around self.old) }
     {
         self.locals.insert(name, meaning)?;
@@ -22,7 +22,7 @@ impl<'a> Scope<'a> {
 
     /// Begins a block within the innermost one.
     pub fn enter(&mut self, alloc: Global) -> Result<(), AllocError>
-        ensures seen { OnOk result (seen self.new ≡ seen self.old) }
+        ensures view { OnOk result (view self.new ≡ view self.old) }
         ensures around { OnOk result (around self.new ≡ inside (around self.old) self.old.locals) }
     {
         let round = replace(&mut self.locals, Table::new(alloc));

@@ -1,7 +1,7 @@
 //! What names stand for at a place.
 ghost use Rattle.std.specs.Prelude.{◌≡◌, None};
 ghost use Rattle.std.specs.Option.{option_map};
-ghost use Rattle.check_scope.specs.Checking.{seen};
+ghost use Rattle.check_scope.specs.Checking.{view};
 ghost use Rattle.check_scope.specs.PortTypes.{types_of_port};
 ghost use Rattle.check_scope.specs.Names.{constants_type, field_named, fields_at, kind_at, module_names, port_type_meant, resolved, type_meant};
 ghost use Rattle.check_scope.specs.Tables.{member, said, said_in};
@@ -19,7 +19,7 @@ use ttcn_syntax::{Definition, DefinitionKind, Field, Name, TypeName};
 impl<'a> Scope<'a> {
     /// What a name stands for.
     pub fn get(&self, name: &[u8]) -> Option<Meaning>
-        ensures { result ≡ (seen self.now).names name.now }
+        ensures { result ≡ (view self.now).names name.now }
     {
         if let Some(meaning) = self.locals.get(name) {
             return Some(meaning);
@@ -60,21 +60,21 @@ impl<'a> Scope<'a> {
 
     /// The component type that `self` is of.
     pub fn itself(&self) -> Option<usize>
-        ensures { result ≡ (seen self.now).itself }
+        ensures { result ≡ (view self.now).itself }
     {
         self.itself
     }
 
     /// What is defined at a position.
     pub fn kind(&self, at: usize) -> Option<&'a DefinitionKind>
-        ensures { option_map (λ kind. kind.now) result ≡ kind_at (seen self.now).definitions at }
+        ensures { option_map (λ kind. kind.now) result ≡ kind_at (view self.now).definitions at }
     {
         kind_at(self.definitions, at)
     }
 
     /// The fields of the record at a position.
     pub fn fields(&self, at: usize) -> &'a [Field]
-        ensures { result.now ≡ fields_at (seen self.now).definitions at }
+        ensures { result.now ≡ fields_at (view self.now).definitions at }
     {
         match self.kind(at) {
             Some(kind) => fields_of(kind),
@@ -84,21 +84,21 @@ impl<'a> Scope<'a> {
 
     /// The field of a name of the record at a position.
     pub fn field(&self, at: usize, name: &Name) -> Option<&'a Field>
-        ensures { option_map (λ field. field.now) result ≡ field_named name.now (fields_at (seen self.now).definitions at) }
+        ensures { option_map (λ field. field.now) result ≡ field_named name.now (fields_at (view self.now).definitions at) }
     {
         field_at(self.fields_by_name.as_slice(), at, name)
     }
 
     /// What passes at ports of the type at a position.
     pub fn traffic(&self, at: usize) -> Option<&Traffic>
-        ensures { types_through (option_map (λ traffic. traffic.now) result) ≡ (λ incoming. types_of_port (module_names (seen self.now).definitions) incoming (kind_at (seen self.now).definitions at)) }
+        ensures { types_through (option_map (λ traffic. traffic.now) result) ≡ (λ incoming. types_of_port (module_names (view self.now).definitions) incoming (kind_at (view self.now).definitions at)) }
     {
         traffic_at(self.ports.as_slice(), at)
     }
 
     /// The type that a declaration names.
     pub fn resolved(&self, type_name: &TypeName) -> Option<DataType>
-        ensures { result ≡ resolved (seen self.now).names type_name.now }
+        ensures { result ≡ resolved (view self.now).names type_name.now }
     {
         match type_name {
             TypeName::Named(name) => type_meant(self.get(name.as_bytes())),

@@ -1,6 +1,6 @@
 //! Scopes outside of blocks.
 ghost use Rattle.std.specs.Prelude.{◌≡◌, IfOk, OnOk, Some};
-ghost use Rattle.check_scope.specs.Checking.{both, least, least_in, seen};
+ghost use Rattle.check_scope.specs.Checking.{both, least, least_in, view};
 ghost use Rattle.check_scope.specs.Scopes.{at_module_names, component_scope, module_scope, outside, scope_on};
 
 use super::Scope;
@@ -20,7 +20,7 @@ impl<'a> Scope<'a> {
         definitions: &'a [Definition],
         found: &mut Least,
     ) -> Result<Scope<'a>, AllocError>
-        ensures seen { IfOk result (λ scope. seen scope ≡ module_scope definitions.now) }
+        ensures view { IfOk result (λ scope. view scope ≡ module_scope definitions.now) }
         ensures rules { OnOk result (least_in found.new ≡ both (least_in found.old) (least (at_module_names definitions.now))) }
     {
         let defined = define_all(alloc, definitions, found)?;
@@ -42,27 +42,27 @@ impl<'a> Scope<'a> {
 
     /// Goes to what belongs to no behaviour and no component type.
     pub fn go_to_module(&mut self, alloc: Global)
-        ensures { seen self.new ≡ module_scope (seen self.old).definitions }
+        ensures { view self.new ≡ module_scope (view self.old).definitions }
     {
         self.begin(alloc, None, None);
     }
 
     /// Goes to the beginning of the component type at a position.
     pub fn go_to_component(&mut self, alloc: Global, at: usize)
-        ensures { seen self.new ≡ component_scope (seen self.old).definitions at }
+        ensures { view self.new ≡ component_scope (view self.old).definitions at }
     {
         self.begin(alloc, None, Some(at));
     }
 
     /// Goes to the beginning of a behaviour that runs on the component type at a position, or says nothing of it.
     pub fn go_to_behaviour(&mut self, alloc: Global, runs_on: Option<usize>)
-        ensures { seen self.new ≡ scope_on (seen self.old).definitions runs_on }
+        ensures { view self.new ≡ scope_on (view self.old).definitions runs_on }
     {
         self.begin(alloc, runs_on, runs_on);
     }
 
     fn begin(&mut self, alloc: Global, runs_on: Option<usize>, itself: Option<usize>)
-        ensures { seen self.new ≡ outside (seen self.old).definitions runs_on itself }
+        ensures { view self.new ≡ outside (view self.old).definitions runs_on itself }
     {
         self.locals = Table::new(alloc);
         self.blocks.clear();

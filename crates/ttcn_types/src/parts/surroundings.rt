@@ -55,8 +55,8 @@ impl Surroundings<'_, '_> {
         ensures { OnOk result (into.new ≡ spec.beside into.old (spec.of_component (scope_of self.now) component.now)) }
     {
         match component {
+            ComponentRef::Itself | ComponentRef::Mtc => into.add_leaf(),
             ComponentRef::Named(reference) => self.add_reference(reference, into),
-            _ => into.add_leaf(),
         }
     }
 

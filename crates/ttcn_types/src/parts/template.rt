@@ -1,22 +1,11 @@
 //! What stands in templates.
 ghost use Rattle.std.specs.Prelude.{◌≡◌, IfOk, OnOk, map};
-ghost use Rattle.check_expressions.specs.Templates.{template_meant};
 
 use super::surroundings::Surroundings;
-use check_scope::names::Meaning;
+use check_expressions::template::template_meant;
 use std::alloc::{AllocError, Global};
 use survey::Thing;
 use ttcn_syntax::{Bound, Call, ComponentRef, Expr, FieldTemplate, Template, TemplateBody};
-
-/// The template that a name stands for.
-fn template_meant(meaning: Option<Meaning>) -> Option<usize>
-    ensures { result ≡ template_meant meaning }
-{
-    match meaning {
-        Some(Meaning::Template(at)) => Some(at),
-        _ => None,
-    }
-}
 
 impl Surroundings<'_, '_> {
     ghost use Rattle.ttcn_types.specs.Surrounding.{scope_of};

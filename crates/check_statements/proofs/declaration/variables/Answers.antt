@@ -1,5 +1,5 @@
 use Rattle.std.proofs.Common.{◌∙◌, refl, sym, true}
-use Rattle.check_scope.specs.Checking.{least, seen}
+use Rattle.check_scope.specs.Checking.{least, view}
 use Rattle.check_expressions.specs.Declarations.{one_by_one}
 use Rattle.check_expressions.specs.Targets.{at_type, at_variable, variable_entry}
 use Rattle.check_statements.proofs.Declared.{walked-first, walked-next, walked-rules, walked-scope}
@@ -8,37 +8,37 @@ use Rattle.check_statements.proofs.declaration.variables.Goals as goal
 
 pub loop-item-init : goal.loop-item-init
 loop-item-init c = record {
-  walked = rw (c.at_type-broken.ensures, c.as_slice-item-items.ensures)
+  walked = rw (c.check_type-broken.ensures, c.as_slice-item-items.ensures)
       (walked-first (at_variable c.resolved-of.result) (variable_entry c.resolved-of.result)
-      (least (at_type (seen c.args.scope.now).names true c.args.variables.now.type_name)) (seen c.args.scope.now) c.args.variables.now.variables);
+      (least (at_type (view c.args.scope.now).names true c.args.variables.now.type_name)) (view c.args.scope.now) c.args.variables.now.variables);
   around_is = refl;
 }
 
 pub loop-item-preserved : goal.loop-item-preserved
 loop-item-preserved c = record {
   walked = walked-next (at_variable c.resolved-of.result) (variable_entry c.resolved-of.result)
-      c.loop-item.broken c.in_ok-more.more c.and-broken.result (least (at_type (seen c.args.scope.now).names true c.args.variables.now.type_name))
-      (seen c.loop-item.scope) (seen c.variable.new.scope) (seen c.args.scope.now)
+      c.loop-item.broken c.in_ok-more.more c.and-broken.result (least (at_type (view c.args.scope.now).names true c.args.variables.now.type_name))
+      (view c.loop-item.scope) (view c.variable.new.scope) (view c.args.scope.now)
       c.as_slice-item-items.result.now c.loop-item.item-index c.item-item.result c.args.variables.now.variables
-      c.loop-item-test.true c.item-item.is c.loop-item.invariant.walked c.in_ok-more.ensures.broken c.in_ok-more.ensures.seen c.and-broken.ensures;
+      c.loop-item-test.true c.item-item.is c.loop-item.invariant.walked c.in_ok-more.ensures.broken c.in_ok-more.ensures.view c.and-broken.ensures;
   around_is = c.in_ok-more.ensures.around ∙ c.loop-item.invariant.around_is;
 }
 
 pub returns-clause-broken : goal.returns-clause-broken
 returns-clause-broken c =
-    let rules = at_type (seen c.args.scope.now).names true c.args.variables.now.type_name in
+    let rules = at_type (view c.args.scope.now).names true c.args.variables.now.type_name in
     rw (sym c.resolved-of.ensures)
     (walked-rules (at_variable c.resolved-of.result) (variable_entry c.resolved-of.result) c.loop-item.broken (least rules)
-    (seen c.loop-item.scope) (seen c.args.scope.now) c.as_slice-item-items.result.now c.loop-item.item-index c.args.variables.now.variables
+    (view c.loop-item.scope) (view c.args.scope.now) c.as_slice-item-items.result.now c.loop-item.item-index c.args.variables.now.variables
     c.loop-item-test.false c.loop-item.invariant.walked
-    ∙ sym (least_append rules (one_by_one (at_variable c.resolved-of.result) (variable_entry c.resolved-of.result) (seen c.args.scope.now) c.args.variables.now.variables)))
+    ∙ sym (least_append rules (one_by_one (at_variable c.resolved-of.result) (variable_entry c.resolved-of.result) (view c.args.scope.now) c.args.variables.now.variables)))
 
-pub returns-clause-seen : goal.returns-clause-seen
-returns-clause-seen c =
+pub returns-clause-view : goal.returns-clause-view
+returns-clause-view c =
     rw (sym c.resolved-of.ensures)
     (walked-scope (at_variable c.resolved-of.result) (variable_entry c.resolved-of.result) c.loop-item.broken
-    (least (at_type (seen c.args.scope.now).names true c.args.variables.now.type_name))
-    (seen c.loop-item.scope) (seen c.args.scope.now) c.as_slice-item-items.result.now c.loop-item.item-index c.args.variables.now.variables
+    (least (at_type (view c.args.scope.now).names true c.args.variables.now.type_name))
+    (view c.loop-item.scope) (view c.args.scope.now) c.as_slice-item-items.result.now c.loop-item.item-index c.args.variables.now.variables
     c.loop-item-test.false c.loop-item.invariant.walked)
 
 pub returns-clause-around : goal.returns-clause-around

@@ -1,8 +1,8 @@
-use Rattle.check_scope.proofs.Members.{seen-outside}
+use Rattle.check_scope.proofs.Members.{view-outside}
 use Rattle.check_scope.proofs.scope.Scope.begin.Goals as goal
 
 pub returns : goal.returns
 returns c =
     let scope = c.args.self.now in
     rw c.clear.ensures.items
-    (seen-outside scope.definitions.now scope.defined c.new.result scope.members.items c.args.runs_on c.args.itself c.new.ensures scope.is_whole scope.are_members)
+    (view-outside scope.definitions.now scope.defined c.new.result scope.members.items c.args.runs_on c.args.itself c.new.ensures scope.is_whole scope.are_members)

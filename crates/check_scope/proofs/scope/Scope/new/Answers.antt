@@ -1,5 +1,5 @@
 use Rattle.std.proofs.Common.{None}
-use Rattle.check_scope.proofs.Members.{are-members, seen-outside}
+use Rattle.check_scope.proofs.Members.{are-members, view-outside}
 use Rattle.check_scope.proofs.scope.Scope.new.Goals as goal
 
 pub invariant_of-result : goal.invariant_of-result
@@ -10,8 +10,8 @@ invariant_of-result c = record {
   is_whole = c.in_ok-defined.ensures.names;
 }
 
-pub returns-clause-seen : goal.returns-clause-seen
-returns-clause-seen c =
+pub returns-clause-view : goal.returns-clause-view
+returns-clause-view c =
     rw c.new.ensures.items
-    (seen-outside c.args.definitions.now c.in_ok-defined.defined c.new-2.result c.in_ok-members.members.items None None c.new-2.ensures c.in_ok-defined.ensures.names
+    (view-outside c.args.definitions.now c.in_ok-defined.defined c.new-2.result c.in_ok-members.members.items None None c.new-2.ensures c.in_ok-defined.ensures.names
     (are-members c.args.definitions.now c.in_ok-defined.defined c.in_ok-members.members.items c.in_ok-defined.ensures.names c.in_ok-members.ensures))

@@ -1,0 +1,55 @@
+//! What is known of an expression.
+ghost use Rattle.std.specs.Prelude.{◌≡◌};
+ghost use Rattle.check_expressions.specs.Findings.{finding, with_before};
+ghost use Rattle.check_expressions.specs.Expressions as spec;
+
+use check_scope::broken::Broken;
+use check_scope::rule::Rule;
+use check_scope::types::{DataType, Typing};
+
+/// What is known of an expression's type, and the least rule that is broken in it.
+#[derive(Clone, Copy, Debug, PartialEq, Eq)]
+pub struct Finding {
+    pub typing: Typing,
+    pub broken: Broken,
+}
+
+impl Finding {
+    pub(crate) fn fine(typing: Typing) -> Finding
+        ensures { result ≡ finding (spec.fine typing) }
+    {
+        Finding {
+            typing,
+            broken: Broken::nothing(),
+        }
+    }
+
+    pub(crate) fn wrong(rule: Rule) -> Finding
+        ensures { result ≡ finding (spec.wrong rule) }
+    {
+        Finding {
+            typing: Typing::Unknown,
+            broken: Broken::of(rule),
+        }
+    }
+
+    /// Of the type, whether the demand is kept or not.
+    pub(crate) fn demanding(kept: bool, rule: Rule, data_type: DataType) -> Finding
+        ensures { result ≡ finding (spec.demanding kept rule data_type) }
+    {
+        Finding {
+            typing: Typing::Known(data_type),
+            broken: Broken::unless(kept, rule),
+        }
+    }
+
+    /// The same, with what is broken before it.
+    pub(crate) fn after(self, before: Broken) -> Finding
+        ensures { result ≡ with_before before self }
+    {
+        Finding {
+            typing: self.typing,
+            broken: before.and(self.broken),
+        }
+    }
+}
