@@ -2,7 +2,6 @@
 -- that is referred to differs.
 use Rattle.std.proofs.Common.{◌≡◌, ℕ, ◌+◌, Bool, true, false, nat_eq, List, [], ◌∷◌, ◌++◌, map, length, bytes_eq, Option, Some, None, if◌then◌else◌, refl, sym, ap, subst, ◌∙◌}
 use Rattle.std.specs.List.{find, zip}
-use Rattle.std.specs.Option.{option_and_then, option_map}
 use Rattle.evaluation_laws.proofs.Lists.{Each, cons-same, each-first, each-rest, then-same}
 use Rattle.survey.specs.declared.thing.Thing.{Thing}
 use Rattle.ttcn_syntax.specs.declared.operator.Operator.{Operator}
@@ -28,7 +27,7 @@ use Rattle.ttcn_values.specs.Chains.{Outcomes, with_outcomes}
 use Rattle.ttcn_values.specs.Evaluation.{Evaluation, after, expression_step, joined, link, link_step, value_of}
 use Rattle.ttcn_values.specs.Literals.{Wanted, by_name, element, element_named, field_value, field_value_step, given_by_name, in_order, record_at, type_of_field, value_step, value_wanted, wanted_record}
 use Rattle.ttcn_values.specs.Operations.{applied, decides, negated, under_sign}
-use Rattle.ttcn_values.specs.Outcomes.{each}
+use Rattle.ttcn_values.specs.Outcomes.{Fails, Outcome, Yields, each, outcome_and_then, outcome_map, unmet}
 use Rattle.ttcn_values.specs.Readings.{Reading, along, by_meaning, component_at, component_runs, named, presence, runs, runs_at, timer_of}
 use Rattle.ttcn_values.specs.declared.value.Value.{Value}
 use Rattle.ttcn_values.specs.declared.value.Value.TheVariants as value
@@ -86,7 +85,7 @@ module _ (base : Reading) (one other : Outcomes) (scope : Scope) (keeps : Keeps 
     where
       timed : (running : Option Bool) → runs_at here (component.Named reference) running ≡ runs_at there (component.Named reference) running
       timed (Some b) = refl
-      timed None = ap (option_and_then (component_runs here)) (component-same (component.Named reference) all)
+      timed None = ap (outcome_and_then (component_runs here)) (component-same (component.Named reference) all)
 
   -- ---- expressions
 
@@ -99,19 +98,19 @@ module _ (base : Reading) (one other : Outcomes) (scope : Scope) (keeps : Keeps 
   abbrev HeldLink : Type 0
   HeldLink = (l : Link) × SameOf (link_parts scope l) (link l).1
 
-  joined-same : (l : HeldLink) (found next : Option Value) → found ≡ next → Agrees (link_parts scope l.0)
-      → option_and_then (joined here (link l.0)) found ≡ option_and_then (joined there (link l.0)) next
+  joined-same : (l : HeldLink) (found next : Outcome Value) → found ≡ next → Agrees (link_parts scope l.0)
+      → outcome_and_then (joined here (link l.0)) found ≡ outcome_and_then (joined there (link l.0)) next
   joined-same l found next same all =
       then-same (joined here (link l.0)) (joined there (link l.0))
-      (λ left. ap (λ right. if decides (link l.0).0 left then Some left else option_and_then (applied (link l.0).0 left) right) (l.1 all)) found
-      ∙ ap (option_and_then (joined there (link l.0))) same
+      (λ left. ap (λ right. if decides (link l.0).0 left then Yields left else outcome_and_then (applied (link l.0).0 left) right) (l.1 all)) found
+      ∙ ap (outcome_and_then (joined there (link l.0))) same
 
-  after-same : (links : List HeldLink) (found next : Option Value) → found ≡ next → Agrees (all_of (map (link_parts scope) (map (λ l. l.0) links)))
+  after-same : (links : List HeldLink) (found next : Outcome Value) → found ≡ next → Agrees (all_of (map (link_parts scope) (map (λ l. l.0) links)))
       → after here found (map link (map (λ l. l.0) links)) ≡ after there next (map link (map (λ l. l.0) links))
   after-same [] found next same all = same
   after-same (l ∷ links) found next same all =
       let rest : Thing = all_of (map (link_parts scope) (map (λ l. l.0) links)) in
-      after-same links (option_and_then (joined here (link l.0)) found) (option_and_then (joined there (link l.0)) next)
+      after-same links (outcome_and_then (joined here (link l.0)) found) (outcome_and_then (joined there (link l.0)) next)
       (joined-same l found next same (agrees-first (link_parts scope l.0).references rest.references all)) (agrees-rest (link_parts scope l.0).references rest.references all)
 
   abbrev LevelExpr : Expr-F Expr Link → Type 0
@@ -124,9 +123,9 @@ module _ (base : Reading) (one other : Outcomes) (scope : Scope) (keeps : Keeps 
   expr-held Expr-F.Null = λ all. refl
   expr-held (Expr-F.Reference reference) = λ all. component-same reference all
   expr-held (Expr-F.Running reference) = λ all. runs-same reference all
-  expr-held (Expr-F.Ispresent reference) = λ all. ap (option_and_then (presence base.definitions reference.fields)) (name-same reference.name all)
-  expr-held (Expr-F.Not operand) = λ all. ap (option_and_then negated) (operand.1 all)
-  expr-held (Expr-F.Signed sign operand) = λ all. ap (option_and_then (under_sign sign)) (operand.1 all)
+  expr-held (Expr-F.Ispresent reference) = λ all. ap (outcome_and_then (presence base.definitions reference.fields)) (name-same reference.name all)
+  expr-held (Expr-F.Not operand) = λ all. ap (outcome_and_then negated) (operand.1 all)
+  expr-held (Expr-F.Signed sign operand) = λ all. ap (outcome_and_then (under_sign sign)) (operand.1 all)
   expr-held (Expr-F.Chain first links) = λ all.
       let rest : Thing = all_of (map (link_parts scope) (map (λ l. l.0) links)) in
       after-same links (value_of first.0 here) (value_of first.0 there) (first.1 (agrees-first (expression_parts scope first.0).references rest.references all))
@@ -165,9 +164,9 @@ module _ (base : Reading) (one other : Outcomes) (scope : Scope) (keeps : Keeps 
   braced-agrees [] all = tt
   braced-agrees (thing ∷ things) all = all
 
-  record-same : (at : Option ℕ) (f g : ℕ → Option (List (Option Value))) → ((at : ℕ) → f at ≡ g at) → record_at at f ≡ record_at at g
-  record-same None f g same = refl
-  record-same (Some at) f g same = ap (option_map (value.Record at)) (same at)
+  record-same : (at : Outcome ℕ) (f g : ℕ → Outcome (List (Option Value))) → ((at : ℕ) → f at ≡ g at) → record_at at f ≡ record_at at g
+  record-same (Fails why) f g same = refl
+  record-same (Yields at) f g same = ap (outcome_map (value.Record at)) (same at)
 
   elements-same : (fields : List Field) (es : List HeldValue) → Agrees (all_of (map (value_parts scope) (map (λ v. v.0) es)))
       → map (element here) (zip fields (map value_wanted (map (λ v. v.0) es))) ≡ map (element there) (zip fields (map value_wanted (map (λ v. v.0) es)))
@@ -177,13 +176,13 @@ module _ (base : Reading) (one other : Outcomes) (scope : Scope) (keeps : Keeps 
       let rest : Thing = all_of (map (value_parts scope) (map (λ v. v.0) es)) in
       let others : List (Field × Wanted) = zip fields (map value_wanted (map (λ v. v.0) es)) in
       cons-same (element here (f, value_wanted e.0)) (element there (f, value_wanted e.0)) (map (element here) others) (map (element there) others)
-      (ap (option_map Some) (e.1 (agrees-first (value_parts scope e.0).references rest.references all) (type_of_field here f)))
+      (ap (outcome_map Some) (e.1 (agrees-first (value_parts scope e.0).references rest.references all) (type_of_field here f)))
       (elements-same fields es (agrees-rest (value_parts scope e.0).references rest.references all))
 
   in-order-same : (fields : List Field) (es : List HeldValue) → Agrees (all_of (map (value_parts scope) (map (λ v. v.0) es)))
       → in_order here fields (map value_wanted (map (λ v. v.0) es)) ≡ in_order there fields (map value_wanted (map (λ v. v.0) es))
   in-order-same fields es all =
-      ap (λ l. if nat_eq (length (map value_wanted (map (λ (v : HeldValue). v.0) es))) (length fields) then each l else None) (elements-same fields es all)
+      ap (λ l. if nat_eq (length (map value_wanted (map (λ (v : HeldValue). v.0) es))) (length fields) then each l else unmet) (elements-same fields es all)
 
   named-element-same : (field : Field) (es : List HeldField) → Agrees (all_of (map (field_value_parts scope) (map (λ f. f.0) es)))
       → given_by_name here (map field_value (map (λ f. f.0) es)) field ≡ given_by_name there (map field_value (map (λ f. f.0) es)) field
@@ -197,7 +196,7 @@ module _ (base : Reading) (one other : Outcomes) (scope : Scope) (keeps : Keeps 
           → given_by_name here (map field_value (map (λ f. f.0) es)) field ≡ given_by_name there (map field_value (map (λ f. f.0) es)) field
           → element_named here field (if b then Some (field_value e.0) else find (λ x. bytes_eq x.0 field.name) (map field_value (map (λ f. f.0) es)))
           ≡ element_named there field (if b then Some (field_value e.0) else find (λ x. bytes_eq x.0 field.name) (map field_value (map (λ f. f.0) es)))
-      chosen true its rest = ap (option_map Some) its
+      chosen true its rest = ap (outcome_map Some) its
       chosen false its rest = rest
 
   named-elements-same : (fields : List Field) (es : List HeldField) → Agrees (all_of (map (field_value_parts scope) (map (λ f. f.0) es)))

@@ -1,5 +1,8 @@
 pub mod Agreement
+pub mod Demands
 pub mod Lists
+pub mod MetExpressions
+pub mod ModuleReadings
 pub mod Places
 pub mod Steps
 pub mod TemplateAgreement

@@ -1,13 +1,13 @@
 -- What holds of each number of a list, and what lists have at a position.
-use Rattle.std.proofs.Common.{◌≡◌, ℕ, zero, suc, ◌+◌, List, [], ◌∷◌, ◌++◌, length, Option, Some, None, refl, ap, ◌∙◌, arith}
+use Rattle.std.proofs.Common.{◌≡◌, ℕ, zero, suc, ◌+◌, List, [], ◌∷◌, ◌++◌, length, Some, refl, ap, ◌∙◌, arith}
 use Rattle.std.specs.List.{Contains, slice_get}
-use Rattle.std.specs.Option.{option_and_then}
 use Rattle.survey.proofs.Chains.{Contains-first}
+use Rattle.ttcn_values.specs.Outcomes.{Fails, Outcome, Yields, outcome_and_then}
 
 -- what follows on two functions that give the same
-pub then-same : {A B : Type 0} (f g : A → Option B) → ((a : A) → f a ≡ g a) → (o : Option A) → option_and_then f o ≡ option_and_then g o
-then-same f g same None = refl
-then-same f g same (Some a) = same a
+pub then-same : {A B : Type 0} (f g : A → Outcome B) → ((a : A) → f a ≡ g a) → (o : Outcome A) → outcome_and_then f o ≡ outcome_and_then g o
+then-same f g same (Fails why) = refl
+then-same f g same (Yields a) = same a
 
 pub some-same : {A : Type 0} (x y : A) → Some x ≡ Some y → x ≡ y
 some-same x y is = cc

@@ -35,6 +35,7 @@ use Rattle.check_scope.specs.declared.rule.Rule.TheVariants as rule
 use Rattle.check_scope.specs.declared.types.DataType.{DataType}
 use Rattle.ttcn_values.specs.Chains.{Outcomes, constant_value, given_to, outcomes_within, template_value, with_names, with_outcomes, within_chains}
 use Rattle.ttcn_values.specs.Frames.{facts, reading as reading_of}
+use Rattle.ttcn_values.specs.Outcomes.{Outcome, unmet}
 use Rattle.ttcn_values.specs.Readings.{Reading}
 use Rattle.ttcn_values.specs.declared.frame.Frame.{Frame}
 use Rattle.ttcn_values.specs.declared.template.Template.{Template}
@@ -42,7 +43,7 @@ use Rattle.ttcn_values.specs.declared.value.Value.{Value}
 
 -- ---- parameters hide no name of the module
 
-none-is : {A : Type 0} (o : Option A) → is_none o ≡ true → o ≡ None
+pub none-is : {A : Type 0} (o : Option A) → is_none o ≡ true → o ≡ None
 none-is None is = refl
 none-is (Some a) is = absurd (let e = is in cc)
 
@@ -82,7 +83,7 @@ module _ (definitions : List Definition) where
       none-is (scope.names p.name) (kept (is_none (scope.names p.name)) rule.DuplicateName (nothing-first (at_new_name scope.names p.name) (at_type scope.names true p.type_name) (nothing-first here others nothing))) in
       parameters-keep next ps (nothing-rest here others nothing) (parameter-keeps scope p keeps new)
 
-  kind-of-template : (k : Option DefinitionKind) (t : TemplateDefinition) → template_of k ≡ Some t → k ≡ Some (kind.Template t)
+  pub kind-of-template : (k : Option DefinitionKind) (t : TemplateDefinition) → template_of k ≡ Some t → k ≡ Some (kind.Template t)
   kind-of-template (Some (kind.Template u)) t is = cc
   kind-of-template (Some (kind.Record r)) t is = absurd (let e = is in cc)
   kind-of-template (Some (kind.Enumerated e)) t is = absurd (let f = is in cc)
@@ -112,7 +113,7 @@ chains-shorter things n k thing is short next among (rest, chain, longer) =
     short (next ∷ rest, (subst (λ l. Contains l next) (sym (ap (λ o. option_map_or (λ (t : Thing). t.references) o []) is)) among, chain), omega arith)
 
 -- a thing alone is a chain
-alone : (things : List Thing) (k : ℕ) (thing : Thing) → slice_get things k ≡ Some thing → BeginsLongerChain things 0 k
+pub alone : (things : List Thing) (k : ℕ) (thing : Thing) → slice_get things k ≡ Some thing → BeginsLongerChain things 0 k
 alone things k thing is = ([], slice_get_within things k thing is, omega arith)
 
 -- ---- what is given with one more link
@@ -128,34 +129,34 @@ module _ (reading : Reading) (well : AreWellTyped reading.definitions) where
   abbrev type_at : ℕ → Option DataType
   type_at at = constants_type (module_names reading.definitions) (kind_at reading.definitions at)
 
-  abbrev next_constants : Outcomes → ℕ → ℕ → Option Value
-  next_constants outcomes at item = constant_value (with_outcomes outcomes (with_names (λ name. None) reading)) (constant_at reading.definitions at item) (type_at at)
+  abbrev next_constants : Outcomes → ℕ → ℕ → Outcome Value
+  next_constants outcomes at item = constant_value (with_outcomes outcomes (with_names (λ name. unmet) reading)) (constant_at reading.definitions at item) (type_at at)
 
-  abbrev next_templates : Outcomes → ℕ → List Value → Option Template
+  abbrev next_templates : Outcomes → ℕ → List Value → Outcome Template
   next_templates outcomes at values = template_value (λ names. with_outcomes outcomes (with_names names reading)) (template_at reading.definitions at) values
 
   -- outcomes each of which has one more link than those before it
   record HasLinks (family : ℕ → Outcomes) : Type 0 where
     constants : (n at item : ℕ) → (family (suc n)).0 at item ≡ next_constants (family n) at item
     templates : (n at : ℕ) (values : List Value) → (family (suc n)).1 at values ≡ next_templates (family n) at values
-    no_constant : (at item : ℕ) → constant_at reading.definitions at item ≡ None → (family 0).0 at item ≡ None
-    no_template : (at : ℕ) → template_at reading.definitions at ≡ None → (values : List Value) → (family 0).1 at values ≡ None
+    no_constant : (at item : ℕ) → constant_at reading.definitions at item ≡ None → (family 0).0 at item ≡ unmet
+    no_template : (at : ℕ) → template_at reading.definitions at ≡ None → (values : List Value) → (family 0).1 at values ≡ unmet
 
   abbrev Short : ℕ → ℕ → Type 0
   Short n k = BeginsLongerChain (written_out reading.definitions) n k → ⊥
 
   -- what two outcomes give with one more link
-  constant-next : (one other : Outcomes) (n at item : ℕ) → Short (suc n) (number_at reading.definitions at + item) → ((k : ℕ) → Short n k → AgreeAt reading.definitions one other k)
+  pub constant-next : (one other : Outcomes) (n at item : ℕ) → Short (suc n) (number_at reading.definitions at + item) → ((k : ℕ) → Short n k → AgreeAt reading.definitions one other k)
       → (c : Option Constant) → constant_at reading.definitions at item ≡ c → (wanted : Option DataType)
-      → constant_value (with_outcomes one (with_names (λ name. None) reading)) c wanted ≡ constant_value (with_outcomes other (with_names (λ name. None) reading)) c wanted
+      → constant_value (with_outcomes one (with_names (λ name. unmet) reading)) c wanted ≡ constant_value (with_outcomes other (with_names (λ name. unmet) reading)) c wanted
   constant-next one other n at item short agree None is wanted = refl
   constant-next one other n at item short agree (Some c) is wanted =
       let thing : Thing = constant_parts (module_scope reading.definitions) c in
-      value_same (with_names (λ name. None) reading) one other (module_scope reading.definitions) (module-keeps reading.definitions) c.value
+      value_same (with_names (λ name. unmet) reading) one other (module_scope reading.definitions) (module-keeps reading.definitions) c.value
       (each-of (AgreeAt reading.definitions one other) thing.references (λ k among. agree k
       (chains-shorter things n (number_at reading.definitions at + item) thing (constant_placed reading.definitions at item c is) short k among))) wanted
 
-  template-next : (one other : Outcomes) (n at : ℕ) → Short (suc n) (number_at reading.definitions at) → ((k : ℕ) → Short n k → AgreeAt reading.definitions one other k)
+  pub template-next : (one other : Outcomes) (n at : ℕ) → Short (suc n) (number_at reading.definitions at) → ((k : ℕ) → Short n k → AgreeAt reading.definitions one other k)
       → (t : Option TemplateDefinition) → template_at reading.definitions at ≡ t → (values : List Value)
       → template_value (λ names. with_outcomes one (with_names names reading)) t values ≡ template_value (λ names. with_outcomes other (with_names names reading)) t values
   template-next one other n at short agree None is values = refl
@@ -197,22 +198,22 @@ module _ (reading : Reading) (well : AreWellTyped reading.definitions) where
   -- ---- chains of at most so many
 
   -- the names that are visible elsewhere don't matter
-  any-names : (n : ℕ) (names : List ℕ → Option Value) → outcomes_within n (with_names names reading) ≡ outcomes_within n reading
+  any-names : (n : ℕ) (names : List ℕ → Outcome Value) → outcomes_within n (with_names names reading) ≡ outcomes_within n reading
   any-names zero names = refl
   any-names (suc n) names = refl
 
-  constant-within : (n at item : ℕ) → (outcomes_within (suc n) reading).0 at item ≡ next_constants (outcomes_within n reading) at item
+  pub constant-within : (n at item : ℕ) → (outcomes_within (suc n) reading).0 at item ≡ next_constants (outcomes_within n reading) at item
   constant-within n at item =
-      ap (λ (o : Outcomes). constant_value (with_outcomes o (with_names (λ name. None) reading)) (constant_at reading.definitions at item) (type_at at)) (any-names n (λ name. None))
+      ap (λ (o : Outcomes). constant_value (with_outcomes o (with_names (λ name. unmet) reading)) (constant_at reading.definitions at item) (type_at at)) (any-names n (λ name. unmet))
 
-  template-within : (n : ℕ) (t : Option TemplateDefinition) (values : List Value)
+  pub template-within : (n : ℕ) (t : Option TemplateDefinition) (values : List Value)
       → template_value (λ names. with_outcomes (outcomes_within n (with_names names reading)) (with_names names reading)) t values
       ≡ template_value (λ names. with_outcomes (outcomes_within n reading) (with_names names reading)) t values
   template-within n None values = refl
   template-within n (Some t) values =
       ap (λ (o : Outcomes). template_value (λ names. with_outcomes o (with_names names reading)) (Some t) values) (any-names n (given_to t.parameters values))
 
-  nothing-at : (t : Option TemplateDefinition) → t ≡ None → (family : (List ℕ → Option Value) → Reading) (values : List Value) → template_value family t values ≡ None
+  nothing-at : (t : Option TemplateDefinition) → t ≡ None → (family : (List ℕ → Outcome Value) → Reading) (values : List Value) → template_value family t values ≡ unmet
   nothing-at t is family values = ap (λ u. template_value family u values) is
 
   within-links : HasLinks (λ n. outcomes_within n reading)
@@ -227,7 +228,7 @@ module _ (reading : Reading) (well : AreWellTyped reading.definitions) where
   more-links = record {
     constants = λ n at item. constant-within (suc n) at item;
     templates = λ n at values. template-within (suc n) (template_at reading.definitions at) values;
-    no_constant = λ at item is. ap (λ c. constant_value (with_outcomes (outcomes_within 0 (with_names (λ name. None) reading)) (with_names (λ name. None) reading)) c (type_at at)) is;
+    no_constant = λ at item is. ap (λ c. constant_value (with_outcomes (outcomes_within 0 (with_names (λ name. unmet) reading)) (with_names (λ name. unmet) reading)) c (type_at at)) is;
     no_template = λ at is values. ap (λ t. template_value (λ names. with_outcomes (outcomes_within 0 (with_names names reading)) (with_names names reading)) t values) is;
   }
 
@@ -249,7 +250,7 @@ module _ (reading : Reading) (well : AreWellTyped reading.definitions) where
     same-links = record {
       constants = λ n at item. constants_stand at item;
       templates = λ n at values. templates_stand at values;
-      no_constant = λ at item is. constants_stand at item ∙ ap (λ c. constant_value (with_outcomes outcomes (with_names (λ name. None) reading)) c (type_at at)) is;
+      no_constant = λ at item is. constants_stand at item ∙ ap (λ c. constant_value (with_outcomes outcomes (with_names (λ name. unmet) reading)) c (type_at at)) is;
       no_template = λ at is values. templates_stand at values ∙ ap (λ t. template_value (λ names. with_outcomes outcomes (with_names names reading)) t values) is;
     }
 
@@ -262,7 +263,7 @@ module _ (reading : Reading) (well : AreWellTyped reading.definitions) where
 -- ---- modules that break no rule
 
 -- no chain has more members than the rule of sizes lets it have
-no-longer : (definitions : List Definition) → AreWellTyped definitions → (links : ℕ) → 200 ≤ links → (k : ℕ) → BeginsLongerChain (written_out definitions) links k → ⊥
+pub no-longer : (definitions : List Definition) → AreWellTyped definitions → (links : ℕ) → 200 ≤ links → (k : ℕ) → BeginsLongerChain (written_out definitions) links k → ⊥
 no-longer definitions well links enough k (rest, chain, longer) = well rule.Size (size (inl (k, (rest, chain, omega arith))))
 
 module _ (definitions : List Definition) (well : AreWellTyped definitions) (links : ℕ) (enough : 200 ≤ links) (facts : Reading) (is : facts.definitions ≡ definitions) where

@@ -2,7 +2,6 @@
 -- same wherever nothing that is referred to differs.
 use Rattle.std.proofs.Common.{◌≡◌, ℕ, Bool, true, false, nat_eq, List, [], ◌∷◌, ◌++◌, map, length, bytes_eq, Option, Some, None, if◌then◌else◌, refl, sym, ap, subst, ◌∙◌}
 use Rattle.std.specs.List.{find, zip}
-use Rattle.std.specs.Option.{option_and_then, option_map}
 use Rattle.evaluation_laws.proofs.Agreement.{AgreeAt, Keeps, braced-agrees, expression_same, value_same}
 use Rattle.evaluation_laws.proofs.Lists.{Each, cons-same, each-first, each-rest, then-same}
 use Rattle.survey.specs.declared.thing.Thing.{Thing}
@@ -24,7 +23,7 @@ use Rattle.check_expressions.specs.Templates.{bare_name, template_by_name, templ
 use Rattle.check_scope.specs.declared.types.DataType.{DataType}
 use Rattle.ttcn_values.specs.Chains.{Outcomes, with_outcomes}
 use Rattle.ttcn_values.specs.Literals.{type_of_field, wanted_record}
-use Rattle.ttcn_values.specs.Outcomes.{each}
+use Rattle.ttcn_values.specs.Outcomes.{Fails, Outcome, Yields, each, or_unmet, outcome_and_then, outcome_map, unmet}
 use Rattle.ttcn_values.specs.Readings.{Reading}
 use Rattle.ttcn_values.specs.Templates.{Wanted, argument, arguments, as_pattern, at_bound, at_name, at_range, body_step, body_wanted, by_name, element, element_named, field_template, field_template_step, in_order, parts_of, plain, record_at, template_called, template_of_name, template_step, template_wanted, with_ifpresent}
 use Rattle.ttcn_values.specs.Values.{integer}
@@ -64,19 +63,19 @@ module _ (base : Reading) (one other : Outcomes) (scope : Scope) (keeps : Keeps 
       (each-argument-same ps vs (rest (value_parts scope v).references others.references all))
 
   arguments-same : (ps : List Parameter) (vs : List written.Value) → Agrees (all_of (map (value_parts scope) vs)) → arguments here ps vs ≡ arguments there ps vs
-  arguments-same ps vs all = ap (λ l. if nat_eq (length vs) (length ps) then each l else None) (each-argument-same ps vs all)
+  arguments-same ps vs all = ap (λ l. if nat_eq (length vs) (length ps) then each l else unmet) (each-argument-same ps vs all)
 
   called-same : (at : Option ℕ) (vs : List written.Value) → Agrees (of_template base.definitions at) → Agrees (all_of (map (value_parts scope) vs))
       → template_called here at vs ≡ template_called there at vs
   called-same None vs named all = refl
   called-same (Some at) vs named all =
       then-same (one.1 at) (other.1 at) (named.0.1 at refl) (arguments here (parameters_of (kind_at base.definitions at)) vs)
-      ∙ ap (option_and_then (other.1 at)) (arguments-same (parameters_of (kind_at base.definitions at)) vs all)
+      ∙ ap (outcome_and_then (other.1 at)) (arguments-same (parameters_of (kind_at base.definitions at)) vs all)
 
   -- ---- expressions and the names of templates
 
   at-name-same : (e : Expr) (at : Option ℕ) → Agrees (of_name scope e at) → at_name here e at ≡ at_name there e at
-  at-name-same e None all = ap (option_and_then as_pattern) (expression_same base one other scope keeps e all)
+  at-name-same e None all = ap (outcome_and_then as_pattern) (expression_same base one other scope keeps e all)
   at-name-same e (Some at) all = called-same (Some at) [] (subst (λ ds. Agrees (of_template ds (Some at))) keeps.same all) tt
 
   by-name-same : (e : Expr) (name : Option (List ℕ)) → Agrees (of_name scope e (template_by_name scope name)) → at_name here e (template_of_name here name) ≡ at_name there e (template_of_name there name)
@@ -87,13 +86,13 @@ module _ (base : Reading) (one other : Outcomes) (scope : Scope) (keeps : Keeps 
   -- ---- ranges
 
   bound-same : (b : Bound) → Agrees (of_bound scope b) → at_bound here b ≡ at_bound there b
-  bound-same (bound.Expr e) all = ap (option_and_then (λ v. option_map Some (integer v))) (expression_same base one other scope keeps e all)
+  bound-same (bound.Expr e) all = ap (outcome_and_then (λ v. outcome_map Some (or_unmet (integer v)))) (expression_same base one other scope keeps e all)
   bound-same bound.Infinity all = refl
 
   range-same : (low high : Bound) → Agrees (of_bound scope low) → Agrees (of_bound scope high) → at_range here low high ≡ at_range there low high
   range-same low high low_agrees high_agrees =
-      ap (λ h. option_and_then (λ l. option_map (λ u. plain (pattern.Range l u)) h) (at_bound here low)) (bound-same high high_agrees)
-      ∙ ap (option_and_then (λ l. option_map (λ u. plain (pattern.Range l u)) (at_bound there high))) (bound-same low low_agrees)
+      ap (λ h. outcome_and_then (λ l. outcome_map (λ u. plain (pattern.Range l u)) h) (at_bound here low)) (bound-same high high_agrees)
+      ∙ ap (outcome_and_then (λ l. outcome_map (λ u. plain (pattern.Range l u)) (at_bound there high))) (bound-same low low_agrees)
 
   -- ---- parts
 
@@ -123,9 +122,9 @@ module _ (base : Reading) (one other : Outcomes) (scope : Scope) (keeps : Keeps 
       → parts_of here wanted (map template_wanted (map (λ t. t.0) parts)) ≡ parts_of there wanted (map template_wanted (map (λ t. t.0) parts))
   parts-same wanted parts all = ap each (each-part-same wanted parts all)
 
-  record-same : (at : Option ℕ) (f g : ℕ → Option (List Template)) → ((at : ℕ) → f at ≡ g at) → record_at at f ≡ record_at at g
-  record-same None f g same = refl
-  record-same (Some at) f g same = ap (option_map (λ ps. plain (pattern.Record at ps))) (same at)
+  record-same : (at : Outcome ℕ) (f g : ℕ → Outcome (List Template)) → ((at : ℕ) → f at ≡ g at) → record_at at f ≡ record_at at g
+  record-same (Fails why) f g same = refl
+  record-same (Yields at) f g same = ap (outcome_map (λ ps. plain (pattern.Record at ps))) (same at)
 
   elements-same : (fields : List Field) (es : List Held) → Agrees (all_of (map (template_parts scope) (map (λ t. t.0) es)))
       → map (element here) (zip fields (map template_wanted (map (λ t. t.0) es))) ≡ map (element there) (zip fields (map template_wanted (map (λ t. t.0) es)))
@@ -141,10 +140,10 @@ module _ (base : Reading) (one other : Outcomes) (scope : Scope) (keeps : Keeps 
   in-order-same : (fields : List Field) (es : List Held) → Agrees (all_of (map (template_parts scope) (map (λ t. t.0) es)))
       → in_order here fields (map template_wanted (map (λ t. t.0) es)) ≡ in_order there fields (map template_wanted (map (λ t. t.0) es))
   in-order-same fields es all =
-      ap (λ l. if nat_eq (length (map template_wanted (map (λ (t : Held). t.0) es))) (length fields) then each l else None) (elements-same fields es all)
+      ap (λ l. if nat_eq (length (map template_wanted (map (λ (t : Held). t.0) es))) (length fields) then each l else unmet) (elements-same fields es all)
 
   -- what named elements give for a field
-  abbrev for_field : Reading → List (List ℕ × Wanted) → Field → Option Template
+  abbrev for_field : Reading → List (List ℕ × Wanted) → Field → Outcome Template
   for_field reading elements field = element_named reading field (find (λ e. bytes_eq e.0 field.name) elements)
 
   named-element-same : (field : Field) (es : List HeldField) → Agrees (all_of (map (field_template_parts scope) (map (λ f. f.0) es)))
@@ -180,8 +179,8 @@ module _ (base : Reading) (one other : Outcomes) (scope : Scope) (keeps : Keeps 
   body-held TemplateBody-F.Any = λ all wanted. refl
   body-held TemplateBody-F.AnyOrOmit = λ all wanted. refl
   body-held TemplateBody-F.Omit = λ all wanted. refl
-  body-held (TemplateBody-F.Complement parts) = λ all wanted. ap (option_map (λ ps. plain (pattern.Complement ps))) (parts-same wanted parts all)
-  body-held (TemplateBody-F.List parts) = λ all wanted. ap (option_map (λ ps. plain (pattern.List ps))) (parts-same wanted parts all)
+  body-held (TemplateBody-F.Complement parts) = λ all wanted. ap (outcome_map (λ ps. plain (pattern.Complement ps))) (parts-same wanted parts all)
+  body-held (TemplateBody-F.List parts) = λ all wanted. ap (outcome_map (λ ps. plain (pattern.List ps))) (parts-same wanted parts all)
   body-held (TemplateBody-F.Range low high) = λ all wanted.
       range-same low high (first (of_bound scope low).references (of_bound scope high).references all) (rest (of_bound scope low).references (of_bound scope high).references all)
   body-held (TemplateBody-F.Call call) = λ all wanted.
@@ -213,7 +212,7 @@ module _ (base : Reading) (one other : Outcomes) (scope : Scope) (keeps : Keeps 
       (template_step (map-Template TemplateBody FieldTemplate tree.Template Wanted (List ℕ × Wanted) Wanted body_wanted field_template template_wanted x))
 
   template-held : (y : Template-F HeldBody HeldField Held) → LevelTemplate (map-Template HeldBody HeldField Held TemplateBody FieldTemplate tree.Template (λ b. b.0) (λ f. f.0) (λ t. t.0) y)
-  template-held y all wanted = ap (option_map (with_ifpresent y.ifpresent)) (y.body.1 all wanted)
+  template-held y all wanted = ap (outcome_map (with_ifpresent y.ifpresent)) (y.body.1 all wanted)
 
   pub template_same : (t : tree.Template) → SameWanted (template_parts scope t) (template_wanted t)
   template_same = ind-Template (λ b. SameWanted (body_parts scope b) (body_wanted b)) (λ f. SameWanted (field_template_parts scope f) (field_template f).1) (λ t. SameWanted (template_parts scope t) (template_wanted t)) (λ x y is.

@@ -1,5 +1,5 @@
 -- What the constants and templates of a well-typed module give is of their types.
-use Rattle.std.proofs.Common.{◌≡◌, ℕ, zero, suc, ◌+◌, Bool, true, false, not, nat_eq, nat_lt, List, [], ◌∷◌, ◌++◌, map, length, get_or, bytes_eq, Option, Some, None, is_none, IfSome, if◌then◌else◌, refl, sym, ap, subst, ◌∙◌, arith}
+use Rattle.std.proofs.Common.{◌≡◌, ℕ, zero, suc, ◌+◌, Bool, true, false, not, nat_eq, nat_lt, List, [], ◌∷◌, ◌++◌, map, length, get_or, bytes_eq, Option, Some, None, is_none, is_some, IfSome, if◌then◌else◌, refl, sym, ap, subst, ◌∙◌, arith}
 use Rattle.std.proofs.lemmas.Bool.{or_parts}
 use Rattle.std.proofs.lemmas.Iterator.Adapters.{position_from-zero}
 use Rattle.std.proofs.lemmas.List.Elements.{All-cons, All-nil}
@@ -44,9 +44,10 @@ use Rattle.evaluation_laws.proofs.TypedTemplates.{templates_typed}
 use Rattle.evaluation_laws.proofs.TypedValues.{goes_rolled, if-any, nat_eq-refl}
 use Rattle.ttcn_values.specs.Chains.{constant_value, given_to, template_value, with_names, within_chains}
 use Rattle.ttcn_values.specs.Literals.{value_wanted}
+use Rattle.ttcn_values.specs.Outcomes.{IfYields, IsMet, Outcome, Yields, or_unmet, outcome_map, unmet}
 use Rattle.ttcn_values.specs.Readings.{Reading, by_meaning, enumerated, enumerators_of, named}
 use Rattle.ttcn_values.specs.Templates.{template_wanted}
-use Rattle.evaluation_laws.specs.Types.{AreGiven, FieldsDiffer, FitsIn, IsOfTyping, is_of, template_goes}
+use Rattle.evaluation_laws.specs.Types.{AreGiven, FieldsDiffer, FitsIn, HasAll, IsOfTyping, is_of, names_timer, names_value, template_goes}
 use Rattle.ttcn_values.specs.declared.value.Value.{Value}
 use Rattle.ttcn_values.specs.declared.value.Value.TheOpen as level
 use Rattle.ttcn_values.specs.declared.value.Value.TheVariants as value
@@ -181,39 +182,39 @@ enumerated-goes definitions at n less =
     ∙ true-both (nat_eq at at) (nat_lt n (length (enumerators_of (kind_at definitions at)))) (nat_eq-refl at) less
 
 position-goes : (definitions : List Definition) (at n : ℕ) (b : Bool) → nat_lt n (length (enumerators_of (kind_at definitions at))) ≡ b
-    → IfSome (option_map (value.Enumerated at) (if b then Some n else None)) (λ v. is_of definitions (type.Enumerated at) v ≡ true)
+    → IfYields (outcome_map (value.Enumerated at) (or_unmet (if b then Some n else None))) (λ v. is_of definitions (type.Enumerated at) v ≡ true)
 position-goes definitions at n true is = enumerated-goes definitions at n is
 position-goes definitions at n false is = tt
 
-enumerated-fits : (definitions : List Definition) (at : ℕ) (name : List ℕ) → IfSome (enumerated definitions at name) (λ v. is_of definitions (type.Enumerated at) v ≡ true)
+enumerated-fits : (definitions : List Definition) (at : ℕ) (name : List ℕ) → IfYields (enumerated definitions at name) (λ v. is_of definitions (type.Enumerated at) v ≡ true)
 enumerated-fits definitions at name =
     let test : Enumerator → Bool = λ e. bytes_eq e.name name in
     let n : ℕ = position_or_len test (enumerators_of (kind_at definitions at)) in
     position-goes definitions at n (nat_lt n (length (enumerators_of (kind_at definitions at)))) refl
 
 -- what constants of the module give is of their types
-abbrev ConstantsFit : List Definition → Reading → Type 0
-ConstantsFit definitions reading = (at item : ℕ) → IfSome (reading.constants at item) (IsOfTyping definitions (typed (constants_type (module_names definitions) (kind_at definitions at))))
+abbrev pub ConstantsFit : List Definition → Reading → Type 0
+ConstantsFit definitions reading = (at item : ℕ) → IfYields (reading.constants at item) (IsOfTyping definitions (typed (constants_type (module_names definitions) (kind_at definitions at))))
 
 -- and so are templates
-abbrev TemplatesFit : List Definition → Reading → Type 0
+abbrev pub TemplatesFit : List Definition → Reading → Type 0
 TemplatesFit definitions reading = (at : ℕ) (values : List Value) → AreGiven definitions (parameters_of (kind_at definitions at)) values
-    → IfSome (reading.templates at values) (λ t. IfSome (template_type definitions (kind_at definitions at)) (λ of. template_goes t definitions (target_of (Some of)) ≡ true))
+    → IfYields (reading.templates at values) (λ t. IfSome (template_type definitions (kind_at definitions at)) (λ of. template_goes t definitions (target_of (Some of)) ≡ true))
 
 meaning-fits : (definitions : List Definition) (reading : Reading) → reading.definitions ≡ definitions → ConstantsFit definitions reading → (name : List ℕ) (m : Option Meaning) → IfMeans IsOfModule m
-    → IfSome (by_meaning reading name m) (IsOfTyping definitions (at_meaning definitions m).typing)
+    → IfYields (by_meaning reading name m) (IsOfTyping definitions (at_meaning definitions m).typing)
 meaning-fits definitions reading is constants name (Some (meaning.ModuleConstant at item)) of = constants at item
 meaning-fits definitions reading is constants name (Some (meaning.Enumerator at)) of =
-    subst (λ ds. IfSome (enumerated ds at name) (λ v. is_of definitions (type.Enumerated at) v ≡ true)) (sym is) (enumerated-fits definitions at name)
+    subst (λ ds. IfYields (enumerated ds at name) (λ v. is_of definitions (type.Enumerated at) v ≡ true)) (sym is) (enumerated-fits definitions at name)
 meaning-fits definitions reading is constants name (Some (meaning.Variable t)) of = absurd (let e = of in cc)
 meaning-fits definitions reading is constants name (Some (meaning.Constant t)) of = absurd (let e = of in cc)
 meaning-fits definitions reading is constants name _ of = if-any (λ v. Unit {0}) (reading.names name) (λ v. tt)
 
 -- a reading of the module fits it
-module-fits : (reading : Reading) (definitions : List Definition) → reading.definitions ≡ definitions → ConstantsFit definitions reading → TemplatesFit definitions reading → FitsIn (module_scope definitions) reading
+pub module-fits : (reading : Reading) (definitions : List Definition) → reading.definitions ≡ definitions → ConstantsFit definitions reading → TemplatesFit definitions reading → FitsIn (module_scope definitions) reading
 module-fits reading definitions is constants templates = record {
   definitions = is;
-  names = λ name. subst (λ ds. IfSome (by_meaning reading name (module_names ds name)) (IsOfTyping definitions (at_meaning definitions (module_names definitions name)).typing)) (sym is)
+  names = λ name. subst (λ ds. IfYields (by_meaning reading name (module_names ds name)) (IsOfTyping definitions (at_meaning definitions (module_names definitions name)).typing)) (sym is)
       (meaning-fits definitions reading is constants name (module_names definitions name) (names-of-module definitions name));
   itself = tt;
   template_names = λ name. refl;
@@ -240,13 +241,18 @@ given-chosen true v vs left = refl
 given-chosen false v vs None = refl
 given-chosen false v vs (Some n) = refl
 
+chosen-unmet : (b : Bool) (v : Value) (o : Option Value) → or_unmet (if b then Some v else o) ≡ (if b then Yields v else or_unmet o)
+chosen-unmet true v o = refl
+chosen-unmet false v o = refl
+
 -- what arguments give by a name
 given-first : (p : Parameter) (ps : List Parameter) (v : Value) (vs : List Value) (name : List ℕ)
-    → given_to (p ∷ ps) (v ∷ vs) name ≡ (if bytes_eq p.name name then Some v else given_to ps vs name)
+    → given_to (p ∷ ps) (v ∷ vs) name ≡ (if bytes_eq p.name name then Yields v else given_to ps vs name)
 given-first p ps v vs name =
     let test : Parameter → Bool = λ q. bytes_eq q.name name in
-    ap (option_and_then (slice_get (v ∷ vs))) (position-is test (p ∷ ps) ∙ ap (λ o. if test p then Some 0 else o) (one-later test 0 (0 + 1) ps (omega arith) ∙ ap (option_map suc) (sym (position-is test ps))))
-    ∙ given-chosen (test p) v vs (position test ps)
+    ap (λ o. or_unmet (option_and_then (slice_get (v ∷ vs)) o)) (position-is test (p ∷ ps) ∙ ap (λ o. if test p then Some 0 else o) (one-later test 0 (0 + 1) ps (omega arith) ∙ ap (option_map suc) (sym (position-is test ps))))
+    ∙ ap or_unmet (given-chosen (test p) v vs (position test ps))
+    ∙ chosen-unmet (test p) v (option_and_then (slice_get vs) (position test ps))
 
 none-is : {A : Type 0} (o : Option A) → is_none o ≡ true → o ≡ None
 none-is None is = refl
@@ -283,19 +289,19 @@ module _ (reading : Reading) where
     same-resolved type_name.Default = refl
     same-resolved (type_name.Named name) = sym (behind.types name)
 
-    its-value : named reading p.name ≡ Some v
+    its-value : named reading p.name ≡ Yields v
     its-value =
         ap (λ ds. by_meaning reading p.name (module_names ds p.name)) behind.fits.definitions
         ∙ ap (by_meaning reading p.name) (behind.of_module p.name new)
-        ∙ behind.given p.name new ∙ given-first p ps v vs p.name ∙ if-true (bytes_eq p.name p.name) (Some v) (given_to ps vs p.name) (bytes-same p.name)
+        ∙ behind.given p.name new ∙ given-first p ps v vs p.name ∙ if-true (bytes_eq p.name p.name) (Yields v) (given_to ps vs p.name) (bytes-same p.name)
 
-    value-fits : IfSome (named reading p.name) (IsOfTyping scope.definitions (typed (resolved scope.names p.type_name)))
+    value-fits : IfYields (named reading p.name) (IsOfTyping scope.definitions (typed (resolved scope.names p.type_name)))
     value-fits =
-        subst (λ o. IfSome o (IsOfTyping scope.definitions (typed (resolved scope.names p.type_name)))) (sym its-value)
+        subst (λ o. IfYields o (IsOfTyping scope.definitions (typed (resolved scope.names p.type_name)))) (sym its-value)
         (subst (λ t. IsOfTyping scope.definitions (typed t) v) (same-resolved p.type_name) of)
 
-    name-fits : (b : Bool) (name : List ℕ) → bytes_eq p.name name ≡ b → IfSome (named reading name) (IsOfTyping scope.definitions (at_meaning scope.definitions (with b (scope.names name))).typing)
-    name-fits true name is = subst (λ n. IfSome (named reading n) (IsOfTyping scope.definitions (typed (resolved scope.names p.type_name)))) ((bytes_decides p.name name).0 is) value-fits
+    name-fits : (b : Bool) (name : List ℕ) → bytes_eq p.name name ≡ b → IfYields (named reading name) (IsOfTyping scope.definitions (at_meaning scope.definitions (with b (scope.names name))).typing)
+    name-fits true name is = subst (λ n. IfYields (named reading n) (IsOfTyping scope.definitions (typed (resolved scope.names p.type_name)))) ((bytes_decides p.name name).0 is) value-fits
     name-fits false name is = behind.fits.names name
 
     same-template : (b : Bool) (name : List ℕ) → bytes_eq p.name name ≡ b → template_meant (module_names scope.definitions name) ≡ template_meant (with b (scope.names name))
@@ -326,8 +332,35 @@ module _ (reading : Reading) where
       of_module = λ name none. behind.of_module name (before-none (bytes_eq p.name name) name none).0;
       types = λ name. same-type (bytes_eq p.name name) name refl;
       given = λ name none. let before = before-none (bytes_eq p.name name) name none in
-          behind.given name before.0 ∙ given-first p ps v vs name ∙ if-false (bytes_eq p.name name) (Some v) (given_to ps vs name) before.1;
+          behind.given name before.0 ∙ given-first p ps v vs name ∙ if-false (bytes_eq p.name name) (Yields v) (given_to ps vs name) before.1;
     }
+
+    value-there : (b : Bool) (name : List ℕ) → bytes_eq p.name name ≡ b → HasAll scope reading → names_value (with b (scope.names name)) ≡ true → IsMet (named reading name)
+    value-there true name is has valued = subst (λ n. IsMet (named reading n)) ((bytes_decides p.name name).0 is) (subst IsMet (sym its-value) tt)
+    value-there false name is has valued = has.values name valued
+
+    timer-there : (b : Bool) (name : List ℕ) → bytes_eq p.name name ≡ b → HasAll scope reading → is_some (reading.timers name) ≡ names_timer (with b (scope.names name))
+    timer-there true name is has = subst (λ n. is_some (reading.timers n) ≡ false) ((bytes_decides p.name name).0 is) (has.timers p.name ∙ ap names_timer new)
+    timer-there false name is has = has.timers name
+
+    next-has : HasAll scope reading → HasAll next reading
+    next-has has = record {
+      values = λ name. value-there (bytes_eq p.name name) name refl has;
+      timers = λ name. timer-there (bytes_eq p.name name) name refl has;
+      templates = has.templates;
+    }
+
+  parameters-have : (scope : Scope) (ps : List Parameter) (vs : List Value) → in_parameters scope ps ≡ [] → AreGiven scope.definitions ps vs → Behind scope ps vs → HasAll scope reading → HasAll (with_parameters scope ps) reading
+  parameters-have scope [] [] nothing are behind has = has
+  parameters-have scope [] (v ∷ vs) nothing are behind has = absurd are
+  parameters-have scope (p ∷ ps) [] nothing are behind has = absurd are
+  parameters-have scope (p ∷ ps) (v ∷ vs) nothing are behind has =
+      let here : List Rule = at_parameter scope p in
+      let behind_it : Scope = declaring scope (parameter_entry scope p ∷ []) in
+      let others : List Rule = in_parameters behind_it ps in
+      let new : scope.names p.name ≡ None =
+      none-is (scope.names p.name) (kept (is_none (scope.names p.name)) rule.DuplicateName (nothing-first (at_new_name scope.names p.name) (at_type scope.names true p.type_name) (nothing-first here others nothing))) in
+      parameters-have behind_it ps vs (nothing-rest here others nothing) are.1 (next-behind scope p ps v vs behind new are.0) (next-has scope p ps v vs behind new are.0 has)
 
   parameters-fit : (scope : Scope) (ps : List Parameter) (vs : List Value) → in_parameters scope ps ≡ [] → AreGiven scope.definitions ps vs → Behind scope ps vs → FitsIn (with_parameters scope ps) reading
   parameters-fit scope [] [] nothing are behind = behind.fits
@@ -343,7 +376,7 @@ module _ (reading : Reading) where
 
 -- ---- what the module's constants and templates give
 
-constants-fine : (scope : Scope) (of : Option DataType) (constants : List Constant) (item : ℕ) (c : Constant) → in_module_constants scope of constants ≡ [] → slice_get constants item ≡ Some c
+pub constants-fine : (scope : Scope) (of : Option DataType) (constants : List Constant) (item : ℕ) (c : Constant) → in_module_constants scope of constants ≡ [] → slice_get constants item ≡ Some c
     → checked c.value scope (target_of of) ≡ []
 constants-fine scope of [] item c nothing is = absurd (let e = is in cc)
 constants-fine scope of (d ∷ constants) zero c nothing is =
@@ -359,24 +392,24 @@ module _ (definitions : List Definition) (well : AreWellTyped definitions) where
   whole = module_whole definitions well None
 
   value-of : (c : Constant) (reading : Reading) → FitsIn (module_scope definitions) reading → (of : Option DataType) → checked c.value (module_scope definitions) (target_of of) ≡ []
-      → IfSome (value_wanted c.value reading of) (IsOfTyping definitions (typed of))
+      → IfYields (value_wanted c.value reading of) (IsOfTyping definitions (typed of))
   value-of c reading fits None nothing = if-any (λ v. Unit {0}) (value_wanted c.value reading None) (λ v. tt)
   value-of c reading fits (Some t) nothing = values_typed c.value (module_scope definitions) reading whole (fields_differ definitions well) fits t false nothing
 
-  module _ (family : (List ℕ → Option Value) → Reading) (has : (names : List ℕ → Option Value) (name : List ℕ) → (family names).names name ≡ names name)
-      (fits : (names : List ℕ → Option Value) → FitsIn (module_scope definitions) (family names)) where
+  module _ (family : (List ℕ → Outcome Value) → Reading) (has : (names : List ℕ → Outcome Value) (name : List ℕ) → (family names).names name ≡ names name)
+      (fits : (names : List ℕ → Outcome Value) → FitsIn (module_scope definitions) (family names)) where
     constant-found : (at : ℕ) (cs : Constants) → kind_at definitions at ≡ Some (kind.Constants cs) → (item : ℕ) (c : Option Constant) → slice_get cs.constants item ≡ c
-        → IfSome (constant_value (family (λ name. None)) c (resolved (module_names definitions) cs.type_name)) (IsOfTyping definitions (typed (resolved (module_names definitions) cs.type_name)))
+        → IfYields (constant_value (family (λ name. unmet)) c (resolved (module_names definitions) cs.type_name)) (IsOfTyping definitions (typed (resolved (module_names definitions) cs.type_name)))
     constant-found at cs is item None found = tt
     constant-found at cs is item (Some c) found =
         let of = resolved (module_names definitions) cs.type_name in
         let type_fine : List Rule = at_type (module_names definitions) false cs.type_name in
-        value-of c (family (λ name. None)) (fits (λ name. None)) of
+        value-of c (family (λ name. unmet)) (fits (λ name. unmet)) of
         (constants-fine (module_scope definitions) of cs.constants item c
         (nothing-rest type_fine (in_module_constants (module_scope definitions) of cs.constants) (definition_is_fine definitions well at (kind.Constants cs) is)) found)
 
     constant-fits : (at item : ℕ) (k : Option DefinitionKind) → kind_at definitions at ≡ k
-        → IfSome (constant_value (family (λ name. None)) (constant_of k item) (constants_type (module_names definitions) k)) (IsOfTyping definitions (typed (constants_type (module_names definitions) k)))
+        → IfYields (constant_value (family (λ name. unmet)) (constant_of k item) (constants_type (module_names definitions) k)) (IsOfTyping definitions (typed (constants_type (module_names definitions) k)))
     constant-fits at item (Some (kind.Constants cs)) is = constant-found at cs is item (slice_get cs.constants item) refl
     constant-fits at item (Some (kind.Record r)) is = tt
     constant-fits at item (Some (kind.Enumerated e)) is = tt
@@ -389,7 +422,7 @@ module _ (definitions : List Definition) (well : AreWellTyped definitions) where
     constant-fits at item None is = tt
 
     -- a reading with the parameters of a template
-    given-fits : (t : TemplateDefinition) (values : List Value) → in_parameters (module_scope definitions) t.parameters ≡ [] → AreGiven definitions t.parameters values
+    pub given-fits : (t : TemplateDefinition) (values : List Value) → in_parameters (module_scope definitions) t.parameters ≡ [] → AreGiven definitions t.parameters values
         → FitsIn (with_parameters (module_scope definitions) t.parameters) (family (given_to t.parameters values))
     given-fits t values nothing are =
         parameters-fit (family (given_to t.parameters values)) (module_scope definitions) t.parameters values nothing are (record {
@@ -399,19 +432,29 @@ module _ (definitions : List Definition) (well : AreWellTyped definitions) where
           given = λ name none. has (given_to t.parameters values) name;
         })
 
-    same-definitions : (scope : Scope) (names : List ℕ → Option Value) → FitsIn scope (family names) → scope.definitions ≡ definitions
+    pub given-has : (t : TemplateDefinition) (values : List Value) → in_parameters (module_scope definitions) t.parameters ≡ [] → AreGiven definitions t.parameters values
+        → HasAll (module_scope definitions) (family (given_to t.parameters values)) → HasAll (with_parameters (module_scope definitions) t.parameters) (family (given_to t.parameters values))
+    given-has t values nothing are all =
+        parameters-have (family (given_to t.parameters values)) (module_scope definitions) t.parameters values nothing are (record {
+          fits = fits (given_to t.parameters values);
+          of_module = λ name none. none;
+          types = λ name. refl;
+          given = λ name none. has (given_to t.parameters values) name;
+        }) all
+
+    same-definitions : (scope : Scope) (names : List ℕ → Outcome Value) → FitsIn scope (family names) → scope.definitions ≡ definitions
     same-definitions scope names fit = sym fit.definitions ∙ (fits names).definitions
 
-    template-of : (t : TemplateDefinition) (scope : Scope) (names : List ℕ → Option Value) → IsWhole scope → FitsIn scope (family names) → (of : Option DataType)
+    template-of : (t : TemplateDefinition) (scope : Scope) (names : List ℕ → Outcome Value) → IsWhole scope → FitsIn scope (family names) → (of : Option DataType)
         → template t.template scope (target_of of) ≡ []
-        → IfSome (template_wanted t.template (family names) of) (λ p. IfSome of (λ u. template_goes p definitions (target_of (Some u)) ≡ true))
+        → IfYields (template_wanted t.template (family names) of) (λ p. IfSome of (λ u. template_goes p definitions (target_of (Some u)) ≡ true))
     template-of t scope names known fit None nothing = if-any (λ p. Unit {0}) (template_wanted t.template (family names) None) (λ p. tt)
     template-of t scope names known fit (Some u) nothing =
-        subst (λ ds. IfSome (template_wanted t.template (family names) (Some u)) (λ p. template_goes p ds (target_of (Some u)) ≡ true)) (same-definitions scope names fit)
+        subst (λ ds. IfYields (template_wanted t.template (family names) (Some u)) (λ p. template_goes p ds (target_of (Some u)) ≡ true)) (same-definitions scope names fit)
         (templates_typed t.template scope (family names) known (subst FieldsDiffer (sym (same-definitions scope names fit)) (fields_differ definitions well)) fit u false nothing)
 
     template-found : (at : ℕ) (t : TemplateDefinition) → kind_at definitions at ≡ Some (kind.Template t) → (values : List Value) → AreGiven definitions t.parameters values
-        → IfSome (template_value family (Some t) values) (λ p. IfSome (resolved (module_names definitions) t.type_name) (λ of. template_goes p definitions (target_of (Some of)) ≡ true))
+        → IfYields (template_value family (Some t) values) (λ p. IfSome (resolved (module_names definitions) t.type_name) (λ of. template_goes p definitions (target_of (Some of)) ≡ true))
     template-found at t is values are =
         let scope : Scope = module_scope definitions in
         let of = resolved (module_names definitions) t.type_name in
@@ -420,13 +463,13 @@ module _ (definitions : List Definition) (well : AreWellTyped definitions) where
         let body : List Rule = template t.template (with_parameters scope t.parameters) (target_of of) in
         let fine = definition_is_fine definitions well at (kind.Template t) is in
         let parameters_fine : parameters ≡ [] = nothing-rest type_fine parameters (nothing-first (type_fine ++ parameters) body fine) in
-        subst (λ ds. IfSome (template_wanted t.template (family (given_to t.parameters values)) (resolved (module_names ds) t.type_name))
+        subst (λ ds. IfYields (template_wanted t.template (family (given_to t.parameters values)) (resolved (module_names ds) t.type_name))
         (λ p. IfSome of (λ of. template_goes p definitions (target_of (Some of)) ≡ true))) (sym (fits (given_to t.parameters values)).definitions)
         (template-of t (with_parameters scope t.parameters) (given_to t.parameters values) (parameters_whole scope t.parameters parameters_fine whole) (given-fits t values parameters_fine are) of
         (nothing-rest (type_fine ++ parameters) body fine))
 
     template-fits : (at : ℕ) (k : Option DefinitionKind) → kind_at definitions at ≡ k → (values : List Value) → AreGiven definitions (parameters_of k) values
-        → IfSome (template_value family (template_of k) values) (λ p. IfSome (template_type definitions k) (λ of. template_goes p definitions (target_of (Some of)) ≡ true))
+        → IfYields (template_value family (template_of k) values) (λ p. IfSome (template_type definitions k) (λ of. template_goes p definitions (target_of (Some of)) ≡ true))
     template-fits at (Some (kind.Template t)) is values are = template-found at t is values are
     template-fits at (Some (kind.Record r)) is values are = tt
     template-fits at (Some (kind.Enumerated e)) is values are = tt
@@ -440,16 +483,16 @@ module _ (definitions : List Definition) (well : AreWellTyped definitions) where
 
   -- ---- chains
 
-  deep-fits : (n : ℕ) (reading : Reading) → reading.definitions ≡ definitions → ConstantsFit definitions (within_chains n reading) × TemplatesFit definitions (within_chains n reading)
+  pub deep-fits : (n : ℕ) (reading : Reading) → reading.definitions ≡ definitions → ConstantsFit definitions (within_chains n reading) × TemplatesFit definitions (within_chains n reading)
   deep-fits zero reading is = (λ at item. tt, λ at values are. tt)
   deep-fits (suc n) reading is =
-      let family : (List ℕ → Option Value) → Reading = λ names. within_chains n (with_names names reading) in
-      let fits : (names : List ℕ → Option Value) → FitsIn (module_scope definitions) (family names) =
+      let family : (List ℕ → Outcome Value) → Reading = λ names. within_chains n (with_names names reading) in
+      let fits : (names : List ℕ → Outcome Value) → FitsIn (module_scope definitions) (family names) =
       λ names. let deep = deep-fits n (with_names names reading) is in module-fits (family names) definitions is deep.0 deep.1 in (
-        λ at item. subst (λ ds. IfSome (constant_value (family (λ name. None)) (constant_of (kind_at ds at) item) (constants_type (module_names ds) (kind_at ds at)))
+        λ at item. subst (λ ds. IfYields (constant_value (family (λ name. unmet)) (constant_of (kind_at ds at) item) (constants_type (module_names ds) (kind_at ds at)))
             (IsOfTyping definitions (typed (constants_type (module_names definitions) (kind_at definitions at))))) (sym is)
             (constant-fits family (λ names name. refl) fits at item (kind_at definitions at) refl),
-        λ at values are. subst (λ ds. IfSome (template_value family (template_of (kind_at ds at)) values)
+        λ at values are. subst (λ ds. IfYields (template_value family (template_of (kind_at ds at)) values)
             (λ p. IfSome (template_type definitions (kind_at definitions at)) (λ of. template_goes p definitions (target_of (Some of)) ≡ true))) (sym is)
             (template-fits family (λ names name. refl) fits at (kind_at definitions at) refl values are),
       )
@@ -457,7 +500,7 @@ module _ (definitions : List Definition) (well : AreWellTyped definitions) where
   chains-fit : (n : ℕ) (reading : Reading) → reading.definitions ≡ definitions → FitsIn (module_scope definitions) (within_chains n reading)
   chains-fit n reading is = let deep = deep-fits n reading is in module-fits (within_chains n reading) definitions is deep.0 deep.1
 
-  named-fit : (n : ℕ) (reading : Reading) → reading.definitions ≡ definitions → (names : List ℕ → Option Value) → FitsIn (module_scope definitions) (with_names names (within_chains n reading))
+  named-fit : (n : ℕ) (reading : Reading) → reading.definitions ≡ definitions → (names : List ℕ → Outcome Value) → FitsIn (module_scope definitions) (with_names names (within_chains n reading))
   named-fit n reading is names = let deep = deep-fits n reading is in module-fits (with_names names (within_chains n reading)) definitions is deep.0 deep.1
 
 -- in a well-typed module what constants and templates give fits, however deep they refer to each other
@@ -466,6 +509,6 @@ pub chains_fit : (definitions : List Definition) → AreWellTyped definitions �
 chains_fit definitions well n reading is = chains-fit definitions well n reading is
 
 -- whatever stands for names that the module doesn't define
-pub names_fit : (definitions : List Definition) → AreWellTyped definitions → (n : ℕ) (reading : Reading) → reading.definitions ≡ definitions → (names : List ℕ → Option Value)
+pub names_fit : (definitions : List Definition) → AreWellTyped definitions → (n : ℕ) (reading : Reading) → reading.definitions ≡ definitions → (names : List ℕ → Outcome Value)
     → FitsIn (module_scope definitions) (with_names names (within_chains n reading))
 names_fit definitions well n reading is names = named-fit definitions well n reading is names

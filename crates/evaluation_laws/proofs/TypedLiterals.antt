@@ -1,5 +1,5 @@
 -- The value of what stands where a value of a type is wanted is of this type.
-use Rattle.std.proofs.Common.{◌≡◌, ◌≢◌, ℕ, Bool, true, false, ◌||◌, List, [], ◌∷◌, map, Option, Some, None, IfSome, if◌then◌else◌, refl, sym, ap, subst, ◌∙◌}
+use Rattle.std.proofs.Common.{◌≡◌, ◌≢◌, ℕ, Bool, true, false, ◌||◌, List, [], ◌∷◌, map, Option, Some, None, if◌then◌else◌, refl, sym, ap, subst, ◌∙◌}
 use Rattle.std.proofs.lemmas.Bool.{eqb-true}
 use Rattle.ttcn_syntax.specs.declared.operator.Operator.{Operator}
 use Rattle.ttcn_syntax.specs.declared.tree.definition.Definition.{Definition}
@@ -29,6 +29,7 @@ use Rattle.check_scope.specs.declared.types.Typing.{Typing}
 use Rattle.check_scope.specs.declared.types.Typing.TheVariants as typing
 use Rattle.evaluation_laws.proofs.TypedValues.{expression_typed, goes_rolled, if-more, weaker_goes}
 use Rattle.ttcn_values.specs.Evaluation.{value_of}
+use Rattle.ttcn_values.specs.Outcomes.{IfYields}
 use Rattle.ttcn_values.specs.Readings.{Reading}
 use Rattle.evaluation_laws.specs.Types.{FitsIn, IsOfTyping, is_of, value_goes}
 use Rattle.ttcn_values.specs.declared.value.Value.{Value}
@@ -48,10 +49,6 @@ NotAny judged = judged.broken ≡ [] → is_any judged.typing ≡ false
 typed-not : (of : Option DataType) → is_any (typed of) ≡ false
 typed-not (Some t) = refl
 typed-not None = refl
-
-demanding-not : (b : Bool) (r : Rule) (t : DataType) → is_any (demanding b r t).typing ≡ false
-demanding-not true r t = refl
-demanding-not false r t = refl
 
 meaning-not : (definitions : List Definition) (m : Option Meaning) → is_any (at_meaning definitions m).typing ≡ false
 meaning-not definitions (Some (meaning.Variable of)) = typed-not of
@@ -81,63 +78,14 @@ component-not scope component.Mtc nothing = absurd (let e = nothing in cc)
 component-not scope (component.Named reference) nothing =
     along-not scope.definitions reference.fields (at_meaning scope.definitions (scope.names reference.name)).typing (meaning-not scope.definitions (scope.names reference.name))
 
-runs-not : (t : Typing) → is_any (said.runs t).typing ≡ false
-runs-not typing.Unknown = refl
-runs-not (typing.Known t) = demanding-not (refers_to_component (typing.Known t)) rule.UnknownName type.Boolean
-runs-not typing.Null = refl
-runs-not typing.AnyComponent = refl
-runs-not typing.NoValue = refl
-
 running-not : (b : Bool) (found : Judged) → is_any (if b then said.fine (typing.Known type.Boolean) else said.after found.broken (said.runs found.typing)).typing ≡ false
 running-not true found = refl
-running-not false found = runs-not found.typing
-
-presence-not : (t : Typing) (fields : List (List ℕ)) → is_any (said.presence t fields).typing ≡ false
-presence-not typing.Unknown fields = refl
-presence-not (typing.Known t) [] = refl
-presence-not (typing.Known t) (f ∷ fs) = refl
-presence-not typing.Null [] = refl
-presence-not typing.Null (f ∷ fs) = refl
-presence-not typing.AnyComponent [] = refl
-presence-not typing.AnyComponent (f ∷ fs) = refl
-presence-not typing.NoValue [] = refl
-presence-not typing.NoValue (f ∷ fs) = refl
-
-of_type-not : (wanted : DataType) (t : Typing) → is_any (of_type wanted t).typing ≡ false
-of_type-not wanted typing.Unknown = refl
-of_type-not wanted (typing.Known t) = demanding-not (typings.is_of wanted (typing.Known t)) rule.OperandType wanted
-of_type-not wanted typing.Null = demanding-not (typings.is_of wanted typing.Null) rule.OperandType wanted
-of_type-not wanted typing.AnyComponent = demanding-not (typings.is_of wanted typing.AnyComponent) rule.OperandType wanted
-of_type-not wanted typing.NoValue = demanding-not (typings.is_of wanted typing.NoValue) rule.OperandType wanted
-
-between-not : (op : Operator) (l r : Typing) → is_any (between op l r).typing ≡ false
-between-not op typing.Unknown r = refl
-between-not op (typing.Known t) typing.Unknown = refl
-between-not op typing.Null typing.Unknown = refl
-between-not op typing.AnyComponent typing.Unknown = refl
-between-not op typing.NoValue typing.Unknown = refl
-between-not op (typing.Known t) (typing.Known u) = demanding-not _ rule.OperandType (result_of op)
-between-not op (typing.Known t) typing.Null = demanding-not _ rule.OperandType (result_of op)
-between-not op (typing.Known t) typing.AnyComponent = demanding-not _ rule.OperandType (result_of op)
-between-not op (typing.Known t) typing.NoValue = demanding-not _ rule.OperandType (result_of op)
-between-not op typing.Null (typing.Known u) = demanding-not _ rule.OperandType (result_of op)
-between-not op typing.Null typing.Null = demanding-not _ rule.OperandType (result_of op)
-between-not op typing.Null typing.AnyComponent = demanding-not _ rule.OperandType (result_of op)
-between-not op typing.Null typing.NoValue = demanding-not _ rule.OperandType (result_of op)
-between-not op typing.AnyComponent (typing.Known u) = demanding-not _ rule.OperandType (result_of op)
-between-not op typing.AnyComponent typing.Null = demanding-not _ rule.OperandType (result_of op)
-between-not op typing.AnyComponent typing.AnyComponent = demanding-not _ rule.OperandType (result_of op)
-between-not op typing.AnyComponent typing.NoValue = demanding-not _ rule.OperandType (result_of op)
-between-not op typing.NoValue (typing.Known u) = demanding-not _ rule.OperandType (result_of op)
-between-not op typing.NoValue typing.Null = demanding-not _ rule.OperandType (result_of op)
-between-not op typing.NoValue typing.AnyComponent = demanding-not _ rule.OperandType (result_of op)
-between-not op typing.NoValue typing.NoValue = demanding-not _ rule.OperandType (result_of op)
+running-not false found = refl
 
 chained-not : (scope : Scope) (links : List Link) (first : Judgement) → NotAny (first scope false) → NotAny (chained first (map said.link links) scope false)
 chained-not scope [] first is nothing = is nothing
 chained-not scope (l ∷ links) first is nothing =
-    chained-not scope links (said.joined (said.link l).0 first (said.link l).1)
-    (λ n. between-not (said.link l).0 (first scope (compares (said.link l).0)).typing ((said.link l).1 scope (compares (said.link l).0)).typing) nothing
+    chained-not scope links (said.joined (said.link l).0 first (said.link l).1) (λ n. refl) nothing
 
 abbrev NeverAny : Judgement → Type 0
 NeverAny judgement = (scope : Scope) → NotAny (judgement scope false)
@@ -157,9 +105,9 @@ expr-not (Expr-F.Bool b) = λ scope nothing. refl
 expr-not Expr-F.Null = λ scope nothing. refl
 expr-not (Expr-F.Reference reference) = λ scope nothing. component-not scope reference nothing
 expr-not (Expr-F.Running reference) = λ scope nothing. running-not (names_timer scope reference) (at_component scope reference true)
-expr-not (Expr-F.Ispresent reference) = λ scope nothing. presence-not (said.at_reference scope reference).typing reference.fields
-expr-not (Expr-F.Not e) = λ scope nothing. of_type-not type.Boolean (expression e.0 scope false).typing
-expr-not (Expr-F.Signed s e) = λ scope nothing. of_type-not type.Integer (expression e.0 scope false).typing
+expr-not (Expr-F.Ispresent reference) = λ scope nothing. refl
+expr-not (Expr-F.Not e) = λ scope nothing. refl
+expr-not (Expr-F.Signed s e) = λ scope nothing. refl
 expr-not (Expr-F.Chain first links) = λ scope nothing. chained-not scope (map (λ l. l.0) links) (expression first.0) (first.1 scope) nothing
 
 pub expression_not_any : (e : Expr) → NeverAny (expression e)
@@ -201,7 +149,7 @@ typing-goes definitions t o typing.Unknown v goes known single of = absurd (know
 
 -- the value of an expression where a value of a type is wanted
 pub wanted_goes : (scope : Scope) (reading : Reading) → IsWhole scope → FitsIn scope reading → (t : DataType) (o : Bool) (e : Expr) → at_expression scope (Some t) e ≡ []
-    → IfSome (value_of e reading) (λ v. value_goes v scope.definitions (record { data_type = Some t; optional = o }) ≡ true)
+    → IfYields (value_of e reading) (λ v. value_goes v scope.definitions (record { data_type = Some t; optional = o }) ≡ true)
 wanted_goes scope reading whole fit t o e nothing =
     let judged : Judged = expression e scope false in
     let wanted : List Rule = unless (goes_to t judged.typing) rule.ValueType in

@@ -4,7 +4,7 @@ use Rattle.std.proofs.Math.Bool.{beq}
 use Rattle.std.proofs.lemmas.Bool.{and_parts, eqb-true, eq-eqb}
 use Rattle.std.proofs.lemmas.Iterator.Adapters.{position_from-zero}
 use Rattle.std.specs.List.{find, position, position_from, slice_get}
-use Rattle.std.specs.Option.{option_and_then, option_map}
+use Rattle.std.specs.Option.{option_and_then}
 use Rattle.ttcn_syntax.specs.declared.operator.Operator.{Operator}
 use Rattle.ttcn_syntax.specs.declared.operator.Operator.TheVariants as operator
 use Rattle.ttcn_syntax.specs.declared.operator.Sign.{Sign}
@@ -35,6 +35,7 @@ use Rattle.ttcn_values.specs.Evaluation.{Evaluation, after, expression_step, joi
 use Rattle.arithmetic.specs.Integers as integers
 use Rattle.arithmetic.specs.Integers.{calculated}
 use Rattle.ttcn_values.specs.Operations.{applied, both, compared, decides, fitting, is_truth, logical, negated, ordered, truth, under_sign, with_sign}
+use Rattle.ttcn_values.specs.Outcomes.{Fails, IfYields, Outcome, Yields, dynamic_error, or_error, or_unmet, outcome_and_then, outcome_map}
 use Rattle.ttcn_values.specs.Readings.{Reading, along, component_at, component_runs, field, is_there, last_presence, named, presence, read, referred, runs, runs_at, state_in, state_of_field, timer_at}
 use Rattle.evaluation_laws.specs.Types.{FitsIn, Goes, IsOfTyping, go_to_fields, goes_to_field, is_of, value_goes, value_step}
 use Rattle.ttcn_values.specs.Values as values
@@ -48,25 +49,25 @@ use Rattle.ttcn_values.specs.declared.value.Value.TheVariants as value
 
 -- ---- what may be there
 
-pub if-any : {A : Type 0} (P : A → Type 0) (o : Option A) → ((a : A) → P a) → IfSome o P
-if-any P None all = tt
-if-any P (Some a) all = all a
+pub if-any : {A : Type 0} (P : A → Type 0) (o : Outcome A) → ((a : A) → P a) → IfYields o P
+if-any P (Fails why) all = tt
+if-any P (Yields a) all = all a
 
-pub if-mapped : {A B : Type 0} (P : B → Type 0) (f : A → B) (o : Option A) → ((a : A) → P (f a)) → IfSome (option_map f o) P
-if-mapped P f None all = tt
-if-mapped P f (Some a) all = all a
+pub if-mapped : {A B : Type 0} (P : B → Type 0) (f : A → B) (o : Outcome A) → ((a : A) → P (f a)) → IfYields (outcome_map f o) P
+if-mapped P f (Fails why) all = tt
+if-mapped P f (Yields a) all = all a
 
-pub if-then : {A B : Type 0} (P : B → Type 0) (f : A → Option B) (o : Option A) → ((a : A) → IfSome (f a) P) → IfSome (option_and_then f o) P
-if-then P f None all = tt
-if-then P f (Some a) all = all a
+pub if-then : {A B : Type 0} (P : B → Type 0) (f : A → Outcome B) (o : Outcome A) → ((a : A) → IfYields (f a) P) → IfYields (outcome_and_then f o) P
+if-then P f (Fails why) all = tt
+if-then P f (Yields a) all = all a
 
-pub if-then-of : {A B : Type 0} (Q : A → Type 0) (P : B → Type 0) (f : A → Option B) (o : Option A) → IfSome o Q → ((a : A) → Q a → IfSome (f a) P) → IfSome (option_and_then f o) P
-if-then-of Q P f None of all = tt
-if-then-of Q P f (Some a) of all = all a of
+pub if-then-of : {A B : Type 0} (Q : A → Type 0) (P : B → Type 0) (f : A → Outcome B) (o : Outcome A) → IfYields o Q → ((a : A) → Q a → IfYields (f a) P) → IfYields (outcome_and_then f o) P
+if-then-of Q P f (Fails why) of all = tt
+if-then-of Q P f (Yields a) of all = all a of
 
-pub if-more : {A : Type 0} (Q P : A → Type 0) (o : Option A) → IfSome o Q → ((a : A) → Q a → P a) → IfSome o P
-if-more Q P None of all = tt
-if-more Q P (Some a) of all = all a of
+pub if-more : {A : Type 0} (Q P : A → Type 0) (o : Outcome A) → IfYields o Q → ((a : A) → Q a → P a) → IfYields o P
+if-more Q P (Fails why) of all = tt
+if-more Q P (Yields a) of all = all a of
 
 -- ---- values of types
 
@@ -140,22 +141,22 @@ module _ (definitions : List Definition) where
   typed-of None v goes = tt
 
   there : (f : Field) (v : Value) (omitted : Bool) → is_omit v ≡ omitted → value_goes v definitions (field_target definitions f) ≡ true
-      → IfSome (if (if omitted then false else true) then Some v else None) (IsOfTyping definitions (typed (resolved (module_names definitions) f.type_name)))
+      → IfYields (if omitted then dynamic_error else Yields v) (IsOfTyping definitions (typed (resolved (module_names definitions) f.type_name)))
   there f v true is goes = tt
   there f v false is goes =
       typed-of (resolved (module_names definitions) f.type_name) v (present_goes v (resolved (module_names definitions) f.type_name) f.optional is goes)
 
   state-read : (f : Field) (state : Option Value) → goes_to_field definitions f (with_goes state) ≡ true
-      → IfSome (read state) (IsOfTyping definitions (typed (resolved (module_names definitions) f.type_name)))
+      → IfYields (read state) (IsOfTyping definitions (typed (resolved (module_names definitions) f.type_name)))
   state-read f None goes = tt
   state-read f (Some v) goes = there f v (is_omit v) refl goes
 
   field-here : (test : Bool) (f : Field) (found : Option Field) (state : Option Value) (at : Option (Option Value)) (behind : Option (Option Value))
       → goes_to_field definitions f (with_goes state) ≡ true → at ≡ Some state
-      → IfSome (option_and_then read behind) (IsOfTyping definitions (at_field definitions found).typing)
-      → IfSome (option_and_then read (if test then at else behind)) (IsOfTyping definitions (at_field definitions (if test then Some f else found)).typing)
+      → IfYields (outcome_and_then read (or_unmet behind)) (IsOfTyping definitions (at_field definitions found).typing)
+      → IfYields (outcome_and_then read (or_unmet (if test then at else behind))) (IsOfTyping definitions (at_field definitions (if test then Some f else found)).typing)
   field-here true f found state at behind goes is rest =
-      subst (λ o. IfSome (option_and_then read o) (IsOfTyping definitions (typed (resolved (module_names definitions) f.type_name)))) (sym is) (state-read f state goes)
+      subst (λ o. IfYields (outcome_and_then read (or_unmet o)) (IsOfTyping definitions (typed (resolved (module_names definitions) f.type_name)))) (sym is) (state-read f state goes)
   field-here false f found state at behind goes is rest = rest
 
   branches : (b : Bool) (get : ℕ → Option (Option Value)) (i : ℕ) (left : Option ℕ)
@@ -165,25 +166,25 @@ module _ (definitions : List Definition) where
 
   fields-read : (test : Field → Bool) (get : ℕ → Option (Option Value)) (i : ℕ) (fs : List Field) (states : List (Option Value))
       → ((k j : ℕ) → j ≡ i + k → get j ≡ slice_get states k) → go_to_fields definitions fs (map with_goes states) ≡ true
-      → IfSome (option_and_then read (option_and_then get (position_from test i fs))) (IsOfTyping definitions (at_field definitions (find test fs)).typing)
+      → IfYields (outcome_and_then read (or_unmet (option_and_then get (position_from test i fs)))) (IsOfTyping definitions (at_field definitions (find test fs)).typing)
   fields-read test get i [] states same go = tt
   fields-read test get i (f ∷ fs) [] same go = absurd (let e = go in cc)
   fields-read test get i (f ∷ fs) (s ∷ ss) same go =
       let p = and_parts (goes_to_field definitions f (with_goes s)) (go_to_fields definitions fs (map with_goes ss)) go in
-      subst (λ o. IfSome (option_and_then read o) (IsOfTyping definitions (at_field definitions (find test (f ∷ fs))).typing))
+      subst (λ o. IfYields (outcome_and_then read (or_unmet o)) (IsOfTyping definitions (at_field definitions (find test (f ∷ fs))).typing))
       (sym (branches (test f) get i (position_from test (i + 1) fs)))
       (field-here (test f) f (find test fs) s (get i) (option_and_then get (position_from test (i + 1) fs)) p.0 (same 0 i (omega arith))
       (fields-read test get (i + 1) fs ss (λ k j is. same (suc k) j (omega (arith, is))) p.1))
 
   -- a record's field, by its name
   level-field : (x : Value-F Value) (at : ℕ) (name : List ℕ) → level_goes x (target_of (Some (type.Record at))) ≡ true
-      → IfSome (option_and_then read (state_in definitions name (record_in x))) (IsOfTyping definitions (at_field definitions (find (λ f. bytes_eq f.name name) (fields_at definitions at))).typing)
+      → IfYields (outcome_and_then read (state_in definitions name (record_in x))) (IsOfTyping definitions (at_field definitions (find (λ f. bytes_eq f.name name) (fields_at definitions at))).typing)
   level-field (Value-F.Record bt states) at name goes =
       let p = and_parts (nat_eq at bt) (go_to_fields definitions (fields_at definitions bt) (map with_goes states)) goes in
       let test : Field → Bool = λ f. bytes_eq f.name name in
-      subst (λ k. IfSome (option_and_then read (option_and_then (slice_get states) (position test (fields_at definitions bt)))) (IsOfTyping definitions (at_field definitions (find test (fields_at definitions k))).typing))
+      subst (λ k. IfYields (outcome_and_then read (or_unmet (option_and_then (slice_get states) (position test (fields_at definitions bt))))) (IsOfTyping definitions (at_field definitions (find test (fields_at definitions k))).typing))
       (sym (eqb-true at bt p.0))
-      (subst (λ o. IfSome (option_and_then read (option_and_then (slice_get states) o)) (IsOfTyping definitions (at_field definitions (find test (fields_at definitions bt))).typing))
+      (subst (λ o. IfYields (outcome_and_then read (or_unmet (option_and_then (slice_get states) o))) (IsOfTyping definitions (at_field definitions (find test (fields_at definitions bt))).typing))
       (sym (position_from-zero test (fields_at definitions bt)))
       (fields-read test (slice_get states) 0 (fields_at definitions bt) states (λ k j is. let e : j ≡ k = omega (arith, is) in ap (slice_get states) e) p.1))
   level-field (Value-F.Integer n) at name goes = tt
@@ -194,10 +195,10 @@ module _ (definitions : List Definition) where
   level-field Value-F.Null at name goes = tt
   level-field Value-F.Omit at name goes = tt
 
-  unknown-field : (name : List ℕ) (v : Value) → IfSome (field definitions name v) (λ w. Unit {0})
+  unknown-field : (name : List ℕ) (v : Value) → IfYields (field definitions name v) (λ w. Unit {0})
   unknown-field name v = if-any (λ w. Unit {0}) (field definitions name v) (λ w. tt)
 
-  field-goes : (t : Typing) (name : List ℕ) (v : Value) → IsOfTyping definitions t v → IfSome (field definitions name v) (IsOfTyping definitions (within definitions t name).typing)
+  pub field-goes : (t : Typing) (name : List ℕ) (v : Value) → IsOfTyping definitions t v → IfYields (field definitions name v) (IsOfTyping definitions (within definitions t name).typing)
   field-goes (typing.Known (type.Record at)) name v of = level-field (out-Value v) at name (sym (goes_out v (target_of (Some (type.Record at)))) ∙ of)
   field-goes (typing.Known type.Integer) name v of = unknown-field name v
   field-goes (typing.Known type.Boolean) name v of = unknown-field name v
@@ -210,11 +211,11 @@ module _ (definitions : List Definition) where
   field-goes typing.Unknown name v of = unknown-field name v
 
   -- fields of fields
-  along-goes : (names : List (List ℕ)) (t : Typing) (found : Option Value) → IfSome found (IsOfTyping definitions t)
-      → IfSome (along definitions names found) (IsOfTyping definitions (said.along definitions t names).typing)
+  along-goes : (names : List (List ℕ)) (t : Typing) (found : Outcome Value) → IfYields found (IsOfTyping definitions t)
+      → IfYields (along definitions names found) (IsOfTyping definitions (said.along definitions t names).typing)
   along-goes [] t found of = of
   along-goes (name ∷ names) t found of =
-      along-goes names (within definitions t name).typing (option_and_then (field definitions name) found)
+      along-goes names (within definitions t name).typing (outcome_and_then (field definitions name) found)
       (if-then-of (IsOfTyping definitions t) (IsOfTyping definitions (within definitions t name).typing) (field definitions name) found of (λ v is. field-goes t name v is))
 
 -- ---- operators
@@ -226,31 +227,31 @@ module _ (definitions : List Definition) where
   abbrev IsBoolean : Value → Type 0
   IsBoolean v = is_of definitions type.Boolean v ≡ true
 
-  fitting-integer : (o : Option ℤ) → IfSome (fitting o) IsInteger
-  fitting-integer o = if-mapped IsInteger value.Integer o (λ z. integer_goes definitions z false)
+  fitting-integer : (o : Option ℤ) → IfYields (fitting o) IsInteger
+  fitting-integer o = if-mapped IsInteger value.Integer (or_error o) (λ z. integer_goes definitions z false)
 
-  truth-boolean : (b : Bool) → IfSome (truth b) IsBoolean
+  truth-boolean : (b : Bool) → IfYields (truth b) IsBoolean
   truth-boolean b = boolean_goes definitions b false
 
-  negated-boolean : (v : Value) → IfSome (negated v) IsBoolean
-  negated-boolean v = if-then IsBoolean _ (boolean v) (λ b. truth-boolean _)
+  negated-boolean : (v : Value) → IfYields (negated v) IsBoolean
+  negated-boolean v = if-then IsBoolean _ (or_unmet (boolean v)) (λ b. truth-boolean _)
 
-  under-sign-integer : (s : Sign) (v : Value) → IfSome (under_sign s v) IsInteger
-  under-sign-integer s v = if-then IsInteger _ (integer v) (λ z. fitting-integer (with_sign s z))
+  under-sign-integer : (s : Sign) (v : Value) → IfYields (under_sign s v) IsInteger
+  under-sign-integer s v = if-then IsInteger _ (or_unmet (integer v)) (λ z. fitting-integer (with_sign s z))
 
-  both-of : {A : Type 0} (P : Value → Type 0) (f : A → A → Option Value) (a b : Option A) → ((x y : A) → IfSome (f x y) P) → IfSome (both f a b) P
+  both-of : {A : Type 0} (P : Value → Type 0) (f : A → A → Outcome Value) (a b : Option A) → ((x y : A) → IfYields (f x y) P) → IfYields (both f a b) P
   both-of P f None b all = tt
   both-of P f (Some x) None all = tt
   both-of P f (Some x) (Some y) all = all x y
 
-  truth-if : (b : Bool) (c : Bool) → IfSome (if b then truth c else None) IsBoolean
+  truth-if : (b : Bool) (c : Bool) → IfYields (if b then truth c else dynamic_error) IsBoolean
   truth-if true c = truth-boolean c
   truth-if false c = tt
 
-  compared-boolean : (wanted : Bool) (v w : Value) → IfSome (compared wanted v w) IsBoolean
+  compared-boolean : (wanted : Bool) (v w : Value) → IfYields (compared wanted v w) IsBoolean
   compared-boolean wanted v w = truth-if (is_complete v && is_complete w) (beq wanted (equal v w))
 
-  pub applied_gives : (op : Operator) (v w : Value) → IfSome (applied op v w) (λ u. is_of definitions (result_of op) u ≡ true)
+  pub applied_gives : (op : Operator) (v w : Value) → IfYields (applied op v w) (λ u. is_of definitions (result_of op) u ≡ true)
   applied_gives operator.Equal v w = compared-boolean true v w
   applied_gives operator.NotEqual v w = compared-boolean false v w
   applied_gives operator.Or v w = both-of IsBoolean (logical operator.Or) (boolean v) (boolean w) (λ x y. truth-boolean _)
@@ -286,83 +287,29 @@ module _ (definitions : List Definition) where
   decides-gives operator.Or v is = truth-of true v is
   decides-gives _ v is = absurd (let e = is in cc)
 
-  joined-gives : (reading : Reading) (op : Operator) (right : Evaluation) (left : Value) → IfSome (joined reading (op, right) left) (λ u. is_of definitions (result_of op) u ≡ true)
+  joined-gives : (reading : Reading) (op : Operator) (right : Evaluation) (left : Value) → IfYields (joined reading (op, right) left) (λ u. is_of definitions (result_of op) u ≡ true)
   joined-gives reading op right left = decided (decides op left) refl
     where
-      decided : (b : Bool) → decides op left ≡ b → IfSome (if b then Some left else option_and_then (applied op left) (right reading)) (λ u. is_of definitions (result_of op) u ≡ true)
+      decided : (b : Bool) → decides op left ≡ b → IfYields (if b then Yields left else outcome_and_then (applied op left) (right reading)) (λ u. is_of definitions (result_of op) u ≡ true)
       decided true is = decides-gives op left is
       decided false is = if-then (λ u. is_of definitions (result_of op) u ≡ true) (applied op left) (right reading) (applied_gives op left)
-
-  -- ---- judgements that give a type or none
-
-  demanding-of : (b : Bool) (r : Rule) (t : DataType) (v : Value) → is_of definitions t v ≡ true → IsOfTyping definitions (demanding b r t).typing v
-  demanding-of true r t v is = is
-  demanding-of false r t v is = tt
-
-  between-of : (op : Operator) (l r : Typing) (v : Value) → is_of definitions (result_of op) v ≡ true → IsOfTyping definitions (between op l r).typing v
-  between-of op typing.Unknown r v is = tt
-  between-of op (typing.Known t) typing.Unknown v is = tt
-  between-of op typing.Null typing.Unknown v is = tt
-  between-of op typing.AnyComponent typing.Unknown v is = tt
-  between-of op typing.NoValue typing.Unknown v is = tt
-  between-of op (typing.Known t) (typing.Known u) v is = demanding-of _ rule.OperandType (result_of op) v is
-  between-of op (typing.Known t) typing.Null v is = demanding-of _ rule.OperandType (result_of op) v is
-  between-of op (typing.Known t) typing.AnyComponent v is = demanding-of _ rule.OperandType (result_of op) v is
-  between-of op (typing.Known t) typing.NoValue v is = demanding-of _ rule.OperandType (result_of op) v is
-  between-of op typing.Null (typing.Known u) v is = demanding-of _ rule.OperandType (result_of op) v is
-  between-of op typing.Null typing.Null v is = demanding-of _ rule.OperandType (result_of op) v is
-  between-of op typing.Null typing.AnyComponent v is = demanding-of _ rule.OperandType (result_of op) v is
-  between-of op typing.Null typing.NoValue v is = demanding-of _ rule.OperandType (result_of op) v is
-  between-of op typing.AnyComponent (typing.Known u) v is = demanding-of _ rule.OperandType (result_of op) v is
-  between-of op typing.AnyComponent typing.Null v is = demanding-of _ rule.OperandType (result_of op) v is
-  between-of op typing.AnyComponent typing.AnyComponent v is = demanding-of _ rule.OperandType (result_of op) v is
-  between-of op typing.AnyComponent typing.NoValue v is = demanding-of _ rule.OperandType (result_of op) v is
-  between-of op typing.NoValue (typing.Known u) v is = demanding-of _ rule.OperandType (result_of op) v is
-  between-of op typing.NoValue typing.Null v is = demanding-of _ rule.OperandType (result_of op) v is
-  between-of op typing.NoValue typing.AnyComponent v is = demanding-of _ rule.OperandType (result_of op) v is
-  between-of op typing.NoValue typing.NoValue v is = demanding-of _ rule.OperandType (result_of op) v is
-
-  of_type-of : (wanted : DataType) (t : Typing) (v : Value) → is_of definitions wanted v ≡ true → IsOfTyping definitions (of_type wanted t).typing v
-  of_type-of wanted typing.Unknown v is = tt
-  of_type-of wanted (typing.Known t) v is = demanding-of (typings.is_of wanted (typing.Known t)) rule.OperandType wanted v is
-  of_type-of wanted typing.Null v is = demanding-of (typings.is_of wanted typing.Null) rule.OperandType wanted v is
-  of_type-of wanted typing.AnyComponent v is = demanding-of (typings.is_of wanted typing.AnyComponent) rule.OperandType wanted v is
-  of_type-of wanted typing.NoValue v is = demanding-of (typings.is_of wanted typing.NoValue) rule.OperandType wanted v is
-
-  runs-of : (t : Typing) (v : Value) → IsBoolean v → IsOfTyping definitions (said.runs t).typing v
-  runs-of typing.Unknown v is = tt
-  runs-of (typing.Known t) v is = demanding-of (refers_to_component (typing.Known t)) rule.UnknownName type.Boolean v is
-  runs-of typing.Null v is = tt
-  runs-of typing.AnyComponent v is = is
-  runs-of typing.NoValue v is = tt
 
   running-of : (b : Bool) (found : Judged) (v : Value) → IsBoolean v
       → IsOfTyping definitions (if b then said.fine (typing.Known type.Boolean) else said.after found.broken (said.runs found.typing)).typing v
   running-of true found v is = is
-  running-of false found v is = runs-of found.typing v is
-
-  presence-of : (t : Typing) (fields : List (List ℕ)) (v : Value) → IsBoolean v → IsOfTyping definitions (said.presence t fields).typing v
-  presence-of typing.Unknown fields v is = tt
-  presence-of (typing.Known t) [] v is = tt
-  presence-of (typing.Known t) (f ∷ fs) v is = is
-  presence-of typing.Null [] v is = tt
-  presence-of typing.Null (f ∷ fs) v is = is
-  presence-of typing.AnyComponent [] v is = tt
-  presence-of typing.AnyComponent (f ∷ fs) v is = is
-  presence-of typing.NoValue [] v is = tt
-  presence-of typing.NoValue (f ∷ fs) v is = is
+  running-of false found v is = is
 
   -- ---- presence and running
 
-  last-presence : (ds : List Definition) (name : List ℕ) (names : List (List ℕ)) (v : Value) → IfSome (last_presence ds name names v) IsBoolean
+  last-presence : (ds : List Definition) (name : List ℕ) (names : List (List ℕ)) (v : Value) → IfYields (last_presence ds name names v) IsBoolean
   last-presence ds name [] v = if-mapped IsBoolean (λ state. value.Boolean (is_there state)) (state_of_field ds name v) (λ state. boolean_goes definitions (is_there state) false)
   last-presence ds name (next ∷ names) v = if-then IsBoolean (last_presence ds next names) (field ds name v) (λ w. last-presence ds next names w)
 
-  presence-boolean : (ds : List Definition) (names : List (List ℕ)) (v : Value) → IfSome (presence ds names v) IsBoolean
+  presence-boolean : (ds : List Definition) (names : List (List ℕ)) (v : Value) → IfYields (presence ds names v) IsBoolean
   presence-boolean ds [] v = tt
   presence-boolean ds (name ∷ names) v = last-presence ds name names v
 
-  runs-boolean : (reading : Reading) (c : ComponentRef) (timer : Option Bool) → IfSome (runs_at reading c timer) IsBoolean
+  runs-boolean : (reading : Reading) (c : ComponentRef) (timer : Option Bool) → IfYields (runs_at reading c timer) IsBoolean
   runs-boolean reading c (Some b) = truth-boolean b
   runs-boolean reading c None =
       if-then IsBoolean (component_runs reading) (component_at reading c)
@@ -371,58 +318,55 @@ module _ (definitions : List Definition) where
 -- ---- references
 
 module _ (scope : Scope) (reading : Reading) (fits : FitsIn scope reading) where
-  reference-goes : (reference : Reference) → IfSome (referred reading reference) (IsOfTyping scope.definitions (said.at_reference scope reference).typing)
+  reference-goes : (reference : Reference) → IfYields (referred reading reference) (IsOfTyping scope.definitions (said.at_reference scope reference).typing)
   reference-goes reference =
-      subst (λ ds. IfSome (along ds reference.fields (named reading reference.name)) (IsOfTyping scope.definitions (said.at_reference scope reference).typing)) (sym fits.definitions)
+      subst (λ ds. IfYields (along ds reference.fields (named reading reference.name)) (IsOfTyping scope.definitions (said.at_reference scope reference).typing)) (sym fits.definitions)
       (along-goes scope.definitions reference.fields (at_meaning scope.definitions (scope.names reference.name)).typing (named reading reference.name) (fits.names reference.name))
 
   self-goes : (itself : Option ℕ) (free : Bool) → IfSome itself (λ at. reading.itself.component_type ≡ at) → IsOfTyping scope.definitions (at_self itself free).typing (value.Component reading.itself)
   self-goes (Some at) free is = subst (λ k. is_of scope.definitions (type.Component k) (value.Component reading.itself) ≡ true) is (component_goes scope.definitions reading.itself)
   self-goes None free is = (reading.itself.component_type, component_goes scope.definitions reading.itself)
 
-  component-goes : (c : ComponentRef) (free : Bool) → IfSome (component_at reading c) (IsOfTyping scope.definitions (at_component scope c free).typing)
+  pub component-goes : (c : ComponentRef) (free : Bool) → IfYields (component_at reading c) (IsOfTyping scope.definitions (at_component scope c free).typing)
   component-goes component.Itself free = self-goes scope.itself free fits.itself
   component-goes component.Mtc free = (reading.mtc.component_type, component_goes scope.definitions reading.mtc)
   component-goes (component.Named reference) free = reference-goes reference
 
-  running-goes : (c : ComponentRef) → IfSome (runs reading c) (IsOfTyping scope.definitions (at_running scope c).typing)
+  running-goes : (c : ComponentRef) → IfYields (runs reading c) (IsOfTyping scope.definitions (at_running scope c).typing)
   running-goes c =
       if-more (IsBoolean scope.definitions) (IsOfTyping scope.definitions (at_running scope c).typing) (runs reading c) (runs-boolean scope.definitions reading c (timer_at reading c))
       (λ v is. running-of scope.definitions (names_timer scope c) (at_component scope c true) v is)
 
-  ispresent-goes : (reference : Reference) → IfSome (option_and_then (presence reading.definitions reference.fields) (named reading reference.name)) (IsOfTyping scope.definitions (said.at_ispresent scope reference).typing)
+  ispresent-goes : (reference : Reference) → IfYields (outcome_and_then (presence reading.definitions reference.fields) (named reading reference.name)) (IsOfTyping scope.definitions (said.at_ispresent scope reference).typing)
   ispresent-goes reference =
-      if-more (IsBoolean scope.definitions) (IsOfTyping scope.definitions (said.at_ispresent scope reference).typing) (option_and_then (presence reading.definitions reference.fields) (named reading reference.name))
-      (if-then (IsBoolean scope.definitions) (presence reading.definitions reference.fields) (named reading reference.name) (presence-boolean scope.definitions reading.definitions reference.fields))
-      (λ v is. presence-of scope.definitions (said.at_reference scope reference).typing reference.fields v is)
+      if-then (IsBoolean scope.definitions) (presence reading.definitions reference.fields) (named reading reference.name) (presence-boolean scope.definitions reading.definitions reference.fields)
 
   -- ---- chains
 
-  same-operator : (l : Link) → (link l).0 ≡ (said.link l).0
+  pub same-operator : (l : Link) → (link l).0 ≡ (said.link l).0
   same-operator l =
       ap (λ (p : Operator × Evaluation). p.0) (fold_out-Link Evaluation (Operator × Evaluation) expression_step link_step l)
       ∙ sym (ap (λ (p : Operator × Judgement). p.0) (fold_out-Link Judgement (Operator × Judgement) said.expression_step said.link_step l))
 
-  joined-goes : (first : Judgement) (found : Option Value) (l : Link) (free : Bool)
-      → IfSome (option_and_then (joined reading (link l)) found) (IsOfTyping scope.definitions (said.joined (said.link l).0 first (said.link l).1 scope free).typing)
+  pub joined-goes : (first : Judgement) (found : Outcome Value) (l : Link) (free : Bool)
+      → IfYields (outcome_and_then (joined reading (link l)) found) (IsOfTyping scope.definitions (said.joined (said.link l).0 first (said.link l).1 scope free).typing)
   joined-goes first found l free =
       if-then (IsOfTyping scope.definitions (said.joined (said.link l).0 first (said.link l).1 scope free).typing) (joined reading (link l)) found
       (λ left. if-more (λ u. is_of scope.definitions (result_of (link l).0) u ≡ true) (IsOfTyping scope.definitions (said.joined (said.link l).0 first (said.link l).1 scope free).typing)
       (joined reading (link l) left) (joined-gives scope.definitions reading (link l).0 (link l).1 left)
-      (λ u is. between-of scope.definitions (said.link l).0 (first scope (compares (said.link l).0)).typing ((said.link l).1 scope (compares (said.link l).0)).typing u
-      (subst (λ op. is_of scope.definitions (result_of op) u ≡ true) (same-operator l) is)))
+      (λ u is. subst (λ op. is_of scope.definitions (result_of op) u ≡ true) (same-operator l) is))
 
-  chained-goes : (links : List Link) (first : Judgement) (found : Option Value) → ((free : Bool) → IfSome found (IsOfTyping scope.definitions (first scope free).typing)) → (free : Bool)
-      → IfSome (after reading found (map link links)) (IsOfTyping scope.definitions (chained first (map said.link links) scope free).typing)
+  chained-goes : (links : List Link) (first : Judgement) (found : Outcome Value) → ((free : Bool) → IfYields found (IsOfTyping scope.definitions (first scope free).typing)) → (free : Bool)
+      → IfYields (after reading found (map link links)) (IsOfTyping scope.definitions (chained first (map said.link links) scope free).typing)
   chained-goes [] first found goes free = goes free
   chained-goes (l ∷ links) first found goes free =
-      chained-goes links (said.joined (said.link l).0 first (said.link l).1) (option_and_then (joined reading (link l)) found) (joined-goes first found l) free
+      chained-goes links (said.joined (said.link l).0 first (said.link l).1) (outcome_and_then (joined reading (link l)) found) (joined-goes first found l) free
 
 -- ---- expressions
 
 -- what gives values of the type that is said of it
 abbrev IsFitting : Evaluation → Judgement → Type 0
-IsFitting evaluation judgement = (scope : Scope) (reading : Reading) → FitsIn scope reading → (free : Bool) → IfSome (evaluation reading) (IsOfTyping scope.definitions (judgement scope free).typing)
+IsFitting evaluation judgement = (scope : Scope) (reading : Reading) → FitsIn scope reading → (free : Bool) → IfYields (evaluation reading) (IsOfTyping scope.definitions (judgement scope free).typing)
 
 abbrev HeldExpr : Type 0
 HeldExpr = (e : Expr) × IsFitting (value_of e) (expression e)
@@ -445,13 +389,9 @@ expr-held (Expr-F.Reference reference) = λ scope reading fits free. component-g
 expr-held (Expr-F.Running reference) = λ scope reading fits free. running-goes scope reading fits reference
 expr-held (Expr-F.Ispresent reference) = λ scope reading fits free. ispresent-goes scope reading fits reference
 expr-held (Expr-F.Not e) = λ scope reading fits free.
-    if-then (IsOfTyping scope.definitions (of_type type.Boolean (expression e.0 scope false).typing).typing) negated (value_of e.0 reading)
-    (λ v. if-more (IsBoolean scope.definitions) (IsOfTyping scope.definitions (of_type type.Boolean (expression e.0 scope false).typing).typing) (negated v) (negated-boolean scope.definitions v)
-    (of_type-of scope.definitions type.Boolean (expression e.0 scope false).typing))
+    if-then (IsBoolean scope.definitions) negated (value_of e.0 reading) (negated-boolean scope.definitions)
 expr-held (Expr-F.Signed s e) = λ scope reading fits free.
-    if-then (IsOfTyping scope.definitions (of_type type.Integer (expression e.0 scope false).typing).typing) (under_sign s) (value_of e.0 reading)
-    (λ v. if-more (IsInteger scope.definitions) (IsOfTyping scope.definitions (of_type type.Integer (expression e.0 scope false).typing).typing) (under_sign s v) (under-sign-integer scope.definitions s v)
-    (of_type-of scope.definitions type.Integer (expression e.0 scope false).typing))
+    if-then (IsInteger scope.definitions) (under_sign s) (value_of e.0 reading) (under-sign-integer scope.definitions s)
 expr-held (Expr-F.Chain first links) = λ scope reading fits free.
     chained-goes scope reading fits (map (λ l. l.0) links) (expression first.0) (value_of first.0 reading) (first.1 scope reading fits) free
 
@@ -462,5 +402,5 @@ expressions_typed = ind-Expr (λ e. IsFitting (value_of e) (expression e)) (λ l
     (subst (λ j. IsFitting (expression_step (map-Expr Expr Link Evaluation (Operator × Evaluation) value_of link x)) j) (sym (fold-roll-Expr Judgement (Operator × Judgement) said.expression_step said.link_step x))
     (subst LevelFits is (expr-held y)))) (λ x y is. tt)
 
-pub expression_typed : (e : Expr) (scope : Scope) (free : Bool) (reading : Reading) → FitsIn scope reading → IfSome (value_of e reading) (IsOfTyping scope.definitions (expression e scope free).typing)
+pub expression_typed : (e : Expr) (scope : Scope) (free : Bool) (reading : Reading) → FitsIn scope reading → IfYields (value_of e reading) (IsOfTyping scope.definitions (expression e scope free).typing)
 expression_typed e scope free reading fits = expressions_typed e scope reading fits free

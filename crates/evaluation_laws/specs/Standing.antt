@@ -1,14 +1,15 @@
 -- What constants and templates stand for, with no word on how deep they refer to each other.
-use Rattle.std.specs.Prelude.{◌≡◌, ℕ, List, None}
+use Rattle.std.specs.Prelude.{◌≡◌, ℕ, List}
 use Rattle.check_scope.specs.Names.{constant_at, constants_type, kind_at, module_names, template_at}
 use Rattle.ttcn_values.specs.Chains.{constant_value, template_value, with_names}
+use Rattle.ttcn_values.specs.Outcomes.{unmet}
 use Rattle.ttcn_values.specs.Readings.{Reading}
 use Rattle.ttcn_values.specs.declared.value.Value.{Value}
 
 -- in a reading each constant of the module gives what its written value gives in this same reading, without local names
 abbrev pub ConstantsStandForTheirValues : Reading → Type 0
 ConstantsStandForTheirValues reading = (at item : ℕ)
-    → reading.constants at item ≡ constant_value (with_names (λ name. None) reading) (constant_at reading.definitions at item)
+    → reading.constants at item ≡ constant_value (with_names (λ name. unmet) reading) (constant_at reading.definitions at item)
     (constants_type (module_names reading.definitions) (kind_at reading.definitions at))
 
 -- and each template with arguments what its body gives in this same reading, where its parameters have these values

@@ -1,5 +1,5 @@
 -- Which values are of which types, and which templates stand for values of which types (ES 201 873-1, 6 and 15).
-use Rattle.std.specs.Prelude.{◌≡◌, ℕ, Bool, true, false, not, ◌&&◌, ◌||◌, List, [], ◌∷◌, Option, Some, None, length, nat_lt, IfSome}
+use Rattle.std.specs.Prelude.{◌≡◌, ℕ, Bool, true, false, not, ◌&&◌, ◌||◌, List, [], ◌∷◌, Option, Some, None, is_some, length, nat_lt, IfSome}
 use Rattle.std.specs.List.{All, list_all}
 use Rattle.ttcn_syntax.specs.declared.tree.definition.Definition.{Definition}
 use Rattle.ttcn_syntax.specs.declared.tree.definition.Field.{Field}
@@ -8,6 +8,8 @@ use Rattle.check_expressions.specs.Calls.{parameters_of, template_type}
 use Rattle.check_expressions.specs.Expressions.{at_meaning}
 use Rattle.check_scope.specs.Names.{Scope, field_named, fields_at, kind_at, module_names, resolved}
 use Rattle.check_expressions.specs.Templates.{template_meant}
+use Rattle.check_scope.specs.declared.names.Meaning.{Meaning}
+use Rattle.check_scope.specs.declared.names.Meaning.TheVariants as meaning
 use Rattle.check_scope.specs.Typings.{is_component, is_default, same_type, typed}
 use Rattle.check_expressions.specs.Values.{field_target}
 use Rattle.check_scope.specs.Typings.{target_of}
@@ -16,6 +18,7 @@ use Rattle.check_scope.specs.declared.types.DataType.TheVariants as type
 use Rattle.check_scope.specs.declared.types.Target.{Target}
 use Rattle.check_scope.specs.declared.types.Typing.{Typing}
 use Rattle.check_scope.specs.declared.types.Typing.TheVariants as typing
+use Rattle.ttcn_values.specs.Outcomes.{IfYields, IsMet}
 use Rattle.ttcn_values.specs.Readings.{Reading, enumerators_of, named}
 use Rattle.ttcn_values.specs.Values.{is_complete}
 use Rattle.ttcn_values.specs.declared.template.Pattern.TheOpen.{Pattern-F, Template-F}
@@ -75,6 +78,14 @@ is_of definitions t v = value_goes v definitions (target_of (Some t))
 abbrev pub FieldsDiffer : List Definition → Type 0
 FieldsDiffer definitions = (at : ℕ) → All (λ field. field_named field.name (fields_at definitions at) ≡ Some field) (fields_at definitions at)
 
+-- a parameter has its type
+abbrev pub HasParameterType : List Definition → Parameter → Type 0
+HasParameterType definitions parameter = is_some (resolved (module_names definitions) parameter.type_name) ≡ true
+
+-- the parameters of each template have their types
+abbrev pub ParametersKnown : List Definition → Type 0
+ParametersKnown definitions = (at : ℕ) → is_some (template_type definitions (kind_at definitions at)) ≡ true → All (HasParameterType definitions) (parameters_of (kind_at definitions at))
+
 -- ---- templates
 
 abbrev pub go_to_each : List Definition → List Field → List Goes → Bool
@@ -122,7 +133,33 @@ AreGiven definitions (p ∷ ps) (v ∷ vs) = IsOfTyping definitions (typed (reso
 -- give with arguments of their parameters' types; and the names of templates are those of the module
 pub record FitsIn (scope : Scope) (reading : Reading) : Type 0 where
   pub definitions : reading.definitions ≡ scope.definitions
-  pub names : (name : List ℕ) → IfSome (named reading name) (IsOfTyping scope.definitions (at_meaning scope.definitions (scope.names name)).typing)
+  pub names : (name : List ℕ) → IfYields (named reading name) (IsOfTyping scope.definitions (at_meaning scope.definitions (scope.names name)).typing)
   pub itself : IfSome scope.itself (λ at. reading.itself.component_type ≡ at)
   pub template_names : (name : List ℕ) → template_meant (module_names scope.definitions name) ≡ template_meant (scope.names name)
-  pub templates : (at : ℕ) (values : List Value) → AreGiven scope.definitions (parameters_of (kind_at scope.definitions at)) values → IfSome (reading.templates at values) (λ t. IfSome (template_type scope.definitions (kind_at scope.definitions at)) (λ of. template_goes t scope.definitions (target_of (Some of)) ≡ true))
+  pub templates : (at : ℕ) (values : List Value) → AreGiven scope.definitions (parameters_of (kind_at scope.definitions at)) values → IfYields (reading.templates at values) (λ t. IfSome (template_type scope.definitions (kind_at scope.definitions at)) (λ of. template_goes t scope.definitions (target_of (Some of)) ≡ true))
+
+-- a name stands for a value
+abbrev pub names_value : Option Meaning → Bool
+names_value (Some (meaning.Variable of)) = true
+names_value (Some (meaning.Constant of)) = true
+names_value (Some (meaning.ModuleConstant at item)) = true
+names_value (Some (meaning.Enumerator at)) = true
+names_value _ = false
+
+-- a name stands for a timer
+abbrev pub names_timer : Option Meaning → Bool
+names_timer (Some meaning.Timer) = true
+names_timer _ = false
+
+-- what is of a typing is a value: a port or a timer is none
+abbrev pub is_valued : Typing → Bool
+is_valued typing.NoValue = false
+is_valued _ = true
+
+-- a reading has all that a scope knows: each name of a value stands there, be it as one without value; the names of timers, and no
+-- others, have a timer's state; and each template of the module stands there with arguments of its parameters' types
+pub record HasAll (scope : Scope) (reading : Reading) : Type 0 where
+  pub values : (name : List ℕ) → names_value (scope.names name) ≡ true → IsMet (named reading name)
+  pub timers : (name : List ℕ) → is_some (reading.timers name) ≡ names_timer (scope.names name)
+  pub templates : (at : ℕ) (values : List Value) → is_some (template_type scope.definitions (kind_at scope.definitions at)) ≡ true
+      → AreGiven scope.definitions (parameters_of (kind_at scope.definitions at)) values → IsMet (reading.templates at values)

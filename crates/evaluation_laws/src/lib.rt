@@ -9,6 +9,8 @@ pub use laws::{
     templates_stand_for_their_bodies,
 };
 pub use typing::{
-    arguments_are_given, chains_fit_their_module, expressions_give_their_types, fields_differ,
-    templates_go_where_they_are_wanted, values_go_where_they_are_wanted, wanted_expressions_go,
+    arguments_are_given, chains_fit_their_module, expressions_are_met,
+    expressions_give_their_types, fields_differ, modules_have_all, parameters_are_known,
+    templates_are_met, templates_go_where_they_are_wanted, values_are_met,
+    values_go_where_they_are_wanted, wanted_expressions_go,
 };

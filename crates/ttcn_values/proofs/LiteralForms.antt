@@ -15,7 +15,7 @@ use Rattle.check_scope.specs.Names.{fields_at}
 use Rattle.check_scope.specs.declared.types.DataType.{DataType}
 use Rattle.ttcn_values.specs.Evaluation.{value_of}
 use Rattle.ttcn_values.specs.Literals.{Wanted, by_name, element, element_named, field_value, field_value_step, given_by_name, in_order, record_at, type_of_field, value_step, value_wanted, wanted_record}
-use Rattle.ttcn_values.specs.Outcomes.{each}
+use Rattle.ttcn_values.specs.Outcomes.{Failure, Fails, Outcome, Yields, each, outcome_map, unmet}
 use Rattle.ttcn_values.specs.Readings.{Reading}
 use Rattle.ttcn_values.specs.declared.value.Value as values
 use Rattle.ttcn_values.specs.declared.value.Value.TheVariants as value
@@ -24,7 +24,7 @@ module _ (reading : Reading) (wanted : Option DataType) where
   pub wanted_expr : (e : Expr) → value_wanted (form.Expr e) reading wanted ≡ value_of e reading
   wanted_expr e = ap (λ (f : Wanted). f reading wanted) (ap value_wanted (sym (form.rolls-Expr e)) ∙ fold-roll-Value Wanted (List ℕ × Wanted) value_step field_value_step (Value-F.Expr e))
 
-  pub wanted_omit : value_wanted form.Omit reading wanted ≡ Some value.Omit
+  pub wanted_omit : value_wanted form.Omit reading wanted ≡ Yields value.Omit
   wanted_omit = ap (λ (f : Wanted). f reading wanted) (ap value_wanted (sym form.rolls-Omit) ∙ fold-roll-Value Wanted (List ℕ × Wanted) value_step field_value_step Value-F.Omit)
 
   pub wanted_listed : (elements : List Value) → value_wanted (form.Listed elements) reading wanted ≡ record_at (wanted_record wanted) (λ at. in_order reading (fields_at reading.definitions at) (map value_wanted elements))
@@ -35,27 +35,27 @@ module _ (reading : Reading) (wanted : Option DataType) where
 
 pub ruleset literal_forms = (wanted_expr, wanted_omit, wanted_listed, wanted_assigned)
 
--- a literal gives a dynamic error where its elements do
-pub assigned_fault : (reading : Reading) (wanted : Option DataType) (v : Value) (elements es : List FieldValue) (at : ℕ) (fs : List Field) → v ≡ form.Assigned elements → es ≡ elements
-    → wanted_record wanted ≡ Some at → fs ≡ fields_at reading.definitions at → by_name reading fs (map field_value es) ≡ None → value_wanted v reading wanted ≡ None
-assigned_fault reading wanted v elements es at fs is same record_is fields_are none =
+-- a literal fails as its elements do
+pub assigned_fault : (why : Failure) (reading : Reading) (wanted : Option DataType) (v : Value) (elements es : List FieldValue) (at : ℕ) (fs : List Field) → v ≡ form.Assigned elements → es ≡ elements
+    → wanted_record wanted ≡ Yields at → fs ≡ fields_at reading.definitions at → by_name reading fs (map field_value es) ≡ Fails why → value_wanted v reading wanted ≡ Fails why
+assigned_fault why reading wanted v elements es at fs is same record_is fields_are none =
     ap (λ x. value_wanted x reading wanted) is ∙ wanted_assigned reading wanted elements
     ∙ ap (λ r. record_at r (λ a. by_name reading (fields_at reading.definitions a) (map field_value elements))) record_is
-    ∙ ap (option_map (value.Record at)) (ap (λ l. by_name reading l (map field_value elements)) (sym fields_are) ∙ ap (λ l. by_name reading fs (map field_value l)) (sym same) ∙ none)
+    ∙ ap (outcome_map (value.Record at)) (ap (λ l. by_name reading l (map field_value elements)) (sym fields_are) ∙ ap (λ l. by_name reading fs (map field_value l)) (sym same) ∙ none)
 
-pub listed_fault : (reading : Reading) (wanted : Option DataType) (v : Value) (elements es : List Value) (at : ℕ) (fs : List Field) → v ≡ form.Listed elements → es ≡ elements
-    → wanted_record wanted ≡ Some at → fs ≡ fields_at reading.definitions at → in_order reading fs (map value_wanted es) ≡ None → value_wanted v reading wanted ≡ None
-listed_fault reading wanted v elements es at fs is same record_is fields_are none =
+pub listed_fault : (why : Failure) (reading : Reading) (wanted : Option DataType) (v : Value) (elements es : List Value) (at : ℕ) (fs : List Field) → v ≡ form.Listed elements → es ≡ elements
+    → wanted_record wanted ≡ Yields at → fs ≡ fields_at reading.definitions at → in_order reading fs (map value_wanted es) ≡ Fails why → value_wanted v reading wanted ≡ Fails why
+listed_fault why reading wanted v elements es at fs is same record_is fields_are none =
     ap (λ x. value_wanted x reading wanted) is ∙ wanted_listed reading wanted elements
     ∙ ap (λ r. record_at r (λ a. in_order reading (fields_at reading.definitions a) (map value_wanted elements))) record_is
-    ∙ ap (option_map (value.Record at)) (ap (λ l. in_order reading l (map value_wanted elements)) (sym fields_are) ∙ ap (λ l. in_order reading fs (map value_wanted l)) (sym same) ∙ none)
+    ∙ ap (outcome_map (value.Record at)) (ap (λ l. in_order reading l (map value_wanted elements)) (sym fields_are) ∙ ap (λ l. in_order reading fs (map value_wanted l)) (sym same) ∙ none)
 
 -- what an element gives for its field
-pub element_gives : (reading : Reading) (field : Field) (e : Value) (w : Option DataType) (o : Option values.Value) → w ≡ type_of_field reading field → value_wanted e reading w ≡ o
-    → element reading (field, value_wanted e) ≡ option_map Some o
-element_gives reading field e w o is gives = ap (option_map Some) (sym (ap (value_wanted e reading) is) ∙ gives)
+pub element_gives : (reading : Reading) (field : Field) (e : Value) (w : Option DataType) (o : Outcome values.Value) → w ≡ type_of_field reading field → value_wanted e reading w ≡ o
+    → element reading (field, value_wanted e) ≡ outcome_map Some o
+element_gives reading field e w o is gives = ap (outcome_map Some) (sym (ap (value_wanted e reading) is) ∙ gives)
 
-pub at_field : (reading : Reading) (field : Field) (e : Value) (w : Option DataType) (o : Option values.Value) → w ≡ type_of_field reading field → value_wanted e reading w ≡ o
+pub at_field : (reading : Reading) (field : Field) (e : Value) (w : Option DataType) (o : Outcome values.Value) → w ≡ type_of_field reading field → value_wanted e reading w ≡ o
     → value_wanted e reading (type_of_field reading field) ≡ o
 at_field reading field e w o is gives = sym (ap (value_wanted e reading) is) ∙ gives
 
@@ -65,8 +65,8 @@ pub order_is : (reading : Reading) (fields : List Field) (elements : List Value)
     → in_order reading fields (map value_wanted elements) ≡ each (map (element reading) (zip fields (map value_wanted elements)))
 order_is reading fields elements same =
     let itself : nat_eq (length fields) (length fields) ≡ true = grind (arith, nat_tests) in
-    ap (λ n. if nat_eq n (length fields) then each (map (element reading) (zip fields (map value_wanted elements))) else None) (length-map elements value_wanted ∙ same)
-    ∙ ap (λ b. if b then each (map (element reading) (zip fields (map value_wanted elements))) else None) itself
+    ap (λ n. if nat_eq n (length fields) then each (map (element reading) (zip fields (map value_wanted elements))) else unmet) (length-map elements value_wanted ∙ same)
+    ∙ ap (λ b. if b then each (map (element reading) (zip fields (map value_wanted elements))) else unmet) itself
 
 -- ---- elements by names
 
@@ -91,24 +91,24 @@ module _ (reading : Reading) (elements : List FieldValue) (field : Field) where
   given_is o is = ap (element_named reading field) (found_named field.name elements ∙ ap (option_map field_value) is)
 
   -- no element has the name
-  pub given-none : option_map (λ e. (out-FieldValue e).value) (find (λ e. bytes_eq (out-FieldValue e).name field.name) elements) ≡ None → given_by_name reading (map field_value elements) field ≡ Some None
+  pub given-none : option_map (λ e. (out-FieldValue e).value) (find (λ e. bytes_eq (out-FieldValue e).name field.name) elements) ≡ None → given_by_name reading (map field_value elements) field ≡ Yields None
   given-none none = go (find (λ e. bytes_eq (out-FieldValue e).name field.name) elements) refl none
     where
-      go : (o : Option FieldValue) → find (λ e. bytes_eq (out-FieldValue e).name field.name) elements ≡ o → option_map (λ e. (out-FieldValue e).value) o ≡ None → given_by_name reading (map field_value elements) field ≡ Some None
+      go : (o : Option FieldValue) → find (λ e. bytes_eq (out-FieldValue e).name field.name) elements ≡ o → option_map (λ e. (out-FieldValue e).value) o ≡ None → given_by_name reading (map field_value elements) field ≡ Yields None
       go None is h = given_is None is
       go (Some e) is h = absurd (let x = h in cc)
 
   -- an element has it
-  pub given-some : (v : Value) (o : Option values.Value) → option_map (λ e. (out-FieldValue e).value) (find (λ e. bytes_eq (out-FieldValue e).name field.name) elements) ≡ Some v
-      → value_wanted v reading (type_of_field reading field) ≡ o → given_by_name reading (map field_value elements) field ≡ option_map Some o
+  pub given-some : (v : Value) (o : Outcome values.Value) → option_map (λ e. (out-FieldValue e).value) (find (λ e. bytes_eq (out-FieldValue e).name field.name) elements) ≡ Some v
+      → value_wanted v reading (type_of_field reading field) ≡ o → given_by_name reading (map field_value elements) field ≡ outcome_map Some o
   given-some v o some gives = go (find (λ e. bytes_eq (out-FieldValue e).name field.name) elements) refl some
     where
       go : (found : Option FieldValue) → find (λ e. bytes_eq (out-FieldValue e).name field.name) elements ≡ found → option_map (λ e. (out-FieldValue e).value) found ≡ Some v
-          → given_by_name reading (map field_value elements) field ≡ option_map Some o
+          → given_by_name reading (map field_value elements) field ≡ outcome_map Some o
       go None is h = absurd (let x = h in cc)
       go (Some e) is h =
           let same : (out-FieldValue e).value ≡ v = cc in
           given_is (Some e) is
           ∙ ap (λ (p : List ℕ × Wanted). element reading (field, p.1)) (field_value_out e)
-          ∙ ap (λ w. option_map Some (value_wanted w reading (type_of_field reading field))) same
-          ∙ ap (option_map Some) gives
+          ∙ ap (λ w. outcome_map Some (value_wanted w reading (type_of_field reading field))) same
+          ∙ ap (outcome_map Some) gives

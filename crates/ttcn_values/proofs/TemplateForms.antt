@@ -18,7 +18,7 @@ use Rattle.ttcn_values.proofs.Each.{if_as_long}
 use Rattle.ttcn_values.proofs.Lists.{find_among}
 use Rattle.ttcn_values.specs.Frames.{read_by}
 use Rattle.ttcn_values.specs.Literals.{wanted_record}
-use Rattle.ttcn_values.specs.Outcomes.{each}
+use Rattle.ttcn_values.specs.Outcomes.{Outcome, Yields, each, outcome_map, unmet}
 use Rattle.ttcn_values.specs.Readings.{Reading}
 use Rattle.ttcn_values.specs.Templates.{Wanted, body_step, body_wanted, by_name, element, element_named, field_template, field_template_step, in_order, parts_of, plain, record_at, template_called, template_of_name, template_step, template_wanted}
 use Rattle.ttcn_values.specs.declared.reader.Reader.{Reader}
@@ -31,19 +31,19 @@ Part = List ℕ × Wanted
 -- ---- parts and calls
 
 module _ (reading : Reading) (wanted : Option DataType) (body : TemplateBody) where
-  pub body_of_complement : (parts slice : List Template) (o : Option (List Found)) → body ≡ form.Complement parts → slice ≡ parts
-      → parts_of reading wanted (map template_wanted slice) ≡ o → body_wanted body reading wanted ≡ option_map (λ ps. plain (pattern.Complement ps)) o
+  pub body_of_complement : (parts slice : List Template) (o : Outcome (List Found)) → body ≡ form.Complement parts → slice ≡ parts
+      → parts_of reading wanted (map template_wanted slice) ≡ o → body_wanted body reading wanted ≡ outcome_map (λ ps. plain (pattern.Complement ps)) o
   body_of_complement parts slice o is is_slice gives =
       ap (λ (w : Wanted). w reading wanted) (ap body_wanted (is ∙ sym (form.rolls-Complement parts)) ∙ fold-roll-TemplateBody Wanted Part Wanted body_step field_template_step template_step (TemplateBody-F.Complement parts))
-      ∙ ap (λ ps. option_map (λ ps. plain (pattern.Complement ps)) (parts_of reading wanted (map template_wanted ps))) (sym is_slice)
-      ∙ ap (option_map (λ ps. plain (pattern.Complement ps))) gives
+      ∙ ap (λ ps. outcome_map (λ ps. plain (pattern.Complement ps)) (parts_of reading wanted (map template_wanted ps))) (sym is_slice)
+      ∙ ap (outcome_map (λ ps. plain (pattern.Complement ps))) gives
 
-  pub body_of_list : (parts slice : List Template) (o : Option (List Found)) → body ≡ form.List parts → slice ≡ parts
-      → parts_of reading wanted (map template_wanted slice) ≡ o → body_wanted body reading wanted ≡ option_map (λ ps. plain (pattern.List ps)) o
+  pub body_of_list : (parts slice : List Template) (o : Outcome (List Found)) → body ≡ form.List parts → slice ≡ parts
+      → parts_of reading wanted (map template_wanted slice) ≡ o → body_wanted body reading wanted ≡ outcome_map (λ ps. plain (pattern.List ps)) o
   body_of_list parts slice o is is_slice gives =
       ap (λ (w : Wanted). w reading wanted) (ap body_wanted (is ∙ sym (form.rolls-List parts)) ∙ fold-roll-TemplateBody Wanted Part Wanted body_step field_template_step template_step (TemplateBody-F.List parts))
-      ∙ ap (λ ps. option_map (λ ps. plain (pattern.List ps)) (parts_of reading wanted (map template_wanted ps))) (sym is_slice)
-      ∙ ap (option_map (λ ps. plain (pattern.List ps))) gives
+      ∙ ap (λ ps. outcome_map (λ ps. plain (pattern.List ps)) (parts_of reading wanted (map template_wanted ps))) (sym is_slice)
+      ∙ ap (outcome_map (λ ps. plain (pattern.List ps))) gives
 
   pub body_of_call : (call : Call) (at : ℕ) (slice : List written.Value) → body ≡ form.Call call → template_of_name reading (Some call.name) ≡ Some at → slice ≡ call.arguments
       → body_wanted body reading wanted ≡ template_called reading (Some at) slice
@@ -54,25 +54,25 @@ module _ (reading : Reading) (wanted : Option DataType) (body : TemplateBody) wh
 
 -- ---- records
 
-module _ (reader : Reader) (wanted : Option DataType) (at : ℕ) (fields : List Field) (is_wanted : wanted_record wanted ≡ Some at)
+module _ (reader : Reader) (wanted : Option DataType) (at : ℕ) (fields : List Field) (is_wanted : wanted_record wanted ≡ Yields at)
     (are_fields : fields ≡ fields_at reader.frame.now.definitions.now at) where
-  pub body_of_listed : (body : TemplateBody) (parts slice : List Template) (o : Option (List Found)) → body ≡ form.Listed parts → slice ≡ parts
-      → in_order (read_by reader) fields (map template_wanted slice) ≡ o → body_wanted body (read_by reader) wanted ≡ option_map (λ ps. plain (pattern.Record at ps)) o
+  pub body_of_listed : (body : TemplateBody) (parts slice : List Template) (o : Outcome (List Found)) → body ≡ form.Listed parts → slice ≡ parts
+      → in_order (read_by reader) fields (map template_wanted slice) ≡ o → body_wanted body (read_by reader) wanted ≡ outcome_map (λ ps. plain (pattern.Record at ps)) o
   body_of_listed body parts slice o is is_slice gives =
       ap (λ (w : Wanted). w (read_by reader) wanted) (ap body_wanted (is ∙ sym (form.rolls-Listed parts)) ∙ fold-roll-TemplateBody Wanted Part Wanted body_step field_template_step template_step (TemplateBody-F.Listed parts))
       ∙ ap (λ r. record_at r (λ at. in_order (read_by reader) (fields_at (read_by reader).definitions at) (map template_wanted parts))) is_wanted
-      ∙ ap (λ fs. option_map (λ ps. plain (pattern.Record at ps)) (in_order (read_by reader) fs (map template_wanted parts))) (sym are_fields)
-      ∙ ap (λ ps. option_map (λ ps. plain (pattern.Record at ps)) (in_order (read_by reader) fields (map template_wanted ps))) (sym is_slice)
-      ∙ ap (option_map (λ ps. plain (pattern.Record at ps))) gives
+      ∙ ap (λ fs. outcome_map (λ ps. plain (pattern.Record at ps)) (in_order (read_by reader) fs (map template_wanted parts))) (sym are_fields)
+      ∙ ap (λ ps. outcome_map (λ ps. plain (pattern.Record at ps)) (in_order (read_by reader) fields (map template_wanted ps))) (sym is_slice)
+      ∙ ap (outcome_map (λ ps. plain (pattern.Record at ps))) gives
 
-  pub body_of_assigned : (body : TemplateBody) (parts slice : List FieldTemplate) (o : Option (List Found)) → body ≡ form.Assigned parts → slice ≡ parts
-      → by_name (read_by reader) fields (map field_template slice) ≡ o → body_wanted body (read_by reader) wanted ≡ option_map (λ ps. plain (pattern.Record at ps)) o
+  pub body_of_assigned : (body : TemplateBody) (parts slice : List FieldTemplate) (o : Outcome (List Found)) → body ≡ form.Assigned parts → slice ≡ parts
+      → by_name (read_by reader) fields (map field_template slice) ≡ o → body_wanted body (read_by reader) wanted ≡ outcome_map (λ ps. plain (pattern.Record at ps)) o
   body_of_assigned body parts slice o is is_slice gives =
       ap (λ (w : Wanted). w (read_by reader) wanted) (ap body_wanted (is ∙ sym (form.rolls-Assigned parts)) ∙ fold-roll-TemplateBody Wanted Part Wanted body_step field_template_step template_step (TemplateBody-F.Assigned parts))
       ∙ ap (λ r. record_at r (λ at. by_name (read_by reader) (fields_at (read_by reader).definitions at) (map field_template parts))) is_wanted
-      ∙ ap (λ fs. option_map (λ ps. plain (pattern.Record at ps)) (by_name (read_by reader) fs (map field_template parts))) (sym are_fields)
-      ∙ ap (λ ps. option_map (λ ps. plain (pattern.Record at ps)) (by_name (read_by reader) fields (map field_template ps))) (sym is_slice)
-      ∙ ap (option_map (λ ps. plain (pattern.Record at ps))) gives
+      ∙ ap (λ fs. outcome_map (λ ps. plain (pattern.Record at ps)) (by_name (read_by reader) fs (map field_template parts))) (sym are_fields)
+      ∙ ap (λ ps. outcome_map (λ ps. plain (pattern.Record at ps)) (by_name (read_by reader) fields (map field_template ps))) (sym is_slice)
+      ∙ ap (outcome_map (λ ps. plain (pattern.Record at ps))) gives
 
 -- ---- elements by the order of the fields
 
@@ -101,5 +101,5 @@ module _ (reader : Reader) (field : Field) (elements : List FieldTemplate) where
       ∙ ap (template_wanted (out-FieldTemplate part).template (read_by reader)) (sym is)
 
   pub element_missing : find (λ e. bytes_eq (out-FieldTemplate e).name field.name) elements ≡ None
-      → element_named (read_by reader) field (find (λ e. bytes_eq e.0 field.name) (map field_template elements)) ≡ None
+      → element_named (read_by reader) field (find (λ e. bytes_eq e.0 field.name) (map field_template elements)) ≡ unmet
   element_missing none = ap (element_named (read_by reader) field) (among ∙ ap (option_map field_template) none)

@@ -1,16 +1,17 @@
 -- The readings that frames stand for.
-use Rattle.std.specs.Prelude.{ℕ, Bool, true, false, List, Option, Some, None, bytes_eq}
+use Rattle.std.specs.Prelude.{ℕ, Bool, true, false, List, Option, None, bytes_eq}
 use Rattle.std.specs.List.{find, list_any}
-use Rattle.std.specs.Option.{option_and_then, option_map, option_or}
+use Rattle.std.specs.Option.{option_map, option_or}
 use Rattle.ttcn_syntax.specs.declared.tree.definition.Definition.{Definition}
 use Rattle.ttcn_syntax.specs.declared.tree.expression.Reference.{Reference}
+pub use Rattle.ttcn_types.specs.Limits.{longest_chain}
 use Rattle.ttcn_values.specs.Chains.{given_to, within_chains}
+use Rattle.ttcn_values.specs.Outcomes.{Outcome, or_error, or_unmet, outcome_and_then, unmet}
 use Rattle.ttcn_values.specs.Readings.{Reading, along, named, presence}
 use Rattle.ttcn_values.specs.contracts.path.PathPartialEq.TheImpl as equality
 use Rattle.ttcn_values.specs.declared.frame.Frame.{Frame}
 use Rattle.ttcn_values.specs.declared.frame.TimerState.{TimerState}
 use Rattle.ttcn_values.specs.declared.frame.TimerState.TheVariants as timer
-use Rattle.ttcn_values.specs.declared.path.Path.{Path}
 use Rattle.ttcn_values.specs.declared.reader.Origin.{Origin}
 use Rattle.ttcn_values.specs.declared.reader.Origin.TheVariants as origin
 use Rattle.ttcn_values.specs.declared.reader.Reader.{Reader}
@@ -28,21 +29,17 @@ abbrev pub is_running : TimerState → Bool
 is_running timer.Running = true
 is_running _ = false
 
--- the module's constants and templates refer to each other in chains of at most so many: the checker refuses longer ones
-abbrev pub longest_chain : ℕ
-longest_chain = 200
-
--- what a frame gives, without the module's constants and templates
+-- what a frame gives, without the module's constants and templates: a name without an entry has no value
 abbrev pub facts : Frame → Reading
 facts frame = record {
   definitions = frame.definitions.now;
-  names = λ name. option_or (entry frame.locals.now name) (entry frame.members.now name);
+  names = λ name. or_error (option_or (entry frame.locals.now name) (entry frame.members.now name));
   timers = λ name. option_map is_running (option_or (entry frame.local_timers.now name) (entry frame.member_timers.now name));
   running = λ path. list_any ((equality.ghosts).eq path) frame.running.now;
   itself = frame.itself.now;
   mtc = frame.mtc.now;
-  constants = λ at item. None;
-  templates = λ at values. None;
+  constants = λ at item. unmet;
+  templates = λ at values. unmet;
 }
 
 -- the reading that a frame stands for
@@ -51,9 +48,9 @@ reading frame = within_chains longest_chain (facts frame)
 
 -- ---- readers
 
-abbrev pub names_seen : Visible → Reading → List ℕ → Option Value
+abbrev pub names_seen : Visible → Reading → List ℕ → Outcome Value
 names_seen visible.Frame facts = facts.names
-names_seen visible.Nothing facts = λ name. None
+names_seen visible.Nothing facts = λ name. unmet
 names_seen (visible.Parameters parameters values) facts = given_to parameters.now values.now
 
 abbrev pub timers_seen : Visible → Reading → List ℕ → Option Bool
@@ -77,16 +74,16 @@ abbrev pub read_by : Reader → Reading
 read_by reader = within_chains reader.depth (seen_by reader.visible (facts reader.frame.now))
 
 -- what a value gives for a use, with fields behind it
-abbrev pub taken_for : Use → List Definition → List (List ℕ) → Option Value → Option Value
+abbrev pub taken_for : Use → List Definition → List (List ℕ) → Outcome Value → Outcome Value
 taken_for use_form.Value definitions fields found = along definitions fields found
-taken_for use_form.Presence definitions fields found = option_and_then (presence definitions fields) found
+taken_for use_form.Presence definitions fields found = outcome_and_then (presence definitions fields) found
 
 -- what a reference gives for a use
-abbrev pub wanted_of : Use → Reading → Reference → Option Value
+abbrev pub wanted_of : Use → Reading → Reference → Outcome Value
 wanted_of wanted reading reference = taken_for wanted reading.definitions reference.fields (named reading reference.name)
 
 -- the value of what a name stands for
-abbrev pub origin_value : Reading → Origin → Option Value
+abbrev pub origin_value : Reading → Origin → Outcome Value
 origin_value reading (origin.Constant at item) = reading.constants at item
-origin_value reading (origin.Made v) = v
-origin_value reading (origin.Kept v) = option_map (λ value. value.now) v
+origin_value reading (origin.Made v) = or_unmet v
+origin_value reading (origin.Kept v) = or_error (option_map (λ value. value.now) v)

@@ -1,6 +1,7 @@
 -- When templates are equal, when a template matches a value (ES 201 873-1, 15 and annex B), and which value it stands for when it is sent (15.1).
 use Rattle.std.specs.Prelude.{ℕ, ℤ, Bool, true, false, not, ◌&&◌, ◌||◌, List, [], ◌∷◌, Option, Some, None, nat_eq, int_lt, if◌then◌else◌}
 use Rattle.std.specs.List.{list_any}
+use Rattle.ttcn_values.specs.Outcomes.{Fails, Outcome, Yields, dynamic_error}
 use Rattle.ttcn_values.specs.Values.{equal, integer, is_omit, record_of}
 use Rattle.ttcn_values.specs.contracts.template.PatternPartialEq.TheImpl as patterns
 use Rattle.ttcn_values.specs.contracts.template.TemplatePartialEq.TheImpl as templates
@@ -77,34 +78,34 @@ is_match_of_pattern = fold-Pattern Matcher Matcher pattern_step template_step
 
 -- ---- sending
 
-abbrev pub before_fields : Value → Option (List (Option Value)) → Option (List (Option Value))
-before_fields v None = None
-before_fields v (Some fields) = Some (Some v ∷ fields)
+abbrev pub before_fields : Value → Outcome (List (Option Value)) → Outcome (List (Option Value))
+before_fields v (Fails why) = Fails why
+before_fields v (Yields fields) = Yields (Some v ∷ fields)
 
 -- the fields that values give, where each is given
-abbrev pub all_fields : List (Option Value) → Option (List (Option Value))
-all_fields [] = Some []
-all_fields (None ∷ given) = None
-all_fields (Some v ∷ given) = before_fields v (all_fields given)
+abbrev pub all_fields : List (Outcome Value) → Outcome (List (Option Value))
+all_fields [] = Yields []
+all_fields (Fails why ∷ given) = Fails why
+all_fields (Yields v ∷ given) = before_fields v (all_fields given)
 
-abbrev pub record_with : ℕ → Option (List (Option Value)) → Option Value
-record_with at None = None
-record_with at (Some fields) = Some (value.Record at fields)
+abbrev pub record_with : ℕ → Outcome (List (Option Value)) → Outcome Value
+record_with at (Fails why) = Fails why
+record_with at (Yields fields) = Yields (value.Record at fields)
 
 -- `omit` stands for an omitted field; what matches several values stands for none
-abbrev pub specific_step : Pattern-F (Option Value) (Option Value) → Option Value
-specific_step (Pattern-F.Value v) = Some v
-specific_step Pattern-F.Omit = Some value.Omit
+abbrev pub specific_step : Pattern-F (Outcome Value) (Outcome Value) → Outcome Value
+specific_step (Pattern-F.Value v) = Yields v
+specific_step Pattern-F.Omit = Yields value.Omit
 specific_step (Pattern-F.Record at parts) = record_with at (all_fields parts)
-specific_step _ = None
+specific_step _ = dynamic_error
 
-abbrev pub specific_template_step : Template-F (Option Value) (Option Value) → Option Value
-specific_template_step t = if t.ifpresent then None else t.pattern
+abbrev pub specific_template_step : Template-F (Outcome Value) (Outcome Value) → Outcome Value
+specific_template_step t = if t.ifpresent then dynamic_error else t.pattern
 
 -- the specific value that a template stands for: sending one that stands for none is a dynamic error
-abbrev pub specific_value : Template → Option Value
-specific_value = fold-Template (Option Value) (Option Value) specific_step specific_template_step
+abbrev pub specific_value : Template → Outcome Value
+specific_value = fold-Template (Outcome Value) (Outcome Value) specific_step specific_template_step
 
 -- the same, of a template without its `ifpresent`
-abbrev pub specific_value_of_pattern : Pattern → Option Value
-specific_value_of_pattern = fold-Pattern (Option Value) (Option Value) specific_step specific_template_step
+abbrev pub specific_value_of_pattern : Pattern → Outcome Value
+specific_value_of_pattern = fold-Pattern (Outcome Value) (Outcome Value) specific_step specific_template_step

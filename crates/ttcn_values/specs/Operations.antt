@@ -1,64 +1,64 @@
--- What the operators give (ES 201 873-1, 7.1). Operands that an operator doesn't take make a dynamic error, so that each expression has a meaning; a checked module has none of these.
+-- What the operators give (ES 201 873-1, 7.1). Each expression has a meaning: operands that an operator doesn't take are met by no checked module.
 use Rattle.std.specs.Prelude.{ℤ, neg_ℤ, Bool, true, false, ◌&&◌, ◌||◌, not, Option, Some, None, int_lt, if◌then◌else◌}
-use Rattle.std.specs.Option.{option_and_then, option_map}
 use mathlib.Core.Bool.{beq}
 use Rattle.ttcn_syntax.specs.declared.operator.Operator.{Operator}
 use Rattle.ttcn_syntax.specs.declared.operator.Operator.TheVariants as operator
 use Rattle.ttcn_syntax.specs.declared.operator.Sign.{Sign}
 use Rattle.ttcn_syntax.specs.declared.operator.Sign.TheVariants as sign
 use Rattle.arithmetic.specs.Integers.{calculated, within}
+use Rattle.ttcn_values.specs.Outcomes.{Outcome, Yields, dynamic_error, or_error, or_unmet, outcome_and_then, outcome_map, unmet}
 use Rattle.ttcn_values.specs.Values.{boolean, equal, integer, is_complete}
 use Rattle.ttcn_values.specs.declared.value.Value.{Value}
 use Rattle.ttcn_values.specs.declared.value.Value.TheVariants as value
 
 -- an integer as a value: a dynamic error where there is none
-abbrev pub fitting : Option ℤ → Option Value
-fitting = option_map value.Integer
+abbrev pub fitting : Option ℤ → Outcome Value
+fitting found = outcome_map value.Integer (or_error found)
 
-abbrev pub truth : Bool → Option Value
-truth b = Some (value.Boolean b)
+abbrev pub truth : Bool → Outcome Value
+truth b = Yields (value.Boolean b)
 
 -- ---- one operand
 
 -- `not`
-abbrev pub negated : Value → Option Value
-negated v = option_and_then (λ b. truth (not b)) (boolean v)
+abbrev pub negated : Value → Outcome Value
+negated v = outcome_and_then (λ b. truth (not b)) (or_unmet (boolean v))
 
 abbrev pub with_sign : Sign → ℤ → Option ℤ
 with_sign sign.Plus z = Some z
 with_sign sign.Minus z = within (neg_ℤ z)
 
 -- a sign before a value
-abbrev pub under_sign : Sign → Value → Option Value
-under_sign s v = option_and_then (λ z. fitting (with_sign s z)) (integer v)
+abbrev pub under_sign : Sign → Value → Outcome Value
+under_sign s v = outcome_and_then (λ z. fitting (with_sign s z)) (or_unmet (integer v))
 
 -- ---- two operands
 
 -- an order between integers
-abbrev pub ordered : Operator → ℤ → ℤ → Option Value
+abbrev pub ordered : Operator → ℤ → ℤ → Outcome Value
 ordered operator.Less x y = truth (int_lt x y)
 ordered operator.Greater x y = truth (int_lt y x)
 ordered operator.LessEqual x y = truth (not (int_lt y x))
 ordered operator.GreaterEqual x y = truth (not (int_lt x y))
-ordered _ x y = None
+ordered _ x y = unmet
 
 -- logic on booleans
-abbrev pub logical : Operator → Bool → Bool → Option Value
+abbrev pub logical : Operator → Bool → Bool → Outcome Value
 logical operator.Or a b = truth (a || b)
 logical operator.And a b = truth (a && b)
 logical operator.Xor a b = truth (not (beq a b))
-logical _ a b = None
+logical _ a b = unmet
 
 -- two values of any one type: a dynamic error where one lacks something, even where others of their parts differ
-abbrev pub compared : Bool → Value → Value → Option Value
-compared wanted v w = if is_complete v && is_complete w then truth (beq wanted (equal v w)) else None
+abbrev pub compared : Bool → Value → Value → Outcome Value
+compared wanted v w = if is_complete v && is_complete w then truth (beq wanted (equal v w)) else dynamic_error
 
--- where both are there
-abbrev pub both : {A : Type 0} → (A → A → Option Value) → Option A → Option A → Option Value
-both f a b = option_and_then (λ x. option_and_then (f x) b) a
+-- where both are of the type that the operator takes
+abbrev pub both : {A : Type 0} → (A → A → Outcome Value) → Option A → Option A → Outcome Value
+both f a b = outcome_and_then (λ x. outcome_and_then (f x) (or_unmet b)) (or_unmet a)
 
 -- what an operator gives between two values
-abbrev pub applied : Operator → Value → Value → Option Value
+abbrev pub applied : Operator → Value → Value → Outcome Value
 applied operator.Equal v w = compared true v w
 applied operator.NotEqual v w = compared false v w
 applied operator.Or v w = both (logical operator.Or) (boolean v) (boolean w)

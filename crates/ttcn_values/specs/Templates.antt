@@ -1,7 +1,6 @@
--- The template that a template of the text gives where one of a type is wanted: its expressions are evaluated, and the templates that it names stand in it (ES 201 873-1, 15). `None` is a dynamic error.
-use Rattle.std.specs.Prelude.{ℕ, ℤ, Bool, true, false, ◌||◌, List, [], map, Option, Some, None, bytes_eq, length, nat_eq, if◌then◌else◌}
+-- The template that a template of the text gives where one of a type is wanted: its expressions are evaluated, and the templates that it names stand in it (ES 201 873-1, 15).
+use Rattle.std.specs.Prelude.{ℕ, ℤ, Bool, false, ◌||◌, List, [], map, Option, Some, None, bytes_eq, length, nat_eq, if◌then◌else◌}
 use Rattle.std.specs.List.{find, zip}
-use Rattle.std.specs.Option.{option_and_then, option_map}
 use Rattle.ttcn_syntax.specs.declared.tree.definition.Field.{Field}
 use Rattle.ttcn_syntax.specs.declared.tree.definition.Parameter.{Parameter}
 use Rattle.ttcn_syntax.specs.declared.tree.expression.Expr.{Expr, out-Expr}
@@ -19,7 +18,7 @@ use Rattle.check_expressions.specs.Templates.{bare_name, template_meant}
 use Rattle.check_scope.specs.declared.types.DataType.{DataType}
 use Rattle.ttcn_values.specs.Evaluation.{value_of}
 use Rattle.ttcn_values.specs.Literals.{type_of_field, value_wanted, wanted_record}
-use Rattle.ttcn_values.specs.Outcomes.{each}
+use Rattle.ttcn_values.specs.Outcomes.{Fails, Outcome, Yields, dynamic_error, each, or_unmet, outcome_and_then, outcome_map, unmet}
 use Rattle.ttcn_values.specs.Readings.{Reading}
 use Rattle.ttcn_values.specs.Values.{integer, is_complete}
 use Rattle.ttcn_values.specs.declared.template.Pattern.{Pattern}
@@ -29,7 +28,7 @@ use Rattle.ttcn_values.specs.declared.value.Value.{Value}
 
 -- what something gives in a reading, where a template of a type is wanted
 abbrev pub Wanted : Type 0
-Wanted = Reading → Option DataType → Option Template
+Wanted = Reading → Option DataType → Outcome Template
 
 -- a pattern without `ifpresent`
 abbrev pub plain : Pattern → Template
@@ -38,23 +37,23 @@ plain p = record { pattern = p; ifpresent = false }
 -- ---- expressions
 
 -- what a value matches: a dynamic error where it lacks something
-abbrev pub as_pattern : Value → Option Template
-as_pattern v = if is_complete v then Some (plain (pattern.Value v)) else None
+abbrev pub as_pattern : Value → Outcome Template
+as_pattern v = if is_complete v then Yields (plain (pattern.Value v)) else dynamic_error
 
 -- ---- named templates
 
 -- what an argument gives for its parameter: it may lack something
-abbrev pub argument : Reading → Parameter × written.Value → Option Value
+abbrev pub argument : Reading → Parameter × written.Value → Outcome Value
 argument reading pair = value_wanted pair.1 reading (resolved (module_names reading.definitions) pair.0.type_name)
 
-abbrev pub arguments : Reading → List Parameter → List written.Value → Option (List Value)
+abbrev pub arguments : Reading → List Parameter → List written.Value → Outcome (List Value)
 arguments reading parameters given =
-    if nat_eq (length given) (length parameters) then each (map (argument reading) (zip parameters given)) else None
+    if nat_eq (length given) (length parameters) then each (map (argument reading) (zip parameters given)) else unmet
 
-abbrev pub template_called : Reading → Option ℕ → List written.Value → Option Template
-template_called reading None given = None
+abbrev pub template_called : Reading → Option ℕ → List written.Value → Outcome Template
+template_called reading None given = unmet
 template_called reading (Some at) given =
-    option_and_then (reading.templates at) (arguments reading (parameters_of (kind_at reading.definitions at)) given)
+    outcome_and_then (reading.templates at) (arguments reading (parameters_of (kind_at reading.definitions at)) given)
 
 -- the template that a name stands for
 abbrev pub template_of_name : Reading → Option (List ℕ) → Option ℕ
@@ -66,57 +65,57 @@ abbrev pub template_named : Reading → Expr → Option ℕ
 template_named reading e = template_of_name reading (bare_name (out-Expr e))
 
 -- an expression, or the name of a template
-abbrev pub at_name : Reading → Expr → Option ℕ → Option Template
-at_name reading e None = option_and_then as_pattern (value_of e reading)
+abbrev pub at_name : Reading → Expr → Option ℕ → Outcome Template
+at_name reading e None = outcome_and_then as_pattern (value_of e reading)
 at_name reading e (Some at) = template_called reading (Some at) []
 
 -- ---- ranges
 
 -- an end of a range: an infinite one is none, whatever its sign
-abbrev pub at_bound : Reading → Bound → Option (Option ℤ)
-at_bound reading (bound.Expr e) = option_and_then (λ v. option_map Some (integer v)) (value_of e reading)
-at_bound reading bound.Infinity = Some None
+abbrev pub at_bound : Reading → Bound → Outcome (Option ℤ)
+at_bound reading (bound.Expr e) = outcome_and_then (λ v. outcome_map Some (or_unmet (integer v))) (value_of e reading)
+at_bound reading bound.Infinity = Yields None
 
-abbrev pub at_range : Reading → Bound → Bound → Option Template
+abbrev pub at_range : Reading → Bound → Bound → Outcome Template
 at_range reading low high =
-    option_and_then (λ l. option_map (λ h. plain (pattern.Range l h)) (at_bound reading high)) (at_bound reading low)
+    outcome_and_then (λ l. outcome_map (λ h. plain (pattern.Range l h)) (at_bound reading high)) (at_bound reading low)
 
 -- ---- parts
 
 -- the templates of parts that stand for the same
-abbrev pub parts_of : Reading → Option DataType → List Wanted → Option (List Template)
+abbrev pub parts_of : Reading → Option DataType → List Wanted → Outcome (List Template)
 parts_of reading wanted parts = each (map (λ part. part reading wanted) parts)
 
 -- what an element gives for a field
-abbrev pub element : Reading → Field × Wanted → Option Template
+abbrev pub element : Reading → Field × Wanted → Outcome Template
 element reading pair = pair.1 reading (type_of_field reading pair.0)
 
 -- each field has its element, in their order
-abbrev pub in_order : Reading → List Field → List Wanted → Option (List Template)
+abbrev pub in_order : Reading → List Field → List Wanted → Outcome (List Template)
 in_order reading fields elements =
-    if nat_eq (length elements) (length fields) then each (map (element reading) (zip fields elements)) else None
+    if nat_eq (length elements) (length fields) then each (map (element reading) (zip fields elements)) else unmet
 
-abbrev pub element_named : Reading → Field → Option (List ℕ × Wanted) → Option Template
-element_named reading field None = None
+abbrev pub element_named : Reading → Field → Option (List ℕ × Wanted) → Outcome Template
+element_named reading field None = unmet
 element_named reading field (Some found) = element reading (field, found.1)
 
 -- each field has its element, by their names
-abbrev pub by_name : Reading → List Field → List (List ℕ × Wanted) → Option (List Template)
+abbrev pub by_name : Reading → List Field → List (List ℕ × Wanted) → Outcome (List Template)
 by_name reading fields elements =
     each (map (λ field. element_named reading field (find (λ e. bytes_eq e.0 field.name) elements)) fields)
 
-abbrev pub record_at : Option ℕ → (ℕ → Option (List Template)) → Option Template
-record_at None parts = None
-record_at (Some at) parts = option_map (λ ps. plain (pattern.Record at ps)) (parts at)
+abbrev pub record_at : Outcome ℕ → (ℕ → Outcome (List Template)) → Outcome Template
+record_at (Fails why) parts = Fails why
+record_at (Yields at) parts = outcome_map (λ ps. plain (pattern.Record at ps)) (parts at)
 
 -- ---- templates
 
 abbrev pub body_step : TemplateBody-F Wanted (List ℕ × Wanted) Wanted → Wanted
-body_step TemplateBody-F.Any reading wanted = Some (plain pattern.Any)
-body_step TemplateBody-F.AnyOrOmit reading wanted = Some (plain pattern.AnyOrOmit)
-body_step TemplateBody-F.Omit reading wanted = Some (plain pattern.Omit)
-body_step (TemplateBody-F.Complement parts) reading wanted = option_map (λ ps. plain (pattern.Complement ps)) (parts_of reading wanted parts)
-body_step (TemplateBody-F.List parts) reading wanted = option_map (λ ps. plain (pattern.List ps)) (parts_of reading wanted parts)
+body_step TemplateBody-F.Any reading wanted = Yields (plain pattern.Any)
+body_step TemplateBody-F.AnyOrOmit reading wanted = Yields (plain pattern.AnyOrOmit)
+body_step TemplateBody-F.Omit reading wanted = Yields (plain pattern.Omit)
+body_step (TemplateBody-F.Complement parts) reading wanted = outcome_map (λ ps. plain (pattern.Complement ps)) (parts_of reading wanted parts)
+body_step (TemplateBody-F.List parts) reading wanted = outcome_map (λ ps. plain (pattern.List ps)) (parts_of reading wanted parts)
 body_step (TemplateBody-F.Range low high) reading wanted = at_range reading low high
 body_step (TemplateBody-F.Call call) reading wanted = template_called reading (template_of_name reading (Some call.name)) call.arguments
 body_step (TemplateBody-F.Expr e) reading wanted = at_name reading e (template_named reading e)
@@ -130,12 +129,12 @@ abbrev pub with_ifpresent : Bool → Template → Template
 with_ifpresent also found = record { pattern = found.pattern; ifpresent = found.ifpresent || also }
 
 abbrev pub template_step : Template-F Wanted (List ℕ × Wanted) Wanted → Wanted
-template_step t reading wanted = option_map (with_ifpresent t.ifpresent) (t.body reading wanted)
+template_step t reading wanted = outcome_map (with_ifpresent t.ifpresent) (t.body reading wanted)
 
 abbrev pub field_template_step : FieldTemplate-F Wanted (List ℕ × Wanted) Wanted → List ℕ × Wanted
 field_template_step part = (part.name, part.template)
 
--- the template or the dynamic error of what stands where a template of a type is wanted
+-- what is given by what stands where a template of a type is wanted
 abbrev pub template_wanted : tree.Template → Wanted
 template_wanted = fold-Template Wanted (List ℕ × Wanted) Wanted body_step field_template_step template_step
 

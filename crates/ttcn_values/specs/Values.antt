@@ -1,6 +1,7 @@
 -- Values (ES 201 873-1, 6): when they are equal, what they are, and whether they lack something.
 use Rattle.std.specs.Prelude.{ℕ, ℤ, Bool, true, false, List, Option, Some, None}
 use Rattle.std.specs.List.{list_all}
+use Rattle.ttcn_values.specs.Outcomes.{Outcome, Yields, dynamic_error, unmet}
 use Rattle.ttcn_values.specs.contracts.value.ValuePartialEq.TheImpl as equality
 use Rattle.ttcn_values.specs.declared.value.ComponentId.{ComponentId}
 use Rattle.ttcn_values.specs.declared.value.Value.{Value, fold-Value, out-Value}
@@ -28,12 +29,13 @@ boolean_in _ = None
 abbrev pub boolean : Value → Option Bool
 boolean v = boolean_in (out-Value v)
 
-abbrev pub component_in : Value-F Value → Option ComponentId
-component_in (Value-F.Component c) = Some c
-component_in _ = None
+abbrev pub component_in : Value-F Value → Outcome ComponentId
+component_in (Value-F.Component c) = Yields c
+component_in Value-F.Null = dynamic_error
+component_in _ = unmet
 
--- the component that a value refers to: `null` refers to none
-abbrev pub component : Value → Option ComponentId
+-- the component that a value refers to: `null` refers to none, which is a dynamic error
+abbrev pub component : Value → Outcome ComponentId
 component v = component_in (out-Value v)
 
 abbrev pub record_in : Value-F Value → Option (ℕ × List (Option Value))

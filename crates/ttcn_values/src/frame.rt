@@ -4,7 +4,7 @@ use ttcn_syntax::Name;
 use ttcn_types::Definitions;
 
 /// The state of a timer (ES 201 873-1, section 12).
-#[derive(Clone, Copy, Debug, PartialEq, Eq, PartialOrd, Ord, Hash)]
+#[derive(Clone, Copy, Debug, PartialEq, Eq, Hash)]
 pub enum TimerState {
     Inactive,
     Running,

@@ -2,14 +2,15 @@
 ghost use Rattle.std.specs.Prelude.{◌≡◌, pos};
 ghost use Rattle.arithmetic.specs.Integers.{within};
 ghost use Rattle.ttcn_values.specs.Operations.{applied, compared, decides, fitting, logical, negated, ordered, under_sign};
-ghost use Rattle.ttcn_values.specs.Outcomes.{Gives};
+ghost use Rattle.ttcn_values.specs.Outcomes.{Answers, Gives};
 
 use crate::{Fault, Value};
 use ttcn_syntax::{Operator, Sign};
 
 /// A whole number, where it is an integer.
 pub(crate) fn fit(number: Option<i64>) -> Result<Value, Fault>
-    ensures { Gives (fitting number) result }
+    ensures gives { Gives (fitting number) result }
+    ensures answers { Answers result }
 {
     match number {
         Some(number) => Ok(Value::Integer(number)),
@@ -19,13 +20,15 @@ pub(crate) fn fit(number: Option<i64>) -> Result<Value, Fault>
 
 /// The value of a number of the text.
 pub(crate) fn number(digits: u64) -> Result<Value, Fault>
-    ensures { Gives (fitting (within (pos digits))) result }
+    ensures gives { Gives (fitting (within (pos digits))) result }
+    ensures answers { Answers result }
 {
     fit(arithmetic::number(digits))
 }
 
 pub(crate) fn negate(value: &Value) -> Result<Value, Fault>
-    ensures { Gives (negated value.now) result }
+    ensures gives { Gives (negated value.now) result }
+    ensures answers { Answers result }
 {
     match value {
         Value::Boolean(truth) => Ok(Value::Boolean(!*truth)),
@@ -34,7 +37,8 @@ pub(crate) fn negate(value: &Value) -> Result<Value, Fault>
 }
 
 pub(crate) fn sign(sign: Sign, value: &Value) -> Result<Value, Fault>
-    ensures { Gives (under_sign sign value.now) result }
+    ensures gives { Gives (under_sign sign value.now) result }
+    ensures answers { Answers result }
 {
     match (sign, value) {
         (Sign::Plus, Value::Integer(number)) => Ok(Value::Integer(*number)),
@@ -55,7 +59,8 @@ pub(crate) fn is_decided(operator: Operator, left: &Value) -> bool
 }
 
 pub(crate) fn apply(operator: Operator, left: &Value, right: &Value) -> Result<Value, Fault>
-    ensures { Gives (applied operator left.now right.now) result }
+    ensures gives { Gives (applied operator left.now right.now) result }
+    ensures answers { Answers result }
 {
     match operator {
         Operator::Equal => compare(true, left, right),
@@ -79,7 +84,8 @@ pub(crate) fn apply(operator: Operator, left: &Value, right: &Value) -> Result<V
 
 /// Whether two values are equal, or are not, as it is wanted.
 fn compare(wanted: bool, left: &Value, right: &Value) -> Result<Value, Fault>
-    ensures { Gives (compared wanted left.now right.now) result }
+    ensures gives { Gives (compared wanted left.now right.now) result }
+    ensures answers { Answers result }
 {
     if left.is_complete() && right.is_complete() {
         Ok(Value::Boolean(wanted == (left == right)))
@@ -90,7 +96,8 @@ fn compare(wanted: bool, left: &Value, right: &Value) -> Result<Value, Fault>
 
 /// An order between integers.
 fn order(operator: Operator, x: i64, y: i64) -> Result<Value, Fault>
-    ensures { Gives (ordered operator x y) result }
+    ensures gives { Gives (ordered operator x y) result }
+    ensures answers { Answers result }
 {
     match operator {
         Operator::Less => Ok(Value::Boolean(x < y)),
@@ -103,7 +110,8 @@ fn order(operator: Operator, x: i64, y: i64) -> Result<Value, Fault>
 
 /// Logic on booleans.
 fn reason(operator: Operator, a: bool, b: bool) -> Result<Value, Fault>
-    ensures { Gives (logical operator a b) result }
+    ensures gives { Gives (logical operator a b) result }
+    ensures answers { Answers result }
 {
     match operator {
         Operator::Or => Ok(Value::Boolean(a || b)),

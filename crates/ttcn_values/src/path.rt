@@ -5,8 +5,8 @@ use std::alloc::{AllocError, Global};
 use ttcn_syntax::Seq;
 
 /// A component's name: that of the MTC has no numbers, and that of the k-th component that another creates has the other's
-/// numbers and then k. Names are ordered number by number, a beginning before what it is the beginning of.
-#[derive(Debug, Drop, PartialEq, Eq, PartialOrd, Ord, Hash)]
+/// numbers and then k.
+#[derive(Debug, Drop, PartialEq, Eq, Hash)]
 pub struct Path {
     pub numbers: Seq<u32>,
 }

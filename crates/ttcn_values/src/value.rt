@@ -7,7 +7,7 @@ use std::alloc::{AllocError, Global};
 use ttcn_syntax::Seq;
 
 /// A component that a reference names, and the position of its type among the definitions.
-#[derive(Debug, Drop, PartialEq, Eq, PartialOrd, Ord, Hash)]
+#[derive(Debug, Drop, PartialEq, Eq, Hash)]
 pub struct ComponentId {
     pub path: Path,
     pub component_type: usize,
@@ -15,7 +15,7 @@ pub struct ComponentId {
 
 /// A value, or what stands in its place at an optional field. Types are positions among the module's definitions, and
 /// fields and names of enumerations are positions in their types.
-#[derive(Debug, Drop, PartialEq, Eq, PartialOrd, Ord, Hash)]
+#[derive(Debug, Drop, PartialEq, Eq, Hash)]
 pub enum Value {
     /// An integer of 64 bits.
     Integer(i64),

@@ -1,8 +1,8 @@
 //! What an expression gives (ES 201 873-1, section 7).
-ghost use Rattle.std.specs.Prelude.{◌≡◌, map, Some};
+ghost use Rattle.std.specs.Prelude.{◌≡◌, map};
 ghost use Rattle.ttcn_values.specs.Evaluation.{after, joined, link, value_of};
 ghost use Rattle.ttcn_values.specs.Frames.{read_by, wanted_of};
-ghost use Rattle.ttcn_values.specs.Outcomes.{Gives};
+ghost use Rattle.ttcn_values.specs.Outcomes.{Answers, Gives, Yields};
 ghost use Rattle.ttcn_values.specs.Readings.{component_at, component_runs};
 
 use super::record::{kept, made};
@@ -15,7 +15,8 @@ use ttcn_syntax::{ComponentRef, Expr, Link, Reference};
 impl Reader<'_> {
     /// Whether the component runs that a value refers to.
     fn component_runs(&self, value: &Value) -> Result<Value, Fault>
-        ensures { Gives (component_runs (read_by self.now) value.now) result }
+        ensures gives { Gives (component_runs (read_by self.now) value.now) result }
+        ensures answers { Answers result }
     {
         match value {
             Value::Component(id) => Ok(Value::Boolean(self.runs(&id.path))),
@@ -25,6 +26,7 @@ impl Reader<'_> {
 
     /// What an expression gives.
     #[cycle(reader)]
+    #[tactic(auto, using(crate::proofs::Outcomes::outcome_forms))]
     pub(crate) fn evaluate(&self, alloc: Global, expr: &Expr) -> Result<Value, Fault>
         ensures { Gives (value_of expr.now (read_by self.now)) result }
     {
@@ -50,7 +52,7 @@ impl Reader<'_> {
     /// What operators and operands behind a value give.
     #[cycle(reader)]
     fn chain(&self, alloc: Global, first: Value, links: &[Link]) -> Result<Value, Fault>
-        ensures { Gives (after (read_by self.now) (Some first) (map link links.now)) result }
+        ensures { Gives (after (read_by self.now) (Yields first) (map link links.now)) result }
     {
         let mut value = first;
         for next in links {
@@ -61,6 +63,7 @@ impl Reader<'_> {
 
     /// What an operator and an operand behind a value give. They count for nothing where the value decides.
     #[cycle(reader)]
+    #[tactic(auto, using(crate::proofs::Outcomes::outcome_forms))]
     fn link(&self, alloc: Global, left: Value, next: &Link) -> Result<Value, Fault>
         ensures { Gives (joined (read_by self.now) (link next.now) left) result }
     {
@@ -85,7 +88,7 @@ impl Reader<'_> {
 
     /// What a reference is read for: the value that it leads to, or whether it leads to one.
     #[cycle(reader)]
-    #[tactic(auto, using(crate::proofs::Uses::taken_of_none))]
+    #[tactic(auto, using(crate::proofs::Uses::taken_of_failure, crate::proofs::Uses::taken_alike))]
     fn read(&self, alloc: Global, reference: &Reference, wanted: Use) -> Result<Value, Fault>
         ensures { Gives (wanted_of wanted (read_by self.now) reference.now) result }
     {

@@ -3,6 +3,7 @@ ghost use Rattle.std.specs.Prelude.{◌≡◌};
 ghost use Rattle.std.specs.Option.{option_map};
 ghost use Rattle.ttcn_values.specs.Chains.{given_to};
 ghost use Rattle.ttcn_values.specs.Frames.{entry, origin_value, read_by};
+ghost use Rattle.ttcn_values.specs.Outcomes.{value_in};
 ghost use Rattle.ttcn_values.specs.Readings.{named, timer_at};
 
 use super::record::enumerated;
@@ -21,16 +22,18 @@ fn entry<'a, T>(entries: &'a [(Name, T)], name: &Name) -> Option<&'a T>
 }
 
 /// What the parameter of a name is given.
+#[tactic(auto, using(crate::proofs::Outcomes::outcome_forms))]
 fn given<'a>(parameters: &[Parameter], values: &'a [Value], name: &Name) -> Option<&'a Value>
-    ensures { option_map (λ value. value.now) result ≡ given_to parameters.now values.now name.now }
+    ensures { option_map (λ value. value.now) result ≡ value_in (given_to parameters.now values.now name.now) }
 {
     values.get(position_of(parameters, name)?)
 }
 
 impl<'a> Reader<'a> {
     /// The value of a name, if it has one.
+    #[tactic(auto, using(crate::proofs::Outcomes::outcome_forms))]
     pub(super) fn name(&self, name: &Name) -> Option<&'a Value>
-        ensures { option_map (λ value. value.now) result ≡ (read_by self.now).names name.now }
+        ensures { option_map (λ value. value.now) result ≡ value_in ((read_by self.now).names name.now) }
     {
         match self.visible {
             Visible::Frame => match entry(self.frame.locals, name) {
@@ -70,8 +73,9 @@ impl<'a> Reader<'a> {
     }
 
     /// What a name stands for.
+    #[tactic(auto, using(crate::proofs::Outcomes::outcome_forms))]
     pub(super) fn origin(&self, name: &Name) -> Origin<'a>
-        ensures { named (read_by self.now) name.now ≡ origin_value (read_by self.now) result }
+        ensures { value_in (named (read_by self.now) name.now) ≡ value_in (origin_value (read_by self.now) result) }
     {
         let definitions = self.frame.definitions;
         match definitions.meaning(name.as_bytes()) {

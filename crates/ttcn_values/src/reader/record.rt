@@ -1,11 +1,11 @@
 //! Fields of records (ES 201 873-1, section 6.2.1).
-ghost use Rattle.std.specs.Prelude.{◌≡◌, Some, bytes_eq};
+ghost use Rattle.std.specs.Prelude.{◌≡◌, bytes_eq};
 ghost use Rattle.std.specs.List.{find, position, slice_get};
 ghost use Rattle.std.specs.Option.{option_and_then, option_map};
 ghost use Rattle.ttcn_syntax.specs.declared.tree.value.FieldValue.{out-FieldValue};
 ghost use Rattle.ttcn_values.specs.Frames.{taken_for};
 ghost use Rattle.ttcn_values.specs.Readings.{along, enumerated, field, last_presence, presence, read, state_of_field};
-ghost use Rattle.ttcn_values.specs.Outcomes.{Gives};
+ghost use Rattle.ttcn_values.specs.Outcomes.{Answers, Gives, Yields, or_error, or_unmet, value_in};
 
 use super::Use;
 use crate::named::position_of;
@@ -15,8 +15,9 @@ use ttcn_syntax::{DefinitionKind, Field, FieldValue, Name, Value as Written};
 use ttcn_types::Definitions;
 
 /// A name of the enumeration at a position.
+#[tactic(auto, using(crate::proofs::Outcomes::outcome_forms))]
 pub(super) fn enumerated(definitions: &Definitions<'_>, at: usize, name: &Name) -> Option<Value>
-    ensures { result ≡ enumerated definitions.now at name.now }
+    ensures { result ≡ value_in (enumerated definitions.now at name.now) }
 {
     let Some(DefinitionKind::Enumerated(enumeration)) = definitions.kind(at) else {
         return None;
@@ -37,12 +38,13 @@ fn state_in<'v>(
 }
 
 /// What stands in the field of a name, if there is such a field.
+#[tactic(auto, using(crate::proofs::Outcomes::outcome_forms))]
 fn state_of_field<'v>(
     definitions: &Definitions<'_>,
     value: &'v Value,
     name: &Name,
 ) -> Option<&'v Option<Value>>
-    ensures { option_map (λ state. state.now) result ≡ state_of_field definitions.now name.now value.now }
+    ensures { option_map (λ state. state.now) result ≡ value_in (state_of_field definitions.now name.now value.now) }
 {
     match value {
         Value::Record(at, fields) => state_in(definitions.fields(*at), fields.as_slice(), name),
@@ -52,7 +54,7 @@ fn state_of_field<'v>(
 
 /// The value of a field, where it has one and is not omitted.
 fn read(state: &Option<Value>) -> Option<&Value>
-    ensures { option_map (λ value. value.now) result ≡ read state.now }
+    ensures { option_map (λ value. value.now) result ≡ value_in (read state.now) }
 {
     match state {
         Some(value) if !value.is_omit() => Some(value),
@@ -61,15 +63,16 @@ fn read(state: &Option<Value>) -> Option<&Value>
 }
 
 /// The value of a field of a name, where there is such a field, it has a value and is not omitted.
+#[tactic(auto, using(crate::proofs::Outcomes::outcome_forms))]
 fn field<'v>(definitions: &Definitions<'_>, value: &'v Value, name: &Name) -> Option<&'v Value>
-    ensures { option_map (λ value. value.now) result ≡ field definitions.now name.now value.now }
+    ensures { option_map (λ value. value.now) result ≡ value_in (field definitions.now name.now value.now) }
 {
     read(state_of_field(definitions, value, name)?)
 }
 
 /// The value of fields of fields, where each is there.
 fn along<'v>(definitions: &Definitions<'_>, value: &'v Value, names: &[Name]) -> Option<&'v Value>
-    ensures { option_map (λ value. value.now) result ≡ along definitions.now names.now (Some value.now) }
+    ensures { option_map (λ value. value.now) result ≡ value_in (along definitions.now names.now (Yields value.now)) }
 {
     let mut value = value;
     for name in names {
@@ -80,7 +83,8 @@ fn along<'v>(definitions: &Definitions<'_>, value: &'v Value, names: &[Name]) ->
 
 /// Whether the last of fields of fields is there, where each on the way is.
 fn is_present(definitions: &Definitions<'_>, value: &Value, names: &[Name]) -> Result<Value, Fault>
-    ensures { Gives (presence definitions.now names.now value.now) result }
+    ensures gives { Gives (presence definitions.now names.now value.now) result }
+    ensures answers { Answers result }
 {
     match names {
         [first, others @ ..] => is_there(definitions, value, first, others),
@@ -95,7 +99,8 @@ fn is_there(
     first: &Name,
     others: &[Name],
 ) -> Result<Value, Fault>
-    ensures { Gives (last_presence definitions.now first.now others.now value.now) result }
+    ensures gives { Gives (last_presence definitions.now first.now others.now value.now) result }
+    ensures answers { Answers result }
 {
     let mut value = value;
     let mut last = first;
@@ -120,7 +125,7 @@ fn used(
     value: &Value,
     fields: &[Name],
 ) -> Result<Value, Fault>
-    ensures { Gives (taken_for wanted definitions.now fields.now (Some value.now)) result }
+    ensures { Gives (taken_for wanted definitions.now fields.now (Yields value.now)) result }
 {
     match wanted {
         Use::Value => match along(definitions, value, fields) {
@@ -132,7 +137,7 @@ fn used(
 }
 
 /// The same, if there is a value.
-#[tactic(auto, using(crate::proofs::Uses::taken_of_none))]
+#[tactic(auto, using(crate::proofs::Uses::taken_of_failure))]
 pub(super) fn kept(
     alloc: Global,
     definitions: &Definitions<'_>,
@@ -140,7 +145,7 @@ pub(super) fn kept(
     value: Option<&Value>,
     fields: &[Name],
 ) -> Result<Value, Fault>
-    ensures { Gives (taken_for wanted definitions.now fields.now (option_map (λ value. value.now) value.entry)) result }
+    ensures { Gives (taken_for wanted definitions.now fields.now (or_error (option_map (λ value. value.now) value.entry))) result }
 {
     match value {
         Some(value) => used(alloc, definitions, wanted, value, fields),
@@ -149,7 +154,7 @@ pub(super) fn kept(
 }
 
 /// The same, of a value that was made for it.
-#[tactic(auto, using(crate::proofs::Uses::taken_of_none))]
+#[tactic(auto, using(crate::proofs::Uses::taken_of_failure))]
 pub(super) fn made(
     alloc: Global,
     definitions: &Definitions<'_>,
@@ -157,7 +162,7 @@ pub(super) fn made(
     value: Option<Value>,
     fields: &[Name],
 ) -> Result<Value, Fault>
-    ensures { Gives (taken_for wanted definitions.now fields.now value) result }
+    ensures { Gives (taken_for wanted definitions.now fields.now (or_unmet value)) result }
 {
     match value {
         Some(value) => used(alloc, definitions, wanted, &value, fields),

@@ -59,6 +59,7 @@ impl Reader<'_> {
     }
 
     /// What an end of a range gives.
+    #[tactic(auto, using(crate::proofs::Outcomes::outcome_forms))]
     fn bound(&self, alloc: Global, bound: &Bound) -> Result<Option<i64>, Fault>
         ensures { Gives (spec.at_bound (read_by self.now) bound.now) result }
     {
@@ -72,6 +73,7 @@ impl Reader<'_> {
     }
 
     /// What a range gives.
+    #[tactic(auto, using(crate::proofs::Outcomes::outcome_forms))]
     fn range(&self, alloc: Global, low: &Bound, high: &Bound) -> Result<Template, Fault>
         ensures { Gives (spec.at_range (read_by self.now) low.now high.now) result }
     {
@@ -81,6 +83,7 @@ impl Reader<'_> {
     }
 
     /// What an expression gives that names no template.
+    #[tactic(auto, using(crate::proofs::Outcomes::outcome_forms))]
     fn pattern(&self, alloc: Global, expr: &Expr) -> Result<Template, Fault>
         ensures { Gives (spec.at_name (read_by self.now) expr.now None) result }
     {
@@ -136,6 +139,7 @@ impl Reader<'_> {
 
     /// The template of what stands where one of a type is wanted.
     #[cycle(templates)]
+    #[tactic(auto, using(crate::proofs::Outcomes::outcome_forms))]
     pub(crate) fn template(
         &self,
         alloc: Global,

@@ -2,7 +2,7 @@
 ghost use Rattle.std.specs.Prelude.{◌≡◌, map};
 ghost use Rattle.ttcn_values.specs.Frames.{read_by};
 ghost use Rattle.ttcn_values.specs.Literals as spec;
-ghost use Rattle.ttcn_values.specs.Outcomes.{Gives};
+ghost use Rattle.ttcn_values.specs.Outcomes.{Answers, Gives};
 
 use super::Reader;
 use super::record::element_of;
@@ -13,7 +13,8 @@ use ttcn_types::DataType;
 
 /// The position of the record that is wanted.
 pub(super) fn wanted_record(wanted: Option<DataType>) -> Result<usize, Fault>
-    ensures { Gives (spec.wanted_record wanted) result }
+    ensures gives { Gives (spec.wanted_record wanted) result }
+    ensures answers { Answers result }
 {
     match wanted {
         Some(DataType::Record(at)) => Ok(at),
@@ -24,7 +25,7 @@ pub(super) fn wanted_record(wanted: Option<DataType>) -> Result<usize, Fault>
 impl Reader<'_> {
     /// The value of what stands where a value of a type is wanted.
     #[cycle(reader)]
-    #[tactic(auto, using(crate::proofs::LiteralForms::literal_forms))]
+    #[tactic(auto, using(crate::proofs::LiteralForms::literal_forms, crate::proofs::Outcomes::outcome_forms))]
     pub(crate) fn value(
         &self,
         alloc: Global,

@@ -1,9 +1,9 @@
-use Rattle.std.proofs.Common.{◌≡◌, ◌+◌, Some, drop, length, map}
+use Rattle.std.proofs.Common.{◌≡◌, ◌+◌, drop, length, map}
 use Rattle.std.specs.List.{zip}
 use Rattle.ttcn_values.specs.Evaluation.{after, link}
 use Rattle.ttcn_values.specs.Frames.{read_by}
 use Rattle.ttcn_values.specs.Literals as spec
-use Rattle.ttcn_values.specs.Outcomes.{each}
+use Rattle.ttcn_values.specs.Outcomes.{Yields, each}
 use Rattle.ttcn_values.proofs.ConstantBounds.{constants_weight, expr_weight, field_value_weight, levels, link_weight, sum, value_weight}
 use Rattle.ttcn_values.proofs.Each.{behind}
 use Rattle.ttcn_values.proofs.reader.Reader.+reader.Given as goal
@@ -52,4 +52,4 @@ invariant-in_order-loop-at l =
     ≡ each (map (spec.element (read_by l.self)) (zip l.fields (map spec.value_wanted l.elements))))
 
 abbrev pub invariant-chain-loop-next : goal.invariant-chain-loop-next
-invariant-chain-loop-next l = after (read_by l.self) (Some l.value) (map link (drop l.next-index l.links)) ≡ after (read_by l.self) (Some l.fn.first) (map link l.links)
+invariant-chain-loop-next l = after (read_by l.self) (Yields l.value) (map link (drop l.next-index l.links)) ≡ after (read_by l.self) (Yields l.fn.first) (map link l.links)

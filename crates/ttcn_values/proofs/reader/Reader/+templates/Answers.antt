@@ -1,4 +1,4 @@
-use Rattle.std.proofs.Common.{◌≡◌, Some, None, Global, Vec, bytes_eq, map, ap, sym, ◌∙◌, arith}
+use Rattle.std.proofs.Common.{◌≡◌, Some, Global, Vec, bytes_eq, map, ap, sym, ◌∙◌, arith}
 use Rattle.std.specs.List.{find}
 use Rattle.ttcn_syntax.specs.declared.tree.template.FieldTemplate.{out-FieldTemplate}
 use Rattle.ttcn_syntax.proofs.tree.template.FieldTemplate.TheLaws.{the_size}
@@ -8,6 +8,7 @@ use Rattle.ttcn_values.proofs.Faults.{given_by, gives_same, handed_on}
 use Rattle.ttcn_values.proofs.TemplateCalls.{called_in_vain, called_nothing, called_with}
 use Rattle.ttcn_values.proofs.TemplateForms.{body_of_assigned, body_of_call, body_of_complement, body_of_list, body_of_listed, element_found, element_missing, in_order_as_long}
 use Rattle.ttcn_values.specs.Frames.{read_by}
+use Rattle.ttcn_values.specs.Outcomes.{Fails, Yields, value_in}
 use Rattle.ttcn_values.specs.Templates as spec
 use Rattle.ttcn_values.specs.declared.value.Value.{Value}
 use Rattle.ttcn_values.proofs.reader.Reader.+templates.Goals as goal
@@ -16,29 +17,29 @@ pub body-returns-in_err-parts-in-Listed : goal.body-returns-in_err-parts-in-List
 body-returns-in_err-parts-in-Listed t c =
     handed_on (spec.in_order (read_by c.args.self.now) c.fields-fields.result.now (map spec.template_wanted c.as_slice-in-Listed.result.now)) (spec.body_wanted c.args.body.now (read_by c.args.self.now) c.args.wanted)
     c.in_err-parts-in-Listed.field-0.0 c.from_residual-in_err-parts-in-Listed.result c.from_residual-in_err-parts-in-Listed.ensures.1 c.in_err-parts-in-Listed.ensures
-    (body_of_listed c.args.self.now c.args.wanted c.in_ok-at-in-Listed.at c.fields-fields.result.now c.in_ok-at-in-Listed.ensures c.fields-fields.ensures
-    c.args.body.now c.in-Listed.parts c.as_slice-in-Listed.result.now None c.in-Listed.is c.as_slice-in-Listed.ensures)
+    (λ why. body_of_listed c.args.self.now c.args.wanted c.in_ok-at-in-Listed.at c.fields-fields.result.now c.in_ok-at-in-Listed.ensures.gives c.fields-fields.ensures
+    c.args.body.now c.in-Listed.parts c.as_slice-in-Listed.result.now (Fails why) c.in-Listed.is c.as_slice-in-Listed.ensures)
 
 pub body-returns-in_ok-parts-in-Listed : goal.body-returns-in_ok-parts-in-Listed
 body-returns-in_ok-parts-in-Listed t c =
-    body_of_listed c.args.self.now c.args.wanted c.in_ok-at-in-Listed.at c.fields-fields.result.now c.in_ok-at-in-Listed.ensures c.fields-fields.ensures
-    c.args.body.now c.in-Listed.parts c.as_slice-in-Listed.result.now (Some c.in_ok-parts-in-Listed.parts) c.in-Listed.is c.as_slice-in-Listed.ensures
+    body_of_listed c.args.self.now c.args.wanted c.in_ok-at-in-Listed.at c.fields-fields.result.now c.in_ok-at-in-Listed.ensures.gives c.fields-fields.ensures
+    c.args.body.now c.in-Listed.parts c.as_slice-in-Listed.result.now (Yields c.in_ok-parts-in-Listed.parts) c.in-Listed.is c.as_slice-in-Listed.ensures
     c.in_ok-parts-in-Listed.ensures
-    ∙ ap Some (sym c.plain-in-Listed.ensures)
+    ∙ ap Yields (sym c.plain-in-Listed.ensures)
 
 pub body-returns-in_err-parts-in-Assigned : goal.body-returns-in_err-parts-in-Assigned
 body-returns-in_err-parts-in-Assigned t c =
     handed_on (spec.by_name (read_by c.args.self.now) c.fields-fields-in-Assigned.result.now (map spec.field_template c.as_slice-in-Assigned.result.now)) (spec.body_wanted c.args.body.now (read_by c.args.self.now) c.args.wanted)
     c.in_err-parts-in-Assigned.field-0.0 c.from_residual-in_err-parts-in-Assigned.result c.from_residual-in_err-parts-in-Assigned.ensures.1 c.in_err-parts-in-Assigned.ensures
-    (body_of_assigned c.args.self.now c.args.wanted c.in_ok-at-in-Assigned.at c.fields-fields-in-Assigned.result.now c.in_ok-at-in-Assigned.ensures c.fields-fields-in-Assigned.ensures
-    c.args.body.now c.in-Assigned.parts c.as_slice-in-Assigned.result.now None c.in-Assigned.is c.as_slice-in-Assigned.ensures)
+    (λ why. body_of_assigned c.args.self.now c.args.wanted c.in_ok-at-in-Assigned.at c.fields-fields-in-Assigned.result.now c.in_ok-at-in-Assigned.ensures.gives c.fields-fields-in-Assigned.ensures
+    c.args.body.now c.in-Assigned.parts c.as_slice-in-Assigned.result.now (Fails why) c.in-Assigned.is c.as_slice-in-Assigned.ensures)
 
 pub body-returns-in_ok-parts-in-Assigned : goal.body-returns-in_ok-parts-in-Assigned
 body-returns-in_ok-parts-in-Assigned t c =
-    body_of_assigned c.args.self.now c.args.wanted c.in_ok-at-in-Assigned.at c.fields-fields-in-Assigned.result.now c.in_ok-at-in-Assigned.ensures c.fields-fields-in-Assigned.ensures
-    c.args.body.now c.in-Assigned.parts c.as_slice-in-Assigned.result.now (Some c.in_ok-parts-in-Assigned.parts) c.in-Assigned.is c.as_slice-in-Assigned.ensures
+    body_of_assigned c.args.self.now c.args.wanted c.in_ok-at-in-Assigned.at c.fields-fields-in-Assigned.result.now c.in_ok-at-in-Assigned.ensures.gives c.fields-fields-in-Assigned.ensures
+    c.args.body.now c.in-Assigned.parts c.as_slice-in-Assigned.result.now (Yields c.in_ok-parts-in-Assigned.parts) c.in-Assigned.is c.as_slice-in-Assigned.ensures
     c.in_ok-parts-in-Assigned.ensures
-    ∙ ap Some (sym c.plain-in-Assigned.ensures)
+    ∙ ap Yields (sym c.plain-in-Assigned.ensures)
 
 pub called-returns-in_default : goal.called-returns-in_default
 called-returns-in_default t c = called_nothing c.args.self.now c.args.at c.args.given.now (sym c.in_default.ensures)
@@ -48,7 +49,7 @@ called-returns-in_err-values t c =
     handed_on (spec.arguments (read_by c.args.self.now) c.as_slice-parameters.result.now c.args.given.now) (spec.template_called (read_by c.args.self.now) (Some c.args.at) c.args.given.now)
     c.in_err-values.field-0.0 c.from_residual.result c.from_residual.ensures.1
     (given_by (λ (values : Vec Value Global). values.items) (spec.arguments (read_by c.args.self.now) c.as_slice-parameters.result.now c.args.given.now) c.in_err-values.field-0.0 c.in_err-values.ensures)
-    (λ none. called_in_vain c.args.self.now c.args.at c.args.given.now c.in-Some.template.now (sym c.in-Some.ensures)
+    (λ why none. called_in_vain c.args.self.now c.args.at c.args.given.now c.in-Some.template.now (sym c.in-Some.ensures) why
     (ap (λ ps. spec.arguments (read_by c.args.self.now) ps c.args.given.now) (sym c.as_slice-parameters.ensures) ∙ none))
 
 pub called-template-requires-2 : goal.called-template-requires-2
@@ -72,17 +73,17 @@ parts-loop-part-init t c =
 
 pub template_by_name-returns-in_default : goal.template_by_name-returns-in_default
 template_by_name-returns-in_default t c =
-    sym c.loop-field.invariant
+    ap value_in (sym c.loop-field.invariant
     ∙ each-fault (λ field. spec.element_named (read_by c.args.self.now) field (find (λ e. bytes_eq e.0 field.name) (map spec.field_template c.args.elements.now)))
     c.args.fields.now c.loop-field.templates.items c.loop-field.field-index c.field-item.result c.loop-field-test.true c.field-item.is
-    (element_missing c.args.self.now c.field-item.result c.args.elements.now (sym c.in_default.ensures))
+    (element_missing c.args.self.now c.field-item.result c.args.elements.now (sym c.in_default.ensures)))
 
 pub template_by_name-returns-in_err-template : goal.template_by_name-returns-in_err-template
 template_by_name-returns-in_err-template t c =
     handed_on (spec.template_wanted (out-FieldTemplate c.in-Some.element.now).template (read_by c.args.self.now) c.resolved-wanted.result)
     (spec.by_name (read_by c.args.self.now) c.args.fields.now (map spec.field_template c.args.elements.now))
     c.in_err-template.field-0.0 c.from_residual-in_err-template.result c.from_residual-in_err-template.ensures.1 c.in_err-template.ensures
-    (λ none. sym c.loop-field.invariant
+    (λ why none. sym c.loop-field.invariant
     ∙ each-fault (λ field. spec.element_named (read_by c.args.self.now) field (find (λ e. bytes_eq e.0 field.name) (map spec.field_template c.args.elements.now)))
     c.args.fields.now c.loop-field.templates.items c.loop-field.field-index c.field-item.result c.loop-field-test.true c.field-item.is
     (element_found c.args.self.now c.field-item.result c.args.elements.now c.in-Some.element.now c.resolved-wanted.result (sym c.in-Some.ensures) c.resolved-wanted.ensures ∙ none))
@@ -99,7 +100,7 @@ pub template_in_order-returns-in_err-template : goal.template_in_order-returns-i
 template_in_order-returns-in_err-template t c =
     handed_on (spec.template_wanted c.index-elements-at.result (read_by c.args.self.now) c.resolved-wanted.result) (spec.in_order (read_by c.args.self.now) c.args.fields.now (map spec.template_wanted c.args.elements.now))
     c.in_err-template.field-0.0 c.from_residual-in_err-template.result c.from_residual-in_err-template.ensures.1 c.in_err-template.ensures
-    (λ none. in_order_as_long (read_by c.args.self.now) c.args.fields.now c.args.elements.now c.if-elements-fields.false ∙ sym c.loop-at.invariant
+    (λ why none. in_order_as_long (read_by c.args.self.now) c.args.fields.now c.args.elements.now c.if-elements-fields.false ∙ sym c.loop-at.invariant
     ∙ beside-fault (spec.element (read_by c.args.self.now)) spec.template_wanted c.args.fields.now c.args.elements.now c.loop-at.templates.items c.loop-at.at
     c.if-elements-fields.false c.index-fields-at.result c.index-elements-at.result c.loop-at-test.true c.index-fields-at.is c.index-elements-at.is
     (ap (spec.template_wanted c.index-elements-at.result (read_by c.args.self.now)) (sym c.resolved-wanted.ensures) ∙ none))
@@ -123,14 +124,14 @@ body-returns-in_err-parts-in-Complement t c =
     handed_on (spec.parts_of (read_by c.args.self.now) c.args.wanted (map spec.template_wanted c.as_slice.result.now))
     (spec.body_wanted c.args.body.now (read_by c.args.self.now) c.args.wanted)
     c.in_err-parts-in-Complement.field-0.0 c.from_residual.result c.from_residual.ensures.1 c.in_err-parts-in-Complement.ensures
-    (body_of_complement (read_by c.args.self.now) c.args.wanted c.args.body.now c.in-Complement.parts c.as_slice.result.now None c.in-Complement.is c.as_slice.ensures)
+    (λ why. body_of_complement (read_by c.args.self.now) c.args.wanted c.args.body.now c.in-Complement.parts c.as_slice.result.now (Fails why) c.in-Complement.is c.as_slice.ensures)
 
 pub body-returns-in_err-parts-in-List : goal.body-returns-in_err-parts-in-List
 body-returns-in_err-parts-in-List t c =
     handed_on (spec.parts_of (read_by c.args.self.now) c.args.wanted (map spec.template_wanted c.as_slice-in-List.result.now))
     (spec.body_wanted c.args.body.now (read_by c.args.self.now) c.args.wanted)
     c.in_err-parts-in-List.field-0.0 c.from_residual-in_err-parts-in-List.result c.from_residual-in_err-parts-in-List.ensures.1 c.in_err-parts-in-List.ensures
-    (body_of_list (read_by c.args.self.now) c.args.wanted c.args.body.now c.in-List.parts c.as_slice-in-List.result.now None c.in-List.is c.as_slice-in-List.ensures)
+    (λ why. body_of_list (read_by c.args.self.now) c.args.wanted c.args.body.now c.in-List.parts c.as_slice-in-List.result.now (Fails why) c.in-List.is c.as_slice-in-List.ensures)
 
 pub body-returns-in-Some : goal.body-returns-in-Some
 body-returns-in-Some t c =

@@ -25,7 +25,7 @@ returns-in_err-value c =
     handed_on_by (λ values. values.items) (value_wanted c.index-given-at.result (read_by c.args.self.now) c.resolved-wanted.result)
     (arguments (read_by c.args.self.now) c.args.parameters.now c.args.given.now) c.in_err-value.field-0.0
     c.from_residual-in_err-value.result c.from_residual-in_err-value.ensures.1 c.in_err-value.ensures
-    (λ none. if_as_long c.args.given.now c.args.parameters.now (each (map (argument (read_by c.args.self.now)) (zip c.args.parameters.now c.args.given.now))) c.if-given-parameters.false
+    (λ why none. if_as_long c.args.given.now c.args.parameters.now (each (map (argument (read_by c.args.self.now)) (zip c.args.parameters.now c.args.given.now))) c.if-given-parameters.false
     ∙ sym c.loop-at.invariant
     ∙ beside-fault (argument (read_by c.args.self.now)) (λ value. value) c.args.parameters.now c.args.given.now c.loop-at.values.items c.loop-at.at
     c.if-given-parameters.false c.index-parameters-at.result c.index-given-at.result c.loop-at-test.true c.index-parameters-at.is c.index-given-at.is

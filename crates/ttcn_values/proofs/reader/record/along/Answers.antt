@@ -1,5 +1,6 @@
-use Rattle.std.proofs.Common.{refl, sym, ◌∙◌}
+use Rattle.std.proofs.Common.{refl, sym, ap, ◌∙◌}
 use Rattle.ttcn_values.proofs.Following.{along-end, along-fault, along-next}
+use Rattle.ttcn_values.specs.Outcomes.{value_in}
 use Rattle.ttcn_values.proofs.reader.record.along.Goals as goal
 
 pub loop-name-init : goal.loop-name-init
@@ -8,7 +9,7 @@ loop-name-init c = refl
 pub returns-in_err-value : goal.returns-in_err-value
 returns-in_err-value c =
     let e = along-fault c.args.definitions.now c.args.names.now c.loop-name.name-index c.name-item.result c.loop-name.value.now c.loop-name-test.true c.name-item.is (sym c.in_err-value.ensures) in
-    rw c.from_residual.ensures (sym e ∙ c.loop-name.invariant)
+    rw c.from_residual.ensures (sym e ∙ ap value_in c.loop-name.invariant)
 
 pub loop-name-preserved : goal.loop-name-preserved
 loop-name-preserved c =
@@ -17,4 +18,4 @@ loop-name-preserved c =
 
 pub returns : goal.returns
 returns c =
-    sym (along-end c.args.definitions.now c.args.names.now c.loop-name.name-index c.loop-name.value.now c.loop-name-test.false) ∙ c.loop-name.invariant
+    ap value_in (sym (along-end c.args.definitions.now c.args.names.now c.loop-name.name-index c.loop-name.value.now c.loop-name-test.false) ∙ c.loop-name.invariant)
