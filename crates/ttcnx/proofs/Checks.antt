@@ -3,6 +3,7 @@ use Rattle.std.proofs.Common.{◌≡◌, ℕ, ◌<◌, ◌≤◌, List, [], ◌�
 use Rattle.std.specs.Prelude.{◌⊎◌, ◌↔◌, Some, Result, Ok, Err}
 use Rattle.std.specs.List.{slice_get}
 use Rattle.ttcn_syntax.specs.Cut.{IsCut, IsLeftmostFault}
+use Rattle.ttcn_syntax.specs.Limits.{longest_text}
 use Rattle.ttcn_syntax.specs.declared.error.LexError.{LexError}
 use Rattle.ttcn_syntax.specs.declared.error.LexError.TheVariants as lexical
 use Rattle.ttcn_syntax.specs.declared.token.Spanned.{Spanned}
@@ -21,9 +22,10 @@ use Rattle.check_scope.specs.declared.rule.Rule.{Rule}
 use Rattle.check_scope.specs.declared.rule.Rule.TheVariants as rule
 use Rattle.ttcnx.specs.Answer.{SameFault}
 use Rattle.ttcnx.specs.Checked.{AreRefused, HasOneJudgement, IsAccepted, IsRefusedWith, broken, cut, left_out, too_deep, too_long, uncut, unexpected}
-use Rattle.ttcnx.specs.Fault.{grammar_fault, lexical_fault, typing_fault, typing_refusal}
+use Rattle.ttcnx.specs.Fault.{grammar_fault, lexical_fault, typing_fault}
 use Rattle.ttcnx.specs.declared.fault.Fault.{Fault}
 use Rattle.ttcnx.specs.declared.fault.Fault.TheVariants as fault
+use Rattle.ttcnx.specs.declared.fault.Refusal.TheVariants as refusal
 use Rattle.ttcnx.proofs.OneAnswer.{same_fault}
 use Rattle.basic.proofs.Sound.{some_is}
 use Rattle.ttcnx.proofs.Stages.{no_stop, short}
@@ -34,7 +36,7 @@ Refuses text why = (why ≡ fault.Memory) ⊎ IsRefusedWith text why
 
 -- ---- what each stage answers
 
-pub lexing : {A : Type 0} (text : List ℕ) (e : LexError) → (◌≡◌ {A = Result A LexError} (Err e) (Err lexical.TextTooLong) ↔ (1048576 < length text))
+pub lexing : {A : Type 0} (text : List ℕ) (e : LexError) → (◌≡◌ {A = Result A LexError} (Err e) (Err lexical.TextTooLong) ↔ (longest_text < length text))
     → (e ≡ lexical.TextTooLong) ⊎ ((e ≡ lexical.Memory) ⊎ IsLeftmostFault text e) → Refuses text (lexical_fault e)
 lexing text e exactly (inl is) = rw is (inr (too_long (exactly.0 (ap Err is))))
 lexing text e exactly (inr (inl is)) = inl (ap lexical_fault is)
@@ -43,14 +45,14 @@ lexing {A = A} text e exactly (inr (inr stops)) = inr (uncut (short {A = A} text
     error_is : (e : LexError) → ◌≡◌ {A = Result A LexError} (Err e) (Err lexical.TextTooLong) → e ≡ lexical.TextTooLong
     error_is e h = let the : Result A LexError → LexError = λ r. elim r as (λ _. LexError) [ Ok a ↦ e | Err x ↦ x ] in ap the h
 
-pub parsing : (text : List ℕ) (tokens : List Spanned) (e : ParseError) → length text ≤ 1048576 → IsCut text tokens → IsRefused tokens e
+pub parsing : (text : List ℕ) (tokens : List Spanned) (e : ParseError) → length text ≤ longest_text → IsCut text tokens → IsRefused tokens e
     → Refuses text (grammar_fault e)
 parsing text tokens (reading.TooDeep place) fine is_cut why = inr (cut fine is_cut (too_deep why))
 parsing text tokens (reading.LeftOut place) fine is_cut why = inr (cut fine is_cut (left_out why.0 why.1))
 parsing text tokens (reading.Unexpected place) fine is_cut why = inr (cut fine is_cut (unexpected why))
 parsing text tokens reading.Memory fine is_cut why = inl refl
 
-pub checking : (text : List ℕ) (tokens : List Spanned) (tree : Module) (e : CheckError) → length text ≤ 1048576 → IsCut text tokens
+pub checking : (text : List ℕ) (tokens : List Spanned) (tree : Module) (e : CheckError) → length text ≤ longest_text → IsCut text tokens
     → IsRead tokens tree → IsRefusal tree.definitions e → Refuses text (typing_fault e)
 checking text tokens tree (typing.Broken rule place) fine is_cut is_read least = inr (cut fine is_cut (broken is_read least))
 checking text tokens tree (typing.Memory error) fine is_cut is_read least = inl refl
@@ -110,7 +112,7 @@ one_of_tokens tokens a b (broken is least) (left_out shallow out) = absurd (is.n
 one_of_tokens tokens a b (broken {tree = tree} is least) (unexpected unread) = absurd (unread.no_module tree is.is_module)
 one_of_tokens tokens a b (broken {tree = tree} {rule = r} is least) (broken {tree = other} {rule = s} also too) =
     let same = one_tree tokens tree other is.is_module also.is_module in
-    ap typing_refusal (one_least other.definitions r s (subst (λ tree. IsLeast tree.definitions r) same least) too)
+    ap refusal.Broken (one_least other.definitions r s (subst (λ tree. IsLeast tree.definitions r) same least) too)
 
 one_of_text : (text : List ℕ) (a b : Fault) → IsRefusedWith text a → IsRefusedWith text b → SameFault a b
 one_of_text text a b (too_long long) (too_long also) = refl

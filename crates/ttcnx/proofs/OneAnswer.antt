@@ -20,7 +20,7 @@ use Rattle.explore.proofs.RunOrder.{before_trans}
 use Rattle.ttcn_syntax.specs.declared.token.Spanned.{Spanned}
 use Rattle.ttcn_syntax.proofs.Once.{reads_once}
 use Rattle.ttcnx.specs.Answer.{Answer, HasOneAnswer, OfModule, OfTestCase, OfText, OfTokens, SameAnswer, SameFault, beyond, broken, cut, left_out, named, nameless, read, too_deep, too_long, too_many, told, uncut, unexpected, within}
-use Rattle.ttcnx.specs.Fault.{lexical_fault, rule_refusal}
+use Rattle.ttcnx.specs.Fault.{lexical_fault, whole_rule}
 use Rattle.ttcnx.specs.Steps.{Situation, graph_of}
 use Rattle.ttcnx.specs.Report.{header_text, line, outcome_text, report_text, step_line, yes_or_no}
 use Rattle.basic.specs.Rules.{IsLeast, broken_rules, number_of}
@@ -29,6 +29,7 @@ use Rattle.basic.specs.Verdict.{mark_of, word_of}
 use Rattle.ttcnx.specs.contracts.label.LabelOrd.TheImpl as label
 use Rattle.ttcnx.specs.declared.fault.Fault.{Fault}
 use Rattle.ttcnx.specs.declared.fault.Fault.TheVariants as fault
+use Rattle.ttcnx.specs.declared.fault.Refusal.TheVariants as refusal
 use Rattle.ttcnx.specs.declared.label.Label.{Label}
 use Rattle.ttcnx.specs.declared.label.Label.TheVariants.{Mtc}
 use Rattle.basic.specs.declared.module.Module.{Module}
@@ -237,7 +238,7 @@ nothing_broken rule all none least = let here : Contains [] rule = rw none at le
 
 one_of_module : (tree : Module) (name : List ℕ) (plan : Plan) (a b : Answer) → OfModule tree name plan a → OfModule tree name plan b → SameAnswer a b
 one_of_module tree name plan a b (broken {rule = rule} least) (broken {rule = other} also) =
-    ap rule_refusal (least_one rule other (broken_rules tree.definitions) least also)
+    ap (λ rule. refusal.Broken (whole_rule rule)) (least_one rule other (broken_rules tree.definitions) least also)
 one_of_module tree name plan a b (broken {rule = rule} least) (nameless keeps none) = absurd (nothing_broken rule (broken_rules tree.definitions) keeps least)
 one_of_module tree name plan a b (broken {rule = rule} least) (named keeps found more) = absurd (nothing_broken rule (broken_rules tree.definitions) keeps least)
 one_of_module tree name plan a b (nameless keeps none) (broken {rule = rule} least) = absurd (nothing_broken rule (broken_rules tree.definitions) keeps least)

@@ -9,6 +9,7 @@ use Rattle.explore.specs.declared.plan.ExploreError.TheVariants as searching
 use Rattle.explore.specs.declared.plan.Plan.{Plan}
 use Rattle.summary.specs.Exploration.{Counts}
 use Rattle.ttcn_syntax.specs.Cut.{IsCut, IsLeftmostFault, Stops, at_fault, past_gap, past_token, no_piece, unended_comment, unended_text, number_too_large}
+use Rattle.ttcn_syntax.specs.Limits.{longest_text}
 use Rattle.ttcn_syntax.specs.declared.error.LexError.{LexError}
 use Rattle.ttcn_syntax.specs.declared.error.LexError.TheVariants as lexical
 use Rattle.ttcn_syntax.specs.declared.token.Spanned.{Spanned}
@@ -44,19 +45,19 @@ no_stop (past_gap longest gap more) is = no_stop more is
 no_stop (past_token longest gives more) is = no_stop more is
 
 -- a text that isn't too long
-pub short : {A : Type 0} (text : List ℕ) (result : Result A LexError) → ((result ≡ Err lexical.TextTooLong) ↔ (1048576 < length text))
-    → (result ≡ Err lexical.TextTooLong → ⊥) → length text ≤ 1048576
-short text result exactly other = within (cases_lt 1048576 (length text))
+pub short : {A : Type 0} (text : List ℕ) (result : Result A LexError) → ((result ≡ Err lexical.TextTooLong) ↔ (longest_text < length text))
+    → (result ≡ Err lexical.TextTooLong → ⊥) → length text ≤ longest_text
+short text result exactly other = within (cases_lt longest_text (length text))
   where
-    within : (1048576 < length text) ⊎ (length text ≤ 1048576) → length text ≤ 1048576
+    within : (longest_text < length text) ⊎ (length text ≤ longest_text) → length text ≤ longest_text
     within (inl long) = absurd (other (exactly.1 long))
     within (inr fine) = fine
 
-pub cut_is_short : {A : Type 0} (text : List ℕ) (tokens : A) → (◌≡◌ {A = Result A LexError} (Ok tokens) (Err lexical.TextTooLong) ↔ (1048576 < length text))
-    → length text ≤ 1048576
+pub cut_is_short : {A : Type 0} (text : List ℕ) (tokens : A) → (◌≡◌ {A = Result A LexError} (Ok tokens) (Err lexical.TextTooLong) ↔ (longest_text < length text))
+    → length text ≤ longest_text
 cut_is_short text tokens exactly = short text (Ok tokens) exactly (λ h. cc)
 
-pub lexing_refuses : {A : Type 0} (text name : List ℕ) (e : LexError) → (◌≡◌ {A = Result A LexError} (Err e) (Err lexical.TextTooLong) ↔ (1048576 < length text))
+pub lexing_refuses : {A : Type 0} (text name : List ℕ) (e : LexError) → (◌≡◌ {A = Result A LexError} (Err e) (Err lexical.TextTooLong) ↔ (longest_text < length text))
     → (e ≡ lexical.TextTooLong) ⊎ ((e ≡ lexical.Memory) ⊎ IsLeftmostFault text e) → Refuses text name (lexical_fault e)
 lexing_refuses text name e exactly (inl is) =
     rw is (inr (λ plan. too_long (exactly.0 (ap Err is))))
@@ -68,23 +69,23 @@ lexing_refuses {A = A} text name e exactly (inr (inr stops)) =
     error_is : ◌≡◌ {A = Result A LexError} (Err e) (Err lexical.TextTooLong) → e ≡ lexical.TextTooLong
     error_is h = let the : Result A LexError → LexError = λ r. elim r as (λ _. LexError) [ Ok a ↦ e | Err x ↦ x ] in ap the h
 
-pub parsing_refuses : (text name : List ℕ) (tokens : List Spanned) (e : ParseError) → length text ≤ 1048576 → IsCut text tokens → IsRefused tokens e
+pub parsing_refuses : (text name : List ℕ) (tokens : List Spanned) (e : ParseError) → length text ≤ longest_text → IsCut text tokens → IsRefused tokens e
     → Refuses text name (parse_fault e)
 parsing_refuses text name tokens (TooDeep place) fine is_cut why = inr (λ plan. cut fine is_cut (too_deep why))
 parsing_refuses text name tokens (LeftOut place) fine is_cut why = inr (λ plan. cut fine is_cut (left_out why.0 why.1))
 parsing_refuses text name tokens (Unexpected place) fine is_cut why = inr (λ plan. cut fine is_cut (unexpected why))
 parsing_refuses text name tokens Memory fine is_cut why = inl refl
 
-pub checking_refuses : (text name : List ℕ) (tokens : List Spanned) (tree : Module) (e : CheckError) → length text ≤ 1048576 → IsCut text tokens
+pub checking_refuses : (text name : List ℕ) (tokens : List Spanned) (tree : Module) (e : CheckError) → length text ≤ longest_text → IsCut text tokens
     → IsRead tokens tree → IsRefusal (broken_rules tree.definitions) e → Refuses text name (check_fault e)
 checking_refuses text name tokens tree (checking.Broken rule place) fine is_cut is_read least = inr (λ plan. cut fine is_cut (read is_read (broken least)))
 checking_refuses text name tokens tree (checking.Memory error) fine is_cut is_read least = inl refl
 
-pub naming_refuses : (text name : List ℕ) (tokens : List Spanned) (tree : Module) → length text ≤ 1048576 → IsCut text tokens → IsRead tokens tree
+pub naming_refuses : (text name : List ℕ) (tokens : List Spanned) (tree : Module) → length text ≤ longest_text → IsCut text tokens → IsRead tokens tree
     → broken_rules tree.definitions ≡ [] → body_of tree.definitions name ≡ None → Refuses text name fault.NoSuchTestCase
 naming_refuses text name tokens tree fine is_cut is_read keeps none = inr (λ plan. cut fine is_cut (read is_read (nameless keeps none)))
 
-pub naming_finds : (text name : List ℕ) (tokens : List Spanned) (tree : Module) (body : List Statement) → length text ≤ 1048576 → IsCut text tokens
+pub naming_finds : (text name : List ℕ) (tokens : List Spanned) (tree : Module) (body : List Statement) → length text ≤ longest_text → IsCut text tokens
     → IsRead tokens tree → broken_rules tree.definitions ≡ [] → body_of tree.definitions name ≡ Some body
     → (plan : Plan) (answer : Answer) → OfTestCase body name plan answer → OfText text name plan answer
 naming_finds text name tokens tree body fine is_cut is_read keeps found plan answer of_body = cut fine is_cut (read is_read (named keeps found of_body))

@@ -7,11 +7,12 @@ use Rattle.explore.specs.Limits.{IsWithinLimits}
 use Rattle.explore.specs.declared.plan.Plan.{Plan}
 use Rattle.summary.specs.Exploration.{Counts}
 use Rattle.ttcn_syntax.specs.Cut.{IsCut, IsLeftmostFault}
+use Rattle.ttcn_syntax.specs.Limits.{longest_text}
 use Rattle.ttcn_syntax.specs.declared.error.LexError.{LexError}
 use Rattle.ttcn_syntax.specs.declared.place.Span.{Span}
 use Rattle.ttcn_syntax.specs.declared.token.Spanned.{Spanned}
 use Rattle.ttcn_parse.specs.Groups.{IsTooDeep}
-use Rattle.ttcnx.specs.Fault.{lexical_fault, rule_refusal}
+use Rattle.ttcnx.specs.Fault.{lexical_fault, whole_rule}
 use Rattle.ttcnx.specs.Steps.{graph_of}
 use Rattle.basic.specs.Refused.{HasLeftOut, IsRead, IsUnread}
 use Rattle.ttcnx.specs.Report.{report_text}
@@ -59,7 +60,7 @@ pub data OfTestCase (body : List Statement) (name : List ℕ) (plan : Plan) : An
 pub data OfModule (tree : Module) (name : List ℕ) (plan : Plan) : Answer → Type 0 where
   -- the least rule that it breaks
   broken : {rule : Rule} {place : Span} → IsLeast rule (broken_rules tree.definitions)
-      → OfModule tree name plan (refused (rule_refusal rule) place)
+      → OfModule tree name plan (refused (refusal.Broken (whole_rule rule)) place)
   -- or else that it has no test case of the name
   nameless : broken_rules tree.definitions ≡ [] → body_of tree.definitions name ≡ None
       → OfModule tree name plan (Err fault.NoSuchTestCase)
@@ -83,12 +84,12 @@ pub data OfTokens (tokens : List Spanned) (name : List ℕ) (plan : Plan) : Answ
 -- what is answered for a text
 pub data OfText (text name : List ℕ) (plan : Plan) : Answer → Type 0 where
   -- that it is longer than 1,048,576 bytes
-  too_long : {place : Span} → 1048576 < length text → OfText text name plan (refused refusal.TextTooLong place)
+  too_long : {place : Span} → longest_text < length text → OfText text name plan (refused refusal.TextTooLong place)
   -- or else its leftmost fault, where it stands
-  uncut : {error : LexError} → length text ≤ 1048576 → IsLeftmostFault text error
+  uncut : {error : LexError} → length text ≤ longest_text → IsLeftmostFault text error
       → OfText text name plan (Err (lexical_fault error))
   -- or else the answer for its tokens
-  cut : {tokens : List Spanned} {answer : Answer} → length text ≤ 1048576 → IsCut text tokens
+  cut : {tokens : List Spanned} {answer : Answer} → length text ≤ longest_text → IsCut text tokens
       → OfTokens tokens name plan answer → OfText text name plan answer
 
 -- what is answered

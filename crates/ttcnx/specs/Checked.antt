@@ -2,6 +2,7 @@
 -- tokens, its module.
 use Rattle.std.specs.Prelude.{ℕ, ◌<◌, ◌≤◌, List, length}
 use Rattle.ttcn_syntax.specs.Cut.{IsCut, IsLeftmostFault}
+use Rattle.ttcn_syntax.specs.Limits.{longest_text}
 use Rattle.ttcn_syntax.specs.declared.error.LexError.{LexError}
 use Rattle.ttcn_syntax.specs.declared.place.Span.{Span}
 use Rattle.ttcn_syntax.specs.declared.token.Spanned.{Spanned}
@@ -12,7 +13,7 @@ use Rattle.ttcn_parse.specs.Refused.{IsRead, IsUnread}
 use Rattle.ttcn_types.specs.Rules.{AreWellTyped, IsLeast}
 use Rattle.check_scope.specs.declared.rule.Rule.{Rule}
 use Rattle.ttcnx.specs.Answer.{SameFault}
-use Rattle.ttcnx.specs.Fault.{lexical_fault, typing_refusal}
+use Rattle.ttcnx.specs.Fault.{lexical_fault}
 use Rattle.ttcnx.specs.declared.fault.Fault.{Fault}
 use Rattle.ttcnx.specs.declared.fault.Fault.TheVariants as fault
 use Rattle.ttcnx.specs.declared.fault.Refusal.TheVariants as refusal
@@ -21,7 +22,7 @@ use Rattle.ttcnx.specs.declared.fault.Refusal.TheVariants as refusal
 pub record IsAccepted (text : List ℕ) : Type 0 where
   pub tokens : List Spanned
   pub tree : Module
-  pub short : length text ≤ 1048576
+  pub short : length text ≤ longest_text
   pub is_cut : IsCut text tokens
   pub is_read : IsRead tokens tree
   pub well_typed : AreWellTyped tree.definitions
@@ -36,16 +37,16 @@ pub data AreRefused (tokens : List Spanned) : Fault → Type 0 where
   unexpected : {place : Span} → IsUnread tokens → AreRefused tokens (fault.Refused refusal.Unexpected place)
   -- or else the least rule that their module breaks
   broken : {tree : Module} {rule : Rule} {place : Span} → IsRead tokens tree → IsLeast tree.definitions rule
-      → AreRefused tokens (fault.Refused (typing_refusal rule) place)
+      → AreRefused tokens (fault.Refused (refusal.Broken rule) place)
 
 -- why a text is that of no well-typed module
 pub data IsRefusedWith (text : List ℕ) : Fault → Type 0 where
   -- it is longer than 1,048,576 bytes
-  too_long : {place : Span} → 1048576 < length text → IsRefusedWith text (fault.Refused refusal.TextTooLong place)
+  too_long : {place : Span} → longest_text < length text → IsRefusedWith text (fault.Refused refusal.TextTooLong place)
   -- or else its leftmost fault, where it stands
-  uncut : {error : LexError} → length text ≤ 1048576 → IsLeftmostFault text error → IsRefusedWith text (lexical_fault error)
+  uncut : {error : LexError} → length text ≤ longest_text → IsLeftmostFault text error → IsRefusedWith text (lexical_fault error)
   -- or else why its tokens are refused
-  cut : {tokens : List Spanned} {why : Fault} → length text ≤ 1048576 → IsCut text tokens → AreRefused tokens why → IsRefusedWith text why
+  cut : {tokens : List Spanned} {why : Fault} → length text ≤ longest_text → IsCut text tokens → AreRefused tokens why → IsRefusedWith text why
 
 -- a text is not both accepted and refused, and not refused in two ways
 pub record HasOneJudgement (text : List ℕ) : Type 0 where

@@ -10,16 +10,17 @@ use Rattle.ttcn_parse.specs.ParseError as whole
 use Rattle.ttcn_parse.specs.ParseError.TheVariants as reading
 use Rattle.ttcn_types.specs.declared.error.CheckError as typed
 use Rattle.ttcn_types.specs.declared.error.CheckError.TheVariants as typing
-use Rattle.check_scope.specs.declared.rule.Rule as all_rules
+use Rattle.check_scope.specs.Numbers.{name_of, number_of}
+use Rattle.check_scope.specs.declared.rule.Rule.{Rule}
 use Rattle.check_scope.specs.declared.rule.Rule.TheVariants as rule
 use Rattle.basic.specs.declared.reader.ParseError.{ParseError}
 use Rattle.basic.specs.declared.reader.ParseError.TheVariants as parsing
 use Rattle.basic.specs.declared.rules.CheckError.{CheckError}
 use Rattle.basic.specs.declared.rules.CheckError.TheVariants as checking
-use Rattle.basic.specs.declared.rules.Rule.{Rule}
+use Rattle.basic.specs.declared.rules.Rule as part
 use Rattle.basic.specs.declared.rules.Rule.TheVariants as rules
 use Rattle.ttcnx.specs.declared.fault.Refusal.{Refusal}
-use Rattle.ttcnx.specs.declared.fault.Refusal.TheVariants.{BadByte, OpenComment, OpenText, IntegerTooLarge, TextTooLong, Unexpected, TooDeep, LeftOut, DuplicateName, UnknownName, BadType, Cycle, Size, EnumNumbers, OperandType, ValueType, NotAssignable, Arguments, Fields, Condition, RunsOn, PortType, Redirect, CallKind, ReturnPlace, RepeatPlace, VerdictError, MtcPlace}
+use Rattle.ttcnx.specs.declared.fault.Refusal.TheVariants.{BadByte, OpenComment, OpenText, IntegerTooLarge, TextTooLong, Unexpected, TooDeep, LeftOut, Broken}
 use Rattle.ttcnx.specs.declared.fault.Fault.{Fault}
 use Rattle.ttcnx.specs.declared.fault.Fault.TheVariants.{Refused, NoSuchTestCase, TooMany, BadPlan, Memory, CannotRead, CannotWrite}
 
@@ -33,26 +34,7 @@ refusal_text TextTooLong = codes "L5 TextTooLong"
 refusal_text Unexpected = codes "P1 Unexpected"
 refusal_text TooDeep = codes "P2 TooDeep"
 refusal_text LeftOut = codes "P3 LeftOut"
-refusal_text DuplicateName = codes "C1 DuplicateName"
-refusal_text UnknownName = codes "C2 UnknownName"
-refusal_text BadType = codes "C3 BadType"
-refusal_text Cycle = codes "C4 Cycle"
-refusal_text Size = codes "C5 Size"
-refusal_text EnumNumbers = codes "C6 EnumNumbers"
-refusal_text OperandType = codes "C7 OperandType"
-refusal_text ValueType = codes "C8 ValueType"
-refusal_text NotAssignable = codes "C9 NotAssignable"
-refusal_text Arguments = codes "C10 Arguments"
-refusal_text Fields = codes "C11 Fields"
-refusal_text Condition = codes "C12 Condition"
-refusal_text RunsOn = codes "C13 RunsOn"
-refusal_text PortType = codes "C14 PortType"
-refusal_text Redirect = codes "C15 Redirect"
-refusal_text CallKind = codes "C16 CallKind"
-refusal_text ReturnPlace = codes "C17 ReturnPlace"
-refusal_text RepeatPlace = codes "C18 RepeatPlace"
-refusal_text VerdictError = codes "C19 VerdictError"
-refusal_text MtcPlace = codes "C20 MtcPlace"
+refusal_text (Broken rule) = codes "C" ++ decimal (number_of rule) ++ codes " " ++ name_of rule
 
 -- a place as line and column
 abbrev pub place_text : Span → List ℕ
@@ -94,17 +76,17 @@ parse_fault (parsing.LeftOut place) = Refused LeftOut place
 parse_fault (parsing.Unexpected place) = Refused Unexpected place
 parse_fault parsing.Memory = Memory
 
--- the refusal that a broken rule leads to
-abbrev pub rule_refusal : Rule → Refusal
-rule_refusal rules.DuplicateName = DuplicateName
-rule_refusal rules.UnknownName = UnknownName
-rule_refusal rules.OperandType = OperandType
-rule_refusal rules.ValueType = ValueType
-rule_refusal rules.VerdictError = VerdictError
+-- the rule of the whole language that a rule of its part is
+abbrev pub whole_rule : part.Rule → Rule
+whole_rule rules.DuplicateName = rule.DuplicateName
+whole_rule rules.UnknownName = rule.UnknownName
+whole_rule rules.OperandType = rule.OperandType
+whole_rule rules.ValueType = rule.ValueType
+whole_rule rules.VerdictError = rule.VerdictError
 
 -- the fault of a module that isn't well typed
 abbrev pub check_fault : CheckError → Fault
-check_fault (checking.Broken rule place) = Refused (rule_refusal rule) place
+check_fault (checking.Broken rule place) = Refused (Broken (whole_rule rule)) place
 check_fault (checking.Memory error) = Memory
 
 -- the fault of tokens that spell no module of the whole language
@@ -114,32 +96,9 @@ grammar_fault (reading.LeftOut place) = Refused LeftOut place
 grammar_fault (reading.Unexpected place) = Refused Unexpected place
 grammar_fault reading.Memory = Memory
 
--- the refusal that a broken rule of the whole language leads to
-abbrev pub typing_refusal : all_rules.Rule → Refusal
-typing_refusal rule.DuplicateName = DuplicateName
-typing_refusal rule.UnknownName = UnknownName
-typing_refusal rule.BadType = BadType
-typing_refusal rule.Cycle = Cycle
-typing_refusal rule.Size = Size
-typing_refusal rule.EnumNumbers = EnumNumbers
-typing_refusal rule.OperandType = OperandType
-typing_refusal rule.ValueType = ValueType
-typing_refusal rule.NotAssignable = NotAssignable
-typing_refusal rule.Arguments = Arguments
-typing_refusal rule.Fields = Fields
-typing_refusal rule.Condition = Condition
-typing_refusal rule.RunsOn = RunsOn
-typing_refusal rule.PortType = PortType
-typing_refusal rule.Redirect = Redirect
-typing_refusal rule.CallKind = CallKind
-typing_refusal rule.ReturnPlace = ReturnPlace
-typing_refusal rule.RepeatPlace = RepeatPlace
-typing_refusal rule.VerdictError = VerdictError
-typing_refusal rule.MtcPlace = MtcPlace
-
 -- the fault of a module of the whole language that isn't well typed
 abbrev pub typing_fault : typed.CheckError → Fault
-typing_fault (typing.Broken rule place) = Refused (typing_refusal rule) place
+typing_fault (typing.Broken rule place) = Refused (Broken rule) place
 typing_fault (typing.Memory error) = Memory
 
 -- the fault of a search that gives no answer

@@ -1,5 +1,6 @@
 //! From the text of a module to whether it is well typed.
 ghost use Rattle.std.specs.Prelude.{◌≡◌, ◌<◌, ◌⊎◌, length, codes, string_bytes, Err, IfErr, IfOk, OnOk};
+ghost use Rattle.ttcn_syntax.specs.Limits.{longest_text};
 ghost use Rattle.ttcnx.specs.Checked.{HasOneJudgement, IsAccepted, IsRefusedWith};
 ghost use Rattle.ttcnx.specs.Fault.{lexical_fault};
 
@@ -20,7 +21,7 @@ pub fn check_text(alloc: Global, text: &[u8]) -> Result<(), Fault>
     ensures one { HasOneJudgement text.now }
 
     // This is decided before memory is asked for.
-    ensures too_long { 1048576 < length text.now → result ≡ Err (lexical_fault LexError.TextTooLong) }
+    ensures too_long { longest_text < length text.now → result ≡ Err (lexical_fault LexError.TextTooLong) }
 {
     let tokens = lex(alloc, text)?;
     let module = parse(alloc, tokens.as_slice())?;

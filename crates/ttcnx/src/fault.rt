@@ -1,12 +1,13 @@
 //! Why there is no answer: the line that tells it, and the status that the program exits with.
 ghost use Rattle.std.specs.Prelude.{◌≡◌, Some, IfOk, string_bytes};
-ghost use Rattle.ttcnx.specs.Fault.{fault_text, refusal_text, status_of};
+ghost use Rattle.ttcnx.specs.Fault.{fault_text, refusal_text, status_of, whole_rule};
 
-use basic::{CheckError, ParseError, Rule};
+use basic::{CheckError, ParseError};
 use explore::ExploreError;
 use std::alloc::{AllocError, AllocFailed, Global};
 use std::fmt;
 use ttcn_syntax::{LexError, Span};
+use ttcn_types::Rule;
 
 /// Why a text is no module.
 #[derive(Clone, Copy, Debug, PartialEq, Eq)]
@@ -19,26 +20,8 @@ pub enum Refusal {
     Unexpected,
     TooDeep,
     LeftOut,
-    DuplicateName,
-    UnknownName,
-    BadType,
-    Cycle,
-    Size,
-    EnumNumbers,
-    OperandType,
-    ValueType,
-    NotAssignable,
-    Arguments,
-    Fields,
-    Condition,
-    RunsOn,
-    PortType,
-    Redirect,
-    CallKind,
-    ReturnPlace,
-    RepeatPlace,
-    VerdictError,
-    MtcPlace,
+    /// The module breaks this rule, and no lesser one.
+    Broken(Rule),
 }
 
 /// Why there is no answer.
@@ -68,26 +51,10 @@ impl fmt::Display for Refusal {
             Refusal::Unexpected => "P1 Unexpected",
             Refusal::TooDeep => "P2 TooDeep",
             Refusal::LeftOut => "P3 LeftOut",
-            Refusal::DuplicateName => "C1 DuplicateName",
-            Refusal::UnknownName => "C2 UnknownName",
-            Refusal::BadType => "C3 BadType",
-            Refusal::Cycle => "C4 Cycle",
-            Refusal::Size => "C5 Size",
-            Refusal::EnumNumbers => "C6 EnumNumbers",
-            Refusal::OperandType => "C7 OperandType",
-            Refusal::ValueType => "C8 ValueType",
-            Refusal::NotAssignable => "C9 NotAssignable",
-            Refusal::Arguments => "C10 Arguments",
-            Refusal::Fields => "C11 Fields",
-            Refusal::Condition => "C12 Condition",
-            Refusal::RunsOn => "C13 RunsOn",
-            Refusal::PortType => "C14 PortType",
-            Refusal::Redirect => "C15 Redirect",
-            Refusal::CallKind => "C16 CallKind",
-            Refusal::ReturnPlace => "C17 ReturnPlace",
-            Refusal::RepeatPlace => "C18 RepeatPlace",
-            Refusal::VerdictError => "C19 VerdictError",
-            Refusal::MtcPlace => "C20 MtcPlace",
+            Refusal::Broken(rule) => {
+                let (number, name) = (rule.number(), rule.name());
+                return write!(f, "C{number} {name}");
+            }
         })
     }
 }
@@ -208,25 +175,24 @@ impl From<CheckError> for Fault {
 
     fn from(error: CheckError) -> Fault {
         match error {
-            CheckError::Broken(rule, place) => Fault::Refused(Refusal::from(rule), place),
+            CheckError::Broken(rule, place) => {
+                Fault::Refused(Refusal::Broken(whole_rule(rule)), place)
+            }
             CheckError::Memory(_) => Fault::Memory,
         }
     }
 }
 
-impl From<Rule> for Refusal {
-    ghost use Rattle.ttcnx.specs.Fault.{rule_refusal};
-
-    ghost from_gives = { λ rule refusal. refusal ≡ rule_refusal rule };
-
-    fn from(rule: Rule) -> Refusal {
-        match rule {
-            Rule::DuplicateName => Refusal::DuplicateName,
-            Rule::UnknownName => Refusal::UnknownName,
-            Rule::OperandType => Refusal::OperandType,
-            Rule::ValueType => Refusal::ValueType,
-            Rule::VerdictError => Refusal::VerdictError,
-        }
+/// The rule of the whole language that a rule of its part is.
+fn whole_rule(rule: basic::Rule) -> Rule
+    ensures { result ≡ whole_rule rule }
+{
+    match rule {
+        basic::Rule::DuplicateName => Rule::DuplicateName,
+        basic::Rule::UnknownName => Rule::UnknownName,
+        basic::Rule::OperandType => Rule::OperandType,
+        basic::Rule::ValueType => Rule::ValueType,
+        basic::Rule::VerdictError => Rule::VerdictError,
     }
 }
 
@@ -253,40 +219,9 @@ impl From<ttcn_types::CheckError> for Fault {
     fn from(error: ttcn_types::CheckError) -> Fault {
         match error {
             ttcn_types::CheckError::Broken(rule, place) => {
-                Fault::Refused(Refusal::from(rule), place)
+                Fault::Refused(Refusal::Broken(rule), place)
             }
             ttcn_types::CheckError::Memory(_) => Fault::Memory,
-        }
-    }
-}
-
-impl From<ttcn_types::Rule> for Refusal {
-    ghost use Rattle.ttcnx.specs.Fault.{typing_refusal};
-
-    ghost from_gives = { λ rule refusal. refusal ≡ typing_refusal rule };
-
-    fn from(rule: ttcn_types::Rule) -> Refusal {
-        match rule {
-            ttcn_types::Rule::DuplicateName => Refusal::DuplicateName,
-            ttcn_types::Rule::UnknownName => Refusal::UnknownName,
-            ttcn_types::Rule::BadType => Refusal::BadType,
-            ttcn_types::Rule::Cycle => Refusal::Cycle,
-            ttcn_types::Rule::Size => Refusal::Size,
-            ttcn_types::Rule::EnumNumbers => Refusal::EnumNumbers,
-            ttcn_types::Rule::OperandType => Refusal::OperandType,
-            ttcn_types::Rule::ValueType => Refusal::ValueType,
-            ttcn_types::Rule::NotAssignable => Refusal::NotAssignable,
-            ttcn_types::Rule::Arguments => Refusal::Arguments,
-            ttcn_types::Rule::Fields => Refusal::Fields,
-            ttcn_types::Rule::Condition => Refusal::Condition,
-            ttcn_types::Rule::RunsOn => Refusal::RunsOn,
-            ttcn_types::Rule::PortType => Refusal::PortType,
-            ttcn_types::Rule::Redirect => Refusal::Redirect,
-            ttcn_types::Rule::CallKind => Refusal::CallKind,
-            ttcn_types::Rule::ReturnPlace => Refusal::ReturnPlace,
-            ttcn_types::Rule::RepeatPlace => Refusal::RepeatPlace,
-            ttcn_types::Rule::VerdictError => Refusal::VerdictError,
-            ttcn_types::Rule::MtcPlace => Refusal::MtcPlace,
         }
     }
 }

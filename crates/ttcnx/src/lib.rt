@@ -16,3 +16,4 @@ pub use fault::{Fault, Refusal, fault_line, status};
 pub use label::Label;
 pub use report::{Outcome, Report, to_text};
 pub use run::run_text;
+pub use ttcn_types::Rule;

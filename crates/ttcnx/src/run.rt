@@ -2,6 +2,7 @@
 ghost use Rattle.std.specs.Prelude.{◌≡◌, ◌<◌, ◌⊎◌, ◌↔◌, length, Result, Err, IfOk, IfErr, IsErrOf, string_bytes};
 ghost use Rattle.std.specs.List.{filter_map, zip};
 ghost use Rattle.explore.specs.Limits.{IsWithinLimits};
+ghost use Rattle.ttcn_syntax.specs.Limits.{longest_text};
 ghost use Rattle.ttcnx.specs.Answer.{HasOneAnswer, IsAnswer, OfTestCase, OfText, body_of};
 ghost use Rattle.ttcnx.specs.Fault.{lexical_fault};
 ghost use Rattle.ttcnx.specs.Tells.{all_verdicts, outcome_of};
@@ -35,7 +36,7 @@ pub fn run_text<G: Gate, R: Threads + Sync>(
 
     // These two are decided before memory is asked for.
     ensures bad_plan { IsErrOf result Fault.BadPlan ↔ (IsWithinLimits plan.now → ⊥) }
-    ensures too_long { IsWithinLimits plan.now → 1048576 < length text.now
+    ensures too_long { IsWithinLimits plan.now → longest_text < length text.now
         → result ≡ Err (lexical_fault LexError.TextTooLong) }
 {
     if !plan.is_within_limits() {
@@ -53,7 +54,7 @@ fn machine_of(alloc: Global, text: &[u8], name: &str) -> Result<Machine, Fault>
         → OfTestCase machine.body name.now plan answer → OfText text.now name.now plan answer) }
     ensures refused { IfErr result (λ fault. (fault ≡ Fault.Memory) ⊎ ((plan : Plan) → OfText text.now name.now plan (Err fault))) }
     ensures planned { IsErrOf result Fault.BadPlan → ⊥ }
-    ensures too_long { 1048576 < length text.now → result ≡ Err (lexical_fault LexError.TextTooLong) }
+    ensures too_long { longest_text < length text.now → result ≡ Err (lexical_fault LexError.TextTooLong) }
 {
     let tokens = lex(alloc, text)?;
     let module = parse(alloc, tokens.as_slice())?;

@@ -2,7 +2,7 @@
 use explore::Plan;
 use std::test::Fail;
 use ttcn_syntax::Span;
-use ttcnx::{Fault, Line, LineError, Refusal, fault_line, read_line, status};
+use ttcnx::{Fault, Line, LineError, Refusal, Rule, fault_line, read_line, status};
 
 const RUN: [&str; 6] = ["run", "a b.ttcn", "--testcase", "T", "--steps", "100000"];
 
@@ -108,26 +108,26 @@ fn fault_lines(rt: HostRuntime) -> Result<(), Fail> {
         (Refusal::Unexpected, "P1 Unexpected"),
         (Refusal::TooDeep, "P2 TooDeep"),
         (Refusal::LeftOut, "P3 LeftOut"),
-        (Refusal::DuplicateName, "C1 DuplicateName"),
-        (Refusal::UnknownName, "C2 UnknownName"),
-        (Refusal::BadType, "C3 BadType"),
-        (Refusal::Cycle, "C4 Cycle"),
-        (Refusal::Size, "C5 Size"),
-        (Refusal::EnumNumbers, "C6 EnumNumbers"),
-        (Refusal::OperandType, "C7 OperandType"),
-        (Refusal::ValueType, "C8 ValueType"),
-        (Refusal::NotAssignable, "C9 NotAssignable"),
-        (Refusal::Arguments, "C10 Arguments"),
-        (Refusal::Fields, "C11 Fields"),
-        (Refusal::Condition, "C12 Condition"),
-        (Refusal::RunsOn, "C13 RunsOn"),
-        (Refusal::PortType, "C14 PortType"),
-        (Refusal::Redirect, "C15 Redirect"),
-        (Refusal::CallKind, "C16 CallKind"),
-        (Refusal::ReturnPlace, "C17 ReturnPlace"),
-        (Refusal::RepeatPlace, "C18 RepeatPlace"),
-        (Refusal::VerdictError, "C19 VerdictError"),
-        (Refusal::MtcPlace, "C20 MtcPlace"),
+        (Refusal::Broken(Rule::DuplicateName), "C1 DuplicateName"),
+        (Refusal::Broken(Rule::UnknownName), "C2 UnknownName"),
+        (Refusal::Broken(Rule::BadType), "C3 BadType"),
+        (Refusal::Broken(Rule::Cycle), "C4 Cycle"),
+        (Refusal::Broken(Rule::Size), "C5 Size"),
+        (Refusal::Broken(Rule::EnumNumbers), "C6 EnumNumbers"),
+        (Refusal::Broken(Rule::OperandType), "C7 OperandType"),
+        (Refusal::Broken(Rule::ValueType), "C8 ValueType"),
+        (Refusal::Broken(Rule::NotAssignable), "C9 NotAssignable"),
+        (Refusal::Broken(Rule::Arguments), "C10 Arguments"),
+        (Refusal::Broken(Rule::Fields), "C11 Fields"),
+        (Refusal::Broken(Rule::Condition), "C12 Condition"),
+        (Refusal::Broken(Rule::RunsOn), "C13 RunsOn"),
+        (Refusal::Broken(Rule::PortType), "C14 PortType"),
+        (Refusal::Broken(Rule::Redirect), "C15 Redirect"),
+        (Refusal::Broken(Rule::CallKind), "C16 CallKind"),
+        (Refusal::Broken(Rule::ReturnPlace), "C17 ReturnPlace"),
+        (Refusal::Broken(Rule::RepeatPlace), "C18 RepeatPlace"),
+        (Refusal::Broken(Rule::VerdictError), "C19 VerdictError"),
+        (Refusal::Broken(Rule::MtcPlace), "C20 MtcPlace"),
     ];
     for (refusal, name) in refusals {
         let fault = Fault::Refused(refusal, place);
