@@ -115,13 +115,13 @@ fn one_of_two_seats_draws_alone(rt: HostRuntime) -> Result<(), Fail> {
     let Ok(mut second) = board.split(&mut first) else {
         unreachable!()
     };
-    assert!(rt; !second.ended(), "before");
+    assert!(rt; !Board::ended(&second), "before");
     let drawn = draw_all(rt.alloc(), &board, &mut second)?;
     assert!(rt;
         drawn.as_slice() == [0, 1, 2, 3, 4].as_slice(),
         "and then none"
     );
-    assert!(rt; second.ended() && !first.ended(), "after");
+    assert!(rt; Board::ended(&second) && !Board::ended(&first), "after");
     board.join(&mut first, second);
     assert!(rt; !board.finish(first), "nobody raised");
     Ok(())

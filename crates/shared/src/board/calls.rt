@@ -133,13 +133,11 @@ impl Board {
         closed.free();
         raised
     }
-}
 
-impl BoardSeat {
-    /// Whether this very seat found no number left. Then it may draw no more.
-    pub fn ended(&self) -> bool
-        ensures { result ≡ (view self.now).ended }
+    /// Whether the seat that is asked found no number left. Then it may draw no more.
+    pub fn ended(asked: &BoardSeat) -> bool
+        ensures { result ≡ (view asked.now).ended }
     {
-        self.ended
+        asked.ended
     }
 }
