@@ -51,7 +51,7 @@ fn component(alloc: Global, numbers: &[u32]) -> Result<ComponentId, AllocError> 
 }
 
 /// The module of a text.
-fn program(alloc: Global, text: &str) -> Result<Program, TextFault> {
+pub(crate) fn program(alloc: Global, text: &str) -> Result<Program, TextFault> {
     let tokens = lex(alloc, text.as_bytes())?;
     let module = parse(alloc, tokens.as_slice())?;
     Ok(check(alloc, module)?)

@@ -3,6 +3,8 @@
 #![tactic(auto)]
 
 #[cfg(test)]
+mod assignments;
+#[cfg(test)]
 mod basic_expressions;
 #[cfg(test)]
 mod basic_frames;

@@ -1,0 +1,6 @@
+pub mod Assigning
+pub mod Chains
+pub mod Descent
+pub mod MessageTypes
+pub mod Naming
+pub mod Resolving

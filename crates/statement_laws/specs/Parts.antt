@@ -1,0 +1,70 @@
+-- What stands within a statement or branch, where it breaks no rule.
+use Rattle.std.specs.Prelude.{◌≡◌, false, List, [], Option, Some, None}
+use Rattle.std.specs.List.{All}
+use Rattle.ttcn_syntax.specs.declared.tree.expression.Expr.{Expr}
+use Rattle.ttcn_syntax.specs.declared.tree.statement.Action.{Action}
+use Rattle.ttcn_syntax.specs.declared.tree.statement.Action.TheOpen.{Action-F, Alternative-F}
+use Rattle.ttcn_syntax.specs.declared.tree.statement.Alternative.{Alternative, out-Alternative}
+use Rattle.ttcn_syntax.specs.declared.tree.statement.Branch.{Branch, out-Branch}
+use Rattle.ttcn_syntax.specs.declared.tree.statement.Conditional.{Conditional, out-Conditional}
+use Rattle.ttcn_syntax.specs.declared.tree.statement.Statement.{Statement}
+use Rattle.check_expressions.specs.Calls.{at_call, is_altstep}
+use Rattle.check_expressions.specs.Expressions.{expression}
+use Rattle.check_expressions.specs.Targets.{at_assignment, at_constants, at_timers, at_variables}
+use Rattle.check_scope.specs.Names.{Scope}
+use Rattle.check_scope.specs.declared.types.DataType.TheVariants as type
+use Rattle.check_scope.specs.declared.types.Typing.TheVariants as typing
+use Rattle.check_statements.specs.Messages.{at_event}
+use Rattle.check_statements.specs.Statements.{Place, at_for_start, behind_for_start, inside_branch, leaf_rules, statements, with_scope}
+
+-- a condition: it breaks no rule, and is boolean
+pub record IsCondition (scope : Scope) (e : Expr) : Type 0 where
+  pub fine : (expression e scope false).broken ≡ []
+  pub boolean : (expression e scope false).typing ≡ typing.Known type.Boolean
+
+-- a guard, where there is one
+abbrev pub IsGuard : Scope → Option Expr → Type 0
+IsGuard scope None = Unit {0}
+IsGuard scope (Some e) = IsCondition scope e
+
+-- a block that breaks no rule
+abbrev pub IsFine : Place → List Statement → Type 0
+IsFine place block = statements block place ≡ []
+
+-- a block, where there is one
+abbrev pub IsFineIfAny : Place → Option (List Statement) → Type 0
+IsFineIfAny place None = Unit {0}
+IsFineIfAny place (Some block) = IsFine place block
+
+-- a condition with the block that it guards
+pub record IsFineConditional (place : Place) (c : Conditional) : Type 0 where
+  pub condition : IsCondition place.scope (out-Conditional c).condition
+  pub block : IsFine place (out-Conditional c).block
+
+-- what a branch waits for, and the block behind it
+abbrev pub HasFineAlternative : Place → Alternative-F Action Alternative Branch Conditional Statement → Type 0
+HasFineAlternative place (Alternative-F.«Alternative::Event» guard event block) =
+    IsGuard place.scope guard × (at_event place.scope event ≡ []) × IsFineIfAny (inside_branch place) block
+HasFineAlternative place (Alternative-F.«Alternative::Call» guard call block) =
+    IsGuard place.scope guard × (at_call place.scope is_altstep call ≡ []) × IsFineIfAny (inside_branch place) block
+HasFineAlternative place (Alternative-F.Else block) = IsFine (inside_branch place) block
+
+-- a branch
+abbrev pub IsFineBranch : Place → Branch → Type 0
+IsFineBranch place b = HasFineAlternative place (out-Alternative (out-Branch b).alternative)
+
+-- the parts of a statement, in the scopes in which they stand
+abbrev pub HasFineParts : Place → Action-F Action Alternative Branch Conditional Statement → Type 0
+HasFineParts place (Action-F.Variables vs) = at_variables place.scope vs ≡ []
+HasFineParts place (Action-F.Constants cs) = at_constants place.scope cs ≡ []
+HasFineParts place (Action-F.Timers timers) = at_timers place.scope timers ≡ []
+HasFineParts place (Action-F.Alt branches) = All (IsFineBranch place) branches
+HasFineParts place (Action-F.If conditionals last) = All (IsFineConditional place) conditionals × IsFineIfAny place last
+HasFineParts place (Action-F.While condition block) = IsCondition place.scope condition × IsFine place block
+HasFineParts place (Action-F.DoWhile block condition) = IsFine place block × IsCondition place.scope condition
+HasFineParts place (Action-F.For start condition step block) =
+    (at_for_start place.scope start ≡ []) ×
+    IsCondition (behind_for_start place.scope start) condition ×
+    (at_assignment (behind_for_start place.scope start) step ≡ []) ×
+    IsFine (with_scope place (behind_for_start place.scope start)) block
+HasFineParts place action = leaf_rules action place ≡ []

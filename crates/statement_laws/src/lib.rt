@@ -1,0 +1,88 @@
+//! Laws of statements that break no rule, for the layers above: they run no code.
+#![tactic(auto)]
+
+ghost use Rattle.std.specs.Prelude.{◌≡◌, ℕ, Bool, List, [], Some};
+ghost use Rattle.ttcn_syntax.specs.declared.tree.definition.Definition.{Definition};
+ghost use Rattle.ttcn_syntax.specs.declared.tree.expression.ComponentRef.{ComponentRef};
+ghost use Rattle.ttcn_syntax.specs.declared.tree.expression.Expr.{Expr};
+ghost use Rattle.ttcn_syntax.specs.declared.tree.statement.Action.{out-Action};
+ghost use Rattle.ttcn_syntax.specs.declared.tree.statement.Assignment.{Assignment};
+ghost use Rattle.ttcn_syntax.specs.declared.tree.statement.Branch.{Branch};
+ghost use Rattle.ttcn_syntax.specs.declared.tree.statement.Statement.{Statement, out-Statement};
+ghost use Rattle.ttcn_syntax.specs.declared.tree.template.MessageTemplate.{MessageTemplate};
+ghost use Rattle.ttcn_syntax.specs.declared.tree.value.Call.{Call};
+ghost use Rattle.check_expressions.specs.Calls.{at_activation};
+ghost use Rattle.check_expressions.specs.Targets.{at_assignment};
+ghost use Rattle.check_scope.specs.Names.{Scope, module_names};
+ghost use Rattle.check_scope.specs.declared.names.Meaning.{Meaning};
+ghost use Rattle.check_statements.specs.Messages.{at_message, at_port};
+ghost use Rattle.check_statements.specs.Statements.{Place, at_condition, at_start, branch, statement};
+ghost use Rattle.checker_laws.specs.Laws.{IsWhole};
+ghost use Rattle.statement_laws.specs.Messages.{HasType};
+ghost use Rattle.statement_laws.specs.Named.{IsDefinedAs};
+ghost use Rattle.statement_laws.specs.Parts.{HasFineParts, IsCondition, IsFineBranch};
+ghost use Rattle.statement_laws.specs.Resolved.{Activates, Starts};
+ghost use Rattle.statement_laws.specs.Targets.{HasTarget};
+ghost use Rattle.survey.specs.Graphs.{AllChainsWithin};
+ghost use Rattle.ttcn_types.specs.Limits.{longest_chain};
+ghost use Rattle.ttcn_types.specs.Parts.{altsteps};
+
+use ttcn_types::Program;
+
+/// A condition that breaks no rule is boolean.
+#[tactic(auto, using(crate::proofs::Descent::condition_fine))]
+pub fn conditions_are_boolean()
+    ensures { (scope : Scope) → IsWhole scope → (e : Expr) → at_condition scope e ≡ [] → IsCondition scope e }
+{}
+
+/// What stands within a statement that breaks no rule breaks none: conditions are boolean, and blocks, branches and what
+/// is assigned, called, sent or received are fine in the scopes in which they stand.
+#[tactic(auto, using(crate::proofs::Descent::statement_fine))]
+pub fn parts_are_fine()
+    ensures { (s : Statement) (place : Place) → IsWhole place.scope → (statement s).broken place ≡ [] → HasFineParts place (out-Action (out-Statement s).action) }
+{}
+
+/// The same of a branch.
+#[tactic(auto, using(crate::proofs::Descent::branch_fine))]
+pub fn branches_are_fine()
+    ensures { (b : Branch) (place : Place) → IsWhole place.scope → branch b place ≡ [] → IsFineBranch place b }
+{}
+
+/// An activation that breaks no rule is that of an altstep that may run here, with an argument of its type for each
+/// parameter.
+#[tactic(auto, using(crate::proofs::Resolving::activation_resolves))]
+pub fn activations_resolve()
+    ensures { (scope : Scope) (call : Call) → at_activation scope call ≡ [] → Activates scope call }
+{}
+
+/// A start that breaks no rule is that of a component with a function that runs on its type, with an argument of its type
+/// for each parameter.
+pub fn starts_resolve()
+    ensures { (scope : Scope) (reference : ComponentRef) (call : Call) → at_start scope reference call ≡ [] → Starts scope reference call }
+{}
+
+/// The type of a message that breaks no rule at a port of a known type is known, whether it is sent or received.
+#[tactic(auto, using(crate::proofs::MessageTypes::passing_typed))]
+pub fn message_types_are_known()
+    ensures { (scope : Scope) → IsWhole scope → (incoming : Bool) (port : ℕ) (message : MessageTemplate) → at_message scope (at_port scope.definitions incoming (Some port)).0 (at_port scope.definitions incoming (Some port)).1 message ≡ [] → HasType scope (at_port scope.definitions incoming (Some port)) message }
+{}
+
+/// What a name of a module stands for is defined at the position that it means, under that name, in every module.
+#[tactic(auto, using(crate::proofs::Naming::name_defined))]
+pub fn names_are_defined()
+    ensures { (definitions : List Definition) (name : List ℕ) (m : Meaning) → module_names definitions name ≡ Some m → IsDefinedAs definitions name m }
+{}
+
+/// The type of the target of an assignment that breaks no rule is known, and what is assigned goes there.
+#[tactic(auto, using(crate::proofs::Assigning::assignment_typed))]
+pub fn targets_are_known()
+    ensures { (scope : Scope) → IsWhole scope → (assignment : Assignment) → at_assignment scope assignment ≡ [] → HasTarget scope assignment }
+{}
+
+/// Altsteps that are branches of one another make chains of at most 200.
+#[tactic(auto, using(crate::proofs::Chains::chains_short))]
+pub fn altstep_chains_are_short(program: &Program)
+    ensures { AllChainsWithin (altsteps program.now.definitions) longest_chain }
+{
+    let _ = program.module();
+}
