@@ -1,0 +1,16 @@
+pub mod Sites
+pub mod Items
+pub mod Entries
+pub mod Configurations
+pub mod Snapshots
+pub mod Storing
+pub mod Branches
+pub mod Events
+pub mod Taking
+pub mod Creating
+pub mod Statements
+pub mod Steps
+pub mod Labels
+pub mod Runs
+pub mod Places
+pub mod LiveParts

@@ -1,0 +1,61 @@
+-- The places that reports name: of the branch that a step takes, and of the statement at which a component stands.
+use Rattle.std.specs.Prelude.{List, [], ◌∷◌, Option, Some, None}
+use Rattle.std.specs.Option.{option_and_then}
+use Rattle.ttcn_syntax.specs.declared.place.Span.{Span}
+use Rattle.ttcn_syntax.specs.declared.tree.statement.Statement.{Statement, out-Statement}
+use Rattle.step_rules.specs.Configurations.{Component, Configuration, Data, Ended, Frame, Goes, Going, component_at, is_running_state}
+use Rattle.step_rules.specs.Events.{Choice, Nothing, Refused, Taken}
+use Rattle.step_rules.specs.Items.{Doing, Item, Mark, Part, Waiting, Whole}
+use Rattle.step_rules.specs.Sites.{Site}
+use Rattle.step_rules.specs.Snapshots.{Snapshot, Test, snapshot_of}
+use Rattle.step_rules.specs.Statements.{Act, Errs, Stand, act, choice_at}
+use Rattle.step_rules.specs.Steps.{Expiry, Label, Statement as OfStatement, if_running}
+
+-- ---- branches
+
+-- the place of the branch that is taken, where one is
+abbrev pub place_chosen : Option Choice → Option Span
+place_chosen (Some (Taken chance effect)) = Some chance.place
+place_chosen _ = None
+
+abbrev pub place_in_list : Test → Snapshot → Data → Frame → List Frame → List Item → Option Span
+place_in_list test snapshot own frame below (Doing site s Whole ∷ rest) =
+    place_chosen (choice_at (record { test = test; snapshot = snapshot; own = own; frame = frame; below = below; rest = rest }) site s)
+place_in_list test snapshot own frame below _ = None
+
+abbrev pub place_in_frames : Test → Snapshot → Data → List Frame → Option Span
+place_in_frames test snapshot own [] = None
+place_in_frames test snapshot own (frame ∷ below) = place_in_list test snapshot own frame below frame.remaining
+
+-- a step that fails takes no branch
+abbrev pub unless_fault : Act → Option Span → Option Span
+unless_fault (Errs why) place = None
+unless_fault other place = place
+
+-- the place of the branch that a component's statement takes
+abbrev pub branch_of_component : Test → Going → Component → Option Span
+branch_of_component test c component = if_running component
+    (unless_fault (act test (snapshot_of c component) component.own) (place_in_frames test (snapshot_of c component) component.own component.own.calls))
+
+abbrev pub branch_in : Test → Going → Label → Option Span
+branch_in test c (OfStatement path) = option_and_then (branch_of_component test c) (component_at c path)
+branch_in test c (Expiry path number name) = None
+
+-- the place of the branch that the step of a label takes, where it takes one
+abbrev pub branch_of : Test → Configuration → Label → Option Span
+branch_of test (Ended v) label = None
+branch_of test (Goes c) label = branch_in test c label
+
+-- ---- statements
+
+abbrev pub place_of_item : List Item → Option Span
+place_of_item (Doing site s part ∷ items) = Some (out-Statement s).place
+place_of_item _ = None
+
+abbrev pub place_of_frames : List Frame → Option Span
+place_of_frames [] = None
+place_of_frames (frame ∷ frames) = place_of_item frame.remaining
+
+-- the place of the first remaining statement of a component that runs
+abbrev pub place_of : Component → Option Span
+place_of component = if_running component (place_of_frames component.own.calls)

@@ -1,0 +1,228 @@
+-- Steps of configurations: what a component asks for is done among all components, and running timers expire (ES 201 873-1, 12, 20 to 23, ES 201 873-4).
+use Rattle.std.specs.Prelude.{ℕ, ◌+◌, Bool, true, false, ◌&&◌, ◌||◌, not, List, [], ◌∷◌, ◌++◌, map, length, bytes_eq, nat_eq, Option, Some, None, if◌then◌else◌}
+use Rattle.std.specs.List.{filter, find, flat_map, list_any}
+use Rattle.std.specs.Option.{option_and_then, option_map}
+use Rattle.std.specs.Ordering.{match_ordering}
+use Rattle.std.specs.declared.cmp.Ordering.{Ordering}
+use Rattle.std.specs.declared.cmp.Ordering.TheVariants.{Less, Greater}
+use Rattle.ttcn_syntax.specs.declared.tree.statement.Verdict.{Verdict}
+use Rattle.ttcn_syntax.specs.declared.tree.statement.Verdict.TheVariants as verdict
+use Rattle.step_rules.specs.Configurations.{Component, Configuration, Connection, Created, Data, End, Ended, Frame, Goes, Going, Message, Queue, Running, State, Terminated, component_at, end_cmp, is_running_state, is_terminated_state, overall, path_cmp, path_of, same_path, with_component, worse}
+use Rattle.step_rules.specs.Entries.{Entries, entry_of, put}
+use Rattle.step_rules.specs.Snapshots.{Snapshot, Test, snapshot_of}
+use Rattle.step_rules.specs.Statements.{Act, Connects, Continues, Creates, Errs, Removes, Sends, Starts, Stops, Waits, Worsens, act, same_end}
+use Rattle.step_rules.specs.Storing.{with_calls, with_members, with_timers}
+use Rattle.step_rules.specs.Taking.{uncovered}
+use Rattle.ttcn_values.specs.Outcomes.{DynamicError, Fails, Failure, Outcome, Unmet, Yields, dynamic_error, or_unmet, outcome_map, unmet}
+use Rattle.ttcn_values.specs.declared.frame.TimerState.{TimerState}
+use Rattle.ttcn_values.specs.declared.frame.TimerState.TheVariants as timer
+use Rattle.ttcn_values.specs.declared.path.Path.{Path}
+use Rattle.ttcn_values.specs.declared.value.ComponentId.{ComponentId}
+use Rattle.ttcn_values.specs.declared.value.Value.{Value}
+
+-- ---- components
+
+-- a component with other data: after its step the marks are gone that come first
+abbrev pub with_data : Data → Component → Component
+with_data own component = record { own = uncovered own; state = component.state; verdict = component.verdict; queues = component.queues }
+
+abbrev pub with_state : State → Component → Component
+with_state state component = record { own = component.own; state = state; verdict = component.verdict; queues = component.queues }
+
+abbrev pub with_verdict : Verdict → Component → Component
+with_verdict v component = record { own = component.own; state = component.state; verdict = worse component.verdict v; queues = component.queues }
+
+-- a change of the messages at a port
+abbrev pub at_queue : List ℕ → (List Message → List Message) → Component → Component
+at_queue port change component = record {
+  own = component.own;
+  state = component.state;
+  verdict = component.verdict;
+  queues = map (λ queue. if bytes_eq queue.0 port then (queue.0, change queue.1) else queue) component.queues;
+}
+
+abbrev pub without_first : List Message → List Message
+without_first [] = []
+without_first (message ∷ messages) = messages
+
+-- a component is left alone once it is terminated
+abbrev pub unless_terminated : (Component → Component) → Component → Component
+unless_terminated change component = if is_terminated_state component.state then component else change component
+
+abbrev pub touch : Going → Path → (Component → Component) → Going
+touch c path change = with_component c path (unless_terminated change)
+
+-- what a component asks for has changed its own data
+abbrev pub settle : Going → Path → Data → Going
+settle c path own = touch c path (with_data own)
+
+-- ---- starts, stops and new components
+
+-- a new component in its place among the others
+abbrev pub insert : Component → List Component → List Component
+insert new [] = new ∷ []
+insert new (component ∷ components) =
+    match_ordering (path_cmp (path_of new) (path_of component)) (new ∷ component ∷ components) (new ∷ components) (component ∷ insert new components)
+
+abbrev pub with_components : List Component → Going → Going
+with_components components c = record { components = components; connections = c.connections; forgotten = c.forgotten }
+
+abbrev pub begin : Frame → Component → Component
+begin frame component = with_state Running (record { own = with_calls (frame ∷ []) component.own; state = component.state; verdict = component.verdict; queues = component.queues })
+
+abbrev pub start_in : Going → Path → Frame → State → Outcome Going
+start_in c path frame Created = Yields (with_component c path (begin frame))
+start_in c path frame Running = dynamic_error
+start_in c path frame Terminated = dynamic_error
+
+abbrev pub start_created : Going → Path → Frame → Option Component → Outcome Going
+start_created c path frame None = unmet
+start_created c path frame (Some component) = start_in c path frame component.state
+
+-- a component that is created and did not start yet runs: a dynamic error for any other
+abbrev pub start : Going → Path → Frame → Outcome Going
+start c path frame = start_created c path frame (component_at c path)
+
+-- the test case ends where the MTC stops, with the worst verdict of all; any other component terminates
+abbrev pub stop : Test → Going → Path → Configuration
+stop test c path = if same_path path test.mtc.path then Ended (overall c) else Goes (touch c path (with_state Terminated))
+
+-- ---- connections
+
+-- two ports as a connection
+abbrev pub connection : End → End → Connection
+connection d e = match_ordering (end_cmp d e) (record { one = d; other = e }) (record { one = d; other = e }) (record { one = e; other = d })
+
+abbrev pub connection_cmp : Connection → Connection → Ordering
+connection_cmp k l = match_ordering (end_cmp k.one l.one) Less (end_cmp k.other l.other) Greater
+
+abbrev pub add_connection : Connection → List Connection → List Connection
+add_connection new [] = new ∷ []
+add_connection new (k ∷ connections) =
+    match_ordering (connection_cmp new k) (new ∷ k ∷ connections) (new ∷ connections) (k ∷ add_connection new connections)
+
+abbrev pub with_connection : Connection → Going → Going
+with_connection new c = record { components = c.components; connections = add_connection new c.connections; forgotten = c.forgotten }
+
+-- the end that a connection has opposite to another, if it has that
+abbrev pub opposite : End → Connection → List End
+opposite d k = if same_end d k.one then k.other ∷ [] else if same_end d k.other then k.one ∷ [] else []
+
+-- the ports that are connected to a port
+abbrev pub peers : Going → End → List End
+peers c d = flat_map (opposite d) c.connections
+
+-- an end would be connected to two ports of one component
+abbrev pub is_double : Going → End → End → Bool
+is_double c d e = list_any (λ peer. same_path peer.component e.component && not (bytes_eq peer.port e.port)) (peers c d)
+
+abbrev pub is_terminated_in : Option Component → Bool
+is_terminated_in None = false
+is_terminated_in (Some component) = is_terminated_state component.state
+
+abbrev pub is_terminated_at : Going → Path → Bool
+is_terminated_at c path = is_terminated_in (component_at c path)
+
+-- it is an error where a component is terminated, or one of the ports would be connected to two ports of one component
+abbrev pub connect : Going → End → End → Outcome Going
+connect c d e =
+    if is_terminated_at c d.component || is_terminated_at c e.component || is_double c d e || is_double c e d then dynamic_error
+    else Yields (with_connection (connection d e) c)
+
+-- ---- messages
+
+-- the peers that a message may go to: those of the component that is named, where one is
+abbrev pub addressed : Option Path → End → Bool
+addressed None e = true
+addressed (Some path) e = same_path path e.component
+
+abbrev pub deliver : Going → Message → List End → Outcome Going
+deliver c message [] = dynamic_error
+deliver c message (e ∷ []) = Yields (touch c e.component (at_queue e.port (λ messages. messages ++ message ∷ [])))
+deliver c message (d ∷ e ∷ ends) = dynamic_error
+
+-- a message goes to the one peer that it may go to: a dynamic error where there is none, or more than one
+abbrev pub send : Going → ComponentId → List ℕ → Option Path → Value → Outcome Going
+send c sender port to v =
+    deliver c (record { value = v; sender = sender }) (filter (addressed to) (peers c (record { component = sender.path; port = port })))
+
+-- ---- what a component asks for
+
+abbrev pub ending : Outcome Going → Outcome Configuration
+ending = outcome_map Goes
+
+-- what a component asks for is done
+abbrev pub apply : Test → Going → ComponentId → Act → Option (Outcome Configuration)
+apply test c itself Waits = None
+apply test c itself (Errs why) = Some (Fails why)
+apply test c itself (Continues own) = Some (Yields (Goes (settle c itself.path own)))
+apply test c itself (Worsens v own) = Some (Yields (Goes (touch (settle c itself.path own) itself.path (with_verdict v))))
+apply test c itself (Removes port own) = Some (Yields (Goes (touch (settle c itself.path own) itself.path (at_queue port without_first))))
+apply test c itself (Sends port to v own) = Some (ending (send (settle c itself.path own) itself port to v))
+apply test c itself (Creates new own) = Some (Yields (Goes (with_components (insert new (settle c itself.path own).components) (settle c itself.path own))))
+apply test c itself (Starts path frame own) = Some (ending (start (settle c itself.path own) path frame))
+apply test c itself (Stops path own) = Some (Yields (stop test (settle c itself.path own) path))
+apply test c itself (Connects d e own) = Some (ending (connect (settle c itself.path own) d e))
+
+-- ---- timers
+
+-- a running timer expires, and no other
+abbrev pub expire_in : Entries TimerState → List ℕ → Option TimerState → Option (Entries TimerState)
+expire_in timers name (Some timer.Running) = Some (put name timer.Expired timers)
+expire_in timers name _ = None
+
+abbrev pub expired_frame : List ℕ → Frame → Option Frame
+expired_frame name frame = option_map (λ timers. with_timers timers frame) (expire_in frame.timers name (entry_of frame.timers name))
+
+-- the frame of a number expires a timer: frames are counted from 1, the last one first in the list
+abbrev pub expired_call : ℕ → List ℕ → List Frame → Option (List Frame)
+expired_call number name [] = None
+expired_call number name (frame ∷ frames) =
+    if nat_eq number (length frames + 1) then option_map (λ changed. changed ∷ frames) (expired_frame name frame)
+    else option_map (λ changed. frame ∷ changed) (expired_call number name frames)
+
+-- a timer of a frame expires: frame 0 is the component's own
+abbrev pub expired : ℕ → List ℕ → Data → Option Data
+expired number name own =
+    if nat_eq number 0 then option_map (λ members. with_members members own) (expired_frame name own.members)
+    else option_map (λ calls. with_calls calls own) (expired_call number name own.calls)
+
+-- ---- steps
+
+-- what a step is of: the first remaining statement of a component, or the expiry of a timer of its frame of this number
+pub data Label : Type 0 where
+  Statement : Path → Label
+  Expiry : Path → ℕ → List ℕ → Label
+
+abbrev pub if_running : {A : Type 0} → Component → Option A → Option A
+if_running component found = if is_running_state component.state then found else None
+
+-- the step of a component's statement
+abbrev pub statement_step : Test → Going → Component → Option (Outcome Configuration)
+statement_step test c component = if_running component (apply test c component.own.itself (act test (snapshot_of c component) component.own))
+
+abbrev pub exchanged : Data → Component → Component
+exchanged own component = record { own = own; state = component.state; verdict = component.verdict; queues = component.queues }
+
+-- the expiry of a timer
+abbrev pub expiry_step : Going → ℕ → List ℕ → Component → Option (Outcome Configuration)
+expiry_step c number name component =
+    if_running component (option_map (λ own. Yields (Goes (touch c (path_of component) (exchanged own)))) (expired number name component.own))
+
+abbrev pub step_in : Test → Going → Label → Option (Outcome Configuration)
+step_in test c (Statement path) = option_and_then (statement_step test c) (component_at c path)
+step_in test c (Expiry path number name) = option_and_then (expiry_step c number name) (component_at c path)
+
+-- the step of a label, where it has one: a test case that ended has none
+abbrev pub step : Test → Configuration → Label → Option (Outcome Configuration)
+step test (Ended v) label = None
+step test (Goes c) label = step_in test c label
+
+-- a step that fails ends the test case with verdict error
+abbrev pub settled : Outcome Configuration → Configuration
+settled (Yields c) = c
+settled (Fails why) = Ended verdict.Error
+
+-- where a label leads
+abbrev pub next : Test → Configuration → Label → Option Configuration
+next test c label = option_map settled (step test c label)
