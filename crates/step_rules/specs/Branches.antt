@@ -1,5 +1,5 @@
 -- The branches that a component has at an `alt`, written out: a call of an altstep stands for the altstep's branches, and its defaults' branches come last (ES 201 873-1, 16.2, 20.2 and 20.5).
-use Rattle.std.specs.Prelude.{ℕ, zero, suc, ◌+◌, Bool, true, false, List, [], ◌∷◌, ◌++◌, map, Option, Some, None}
+use Rattle.std.specs.Prelude.{ℕ, zero, suc, Bool, true, false, List, [], ◌∷◌, ◌++◌, map, Option, Some, None}
 use Rattle.std.specs.List.{flat_map, zip}
 use Rattle.std.specs.Option.{option_map}
 use Rattle.ttcn_syntax.specs.declared.place.Span.{Span}
@@ -14,7 +14,7 @@ use Rattle.ttcn_syntax.specs.declared.tree.statement.Alternative.{Alternative, o
 use Rattle.ttcn_syntax.specs.declared.tree.statement.Branch.{Branch, out-Branch}
 use Rattle.ttcn_syntax.specs.declared.tree.statement.Conditional.{Conditional}
 use Rattle.ttcn_syntax.specs.declared.tree.statement.Event.{Event}
-use Rattle.ttcn_syntax.specs.declared.tree.statement.Statement.{Statement, out-Statement}
+use Rattle.ttcn_syntax.specs.declared.tree.statement.Statement.{Statement}
 use Rattle.ttcn_syntax.specs.declared.tree.value.Call.{Call}
 use Rattle.check_expressions.specs.Calls.{altstep_meant, parameters_of}
 use Rattle.check_scope.specs.Names.{kind_at, module_names}

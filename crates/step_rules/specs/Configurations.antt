@@ -1,6 +1,6 @@
 -- Configurations: the components with what each has of its own, the messages that wait at ports, and the connections (ES 201 873-1, 21 and 22, ES 201 873-4).
-use Rattle.std.specs.Prelude.{ℕ, zero, suc, ◌+◌, Bool, true, false, ◌&&◌, not, List, [], ◌∷◌, map, Option, Some, None, bytes_eq, if◌then◌else◌}
-use Rattle.std.specs.List.{filter, find, fold}
+use Rattle.std.specs.Prelude.{ℕ, Bool, true, false, List, map, Option, bytes_eq, if◌then◌else◌}
+use Rattle.std.specs.List.{find, fold}
 use Rattle.std.specs.Ordering.{nat_cmp, match_ordering}
 use Rattle.std.specs.declared.cmp.Ordering.{Ordering}
 use Rattle.std.specs.declared.cmp.Ordering.TheVariants.{Less, Greater}

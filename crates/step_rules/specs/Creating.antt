@@ -4,9 +4,6 @@ use Rattle.std.specs.List.{flat_map}
 use Rattle.ttcn_syntax.specs.declared.tree.definition.Definition.{Definition}
 use Rattle.ttcn_syntax.specs.declared.tree.definition.Member.{Member}
 use Rattle.ttcn_syntax.specs.declared.tree.definition.Member.TheVariants as member
-use Rattle.ttcn_syntax.specs.declared.tree.definition.MemberVariable.{MemberVariable}
-use Rattle.ttcn_syntax.specs.declared.tree.statement.Constant.{Constant}
-use Rattle.ttcn_syntax.specs.declared.tree.statement.Timer.{Timer}
 use Rattle.ttcn_syntax.specs.declared.tree.statement.Verdict.TheVariants as verdict
 use Rattle.ttcn_syntax.specs.declared.tree.value.Value.{Value}
 use Rattle.check_scope.specs.Names.{kind_at, members_of, module_names, resolved}

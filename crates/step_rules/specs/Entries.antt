@@ -1,5 +1,5 @@
 -- What names have: entries in the order of the names' bytes, one for a name.
-use Rattle.std.specs.Prelude.{ℕ, List, [], ◌∷◌, not, Option, bytes_eq, nat_eq}
+use Rattle.std.specs.Prelude.{ℕ, List, [], ◌∷◌, not, Option, bytes_eq}
 use Rattle.std.specs.List.{filter, find}
 use Rattle.std.specs.Option.{option_map}
 use Rattle.std.specs.Ordering.{nat_cmp, match_ordering}

@@ -1,5 +1,5 @@
 -- Whether an event has happened in a snapshot, and what taking its branch does (ES 201 873-1, 20.2, 21.3, 22.2 and 23).
-use Rattle.std.specs.Prelude.{ℕ, Bool, true, false, ◌&&◌, not, List, [], ◌∷◌, ◌++◌, Option, Some, None, bytes_eq, nat_eq, if◌then◌else◌}
+use Rattle.std.specs.Prelude.{ℕ, Bool, true, false, not, List, [], ◌∷◌, ◌++◌, Option, Some, None, bytes_eq, if◌then◌else◌}
 use Rattle.std.specs.List.{find}
 use Rattle.std.specs.Option.{option_or}
 use Rattle.ttcn_syntax.specs.declared.tree.expression.ComponentRef.{ComponentRef}
@@ -10,7 +10,6 @@ use Rattle.ttcn_syntax.specs.declared.tree.statement.PortSelector.{PortSelector}
 use Rattle.ttcn_syntax.specs.declared.tree.statement.PortSelector.TheVariants as selector
 use Rattle.ttcn_syntax.specs.declared.tree.statement.Receive.{Receive}
 use Rattle.ttcn_syntax.specs.declared.tree.template.MessageTemplate.{MessageTemplate}
-use Rattle.ttcn_syntax.specs.declared.tree.template.Template.{Template}
 use Rattle.check_expressions.specs.Targets.{target_at}
 use Rattle.check_scope.specs.Names.{Scope}
 use Rattle.check_scope.specs.Typings.{same_type}

@@ -1,9 +1,9 @@
 -- The labels of a configuration, and their order (ES 201 873-4).
-use Rattle.std.specs.Prelude.{ℕ, ◌+◌, Bool, List, [], ◌∷◌, ◌++◌, map, length, Option, Some, None, is_some, if◌then◌else◌}
+use Rattle.std.specs.Prelude.{ℕ, ◌+◌, List, [], ◌∷◌, ◌++◌, map, length, is_some, if◌then◌else◌}
 use Rattle.std.specs.List.{filter, flat_map}
 use Rattle.std.specs.Ordering.{nat_cmp, match_ordering}
 use Rattle.std.specs.declared.cmp.Ordering.{Ordering}
-use Rattle.std.specs.declared.cmp.Ordering.TheVariants.{Less, Equal, Greater}
+use Rattle.std.specs.declared.cmp.Ordering.TheVariants.{Less, Greater}
 use Rattle.step_rules.specs.Configurations.{Component, Configuration, Ended, Frame, Goes, Going, is_running_state, path_cmp, path_of}
 use Rattle.step_rules.specs.Entries.{name_cmp}
 use Rattle.step_rules.specs.Snapshots.{Test}

@@ -1,9 +1,9 @@
 -- The part of a configuration that matters for what follows: two configurations are the same where it is equal (ES 201 873-4).
-use Rattle.std.specs.Prelude.{Bool, ◌&&◌, not, List, [], map, Option, if◌then◌else◌}
+use Rattle.std.specs.Prelude.{Bool, ◌&&◌, not, [], map, if◌then◌else◌}
 use Rattle.std.specs.List.{filter, fold}
 use Rattle.ttcn_syntax.specs.declared.tree.statement.Verdict.{Verdict}
 use Rattle.ttcn_syntax.specs.declared.tree.statement.Verdict.TheVariants as verdict
-use Rattle.step_rules.specs.Configurations.{Component, Configuration, Connection, Data, Ended, Goes, Going, Terminated, is_terminated_state, path_of, worse}
+use Rattle.step_rules.specs.Configurations.{Component, Configuration, Connection, Ended, Goes, Going, Terminated, is_terminated_state, path_of, worse}
 use Rattle.step_rules.specs.Creating.{empty_frame, new_data}
 use Rattle.step_rules.specs.Steps.{is_terminated_at}
 use Rattle.ttcn_values.specs.declared.path.Path.{Path}

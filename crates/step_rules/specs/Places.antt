@@ -2,13 +2,12 @@
 use Rattle.std.specs.Prelude.{List, [], ◌∷◌, Option, Some, None}
 use Rattle.std.specs.Option.{option_and_then}
 use Rattle.ttcn_syntax.specs.declared.place.Span.{Span}
-use Rattle.ttcn_syntax.specs.declared.tree.statement.Statement.{Statement, out-Statement}
-use Rattle.step_rules.specs.Configurations.{Component, Configuration, Data, Ended, Frame, Goes, Going, component_at, is_running_state}
-use Rattle.step_rules.specs.Events.{Choice, Nothing, Refused, Taken}
-use Rattle.step_rules.specs.Items.{Doing, Item, Mark, Part, Waiting, Whole}
-use Rattle.step_rules.specs.Sites.{Site}
+use Rattle.ttcn_syntax.specs.declared.tree.statement.Statement.{out-Statement}
+use Rattle.step_rules.specs.Configurations.{Component, Configuration, Data, Ended, Frame, Goes, Going, component_at}
+use Rattle.step_rules.specs.Events.{Choice, Taken}
+use Rattle.step_rules.specs.Items.{Doing, Item, Whole}
 use Rattle.step_rules.specs.Snapshots.{Snapshot, Test, snapshot_of}
-use Rattle.step_rules.specs.Statements.{Act, Errs, Stand, act, choice_at}
+use Rattle.step_rules.specs.Statements.{Act, Errs, act, choice_at}
 use Rattle.step_rules.specs.Steps.{Expiry, Label, Statement as OfStatement, if_running}
 
 -- ---- branches

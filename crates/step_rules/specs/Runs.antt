@@ -5,7 +5,7 @@ use Rattle.ttcn_syntax.specs.declared.tree.definition.DefinitionKind.TheVariants
 use Rattle.ttcn_syntax.specs.declared.tree.statement.Statement.{Statement}
 use Rattle.ttcn_syntax.specs.declared.tree.statement.Verdict.TheVariants as verdict
 use Rattle.check_scope.specs.Names.{kind_at}
-use Rattle.step_rules.specs.Configurations.{Component, Configuration, Data, Ended, Frame, Goes, Running, badness}
+use Rattle.step_rules.specs.Configurations.{Component, Configuration, Ended, Frame, Goes, Running, badness}
 use Rattle.step_rules.specs.Creating.{new_component, new_members}
 use Rattle.step_rules.specs.Items.{items}
 use Rattle.step_rules.specs.Labels.{labels}
@@ -13,7 +13,7 @@ use Rattle.step_rules.specs.Sites.{beginning}
 use Rattle.step_rules.specs.Snapshots.{Snapshot, Test}
 use Rattle.step_rules.specs.Steps.{Label, begin, next, settled}
 use Rattle.summary.specs.Graph.{Graph}
-use Rattle.ttcn_values.specs.Outcomes.{Outcome, Yields, or_unmet, outcome_and_then, outcome_map}
+use Rattle.ttcn_values.specs.Outcomes.{Outcome, or_unmet, outcome_and_then, outcome_map}
 
 -- ---- the start
 

@@ -1,8 +1,7 @@
 -- What the first remaining item of a component's last frame does in its step (ES 201 873-1, 16 and 19 to 24).
-use Rattle.std.specs.Prelude.{ℕ, ◌+◌, Bool, true, false, ◌&&◌, not, List, [], ◌∷◌, ◌++◌, map, length, nat_eq, nat_lt, bytes_eq, Option, Some, None, is_some, slice_get, if◌then◌else◌}
+use Rattle.std.specs.Prelude.{ℕ, ◌+◌, Bool, true, false, ◌&&◌, not, List, [], ◌∷◌, ◌++◌, length, nat_eq, nat_lt, bytes_eq, Option, Some, None, slice_get, if◌then◌else◌}
 use Rattle.std.specs.List.{filter, list_all, list_any}
 use Rattle.std.specs.Option.{option_and_then, option_map}
-use Rattle.ttcn_syntax.specs.declared.place.Span.{Span}
 use Rattle.ttcn_syntax.specs.declared.tree.definition.Definition.{Definition}
 use Rattle.ttcn_syntax.specs.declared.tree.definition.DefinitionKind.{DefinitionKind}
 use Rattle.ttcn_syntax.specs.declared.tree.definition.DefinitionKind.TheVariants as kind
@@ -10,12 +9,10 @@ use Rattle.ttcn_syntax.specs.declared.tree.expression.ComponentRef.{ComponentRef
 use Rattle.ttcn_syntax.specs.declared.tree.expression.ComponentRef.TheVariants as component
 use Rattle.ttcn_syntax.specs.declared.tree.expression.Expr.{Expr}
 use Rattle.ttcn_syntax.specs.declared.tree.expression.Reference.{Reference}
-use Rattle.ttcn_syntax.specs.declared.tree.statement.Action.{Action}
 use Rattle.ttcn_syntax.specs.declared.tree.statement.Action.TheOpen.{Action-F}
 use Rattle.ttcn_syntax.specs.declared.tree.statement.Assignment.{Assignment}
 use Rattle.ttcn_syntax.specs.declared.tree.statement.Conditional.{Conditional, out-Conditional}
 use Rattle.ttcn_syntax.specs.declared.tree.statement.Constant.{Constant}
-use Rattle.ttcn_syntax.specs.declared.tree.statement.ForStart.{ForStart}
 use Rattle.ttcn_syntax.specs.declared.tree.statement.ForStart.TheVariants as for_start
 use Rattle.ttcn_syntax.specs.declared.tree.statement.PortRef.{PortRef}
 use Rattle.ttcn_syntax.specs.declared.tree.statement.Send.{Send}
@@ -34,10 +31,10 @@ use Rattle.check_scope.specs.PortTypes.{agrees, types_of_port}
 use Rattle.check_scope.specs.Typings.{type_known}
 use Rattle.check_scope.specs.declared.types.DataType.{DataType}
 use Rattle.check_statements.specs.Messages.{at_port, port_meant, type_of_message}
-use Rattle.step_rules.specs.Branches.{Chance, Judge, Written, argument_values, frame_with, guard_holds, written_alt, written_defaults}
+use Rattle.step_rules.specs.Branches.{Judge, Written, frame_with, guard_holds, written_alt, written_defaults}
 use Rattle.step_rules.specs.Configurations.{ActiveDefault, Component, Data, End, Frame, same_path}
 use Rattle.step_rules.specs.Creating.{child_of, new_component, new_members}
-use Rattle.step_rules.specs.Events.{Choice, Effect, Nothing, Refused, Taken, first_choice}
+use Rattle.step_rules.specs.Events.{Choice, Nothing, Refused, Taken, first_choice}
 use Rattle.step_rules.specs.Items.{Does, Doing, From, Item, Last, Loop, Mark, Name, Part, Start, Target, Waiting, Whole, action_of, items, items_if_any, site_in_for, start_items}
 use Rattle.step_rules.specs.Sites.{Site, beginning, scope_at}
 use Rattle.step_rules.specs.Snapshots.{Snapshot, Test, last_view, reading_in}
@@ -45,7 +42,7 @@ use Rattle.step_rules.specs.Storing.{declare, declare_timer, forget, going_on, i
 use Rattle.step_rules.specs.Taking.{port_taken, repeat_alt, taken}
 use Rattle.ttcn_values.specs.Literals.{value_wanted}
 use Rattle.ttcn_values.specs.Matching.{specific_value}
-use Rattle.ttcn_values.specs.Outcomes.{DynamicError, Failure, Fails, Outcome, Unmet, Yields, dynamic_error, or_unmet, outcome_and_then, outcome_map, unmet}
+use Rattle.ttcn_values.specs.Outcomes.{DynamicError, Failure, Fails, Outcome, Unmet, Yields, dynamic_error, outcome_and_then, outcome_map, unmet}
 use Rattle.ttcn_values.specs.Readings.{Reading, component_at, referred, timer_at}
 use Rattle.ttcn_values.specs.Templates.{arguments, template_wanted}
 use Rattle.ttcn_values.specs.Values as values
@@ -185,7 +182,7 @@ new_id own at = record { path = child_of own.itself own.children; component_type
 -- a new component, the reference of which is stored
 abbrev pub create : Stand → Target → Data → ComponentId → Act
 create stand target own new =
-    acting (λ members. acting (λ data. Creates (new_component stand.test new members) (with_child data)) (store stand.test target (value.Component new) own))
+    acting (λ members. acting (λ changed. Creates (new_component stand.test new members) (with_child changed)) (store stand.test target (value.Component new) own))
     (if nat_lt own.children most then new_members stand.test new stand.snapshot else dynamic_error)
 
 abbrev pub created : Stand → Target → Data → Option ℕ → Act
@@ -199,7 +196,7 @@ assign stand site target wanted own (rhs.Value v) =
 assign stand site target wanted own (rhs.Create name) = created stand target own (component_meant (module_names stand.test.definitions name))
 assign stand site target wanted own (rhs.Call call) = call_function stand site call own (Waiting target ∷ stand.rest)
 assign stand site target wanted own (rhs.Activate call) =
-    acting (λ data. continuing (store stand.test target (value.Default data.activations) data)) (activated stand site call own)
+    acting (λ changed. continuing (store stand.test target (value.Default changed.activations) changed)) (activated stand site call own)
 
 -- an assignment
 abbrev pub act_assignment : Stand → Site → Assignment → Act
@@ -244,12 +241,12 @@ act_name stand site k _ = Errs Unmet
 -- ---- conditions and loops
 
 abbrev pub go_either : Stand → List Item → List Item → Bool → Act
-go_either stand yes no true = go_on stand yes
-go_either stand yes no false = go_on stand no
+go_either stand held failed true = go_on stand held
+go_either stand held failed false = go_on stand failed
 
 -- a condition is tested
 abbrev pub act_test : Stand → Site → Expr → List Item → List Item → Act
-act_test stand site e yes no = acting (go_either stand yes no) (guard_holds (reads stand site) (Some e))
+act_test stand site e held failed = acting (go_either stand held failed) (guard_holds (reads stand site) (Some e))
 
 -- what follows a false condition of an `if`: the rest of the chain, or the block of its `else`
 abbrev pub otherwise : Stand → Site → Statement → ℕ → List Conditional → Option (List Statement) → List Item

@@ -1,19 +1,19 @@
 -- Steps of configurations: what a component asks for is done among all components, and running timers expire (ES 201 873-1, 12, 20 to 23, ES 201 873-4).
 use Rattle.std.specs.Prelude.{ℕ, ◌+◌, Bool, true, false, ◌&&◌, ◌||◌, not, List, [], ◌∷◌, ◌++◌, map, length, bytes_eq, nat_eq, Option, Some, None, if◌then◌else◌}
-use Rattle.std.specs.List.{filter, find, flat_map, list_any}
+use Rattle.std.specs.List.{filter, flat_map, list_any}
 use Rattle.std.specs.Option.{option_and_then, option_map}
 use Rattle.std.specs.Ordering.{match_ordering}
 use Rattle.std.specs.declared.cmp.Ordering.{Ordering}
 use Rattle.std.specs.declared.cmp.Ordering.TheVariants.{Less, Greater}
 use Rattle.ttcn_syntax.specs.declared.tree.statement.Verdict.{Verdict}
 use Rattle.ttcn_syntax.specs.declared.tree.statement.Verdict.TheVariants as verdict
-use Rattle.step_rules.specs.Configurations.{Component, Configuration, Connection, Created, Data, End, Ended, Frame, Goes, Going, Message, Queue, Running, State, Terminated, component_at, end_cmp, is_running_state, is_terminated_state, overall, path_cmp, path_of, same_path, with_component, worse}
+use Rattle.step_rules.specs.Configurations.{Component, Configuration, Connection, Created, Data, End, Ended, Frame, Goes, Going, Message, Running, State, Terminated, component_at, end_cmp, is_running_state, is_terminated_state, overall, path_cmp, path_of, same_path, with_component, worse}
 use Rattle.step_rules.specs.Entries.{Entries, entry_of, put}
-use Rattle.step_rules.specs.Snapshots.{Snapshot, Test, snapshot_of}
+use Rattle.step_rules.specs.Snapshots.{Test, snapshot_of}
 use Rattle.step_rules.specs.Statements.{Act, Connects, Continues, Creates, Errs, Removes, Sends, Starts, Stops, Waits, Worsens, act, same_end}
 use Rattle.step_rules.specs.Storing.{with_calls, with_members, with_timers}
 use Rattle.step_rules.specs.Taking.{uncovered}
-use Rattle.ttcn_values.specs.Outcomes.{DynamicError, Fails, Failure, Outcome, Unmet, Yields, dynamic_error, or_unmet, outcome_map, unmet}
+use Rattle.ttcn_values.specs.Outcomes.{Fails, Outcome, Yields, dynamic_error, outcome_map, unmet}
 use Rattle.ttcn_values.specs.declared.frame.TimerState.{TimerState}
 use Rattle.ttcn_values.specs.declared.frame.TimerState.TheVariants as timer
 use Rattle.ttcn_values.specs.declared.path.Path.{Path}

@@ -1,5 +1,5 @@
 -- Where values are stored, and timers set: in the last frame, or in frame 0 (ES 201 873-1, 19.1 and 23).
-use Rattle.std.specs.Prelude.{ℕ, ◌<◌, Bool, true, false, List, [], ◌∷◌, Option, Some, None, if◌then◌else◌}
+use Rattle.std.specs.Prelude.{ℕ, Bool, true, false, List, [], ◌∷◌, Option, None}
 use Rattle.ttcn_syntax.specs.declared.tree.expression.Reference.{Reference}
 use Rattle.assignment.specs.Assignment.{assigned}
 use Rattle.check_expressions.specs.Expressions.{at_meaning}
@@ -11,7 +11,7 @@ use Rattle.step_rules.specs.Entries.{Entries, entry_of, put, without}
 use Rattle.step_rules.specs.Items.{Item, Target}
 use Rattle.step_rules.specs.Sites.{Site, is_own, scope_at}
 use Rattle.step_rules.specs.Snapshots.{Test}
-use Rattle.ttcn_values.specs.Outcomes.{Outcome, outcome_map, unmet}
+use Rattle.ttcn_values.specs.Outcomes.{Outcome, outcome_map}
 use Rattle.ttcn_values.specs.declared.frame.TimerState.{TimerState}
 use Rattle.ttcn_values.specs.declared.frame.TimerState.TheVariants as timer
 use Rattle.ttcn_values.specs.declared.value.Value.{Value}

@@ -1,10 +1,10 @@
 -- Taking a branch, `repeat`, and marks (ES 201 873-1, 20.2 and 20.3).
-use Rattle.std.specs.Prelude.{ℕ, Bool, List, [], ◌∷◌, ◌++◌, Option, Some, None}
+use Rattle.std.specs.Prelude.{ℕ, List, [], ◌∷◌, ◌++◌, Option, Some, None}
 use Rattle.ttcn_syntax.specs.declared.tree.statement.Statement.{Statement}
 use Rattle.step_rules.specs.Branches.{Chance, Way}
 use Rattle.step_rules.specs.Configurations.{Data, Frame}
 use Rattle.step_rules.specs.Events.{Effect, Elapses, Plain, Receives, Redirect}
-use Rattle.step_rules.specs.Items.{Doing, Item, Mark, Part, Waiting, Whole}
+use Rattle.step_rules.specs.Items.{Doing, Item, Mark, Waiting, Whole}
 use Rattle.step_rules.specs.Sites.{Site}
 use Rattle.step_rules.specs.Snapshots.{Test}
 use Rattle.step_rules.specs.Storing.{in_last, set_timer, store, target_at, with_calls, with_remaining}

@@ -1,12 +1,26 @@
-//! The rules of steps: configurations, what each statement does in its step, and runs (ES 201 873-1 and 873-4).
+//! The rules of steps: configurations, what each statement does in its step, and runs (ES 201 873-1 and 873-4). They run no code.
 #![tactic(auto)]
 
-ghost use Rattle.std.specs.Prelude.{◌≡◌, List, []};
-ghost use Rattle.ttcn_syntax.specs.declared.tree.definition.Definition.{Definition};
-ghost use Rattle.step_rules.specs.Items.{items};
-ghost use Rattle.step_rules.specs.Sites.{Site};
+ghost use Rattle.std.specs.Prelude.{◌≡◌, List, [], None, Ok};
+ghost use Rattle.ttcn_syntax.specs.declared.tree.statement.Verdict.{Verdict};
+ghost use Rattle.step_rules.specs.Configurations.{Configuration, Ended};
+ghost use Rattle.step_rules.specs.Labels.{labels};
+ghost use Rattle.step_rules.specs.LiveParts.{live_part};
+ghost use Rattle.step_rules.specs.Places.{branch_of, place_of};
+ghost use Rattle.step_rules.specs.Runs.{graph_of, replay, start};
+ghost use Rattle.step_rules.specs.Snapshots.{Test};
+ghost use Rattle.step_rules.specs.Steps.{Label, step};
 
-/// A block without statements leaves nothing to be done.
-pub fn empty_blocks_are_done()
-    ensures { (definitions : List Definition) (site : Site) → items definitions site [] ≡ [] }
+/// A test case that ended has no step and no label, and its live part is its verdict.
+pub fn ended_test_cases_stand_still()
+    ensures step { (test : Test) (v : Verdict) (label : Label) → step test (Ended v) label ≡ None }
+    ensures labels { (test : Test) (v : Verdict) → labels test (Ended v) ≡ [] }
+    ensures branch { (test : Test) (v : Verdict) (label : Label) → branch_of test (Ended v) label ≡ None }
+    ensures live { (v : Verdict) → live_part (Ended v) ≡ Ended v }
+{}
+
+/// The empty run ends where runs start.
+pub fn runs_start()
+    ensures empty { (test : Test) → replay test [] ≡ Ok (start test) }
+    ensures graph { (test : Test) → (graph_of test).first ≡ start test }
 {}
