@@ -43,8 +43,6 @@ pub record ActiveDefault : Type 0 where
 
 -- what the statements of a component read and change but for the messages that wait for it
 pub record Data : Type 0 where
-  -- its name, with its type
-  pub itself : ComponentId
   -- frame 0: the variables, constants and timers of its type
   pub members : Frame
   -- the frames above, the last one first
@@ -80,6 +78,8 @@ abbrev pub Queue : Type 0
 Queue = List ℕ × List Message
 
 pub record Component : Type 0 where
+  -- its path, with its type
+  pub itself : ComponentId
   pub own : Data
   pub state : State
   pub verdict : Verdict
@@ -87,7 +87,7 @@ pub record Component : Type 0 where
   pub queues : List Queue
 
 abbrev pub path_of : Component → Path
-path_of component = component.own.itself.path
+path_of component = component.itself.path
 
 -- ---- connections
 

@@ -70,13 +70,14 @@ new_members test itself snapshot =
 
 -- ---- components
 
-abbrev pub new_data : ComponentId → Frame → Data
-new_data itself members = record { itself = itself; members = members; calls = []; defaults = []; activations = 0; children = 0 }
+abbrev pub new_data : Frame → Data
+new_data members = record { members = members; calls = []; defaults = []; activations = 0; children = 0 }
 
 -- a new component, which is created and doesn't run yet
 abbrev pub new_component : Test → ComponentId → Frame → Component
 new_component test itself members = record {
-  own = new_data itself members;
+  itself = itself;
+  own = new_data members;
   state = Created;
   verdict = verdict.None;
   queues = empty_queues test.definitions itself.component_type;

@@ -11,7 +11,8 @@ use Rattle.ttcn_values.specs.declared.path.Path.{Path}
 -- a terminated component of which only the path is left
 abbrev pub husk : Path → Component
 husk path = record {
-  own = new_data (record { path = path; component_type = 0 }) empty_frame;
+  itself = record { path = path; component_type = 0 };
+  own = new_data empty_frame;
   state = Terminated;
   verdict = verdict.None;
   queues = [];

@@ -23,7 +23,7 @@ testcase_body _ = None
 
 -- the MTC runs, and no other component is there
 abbrev pub first_snapshot : Test → Snapshot
-first_snapshot test = record { fronts = []; timers = []; member_timers = []; states = (test.mtc.path, Running) ∷ [] }
+first_snapshot test = record { itself = test.mtc; fronts = []; timers = []; member_timers = []; states = (test.mtc.path, Running) ∷ [] }
 
 abbrev pub body_frame : Test → List Statement → Frame
 body_frame test body = record { remaining = items test.definitions (beginning test.testcase) body; values = []; timers = [] }

@@ -28,6 +28,8 @@ pub record Test : Type 0 where
 
 -- what a component sees at an `alt`: the first message at each of its ports, its timers, and the states of all components
 pub record Snapshot : Type 0 where
+  -- the component that sees it
+  pub itself : ComponentId
   pub fronts : List (List ℕ × Option Message)
   -- the timers of its last frame, and those of its type
   pub timers : Entries TimerState
@@ -49,6 +51,7 @@ timers_of (frame ∷ frames) = frame.timers
 -- the snapshot of a component
 abbrev pub snapshot_of : Going → Component → Snapshot
 snapshot_of c component = record {
+  itself = component.itself;
   fronts = map front_at component.queues;
   timers = timers_of component.own.calls;
   member_timers = component.own.members.timers;
@@ -106,7 +109,7 @@ members_in snapshot own = record { values = own.members.values; timers = snapsho
 
 -- what is read at a site in a frame of which this is seen
 abbrev pub reading_in : Test → Snapshot → Data → Site → View → Reading
-reading_in test snapshot own site view = within_chains longest_chain (facts_of test own.itself snapshot view (seen_members test site (members_in snapshot own)))
+reading_in test snapshot own site view = within_chains longest_chain (facts_of test snapshot.itself snapshot view (seen_members test site (members_in snapshot own)))
 
 -- what is seen of the last frame
 abbrev pub last_view : Snapshot → Frame → View

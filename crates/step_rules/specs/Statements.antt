@@ -154,7 +154,6 @@ call_function stand site call own items = acting (λ frame. continuing (enter ow
 -- a new default, the number of which is that of the activation
 abbrev pub activate : ℕ → Data → List Value → Data
 activate at own values = record {
-  itself = own.itself;
   members = own.members;
   calls = own.calls;
   defaults = record { number = own.activations + 1; altstep = at; arguments = values } ∷ own.defaults;
@@ -174,10 +173,10 @@ activated stand site call own = activated_at stand site call own (altstep_meant 
 
 -- one more child
 abbrev pub with_child : Data → Data
-with_child own = record { itself = own.itself; members = own.members; calls = own.calls; defaults = own.defaults; activations = own.activations; children = own.children + 1 }
+with_child own = record { members = own.members; calls = own.calls; defaults = own.defaults; activations = own.activations; children = own.children + 1 }
 
-abbrev pub new_id : Data → ℕ → ComponentId
-new_id own at = record { path = child_of own.itself own.children; component_type = at }
+abbrev pub new_id : Stand → Data → ℕ → ComponentId
+new_id stand own at = record { path = child_of stand.snapshot.itself own.children; component_type = at }
 
 -- a new component, the reference of which is stored
 abbrev pub create : Stand → Target → Data → ComponentId → Act
@@ -187,7 +186,7 @@ create stand target own new =
 
 abbrev pub created : Stand → Target → Data → Option ℕ → Act
 created stand target own None = Errs Unmet
-created stand target own (Some at) = create stand target own (new_id own at)
+created stand target own (Some at) = create stand target own (new_id stand own at)
 
 -- what stands on the right of `:=`, read at a site, where a value of a type is wanted; these are the data that it changes, in which the items behind it remain
 abbrev pub assign : Stand → Site → Target → Option DataType → Data → Rhs → Act
@@ -275,7 +274,7 @@ waits_first _ = false
 
 -- nothing remains: the frame goes. In frame 1 the component terminates, and where a result is waited for there is none
 abbrev pub act_end : Stand → List Frame → Act
-act_end stand [] = Stops stand.own.itself.path stand.own
+act_end stand [] = Stops stand.snapshot.itself.path stand.own
 act_end stand (frame ∷ frames) = if waits_first frame.remaining then Errs DynamicError else Continues (with_calls (frame ∷ frames) stand.own)
 
 -- a result goes to the target that waits for it, and is dropped where none does
@@ -289,7 +288,7 @@ give_back stand frame frames [] result = Continues (with_calls (frame ∷ frames
 
 -- the frame goes, with a result or without
 abbrev pub leave : Stand → List Frame → Option Value → Act
-leave stand [] result = Stops stand.own.itself.path stand.own
+leave stand [] result = Stops stand.snapshot.itself.path stand.own
 leave stand (frame ∷ frames) result = give_back stand frame frames frame.remaining result
 
 -- the type of the result of the behaviour in which a site is
@@ -393,7 +392,7 @@ act_stop_of stand site reference = stop_meant stand site reference (timer_at (re
 -- ---- defaults
 
 abbrev pub with_defaults : List ActiveDefault → Data → Data
-with_defaults defaults own = record { itself = own.itself; members = own.members; calls = own.calls; defaults = defaults; activations = own.activations; children = own.children }
+with_defaults defaults own = record { members = own.members; calls = own.calls; defaults = defaults; activations = own.activations; children = own.children }
 
 -- the defaults without the one that a value refers to: `null` refers to none
 abbrev pub without_default : Data → Value-F Value → Outcome Data
@@ -453,7 +452,7 @@ act_whole stand site s (Action-F.DoWhile block condition) = go_on stand (items s
 act_whole stand site s (Action-F.For start condition step block) =
     go_on stand (start_items stand.test.definitions site s start ++ Doing (site_in_for stand.test.definitions site start) s Loop ∷ stand.rest)
 act_whole stand site s (Action-F.Return v) = act_return stand site v
-act_whole stand site s Action-F.Stop = Stops stand.own.itself.path stand.own
+act_whole stand site s Action-F.Stop = Stops stand.snapshot.itself.path stand.own
 act_whole stand site s (Action-F.Log logged) = go_on stand stand.rest
 act_whole stand site s (Action-F.Setverdict verdict reasons) = Worsens verdict (done stand)
 act_whole stand site s (Action-F.Connect one other) = act_connect stand site one other

@@ -24,17 +24,18 @@ use Rattle.ttcn_values.specs.declared.value.Value.{Value}
 
 -- a component with other data: after its step the marks are gone that come first
 abbrev pub with_data : Data → Component → Component
-with_data own component = record { own = uncovered own; state = component.state; verdict = component.verdict; queues = component.queues }
+with_data own component = record { itself = component.itself; own = uncovered own; state = component.state; verdict = component.verdict; queues = component.queues }
 
 abbrev pub with_state : State → Component → Component
-with_state state component = record { own = component.own; state = state; verdict = component.verdict; queues = component.queues }
+with_state state component = record { itself = component.itself; own = component.own; state = state; verdict = component.verdict; queues = component.queues }
 
 abbrev pub with_verdict : Verdict → Component → Component
-with_verdict v component = record { own = component.own; state = component.state; verdict = worse component.verdict v; queues = component.queues }
+with_verdict v component = record { itself = component.itself; own = component.own; state = component.state; verdict = worse component.verdict v; queues = component.queues }
 
 -- a change of the messages at a port
 abbrev pub at_queue : List ℕ → (List Message → List Message) → Component → Component
 at_queue port change component = record {
+  itself = component.itself;
   own = component.own;
   state = component.state;
   verdict = component.verdict;
@@ -68,7 +69,7 @@ abbrev pub with_components : List Component → Going → Going
 with_components components c = record { components = components; connections = c.connections; forgotten = c.forgotten }
 
 abbrev pub begin : Frame → Component → Component
-begin frame component = with_state Running (record { own = with_calls (frame ∷ []) component.own; state = component.state; verdict = component.verdict; queues = component.queues })
+begin frame component = with_state Running (record { itself = component.itself; own = with_calls (frame ∷ []) component.own; state = component.state; verdict = component.verdict; queues = component.queues })
 
 abbrev pub start_in : Going → Path → Frame → State → Outcome Going
 start_in c path frame Created = Yields (with_component c path (begin frame))
@@ -199,10 +200,10 @@ if_running component found = if is_running_state component.state then found else
 
 -- the step of a component's statement
 abbrev pub statement_step : Test → Going → Component → Option (Outcome Configuration)
-statement_step test c component = if_running component (apply test c component.own.itself (act test (snapshot_of c component) component.own))
+statement_step test c component = if_running component (apply test c component.itself (act test (snapshot_of c component) component.own))
 
 abbrev pub exchanged : Data → Component → Component
-exchanged own component = record { own = own; state = component.state; verdict = component.verdict; queues = component.queues }
+exchanged own component = record { itself = component.itself; own = own; state = component.state; verdict = component.verdict; queues = component.queues }
 
 -- the expiry of a timer
 abbrev pub expiry_step : Going → ℕ → List ℕ → Component → Option (Outcome Configuration)

@@ -42,10 +42,10 @@ declare_timer name frame = record { remaining = frame.remaining; values = withou
 -- ---- data
 
 abbrev pub with_calls : List Frame → Data → Data
-with_calls calls own = record { itself = own.itself; members = own.members; calls = calls; defaults = own.defaults; activations = own.activations; children = own.children }
+with_calls calls own = record { members = own.members; calls = calls; defaults = own.defaults; activations = own.activations; children = own.children }
 
 abbrev pub with_members : Frame → Data → Data
-with_members members own = record { itself = own.itself; members = members; calls = own.calls; defaults = own.defaults; activations = own.activations; children = own.children }
+with_members members own = record { members = members; calls = own.calls; defaults = own.defaults; activations = own.activations; children = own.children }
 
 -- a change of the last frame
 abbrev pub in_last : (Frame → Frame) → List Frame → List Frame
