@@ -156,7 +156,7 @@ written_within (suc n) test snapshot own judge branches = flat_map (written_bran
 
 -- ---- an `alt` and the defaults
 
--- altsteps call each other in chains of so many at most, and so they do from each branch
+-- from a branch of an `alt`, or a default, altsteps call each other in chains of so many at most
 abbrev pub write_altsteps : Test → Snapshot → Data → Writing
 write_altsteps test snapshot own = written_within longest_chain test snapshot own
 

@@ -20,7 +20,7 @@ use Rattle.step_rules.specs.Branches.{Chance, Judge, Written, Fault, Open, read_
 use Rattle.step_rules.specs.Configurations.{Data, Message, same_path}
 use Rattle.step_rules.specs.Entries.{entry_of}
 use Rattle.step_rules.specs.Sites.{Site, scope_at}
-use Rattle.step_rules.specs.Snapshots.{Snapshot, Test, is_terminated_in, members_in, others_run, seen_members}
+use Rattle.step_rules.specs.Snapshots.{Snapshot, Test, is_terminated_in, members_in, mtc_of, others_run, seen_members}
 use Rattle.ttcn_values.specs.Matching.{is_match}
 use Rattle.ttcn_values.specs.Outcomes.{DynamicError, Fails, Failure, Outcome, Unmet, Yields, dynamic_error, outcome_and_then, outcome_map, unmet}
 use Rattle.ttcn_values.specs.Readings.{Reading, component_at}
@@ -52,7 +52,7 @@ pub data Effect : Type 0 where
 pub data Trial : Type 0 where
   -- it has not happened
   Passed : Trial
-  -- it can't be judged
+  -- it can't be judged, or its branch can't be taken
   Faulty : Failure → Trial
   -- it has happened
   Happened : Effect → Trial
@@ -88,7 +88,7 @@ try_done snapshot reading reference =
 -- `all component.done`: a dynamic error elsewhere than on the MTC
 abbrev pub try_all_done : Test → Snapshot → Reading → Trial
 try_all_done test snapshot reading =
-    if same_path reading.itself.path test.mtc.path then happened_if (not (others_run snapshot test.mtc.path)) else Faulty DynamicError
+    if same_path reading.itself.path (mtc_of test).path then happened_if (not (others_run snapshot (mtc_of test).path)) else Faulty DynamicError
 
 -- ---- messages
 
@@ -212,7 +212,7 @@ try_chance test snapshot own judge (Some e) = try_event test snapshot own judge 
 pub data Choice : Type 0 where
   -- no branch can be taken
   Nothing : Choice
-  -- a branch can't be judged, and none before it can be taken
+  -- the first branch that isn't passed over can't be judged or taken
   Refused : Failure → Choice
   -- this is the first branch that can be taken
   Taken : Chance → Effect → Choice

@@ -12,7 +12,7 @@ use Rattle.ttcn_syntax.specs.declared.tree.statement.ForStart.TheVariants as for
 use Rattle.ttcn_syntax.specs.declared.tree.statement.Statement.{Statement, out-Statement}
 use Rattle.check_scope.specs.Names.{Entry}
 use Rattle.check_scope.specs.declared.types.DataType.{DataType}
-use Rattle.step_rules.specs.Sites.{Site, entries_of, entries_of_start, scope_at, site_behind, site_with}
+use Rattle.step_rules.specs.Sites.{Site, constant_entries, entries_of, entries_of_start, scope_at, site_behind, site_with, timer_entries, variable_entries}
 
 -- what of a statement is to be done
 pub data Part : Type 0 where
@@ -38,7 +38,7 @@ pub record Target : Type 0 where
 pub data Item : Type 0 where
   -- a part of a statement, which stands at a site
   Doing : Site → Statement → Part → Item
-  -- an `alt`, or what stands for one, in a branch of which the items before are
+  -- behind the block of a branch: the `alt`, or the statement that stands for one, to which `repeat` leads back
   Mark : Site → Statement → Item
   -- a call's result goes there
   Waiting : Target → Item
@@ -56,9 +56,9 @@ declarations site s at [] = []
 declarations site s at (entry ∷ entries) = Doing site s (Name at) ∷ declarations (site_with site entry) s (at + 1) entries
 
 abbrev pub items_of_action : List Definition → Site → Statement → Does → List Item
-items_of_action definitions site s (Action-F.Variables vs) = declarations site s 0 (entries_of (scope_at definitions site) (action_of s))
-items_of_action definitions site s (Action-F.Constants cs) = declarations site s 0 (entries_of (scope_at definitions site) (action_of s))
-items_of_action definitions site s (Action-F.Timers timers) = declarations site s 0 (entries_of (scope_at definitions site) (action_of s))
+items_of_action definitions site s (Action-F.Variables vs) = declarations site s 0 (variable_entries (scope_at definitions site) vs)
+items_of_action definitions site s (Action-F.Constants cs) = declarations site s 0 (constant_entries (scope_at definitions site) cs)
+items_of_action definitions site s (Action-F.Timers timers) = declarations site s 0 (timer_entries timers)
 items_of_action definitions site s _ = Doing site s Whole ∷ []
 
 -- a statement, as what remains: a declaration of several names is several declarations

@@ -11,6 +11,7 @@ pub mod Creating
 pub mod Statements
 pub mod Steps
 pub mod Labels
+pub mod Order
 pub mod Runs
 pub mod Places
 pub mod LiveParts

@@ -10,7 +10,7 @@ use Rattle.step_rules.specs.Creating.{new_component, new_members}
 use Rattle.step_rules.specs.Items.{items}
 use Rattle.step_rules.specs.Labels.{labels}
 use Rattle.step_rules.specs.Sites.{beginning}
-use Rattle.step_rules.specs.Snapshots.{Snapshot, Test}
+use Rattle.step_rules.specs.Snapshots.{Snapshot, Test, mtc_of}
 use Rattle.step_rules.specs.Steps.{Label, begin, next, settled}
 use Rattle.summary.specs.Graph.{Graph}
 use Rattle.ttcn_values.specs.Outcomes.{Outcome, or_unmet, outcome_and_then, outcome_map}
@@ -23,18 +23,18 @@ testcase_body _ = None
 
 -- the MTC runs, and no other component is there
 abbrev pub first_snapshot : Test → Snapshot
-first_snapshot test = record { itself = test.mtc; fronts = []; timers = []; member_timers = []; states = (test.mtc.path, Running) ∷ [] }
+first_snapshot test = record { itself = mtc_of test; fronts = []; timers = []; member_timers = []; states = ((mtc_of test).path, Running) ∷ [] }
 
 abbrev pub body_frame : Test → List Statement → Frame
 body_frame test body = record { remaining = items test.definitions (beginning test.testcase) body; values = []; timers = [] }
 
 -- the MTC, with the body of the test case as frame 1
 abbrev pub mtc_with : Test → List Statement → Frame → Component
-mtc_with test body members = begin (body_frame test body) (new_component test test.mtc members)
+mtc_with test body members = begin (body_frame test body) (new_component test (mtc_of test) members)
 
 abbrev pub started : Test → List Statement → Outcome Configuration
 started test body =
-    outcome_map (λ members. Goes (record { components = mtc_with test body members ∷ []; connections = []; forgotten = verdict.None })) (new_members test test.mtc (first_snapshot test))
+    outcome_map (λ members. Goes (record { components = mtc_with test body members ∷ []; connections = []; forgotten = verdict.None })) (new_members test (mtc_of test) (first_snapshot test))
 
 -- the configuration in which runs start: a fault in frame 0 ends the test case
 abbrev pub start : Test → Configuration

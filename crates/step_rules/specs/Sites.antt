@@ -7,6 +7,8 @@ use Rattle.ttcn_syntax.specs.declared.tree.definition.DefinitionKind.TheVariants
 use Rattle.ttcn_syntax.specs.declared.tree.statement.Action.TheOpen.{Action-F}
 use Rattle.ttcn_syntax.specs.declared.tree.statement.ForStart.{ForStart}
 use Rattle.ttcn_syntax.specs.declared.tree.statement.ForStart.TheVariants as for_start
+use Rattle.ttcn_syntax.specs.declared.tree.statement.Constants.{Constants}
+use Rattle.ttcn_syntax.specs.declared.tree.statement.Timer.{Timer}
 use Rattle.ttcn_syntax.specs.declared.tree.statement.Variables.{Variables}
 use Rattle.check_expressions.specs.Calls.{component_named, parameters_of, runs_on_of}
 use Rattle.check_scope.specs.Names.{Entry, Scope, declaring, kind_at, resolved}
@@ -68,6 +70,14 @@ is_own definitions site name =
 abbrev pub variable_entries : Scope → Variables → List Entry
 variable_entries scope vs = map (λ v. (v.name, meaning.Variable (resolved scope.names vs.type_name))) vs.variables
 
+-- those of a declaration of constants
+abbrev pub constant_entries : Scope → Constants → List Entry
+constant_entries scope cs = map (λ c. (c.name, meaning.Constant (resolved scope.names cs.type_name))) cs.constants
+
+-- those of a declaration of timers
+abbrev pub timer_entries : List Timer → List Entry
+timer_entries timers = map (λ t. (t.name, meaning.Timer)) timers
+
 abbrev pub entries_of_start : Scope → ForStart → List Entry
 entries_of_start scope (for_start.Variables vs) = variable_entries scope vs
 entries_of_start scope (for_start.Assign assignment) = []
@@ -75,8 +85,8 @@ entries_of_start scope (for_start.Assign assignment) = []
 -- the names that what a statement does declares for those behind it
 abbrev pub entries_of : {A B C D E : Type 0} → Scope → Action-F A B C D E → List Entry
 entries_of scope (Action-F.Variables vs) = variable_entries scope vs
-entries_of scope (Action-F.Constants cs) = map (λ c. (c.name, meaning.Constant (resolved scope.names cs.type_name))) cs.constants
-entries_of scope (Action-F.Timers timers) = map (λ t. (t.name, meaning.Timer)) timers
+entries_of scope (Action-F.Constants cs) = constant_entries scope cs
+entries_of scope (Action-F.Timers timers) = timer_entries timers
 entries_of scope (Action-F.Assign assignment) = []
 entries_of scope (Action-F.«Action::Call» call) = []
 entries_of scope (Action-F.«Action::Event» event) = []

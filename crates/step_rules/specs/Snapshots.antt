@@ -17,12 +17,19 @@ use Rattle.ttcn_values.specs.declared.path.Path.{Path}
 use Rattle.ttcn_values.specs.declared.value.ComponentId.{ComponentId}
 use Rattle.ttcn_values.specs.declared.value.Value.{Value}
 
--- a test case of a module: its definitions, and the component that runs the test case
+-- a test case of a module: the module's definitions, and the position of the test case among them
 pub record Test : Type 0 where
   pub definitions : List Definition
-  -- the position of the test case
   pub testcase : ℕ
-  pub mtc : ComponentId
+
+-- the position of the component type that a behaviour runs on; each test case says it
+abbrev pub type_said : Option ℕ → ℕ
+type_said None = 0
+type_said (Some at) = at
+
+-- the component that runs the test case: its path has no numbers
+abbrev pub mtc_of : Test → ComponentId
+mtc_of test = record { path = record { numbers = [] }; component_type = type_said (runs_on test.definitions test.testcase) }
 
 -- ---- snapshots
 
@@ -31,7 +38,7 @@ pub record Snapshot : Type 0 where
   -- the component that sees it
   pub itself : ComponentId
   pub fronts : List (List ℕ × Option Message)
-  -- the timers of its last frame, and those of its type
+  -- the timers of its last frame, and those of its type: no others can be read at an `alt`
   pub timers : Entries TimerState
   pub member_timers : Entries TimerState
   pub states : List (Path × State)
@@ -98,7 +105,7 @@ facts_of test itself snapshot inner outer = record {
   timers = λ name. option_map is_running (option_or (entry_of inner.timers name) (entry_of outer.timers name));
   running = runs_in snapshot;
   itself = itself;
-  mtc = test.mtc;
+  mtc = mtc_of test;
   constants = λ at item. unmet;
   templates = λ at values. unmet;
 }

@@ -38,7 +38,7 @@ use Rattle.step_rules.specs.Events.{Choice, Nothing, Refused, Taken, first_choic
 use Rattle.step_rules.specs.Items.{Does, Doing, From, Item, Last, Loop, Mark, Name, Part, Start, Target, Waiting, Whole, action_of, items, items_if_any, site_in_for, start_items}
 use Rattle.step_rules.specs.Sites.{Site, beginning, scope_at}
 use Rattle.step_rules.specs.Snapshots.{Snapshot, Test, last_view, reading_in}
-use Rattle.step_rules.specs.Storing.{declare, declare_timer, forget, going_on, in_last, set_timer, store, target_at, with_calls}
+use Rattle.step_rules.specs.Storing.{declare, declare_timer, forget, going_on, in_last, set_timer, store, target_meant, with_calls}
 use Rattle.step_rules.specs.Taking.{port_taken, repeat_alt, taken}
 use Rattle.ttcn_values.specs.Literals.{value_wanted}
 use Rattle.ttcn_values.specs.Matching.{specific_value}
@@ -116,7 +116,7 @@ go_on stand items = Continues (remaining stand items)
 
 -- ---- calls
 
--- too many frames are a dynamic error
+-- too many frames, frame 0 among them, are a dynamic error
 abbrev pub with_frames : List Frame → Data → Outcome Data
 with_frames calls own = if nat_lt (length calls) most then Yields (with_calls calls own) else dynamic_error
 
@@ -200,7 +200,7 @@ assign stand site target wanted own (rhs.Activate call) =
 -- an assignment
 abbrev pub act_assignment : Stand → Site → Assignment → Act
 act_assignment stand site a =
-    assign stand site (target_at stand.test site a.target) (checked.target_at (scope_at stand.test.definitions site) a.target).data_type (done stand) a.value
+    assign stand site (target_meant stand.test site a.target) (checked.target_at (scope_at stand.test.definitions site) a.target).data_type (done stand) a.value
 
 -- ---- declarations
 
@@ -253,7 +253,7 @@ otherwise stand site s next conditionals last =
     if nat_lt next (length conditionals) then Doing site s (From next) ∷ stand.rest else items_if_any stand.test.definitions site last ++ stand.rest
 
 abbrev pub act_conditional : Stand → Site → Statement → ℕ → List Conditional → Option (List Statement) → Option Conditional → Act
-act_conditional stand site s k conditionals last None = Errs Unmet
+act_conditional stand site s k conditionals last None = go_on stand (items_if_any stand.test.definitions site last ++ stand.rest)
 act_conditional stand site s k conditionals last (Some c) =
     act_test stand site (out-Conditional c).condition (items stand.test.definitions site (out-Conditional c).block ++ stand.rest) (otherwise stand site s (k + 1) conditionals last)
 
@@ -272,9 +272,9 @@ abbrev pub waits_first : List Item → Bool
 waits_first (Waiting target ∷ items) = true
 waits_first _ = false
 
--- nothing remains: the frame goes. In frame 1 the component terminates, and where a result is waited for there is none
+-- nothing remains: the frame goes. In frame 1 the component terminates, and where a result is waited for it is a dynamic error
 abbrev pub act_end : Stand → List Frame → Act
-act_end stand [] = Stops stand.snapshot.itself.path stand.own
+act_end stand [] = Stops stand.snapshot.itself.path (with_calls [] stand.own)
 act_end stand (frame ∷ frames) = if waits_first frame.remaining then Errs DynamicError else Continues (with_calls (frame ∷ frames) stand.own)
 
 -- a result goes to the target that waits for it, and is dropped where none does
@@ -288,7 +288,7 @@ give_back stand frame frames [] result = Continues (with_calls (frame ∷ frames
 
 -- the frame goes, with a result or without
 abbrev pub leave : Stand → List Frame → Option Value → Act
-leave stand [] result = Stops stand.snapshot.itself.path stand.own
+leave stand [] result = Stops stand.snapshot.itself.path (with_calls [] stand.own)
 leave stand (frame ∷ frames) result = give_back stand frame frames frame.remaining result
 
 -- the type of the result of the behaviour in which a site is
@@ -335,15 +335,15 @@ may_connect definitions c p d q =
     suit_each_other definitions (port_type definitions c p) (port_type definitions d q) &&
     not (same_end (record { component = c.path; port = p }) (record { component = d.path; port = q }))
 
-abbrev pub connect : Stand → ComponentId → List ℕ → ComponentId → List ℕ → Act
-connect stand c p d q =
+abbrev pub ask_connection : Stand → ComponentId → List ℕ → ComponentId → List ℕ → Act
+ask_connection stand c p d q =
     if may_connect stand.test.definitions c p d q
     then Connects (record { component = c.path; port = p }) (record { component = d.path; port = q }) (done stand)
     else Errs DynamicError
 
 abbrev pub act_connect : Stand → Site → PortRef → PortRef → Act
 act_connect stand site one other =
-    acting (λ c. acting (λ d. connect stand c one.port d other.port) (component_meant_at stand site other.component)) (component_meant_at stand site one.component)
+    acting (λ c. acting (λ d. ask_connection stand c one.port d other.port) (component_meant_at stand site other.component)) (component_meant_at stand site one.component)
 
 -- ---- sends
 
@@ -429,7 +429,7 @@ act_choice stand site s (Refused why) = Errs why
 act_choice stand site s (Taken chance effect) =
     acting (act_port (port_taken effect)) (outcome_and_then (λ own. with_frames own.calls own) (taken stand.test site s stand.rest chance effect stand.own))
 
--- a call of a function, where a statement is no `alt`
+-- the choice at an `alt`, or something else where a statement is none
 abbrev pub act_alt_or : Act → Stand → Site → Statement → Option Choice → Act
 act_alt_or other stand site s None = other
 act_alt_or other stand site s (Some choice) = act_choice stand site s choice
@@ -452,7 +452,7 @@ act_whole stand site s (Action-F.DoWhile block condition) = go_on stand (items s
 act_whole stand site s (Action-F.For start condition step block) =
     go_on stand (start_items stand.test.definitions site s start ++ Doing (site_in_for stand.test.definitions site start) s Loop ∷ stand.rest)
 act_whole stand site s (Action-F.Return v) = act_return stand site v
-act_whole stand site s Action-F.Stop = Stops stand.snapshot.itself.path stand.own
+act_whole stand site s Action-F.Stop = Stops stand.snapshot.itself.path (done stand)
 act_whole stand site s (Action-F.Log logged) = go_on stand stand.rest
 act_whole stand site s (Action-F.Setverdict verdict reasons) = Worsens verdict (done stand)
 act_whole stand site s (Action-F.Connect one other) = act_connect stand site one other

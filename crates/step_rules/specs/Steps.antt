@@ -9,7 +9,7 @@ use Rattle.ttcn_syntax.specs.declared.tree.statement.Verdict.{Verdict}
 use Rattle.ttcn_syntax.specs.declared.tree.statement.Verdict.TheVariants as verdict
 use Rattle.step_rules.specs.Configurations.{Component, Configuration, Connection, Created, Data, End, Ended, Frame, Goes, Going, Message, Running, State, Terminated, component_at, end_cmp, is_running_state, is_terminated_state, overall, path_cmp, path_of, same_path, with_component, worse}
 use Rattle.step_rules.specs.Entries.{Entries, entry_of, put}
-use Rattle.step_rules.specs.Snapshots.{Test, snapshot_of}
+use Rattle.step_rules.specs.Snapshots.{Test, mtc_of, snapshot_of}
 use Rattle.step_rules.specs.Statements.{Act, Connects, Continues, Creates, Errs, Removes, Sends, Starts, Stops, Waits, Worsens, act, same_end}
 use Rattle.step_rules.specs.Storing.{with_calls, with_members, with_timers}
 use Rattle.step_rules.specs.Taking.{uncovered}
@@ -80,13 +80,13 @@ abbrev pub start_created : Going → Path → Frame → Option Component → Out
 start_created c path frame None = unmet
 start_created c path frame (Some component) = start_in c path frame component.state
 
--- a component that is created and did not start yet runs: a dynamic error for any other
-abbrev pub start : Going → Path → Frame → Outcome Going
-start c path frame = start_created c path frame (component_at c path)
+-- a component that is created and did not start_component yet runs: a dynamic error for any other
+abbrev pub start_component : Going → Path → Frame → Outcome Going
+start_component c path frame = start_created c path frame (component_at c path)
 
 -- the test case ends where the MTC stops, with the worst verdict of all; any other component terminates
 abbrev pub stop : Test → Going → Path → Configuration
-stop test c path = if same_path path test.mtc.path then Ended (overall c) else Goes (touch c path (with_state Terminated))
+stop test c path = if same_path path (mtc_of test).path then Ended (overall c) else Goes (touch c path (with_state Terminated))
 
 -- ---- connections
 
@@ -117,12 +117,12 @@ peers c d = flat_map (opposite d) c.connections
 abbrev pub is_double : Going → End → End → Bool
 is_double c d e = list_any (λ peer. same_path peer.component e.component && not (bytes_eq peer.port e.port)) (peers c d)
 
-abbrev pub is_terminated_in : Option Component → Bool
-is_terminated_in None = false
-is_terminated_in (Some component) = is_terminated_state component.state
+abbrev pub is_terminated_component : Option Component → Bool
+is_terminated_component None = false
+is_terminated_component (Some component) = is_terminated_state component.state
 
 abbrev pub is_terminated_at : Going → Path → Bool
-is_terminated_at c path = is_terminated_in (component_at c path)
+is_terminated_at c path = is_terminated_component (component_at c path)
 
 -- it is an error where a component is terminated, or one of the ports would be connected to two ports of one component
 abbrev pub connect : Going → End → End → Outcome Going
@@ -161,7 +161,7 @@ apply test c itself (Worsens v own) = Some (Yields (Goes (touch (settle c itself
 apply test c itself (Removes port own) = Some (Yields (Goes (touch (settle c itself.path own) itself.path (at_queue port without_first))))
 apply test c itself (Sends port to v own) = Some (ending (send (settle c itself.path own) itself port to v))
 apply test c itself (Creates new own) = Some (Yields (Goes (with_components (insert new (settle c itself.path own).components) (settle c itself.path own))))
-apply test c itself (Starts path frame own) = Some (ending (start (settle c itself.path own) path frame))
+apply test c itself (Starts path frame own) = Some (ending (start_component (settle c itself.path own) path frame))
 apply test c itself (Stops path own) = Some (Yields (stop test (settle c itself.path own) path))
 apply test c itself (Connects d e own) = Some (ending (connect (settle c itself.path own) d e))
 

@@ -88,8 +88,8 @@ type_for [] of = None
 type_for (field ∷ fields) of = of
 
 -- what a reference at a site means as a target
-abbrev pub target_at : Test → Site → Reference → Target
-target_at test site reference = record {
+abbrev pub target_meant : Test → Site → Reference → Target
+target_meant test site reference = record {
   own = is_own test.definitions site reference.name;
   reference = reference;
   data_type = type_for reference.fields (type_of_name (scope_at test.definitions site) reference.name);

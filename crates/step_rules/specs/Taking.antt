@@ -7,7 +7,7 @@ use Rattle.step_rules.specs.Events.{Effect, Elapses, Plain, Receives, Redirect}
 use Rattle.step_rules.specs.Items.{Doing, Item, Mark, Waiting, Whole}
 use Rattle.step_rules.specs.Sites.{Site}
 use Rattle.step_rules.specs.Snapshots.{Test}
-use Rattle.step_rules.specs.Storing.{in_last, set_timer, store, target_at, with_calls, with_remaining}
+use Rattle.step_rules.specs.Storing.{in_last, set_timer, store, target_meant, with_calls, with_remaining}
 use Rattle.ttcn_values.specs.Outcomes.{Outcome, Yields, outcome_and_then, outcome_map, or_unmet}
 use Rattle.ttcn_values.specs.declared.frame.TimerState.TheVariants as timer
 
@@ -38,7 +38,7 @@ entered site s rest way calls = way.frames ++ in_last (with_remaining (marked si
 abbrev pub store_all : Test → Site → List Redirect → Data → Outcome Data
 store_all test site [] own = Yields own
 store_all test site (redirect ∷ redirects) own =
-    outcome_and_then (store_all test site redirects) (store test (target_at test site redirect.reference) redirect.value own)
+    outcome_and_then (store_all test site redirects) (store test (target_meant test site redirect.reference) redirect.value own)
 
 -- the effect of a branch, at the branch's site in the last frame
 abbrev pub effected : Test → Site → Effect → Data → Outcome Data
