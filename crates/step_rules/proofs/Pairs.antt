@@ -10,6 +10,9 @@ All-more P Q weaker xs all k d lt = weaker (get_or xs k d) (all k d lt)
 pub All-both : {A : Type 0} (P Q R : A → Type 0) → ((a : A) → P a → Q a → R a) → (xs : List A) → All P xs → All Q xs → All R xs
 All-both P Q R join xs p q k d lt = join (get_or xs k d) (p k d lt) (q k d lt)
 
+pub pairs-more : {A : Type 0} (R S : A → A → Type 0) → ((a b : A) → R a b → S a b) → (xs : List A) → AllPairs R xs → AllPairs S xs
+pairs-more R S weaker xs pairs i j d lt within = weaker (get_or xs i d) (get_or xs j d) (pairs i j d lt within)
+
 pub pairs-head : {A : Type 0} (R : A → A → Type 0) (x : A) (xs : List A) → AllPairs R (x ∷ xs) → All (R x) xs
 pairs-head R x xs pairs k d lt = pairs 0 (suc k) d (omega arith) (omega arith)
 

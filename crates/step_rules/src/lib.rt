@@ -1,11 +1,13 @@
 //! The rules of steps: configurations, what each statement does in its step, and runs (ES 201 873-1 and 873-4). They run no code.
 #![tactic(auto)]
 
-ghost use Rattle.std.specs.Prelude.{◌≡◌, List, [], None, Ok};
+ghost use Rattle.std.specs.Prelude.{◌≡◌, List, [], None, Ok, AllPairs};
+ghost use Rattle.std.specs.declared.cmp.Ordering.TheVariants.{Less};
 ghost use Rattle.ttcn_syntax.specs.declared.tree.statement.Verdict.{Verdict};
-ghost use Rattle.step_rules.specs.Configurations.{Configuration, Ended};
-ghost use Rattle.step_rules.specs.Labels.{labels};
+ghost use Rattle.step_rules.specs.Configurations.{Configuration, Ended, Goes, Going};
+ghost use Rattle.step_rules.specs.Labels.{label_cmp, labels};
 ghost use Rattle.step_rules.specs.LiveParts.{live_part};
+ghost use Rattle.step_rules.specs.Order.{IsOrdered};
 ghost use Rattle.step_rules.specs.Places.{branch_of, place_of};
 ghost use Rattle.step_rules.specs.Runs.{graph_of, replay, start};
 ghost use Rattle.step_rules.specs.Snapshots.{Test};
@@ -23,4 +25,10 @@ pub fn ended_test_cases_stand_still()
 pub fn runs_start()
     ensures empty { (test : Test) → replay test [] ≡ Ok (start test) }
     ensures graph { (test : Test) → (graph_of test).first ≡ start test }
+{}
+
+/// The enabled labels ascend, and none comes twice.
+#[tactic(auto, using(crate::proofs::LabelOrder::labels_ascend))]
+pub fn labels_ascend()
+    ensures { (test : Test) (c : Going) → IsOrdered c → AllPairs (λ k l. label_cmp k l ≡ Less) (labels test (Goes c)) }
 {}
