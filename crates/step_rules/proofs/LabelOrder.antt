@@ -1,18 +1,18 @@
 -- The labels of an ordered configuration ascend.
-use Rattle.std.proofs.Common.{◌≡◌, ℕ, suc, ◌+◌, ◌<◌, ◌≤◌, Bool, true, false, List, [], ◌∷◌, ◌++◌, map, length, Some, None, is_some, refl, sym, ap, subst, ◌∙◌, arith, get_or, if◌then◌else◌}
-use Rattle.std.specs.List.{All, AllPairs, filter, flat_map}
+use Rattle.std.proofs.Common.{◌≡◌, ℕ, ◌+◌, ◌<◌, ◌≤◌, Bool, true, false, List, [], ◌∷◌, ◌++◌, length, is_some, refl, sym, ap, subst, ◌∙◌, arith, get_or, if◌then◌else◌}
+use Rattle.std.specs.List.{All, AllPairs, filter}
 use Rattle.std.specs.Ordering.{match_ordering, nat_cmp, ordering_reverse}
 use Rattle.std.specs.Cmp.{nat_cmp_is}
 use Rattle.std.specs.declared.cmp.Ordering.{Ordering}
 use Rattle.std.specs.declared.cmp.Ordering.TheVariants.{Less, Equal, Greater}
 use Rattle.std.proofs.lemmas.Cmp.{nat_list_cmp_total}
-use Rattle.std.proofs.lemmas.List.Elements.{All-append, All-cons, All-filter, All-head, All-map, All-nil, All-tail}
+use Rattle.std.proofs.lemmas.List.Elements.{All-append, All-cons, All-head, All-map, All-nil, All-tail}
 use Rattle.std.proofs.lemmas.List.Kept.{AllPairs-cons, AllPairs-filter}
 use Rattle.step_rules.proofs.Pairs.{All-more, pairs-append, pairs-flat, pairs-map, pairs-more, pairs-nil}
 use Rattle.step_rules.specs.Configurations.{Component, Frame, Goes, Going, is_running_state, path_cmp, path_of}
 use Rattle.step_rules.specs.Entries.{name_cmp}
 use Rattle.step_rules.specs.Labels.{call_expiries, expiries, expiry_cmp, frame_expiries, label_cmp, labels, labels_of_component, statement_labels}
-use Rattle.step_rules.specs.Order.{Ascends, HasTimersInOrder, IsOrdered, IsOrderedWithin}
+use Rattle.step_rules.specs.Order.{HasTimersInOrder, IsOrdered, IsOrderedWithin}
 use Rattle.step_rules.specs.Snapshots.{Test}
 use Rattle.step_rules.specs.Steps.{Expiry, Label, Statement, statement_step}
 use Rattle.ttcn_values.specs.Frames.{is_running}
@@ -28,7 +28,7 @@ own-reverse Less e = absurd (let found = e in cc)
 own-reverse Equal e = refl
 own-reverse Greater e = absurd (let found = e in cc)
 
-names-alike : (name : List ℕ) → name_cmp name name ≡ Equal
+pub names-alike : (name : List ℕ) → name_cmp name name ≡ Equal
 names-alike name = own-reverse (name_cmp name name) (nat_list_cmp_total.antisymm name name)
 
 paths-alike : (p : Path) → path_cmp p p ≡ Equal
@@ -48,7 +48,7 @@ IsOf p (Statement q) = q ≡ p
 IsOf p (Expiry q number name) = q ≡ p
 
 -- it is an expiry in a frame below a number
-abbrev IsBelow : Path → ℕ → Label → Type 0
+abbrev pub IsBelow : Path → ℕ → Label → Type 0
 IsBelow p limit (Statement q) = ⊥
 IsBelow p limit (Expiry q number name) = (q ≡ p) × (number < limit)
 
@@ -88,8 +88,8 @@ frame-pairs : (p : Path) (n : ℕ) (frame : Frame) → HasTimersInOrder frame �
 frame-pairs p n frame ordered =
     pairs-map Before (λ e. Expiry p n e.0) (filter (λ e. is_running e.1) frame.timers)
     (pairs-more (λ d e. name_cmp d.0 e.0 ≡ Less) (λ d e. Before (Expiry p n d.0) (Expiry p n e.0)) (λ d e less. names-apart p n d.0 e.0 less)
-     (filter (λ e. is_running e.1) frame.timers)
-     (AllPairs-filter (λ d e. name_cmp d.0 e.0 ≡ Less) (λ e. is_running e.1) frame.timers ordered))
+    (filter (λ e. is_running e.1) frame.timers)
+    (AllPairs-filter (λ d e. name_cmp d.0 e.0 ≡ Less) (λ e. is_running e.1) frame.timers ordered))
 
 frame-below : (p : Path) (n : ℕ) (frame : Frame) → All (IsBelow p (n + 1)) (frame_expiries p n frame)
 frame-below p n frame = All-map (IsBelow p (n + 1)) (λ e. Expiry p n e.0) (filter (λ e. is_running e.1) frame.timers) (λ k d lt. (refl, omega arith))
@@ -103,7 +103,7 @@ below-frame p n frame (Expiry q m name) is =
 
 -- ---- the timers of a component
 
-calls-below : (p : Path) (calls : List Frame) → All (IsBelow p (length calls + 1)) (call_expiries p calls)
+pub calls-below : (p : Path) (calls : List Frame) → All (IsBelow p (length calls + 1)) (call_expiries p calls)
 calls-below p [] = All-nil (IsBelow p 1)
 calls-below p (frame ∷ frames) =
     All-append (IsBelow p (length (frame ∷ frames) + 1)) (call_expiries p frames) (frame_expiries p (length frames + 1) frame)
@@ -121,14 +121,14 @@ calls-pairs p (frame ∷ frames) ordered =
 -- ---- the labels of a component
 
 -- timers of frames above frame 0 come behind those of frame 0
-abbrev IsAbove : Path → Label → Type 0
+abbrev pub IsAbove : Path → Label → Type 0
 IsAbove p (Statement q) = ⊥
 IsAbove p (Expiry q number name) = (q ≡ p) × (0 < number)
 
 frame-above : (p : Path) (n : ℕ) (frame : Frame) → 0 < n → All (IsAbove p) (frame_expiries p n frame)
 frame-above p n frame lt = All-map (IsAbove p) (λ e. Expiry p n e.0) (filter (λ e. is_running e.1) frame.timers) (λ k d within. (refl, lt))
 
-calls-above : (p : Path) (calls : List Frame) → All (IsAbove p) (call_expiries p calls)
+pub calls-above : (p : Path) (calls : List Frame) → All (IsAbove p) (call_expiries p calls)
 calls-above p [] = All-nil (IsAbove p)
 calls-above p (frame ∷ frames) =
     All-append (IsAbove p) (call_expiries p frames) (frame_expiries p (length frames + 1) frame) (calls-above p frames) (frame-above p (length frames + 1) frame (omega arith))
@@ -150,7 +150,7 @@ expiries-pairs component ordered =
     (members-first (path_of component) component.own.members (call_expiries (path_of component) component.own.calls) (calls-above (path_of component) component.own.calls))
 
 -- an expiry of a component
-abbrev IsExpiry : Path → Label → Type 0
+abbrev pub IsExpiry : Path → Label → Type 0
 IsExpiry p (Statement q) = ⊥
 IsExpiry p (Expiry q number name) = q ≡ p
 
@@ -162,7 +162,7 @@ above-expiry : (p : Path) (label : Label) → IsAbove p label → IsExpiry p lab
 above-expiry p (Statement q) is = is
 above-expiry p (Expiry q number name) is = is.0
 
-expiries-of : (component : Component) → All (IsExpiry (path_of component)) (expiries component)
+pub expiries-of : (component : Component) → All (IsExpiry (path_of component)) (expiries component)
 expiries-of component =
     All-append (IsExpiry (path_of component)) (frame_expiries (path_of component) 0 component.own.members) (call_expiries (path_of component) component.own.calls)
     (All-map (IsExpiry (path_of component)) (λ e. Expiry (path_of component) 0 e.0) (filter (λ e. is_running e.1) component.own.members.timers) (λ k d lt. refl))

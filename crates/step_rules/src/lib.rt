@@ -1,7 +1,7 @@
 //! The rules of steps: configurations, what each statement does in its step, and runs (ES 201 873-1 and 873-4). They run no code.
 #![tactic(auto)]
 
-ghost use Rattle.std.specs.Prelude.{◌≡◌, List, [], None, Ok, AllPairs};
+ghost use Rattle.std.specs.Prelude.{◌≡◌, List, [], None, Ok, AllPairs, Contains, true, is_some, ◌↔◌};
 ghost use Rattle.std.specs.declared.cmp.Ordering.TheVariants.{Less};
 ghost use Rattle.ttcn_syntax.specs.declared.tree.statement.Verdict.{Verdict};
 ghost use Rattle.step_rules.specs.Configurations.{Configuration, Ended, Goes, Going};
@@ -31,4 +31,10 @@ pub fn runs_start()
 #[tactic(auto, using(crate::proofs::LabelOrder::labels_ascend))]
 pub fn labels_ascend()
     ensures { (test : Test) (c : Going) → IsOrdered c → AllPairs (λ k l. label_cmp k l ≡ Less) (labels test (Goes c)) }
+{}
+
+/// The enabled labels are exactly those that have a step.
+#[tactic(auto, using(crate::proofs::LabelsEnabled::labels_enabled))]
+pub fn labels_have_steps()
+    ensures { (test : Test) (c : Going) → IsOrdered c → (label : Label) → Contains (labels test (Goes c)) label ↔ (is_some (step test (Goes c) label) ≡ true) }
 {}
