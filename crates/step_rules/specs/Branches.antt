@@ -31,9 +31,9 @@ use Rattle.ttcn_values.specs.Templates.{arguments}
 use Rattle.ttcn_values.specs.Values.{boolean}
 use Rattle.ttcn_values.specs.declared.value.Value.{Value}
 
--- what is done when a branch is taken: what stands before the mark where the `alt` stood, and the frames of the altsteps that lead to the branch, the innermost first
+-- what is done when a branch is taken: the block that comes to stand where the branch was judged, and the frames of the altsteps that lead to the branch, the innermost first
 pub record Way : Type 0 where
-  pub before_mark : List Item
+  pub block : List Item
   pub frames : List Frame
 
 -- where branches are judged: the site, and what is seen of the frame there
@@ -83,8 +83,8 @@ read_by test snapshot own judge = reading_in test snapshot own judge.site judge.
 -- a branch of an altstep, where the altstep is called with these arguments and the items before the mark are those of the call
 abbrev pub way_through : Test → ℕ → List Value → List Item → Way → Way
 way_through test at values before way = record {
-  before_mark = before;
-  frames = way.frames ++ frame_with test.definitions at values way.before_mark ∷ [];
+  block = before;
+  frames = way.frames ++ frame_with test.definitions at values way.block ∷ [];
 }
 
 abbrev pub through : Test → ℕ → List Value → List Item → Written → Written
@@ -121,7 +121,7 @@ open_branch test judge place event block = Open (record {
   place = place;
   judge = judge;
   event = event;
-  way = record { before_mark = block; frames = [] };
+  way = record { block = block; frames = [] };
 })
 
 -- the branches of an altstep with its arguments, and the items before the mark

@@ -41,7 +41,7 @@ pub record ActiveDefault : Type 0 where
   pub altstep : ℕ
   pub arguments : List Value
 
--- what the statements of a component read and change but for the messages that wait for it
+-- what the statements of a component read and change of its own, beside its state, its verdict and the messages that wait for it
 pub record Data : Type 0 where
   -- frame 0: the variables, constants and timers of its type
   pub members : Frame

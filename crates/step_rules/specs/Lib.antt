@@ -15,3 +15,4 @@ pub mod Order
 pub mod Runs
 pub mod Places
 pub mod LiveParts
+pub mod Examples

@@ -252,6 +252,7 @@ abbrev pub otherwise : Stand → Site → Statement → ℕ → List Conditional
 otherwise stand site s next conditionals last =
     if nat_lt next (length conditionals) then Doing site s (From next) ∷ stand.rest else items_if_any stand.test.definitions site last ++ stand.rest
 
+-- the first condition of those that are left: an `if` without any goes on with its `else`
 abbrev pub act_conditional : Stand → Site → Statement → ℕ → List Conditional → Option (List Statement) → Option Conditional → Act
 act_conditional stand site s k conditionals last None = go_on stand (items_if_any stand.test.definitions site last ++ stand.rest)
 act_conditional stand site s k conditionals last (Some c) =
@@ -382,7 +383,7 @@ name_in (component.Named reference) = reference.name
 name_in _ = []
 
 abbrev pub stop_meant : Stand → Site → ComponentRef → Option Bool → Act
-stop_meant stand site reference (Some runs) = Continues (set_timer stand.test site (name_in reference) timer.Inactive (done stand))
+stop_meant stand site reference (Some _) = Continues (set_timer stand.test site (name_in reference) timer.Inactive (done stand))
 stop_meant stand site reference None = acting (λ c. Stops c.path (done stand)) (component_meant_at stand site reference)
 
 -- `.stop`, of a timer or a component
@@ -408,8 +409,8 @@ act_deactivate stand site (Some reference) =
 -- ---- alts
 
 -- the branches at an `alt`, and then those of the defaults
-abbrev pub choose_from : Stand → Site → Statement → List Written → Choice
-choose_from stand site s written = first_choice stand.test stand.snapshot stand.own (written ++ written_defaults stand.test stand.snapshot stand.own)
+abbrev pub choose_from : Stand → List Written → Choice
+choose_from stand written = first_choice stand.test stand.snapshot stand.own (written ++ written_defaults stand.test stand.snapshot stand.own)
 
 abbrev pub judge_at : Stand → Site → Judge
 judge_at stand site = record { site = site; view = last_view stand.snapshot stand.frame }
@@ -417,7 +418,7 @@ judge_at stand site = record { site = site; view = last_view stand.snapshot stan
 -- what is chosen at a statement, where it is an `alt` or stands for one
 abbrev pub choice_at : Stand → Site → Statement → Option Choice
 choice_at stand site s =
-    option_map (choose_from stand site s) (written_alt stand.test stand.snapshot stand.own (judge_at stand site) (out-Statement s).place (action_of s))
+    option_map (choose_from stand) (written_alt stand.test stand.snapshot stand.own (judge_at stand site) (out-Statement s).place (action_of s))
 
 abbrev pub act_port : Option (List ℕ) → Data → Act
 act_port None own = Continues own

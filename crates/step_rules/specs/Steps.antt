@@ -80,7 +80,7 @@ abbrev pub start_created : Going → Path → Frame → Option Component → Out
 start_created c path frame None = unmet
 start_created c path frame (Some component) = start_in c path frame component.state
 
--- a component that is created and did not start_component yet runs: a dynamic error for any other
+-- a created component that did not start yet begins to run: for any other component this is a dynamic error
 abbrev pub start_component : Going → Path → Frame → Outcome Going
 start_component c path frame = start_created c path frame (component_at c path)
 

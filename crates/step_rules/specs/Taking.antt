@@ -28,7 +28,7 @@ uncovered own = with_calls (in_last (λ frame. with_remaining (without_marks fra
 
 -- the last frame behind a branch: what comes before the mark, the mark with the `alt`, and what followed
 abbrev pub marked : Site → Statement → List Item → Way → List Item
-marked site s rest way = way.before_mark ++ Mark site s ∷ rest
+marked site s rest way = way.block ++ Mark site s ∷ rest
 
 -- the frames with a branch's way, where the `alt` stood in the last one in front of the rest
 abbrev pub entered : Site → Statement → List Item → Way → List Frame → List Frame

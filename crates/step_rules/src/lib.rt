@@ -5,6 +5,7 @@ ghost use Rattle.std.specs.Prelude.{◌≡◌, List, [], None, Ok, AllPairs, Con
 ghost use Rattle.std.specs.declared.cmp.Ordering.TheVariants.{Less};
 ghost use Rattle.ttcn_syntax.specs.declared.tree.statement.Verdict.{Verdict};
 ghost use Rattle.step_rules.specs.Configurations.{Configuration, Ended, Goes, Going};
+ghost use Rattle.step_rules.specs.Examples.{CreatesComponent, Repeats, RepeatsOutside, SetsVerdict, StartsTheTest, TakesDefault, TakesElse};
 ghost use Rattle.step_rules.specs.Labels.{label_cmp, labels};
 ghost use Rattle.step_rules.specs.LiveParts.{live_part};
 ghost use Rattle.step_rules.specs.Order.{IsOrdered};
@@ -37,4 +38,16 @@ pub fn labels_ascend()
 #[tactic(auto, using(crate::proofs::LabelsEnabled::labels_enabled))]
 pub fn labels_have_steps()
     ensures { (test : Test) (c : Going) → IsOrdered c → (label : Label) → Contains (labels test (Goes c)) label ↔ (is_some (step test (Goes c) label) ≡ true) }
+{}
+
+/// Worked examples: what single statements do.
+#[tactic(auto, using(crate::proofs::Examples::sets_verdict, crate::proofs::Examples::takes_else, crate::proofs::Examples::takes_default, crate::proofs::Examples::repeats, crate::proofs::Examples::repeats_outside, crate::proofs::Examples::creates, crate::proofs::Examples::starts))]
+pub fn examples_hold()
+    ensures setverdict { SetsVerdict }
+    ensures else_branch { TakesElse }
+    ensures default { TakesDefault }
+    ensures repeat { Repeats }
+    ensures repeat_outside { RepeatsOutside }
+    ensures create { CreatesComponent }
+    ensures start { StartsTheTest }
 {}
