@@ -2,3 +2,5 @@ pub mod Pairs
 pub mod Examples
 pub mod LabelOrder
 pub mod LabelsEnabled
+pub mod Verdicts
+pub mod LiveSteps

@@ -1,8 +1,8 @@
 -- Steps of configurations: what a component asks for is done among all components, and running timers expire (ES 201 873-1, 12, 20 to 23, ES 201 873-4).
-use Rattle.std.specs.Prelude.{ℕ, ◌+◌, Bool, true, false, ◌&&◌, ◌||◌, not, List, [], ◌∷◌, ◌++◌, map, length, bytes_eq, nat_eq, Option, Some, None, if◌then◌else◌}
+use Rattle.std.specs.Prelude.{ℕ, ◌+◌, Bool, true, false, ◌&&◌, ◌||◌, not, List, [], ◌∷◌, ◌++◌, map, length, bytes_eq, nat_eq, Option, Some, None, is_some, if◌then◌else◌}
 use Rattle.std.specs.List.{filter, flat_map, list_any}
 use Rattle.std.specs.Option.{option_and_then, option_map}
-use Rattle.std.specs.Ordering.{match_ordering}
+use Rattle.std.specs.Ordering.{is_lt, match_ordering}
 use Rattle.std.specs.declared.cmp.Ordering.{Ordering}
 use Rattle.std.specs.declared.cmp.Ordering.TheVariants.{Less, Greater}
 use Rattle.ttcn_syntax.specs.declared.tree.statement.Verdict.{Verdict}
@@ -59,20 +59,28 @@ settle c path own = touch c path (with_data own)
 
 -- ---- starts, stops and new components
 
+-- a component comes before another
+abbrev pub is_before : Component → Component → Bool
+is_before one other = is_lt (path_cmp (path_of one) (path_of other))
+
 -- a new component in its place among the others
 abbrev pub insert : Component → List Component → List Component
 insert new [] = new ∷ []
-insert new (component ∷ components) =
-    match_ordering (path_cmp (path_of new) (path_of component)) (new ∷ component ∷ components) (new ∷ components) (component ∷ insert new components)
+insert new (component ∷ components) = if is_before new component then new ∷ component ∷ components else component ∷ insert new components
 
-abbrev pub with_components : List Component → Going → Going
-with_components components c = record { components = components; connections = c.connections; forgotten = c.forgotten }
+-- a new component, whose path no other has
+abbrev pub with_new : Component → Going → Going
+with_new new c = record {
+  components = if is_some (component_at c (path_of new)) then c.components else insert new c.components;
+  connections = c.connections;
+  forgotten = c.forgotten;
+}
 
 abbrev pub begin : Frame → Component → Component
 begin frame component = with_state Running (record { itself = component.itself; own = with_calls (frame ∷ []) component.own; state = component.state; verdict = component.verdict; queues = component.queues })
 
 abbrev pub start_in : Going → Path → Frame → State → Outcome Going
-start_in c path frame Created = Yields (with_component c path (begin frame))
+start_in c path frame Created = Yields (touch c path (begin frame))
 start_in c path frame Running = dynamic_error
 start_in c path frame Terminated = dynamic_error
 
@@ -97,10 +105,9 @@ connection d e = match_ordering (end_cmp d e) (record { one = d; other = e }) (r
 abbrev pub connection_cmp : Connection → Connection → Ordering
 connection_cmp k l = match_ordering (end_cmp k.one l.one) Less (end_cmp k.other l.other) Greater
 
+-- a connection in its place among the others; one that is there stays one
 abbrev pub add_connection : Connection → List Connection → List Connection
-add_connection new [] = new ∷ []
-add_connection new (k ∷ connections) =
-    match_ordering (connection_cmp new k) (new ∷ k ∷ connections) (new ∷ connections) (k ∷ add_connection new connections)
+add_connection new connections = filter (λ k. is_lt (connection_cmp k new)) connections ++ new ∷ filter (λ k. is_lt (connection_cmp new k)) connections
 
 abbrev pub with_connection : Connection → Going → Going
 with_connection new c = record { components = c.components; connections = add_connection new c.connections; forgotten = c.forgotten }
@@ -160,7 +167,7 @@ apply test c itself (Continues own) = Some (Yields (Goes (settle c itself.path o
 apply test c itself (Worsens v own) = Some (Yields (Goes (touch (settle c itself.path own) itself.path (with_verdict v))))
 apply test c itself (Removes port own) = Some (Yields (Goes (touch (settle c itself.path own) itself.path (at_queue port without_first))))
 apply test c itself (Sends port to v own) = Some (ending (send (settle c itself.path own) itself port to v))
-apply test c itself (Creates new own) = Some (Yields (Goes (with_components (insert new (settle c itself.path own).components) (settle c itself.path own))))
+apply test c itself (Creates new own) = Some (Yields (Goes (with_new new (settle c itself.path own))))
 apply test c itself (Starts path frame own) = Some (ending (start_component (settle c itself.path own) path frame))
 apply test c itself (Stops path own) = Some (Yields (stop test (settle c itself.path own) path))
 apply test c itself (Connects d e own) = Some (ending (connect (settle c itself.path own) d e))

@@ -4,15 +4,16 @@
 ghost use Rattle.std.specs.Prelude.{◌≡◌, List, [], None, Ok, AllPairs, Contains, true, is_some, ◌↔◌};
 ghost use Rattle.std.specs.declared.cmp.Ordering.TheVariants.{Less};
 ghost use Rattle.ttcn_syntax.specs.declared.tree.statement.Verdict.{Verdict};
-ghost use Rattle.step_rules.specs.Configurations.{Configuration, Ended, Goes, Going};
+ghost use Rattle.step_rules.specs.Configurations.{Component, Configuration, Ended, Goes, Going, path_of};
 ghost use Rattle.step_rules.specs.Examples.{CreatesComponent, Repeats, RepeatsOutside, SetsVerdict, StartsTheTest, TakesDefault, TakesElse};
 ghost use Rattle.step_rules.specs.Labels.{label_cmp, labels};
-ghost use Rattle.step_rules.specs.LiveParts.{live_part};
+ghost use Rattle.step_rules.specs.LiveParts.{live_going, live_part};
 ghost use Rattle.step_rules.specs.Order.{IsOrdered};
 ghost use Rattle.step_rules.specs.Places.{branch_of, place_of};
 ghost use Rattle.step_rules.specs.Runs.{graph_of, replay, start};
 ghost use Rattle.step_rules.specs.Snapshots.{Test};
-ghost use Rattle.step_rules.specs.Steps.{Label, step};
+ghost use Rattle.step_rules.specs.Steps.{Label, step, touch};
+ghost use Rattle.ttcn_values.specs.declared.path.Path.{Path};
 
 /// A test case that ended has no step and no label, and its live part is its verdict.
 pub fn ended_test_cases_stand_still()
@@ -50,4 +51,10 @@ pub fn examples_hold()
     ensures repeat_outside { RepeatsOutside }
     ensures create { CreatesComponent }
     ensures start { StartsTheTest }
+{}
+
+/// A change of one component has the same live part from a configuration and from its live part.
+#[tactic(auto, using(crate::proofs::LiveSteps::keeps_touch))]
+pub fn changes_keep_live_parts()
+    ensures { (change : Component → Component) → ((x : Component) → path_of (change x) ≡ path_of x) → (p : Path) (c : Going) → live_going (touch (live_going c) p change) ≡ live_going (touch c p change) }
 {}
