@@ -7,7 +7,7 @@ use Rattle.std.proofs.lemmas.Slice.Eq.{bytes_eq-Decides}
 use Rattle.ttcn_syntax.specs.declared.tree.statement.Verdict.{Verdict}
 use Rattle.ttcn_syntax.specs.declared.tree.statement.Verdict.TheVariants as verdict
 use Rattle.step_rules.proofs.Verdicts.{none_worse, worse_associates, worse_commutes, worse_none, worse_pairs}
-use Rattle.step_rules.specs.Configurations.{Component, Configuration, Connection, Data, End, Ended, Frame, Goes, Going, Message, State, Created, Running, Terminated, component_at, is_terminated_state, overall, path_of, same_path, with_component, worse}
+use Rattle.step_rules.specs.Configurations.{Component, Configuration, Connection, Data, End, Ended, Frame, Goes, Going, Message, State, Created, Running, Terminated, component_at, is_terminated_state, overall, path_of, path_cmp, same_path, with_component, worse}
 use Rattle.step_rules.specs.LiveParts.{forget_verdict, husk, is_live, live_component, live_going, live_part}
 use Rattle.step_rules.specs.Statements.{same_end}
 use Rattle.step_rules.specs.Steps.{add_connection, connect, connection_cmp, insert, is_before, is_double, is_terminated_at, is_terminated_component, opposite, peers, touch, unless_terminated, with_connection, with_new}
@@ -262,3 +262,179 @@ pick-gentle change keeps p = record {
 pub keeps_touch : (change : Component → Component) → ((x : Component) → path_of (change x) ≡ path_of x) → (p : Path) → Keeps (λ c. touch c p change)
 unfolding pick
 keeps_touch change keeps p = keeps-changed (pick change p) (pick-gentle change keeps p)
+
+-- ---- live parts of live parts
+
+live-itself : (x : Component) → live_component (live_component x) ≡ live_component x
+live-itself x = by-state (λ y. live_component (live_component y) ≡ live_component y) x (λ e. ap live_component (live-over x e) ∙ sym (live-over x e)) (λ e. ap live_component (live-alive x e))
+
+id-gentle : IsGentle (λ x. x)
+id-gentle = record { path = λ x. refl; over = λ x e. refl }
+
+pub live-twice : (c : Going) → live_going (live_going c) ≡ live_going c
+live-twice c =
+    ap (λ xs. live_going (going_of xs (live_going c).connections (live_going c).forgotten)) (sym (map-same (live_going c).components))
+    ∙ keeps-changed (λ x. x) id-gentle c
+    ∙ ap (λ xs. live_going (going_of xs c.connections c.forgotten)) (map-same c.components)
+
+pub alike : (f : Going → Going) → Keeps f → (c d : Going) → live_going c ≡ live_going d → live_going (f c) ≡ live_going (f d)
+alike f keeps c d e = sym (keeps c) ∙ ap (λ x. live_going (f x)) e ∙ keeps d
+
+-- ---- finding
+
+find-live-first : (b : Bool) (x : Component) (r : Option Component) (s : Option Component) → r ≡ option_map live_component s → (if b then Some (live_component x) else r) ≡ option_map live_component (if b then Some x else s)
+find-live-first true x r s e = refl
+find-live-first false x r s e = e
+
+find-live : (p : Path) (xs : List Component) → find (λ x. same_path (path_of x) p) (map live_component xs) ≡ option_map live_component (find (λ x. same_path (path_of x) p) xs)
+find-live p [] = refl
+find-live p (x ∷ xs) =
+    ap (λ q. if same_path q p then Some (live_component x) else find (λ y. same_path (path_of y) p) (map live_component xs)) (live-path x)
+    ∙ find-live-first (same_path (path_of x) p) x (find (λ y. same_path (path_of y) p) (map live_component xs)) (find (λ y. same_path (path_of y) p) xs) (find-live p xs)
+
+pub component-live : (c : Going) (p : Path) → component_at (live_going c) p ≡ option_map live_component (component_at c p)
+component-live c p = find-live p c.components
+
+-- ---- new components
+
+before-live : (new x : Component) → is_before new (live_component x) ≡ is_before new x
+before-live new x = ap (λ p. is_lt (path_cmp (path_of new) p)) (live-path x)
+
+insert-first : (b : Bool) (new x : Component) (xs ys zs : List Component) → map live_component xs ≡ map live_component ys → map live_component (insert new xs) ≡ map live_component zs
+    → map live_component (if b then new ∷ live_component x ∷ xs else live_component x ∷ insert new xs) ≡ map live_component (if b then new ∷ x ∷ ys else x ∷ zs)
+insert-first true new x xs ys zs e i = ap (λ us. live_component new ∷ us) (ap (λ y. y ∷ map live_component xs) (live-itself x) ∙ ap (λ us. live_component x ∷ us) e)
+insert-first false new x xs ys zs e i = ap (λ y. y ∷ map live_component (insert new xs)) (live-itself x) ∙ ap (λ us. live_component x ∷ us) i
+
+insert-live : (new : Component) (xs : List Component) → map live_component (insert new (map live_component xs)) ≡ map live_component (insert new xs)
+insert-live new [] = refl
+insert-live new (x ∷ xs) =
+    ap (λ b. map live_component (if b then new ∷ live_component x ∷ map live_component xs else live_component x ∷ insert new (map live_component xs))) (before-live new x)
+    ∙ insert-first (is_before new x) new x (map live_component xs) xs (insert new xs) (map-twice live_component live_component live_component live-itself xs) (insert-live new xs)
+
+insert-over-first : (b : Bool) (new x : Component) (xs ys zs us : List Component) (p : Path) → over_in (live_component x ∷ xs) p ≡ over_in (x ∷ ys) p → over_in us p ≡ over_in zs p
+    → over_in (if b then new ∷ live_component x ∷ xs else live_component x ∷ us) p ≡ over_in (if b then new ∷ x ∷ ys else x ∷ zs) p
+insert-over-first true new x xs ys zs us p e i = over-first (same_path (path_of new) p) new new (find (λ y. same_path (path_of y) p) (live_component x ∷ xs)) (find (λ y. same_path (path_of y) p) (x ∷ ys)) refl e
+insert-over-first false new x xs ys zs us p e i =
+    ap (λ q. is_terminated_component (if same_path q p then Some (live_component x) else find (λ y. same_path (path_of y) p) us)) (live-path x)
+    ∙ over-first (same_path (path_of x) p) (live_component x) x (find (λ y. same_path (path_of y) p) us) (find (λ y. same_path (path_of y) p) zs) (live-is-over x) i
+
+insert-over : (new : Component) (p : Path) (xs : List Component) → over_in (insert new (map live_component xs)) p ≡ over_in (insert new xs) p
+insert-over new p [] = refl
+insert-over new p (x ∷ xs) =
+    ap (λ b. over_in (if b then new ∷ live_component x ∷ map live_component xs else live_component x ∷ insert new (map live_component xs)) p) (before-live new x)
+    ∙ insert-over-first (is_before new x) new x (map live_component xs) xs (insert new xs) (insert new (map live_component xs)) p (live-over-in p (x ∷ xs)) (insert-over new p xs)
+
+-- the path of a new component is new
+abbrev is_new : Path → List Component → Bool
+is_new q xs = not (is_some (find (λ x. same_path (path_of x) q) xs))
+
+no-one : (q : Path) (o : Option Component) → not (is_some o) ≡ true → is_terminated_component o ≡ false
+no-one q None e = refl
+no-one q (Some x) e = absurd (let no = e in cc)
+
+new-rest-first : (b : Bool) (x : Component) (o : Option Component) → not (is_some (if b then Some x else o)) ≡ true → not (is_some o) ≡ true
+new-rest-first true x o e = absurd (let no = e in cc)
+new-rest-first false x o e = e
+
+path-is : (p q : Path) → same_path p q ≡ true → p ≡ q
+path-is p q e = ap (λ n. record { numbers = n }) ((bytes_eq-Decides p.numbers q.numbers).0 e)
+
+stays-first : (b : Bool) (new : Component) (p : Path) (xs : List Component) → same_path (path_of new) p ≡ b → is_new (path_of new) xs ≡ true → over_in xs p ≡ true
+    → is_terminated_component (if b then Some new else find (λ y. same_path (path_of y) p) xs) ≡ true
+stays-first true new p xs is none e =
+    absurd (let same : path_of new ≡ p = path-is (path_of new) p is in
+            let over : over_in xs (path_of new) ≡ false = no-one (path_of new) (find (λ x. same_path (path_of x) (path_of new)) xs) none in
+            let no : true ≡ false = sym e ∙ ap (over_in xs) (sym same) ∙ over in cc)
+stays-first false new p xs is none e = e
+
+insert-stays-first : (b : Bool) (new x : Component) (p : Path) (xs us : List Component) → is_new (path_of new) (x ∷ xs) ≡ true → over_in (x ∷ xs) p ≡ true → (over_in xs p ≡ true → over_in us p ≡ true)
+    → over_in (if b then new ∷ x ∷ xs else x ∷ us) p ≡ true
+insert-stays-first true new x p xs us none e rest = stays-first (same_path (path_of new) p) new p (x ∷ xs) refl none e
+insert-stays-first false new x p xs us none e rest =
+    over-stays-first (same_path (path_of x) p) x x (find (λ y. same_path (path_of y) p) xs) (find (λ y. same_path (path_of y) p) us) (λ over. over) rest e
+
+insert-stays : (new : Component) (p : Path) (xs : List Component) → is_new (path_of new) xs ≡ true → over_in xs p ≡ true → over_in (insert new xs) p ≡ true
+insert-stays new p [] none e = absurd (let no = e in cc)
+insert-stays new p (x ∷ xs) none e =
+    insert-stays-first (is_before new x) new x p xs (insert new xs) none e
+    (insert-stays new p xs (new-rest-first (same_path (path_of x) (path_of new)) x (find (λ y. same_path (path_of y) (path_of new)) xs) none))
+
+insert-total-first : (b : Bool) (new x : Component) (xs us : List Component) → total us ≡ worse (contribution new) (total xs) → total (if b then new ∷ x ∷ xs else x ∷ us) ≡ worse (contribution new) (worse (contribution x) (total xs))
+unfolding total
+insert-total-first true new x xs us e = refl
+insert-total-first false new x xs us e =
+    ap (worse (contribution x)) e ∙ sym (worse_associates (contribution x) (contribution new) (total xs)) ∙ ap (λ v. worse v (total xs)) (worse_commutes (contribution x) (contribution new))
+    ∙ worse_associates (contribution new) (contribution x) (total xs)
+
+insert-total : (new : Component) (xs : List Component) → total (insert new xs) ≡ worse (contribution new) (total xs)
+unfolding total
+insert-total new [] = refl
+insert-total new (x ∷ xs) = insert-total-first (is_before new x) new x xs (insert new xs) (insert-total new xs)
+
+total-live : (xs : List Component) → total (map live_component xs) ≡ verdict.None
+unfolding total
+total-live [] = refl
+total-live (x ∷ xs) = ap (λ v. worse v (total (map live_component xs))) (contribution-live x) ∙ none_worse (total (map live_component xs)) ∙ total-live xs
+
+abbrev new_if : Bool → Component → Going → Going
+new_if b new c = going_of (if b then c.components else insert new c.components) c.connections c.forgotten
+
+keeps-new-if : (b : Bool) (new : Component) (c : Going) → is_some (component_at c (path_of new)) ≡ b → live_going (new_if b new (live_going c)) ≡ live_going (new_if b new c)
+keeps-new-if true new c is = live-twice c
+keeps-new-if false new c is = going-alike _ _ _ _ _ _ (insert-live new c.components) connections forgotten
+  where
+    none : is_new (path_of new) c.components ≡ true
+    none = ap not is
+    connections : filter (is_live (new_if false new (live_going c))) (filter (is_live c) c.connections) ≡ filter (is_live (new_if false new c)) c.connections
+    connections = filter-alike (is_live (new_if false new (live_going c))) (is_live (new_if false new c))
+          (λ k. ap (λ b. not (b && over_in (insert new (map live_component c.components)) k.other.component)) (insert-over new k.one.component c.components)
+                ∙ ap (λ b. not (over_in (insert new c.components) k.one.component && b)) (insert-over new k.other.component c.components))
+          (filter (is_live c) c.connections)
+        ∙ filter-stronger (is_live (new_if false new c)) (is_live c)
+          (λ k. both-over (over_in c.components k.one.component) (over_in c.components k.other.component) (over_in (insert new c.components) k.one.component) (over_in (insert new c.components) k.other.component)
+                (insert-stays new k.one.component c.components none) (insert-stays new k.other.component c.components none))
+          c.connections
+    forgotten : fold forget_verdict (fold forget_verdict c.forgotten c.components) (insert new (map live_component c.components)) ≡ fold forget_verdict c.forgotten (insert new c.components)
+    forgotten = fold-total (fold forget_verdict c.forgotten c.components) (insert new (map live_component c.components))
+        ∙ ap (λ v. worse v (total (insert new (map live_component c.components)))) (fold-total c.forgotten c.components)
+        ∙ ap (worse (worse c.forgotten (total c.components))) (insert-total new (map live_component c.components) ∙ ap (worse (contribution new)) (total-live c.components) ∙ worse_none (contribution new))
+        ∙ worse_associates c.forgotten (total c.components) (contribution new)
+        ∙ ap (worse c.forgotten) (worse_commutes (total c.components) (contribution new) ∙ sym (insert-total new c.components))
+        ∙ sym (fold-total c.forgotten (insert new c.components))
+
+some-live : (o : Option Component) → is_some (option_map live_component o) ≡ is_some o
+some-live None = refl
+some-live (Some x) = refl
+
+pub keeps_new : (new : Component) → Keeps (with_new new)
+keeps_new new c =
+    ap (λ b. live_going (new_if b new (live_going c))) (ap is_some (component-live c (path_of new)) ∙ some-live (component_at c (path_of new)))
+    ∙ keeps-new-if (is_some (component_at c (path_of new))) new c refl
+
+-- ---- connections
+
+filter-own : {A : Type 0} (p : A → Bool) (xs : List A) → filter p (filter p xs) ≡ filter p xs
+filter-own p xs = filter-stronger p p (λ x e. e) xs
+
+live-flags : (c : Going) (k : Connection) → is_live (live_going c) k ≡ is_live c k
+live-flags c k = ap (λ b. not (b && over_in (map live_component c.components) k.other.component)) (live-over-in k.one.component c.components)
+    ∙ ap (λ b. not (over_in c.components k.one.component && b)) (live-over-in k.other.component c.components)
+
+abbrev under : Connection → Connection → Bool
+under new k = is_lt (connection_cmp k new)
+
+abbrev above : Connection → Connection → Bool
+above new k = is_lt (connection_cmp new k)
+
+added-live : (p : Connection → Bool) (new : Connection) (ks : List Connection) → filter p (add_connection new (filter p ks)) ≡ filter p (add_connection new ks)
+added-live p new ks =
+    filter-append p (filter (under new) (filter p ks)) (new ∷ filter (above new) (filter p ks))
+    ∙ ap (λ us. us ++ filter p (new ∷ filter (above new) (filter p ks))) (filter-swap p (under new) (filter p ks) ∙ ap (filter (under new)) (filter-own p ks) ∙ sym (filter-swap p (under new) ks))
+    ∙ ap (λ us. filter p (filter (under new) ks) ++ (if p new then new ∷ us else us)) (filter-swap p (above new) (filter p ks) ∙ ap (filter (above new)) (filter-own p ks) ∙ sym (filter-swap p (above new) ks))
+    ∙ sym (filter-append p (filter (under new) ks) (new ∷ filter (above new) ks))
+
+pub keeps_connection : (new : Connection) → Keeps (with_connection new)
+keeps_connection new c = going-alike _ _ _ _ _ _
+    (map-twice live_component live_component live_component live-itself c.components)
+    (filter-alike (is_live (live_going c)) (is_live c) (live-flags c) (add_connection new (filter (is_live c) c.connections)) ∙ added-live (is_live c) new c.connections)
+    (ap (λ d. d.forgotten) (live-twice c))

@@ -4,7 +4,7 @@
 ghost use Rattle.std.specs.Prelude.{◌≡◌, List, [], None, Ok, AllPairs, Contains, true, is_some, ◌↔◌};
 ghost use Rattle.std.specs.declared.cmp.Ordering.TheVariants.{Less};
 ghost use Rattle.ttcn_syntax.specs.declared.tree.statement.Verdict.{Verdict};
-ghost use Rattle.step_rules.specs.Configurations.{Component, Configuration, Ended, Goes, Going, path_of};
+ghost use Rattle.step_rules.specs.Configurations.{Component, Configuration, Connection, Ended, Goes, Going, path_of};
 ghost use Rattle.step_rules.specs.Examples.{CreatesComponent, Repeats, RepeatsOutside, SetsVerdict, StartsTheTest, TakesDefault, TakesElse};
 ghost use Rattle.step_rules.specs.Labels.{label_cmp, labels};
 ghost use Rattle.step_rules.specs.LiveParts.{live_going, live_part};
@@ -12,7 +12,7 @@ ghost use Rattle.step_rules.specs.Order.{IsOrdered};
 ghost use Rattle.step_rules.specs.Places.{branch_of, place_of};
 ghost use Rattle.step_rules.specs.Runs.{graph_of, replay, start};
 ghost use Rattle.step_rules.specs.Snapshots.{Test};
-ghost use Rattle.step_rules.specs.Steps.{Label, step, touch};
+ghost use Rattle.step_rules.specs.Steps.{Label, step, touch, with_connection, with_new};
 ghost use Rattle.ttcn_values.specs.declared.path.Path.{Path};
 
 /// A test case that ended has no step and no label, and its live part is its verdict.
@@ -54,7 +54,9 @@ pub fn examples_hold()
 {}
 
 /// A change of one component has the same live part from a configuration and from its live part.
-#[tactic(auto, using(crate::proofs::LiveSteps::keeps_touch))]
+#[tactic(auto, using(crate::proofs::LiveSteps::keeps_touch, crate::proofs::LiveSteps::keeps_new, crate::proofs::LiveSteps::keeps_connection))]
 pub fn changes_keep_live_parts()
-    ensures { (change : Component → Component) → ((x : Component) → path_of (change x) ≡ path_of x) → (p : Path) (c : Going) → live_going (touch (live_going c) p change) ≡ live_going (touch c p change) }
+    ensures change { (change : Component → Component) → ((x : Component) → path_of (change x) ≡ path_of x) → (p : Path) (c : Going) → live_going (touch (live_going c) p change) ≡ live_going (touch c p change) }
+    ensures new { (new : Component) (c : Going) → live_going (with_new new (live_going c)) ≡ live_going (with_new new c) }
+    ensures connection { (k : Connection) (c : Going) → live_going (with_connection k (live_going c)) ≡ live_going (with_connection k c) }
 {}
