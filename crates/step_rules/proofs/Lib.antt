@@ -4,3 +4,4 @@ pub mod LabelOrder
 pub mod LabelsEnabled
 pub mod Verdicts
 pub mod LiveSteps
+pub mod LiveTheorem

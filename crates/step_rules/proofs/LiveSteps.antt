@@ -15,7 +15,7 @@ use Rattle.ttcn_values.specs.declared.path.Path.{Path}
 
 -- ---- components
 
-abbrev is_over : Component → Bool
+abbrev pub is_over : Component → Bool
 is_over x = is_terminated_state x.state
 
 -- a change that leaves paths and terminated components alone
@@ -23,23 +23,23 @@ record IsGentle (f : Component → Component) : Type 0 where
   path : (x : Component) → path_of (f x) ≡ path_of x
   over : (x : Component) → is_over x ≡ true → f x ≡ x
 
-by-state : (P : Component → Type 0) (x : Component) → ((is_over x ≡ true) → P x) → ((is_over x ≡ false) → P x) → P x
+pub by-state : (P : Component → Type 0) (x : Component) → ((is_over x ≡ true) → P x) → ((is_over x ≡ false) → P x) → P x
 by-state P x over alive = told (is_over x) refl
   where
     told : (b : Bool) → is_over x ≡ b → P x
     told true e = over e
     told false e = alive e
 
-live-over : (x : Component) → is_over x ≡ true → live_component x ≡ husk (path_of x)
+pub live-over : (x : Component) → is_over x ≡ true → live_component x ≡ husk (path_of x)
 live-over x e = ap (λ b. if b then husk (path_of x) else x) e
 
-live-alive : (x : Component) → is_over x ≡ false → live_component x ≡ x
+pub live-alive : (x : Component) → is_over x ≡ false → live_component x ≡ x
 live-alive x e = ap (λ b. if b then husk (path_of x) else x) e
 
-live-path : (x : Component) → path_of (live_component x) ≡ path_of x
+pub live-path : (x : Component) → path_of (live_component x) ≡ path_of x
 live-path x = by-state (λ y. path_of (live_component y) ≡ path_of y) x (λ e. ap path_of (live-over x e)) (λ e. ap path_of (live-alive x e))
 
-live-is-over : (x : Component) → is_over (live_component x) ≡ is_over x
+pub live-is-over : (x : Component) → is_over (live_component x) ≡ is_over x
 live-is-over x = by-state (λ y. is_over (live_component y) ≡ is_over y) x (λ e. ap is_over (live-over x e) ∙ sym e) (λ e. ap is_over (live-alive x e))
 
 -- after a gentle change, what lives is the same
@@ -56,7 +56,7 @@ gentle-over f gentle x = by-state (λ y. is_over (f (live_component y)) ≡ is_o
 
 -- ---- lists
 
-map-twice : {A B C : Type 0} (f : B → C) (g : A → B) (h : A → C) → ((a : A) → f (g a) ≡ h a) → (xs : List A) → map f (map g xs) ≡ map h xs
+pub map-twice : {A B C : Type 0} (f : B → C) (g : A → B) (h : A → C) → ((a : A) → f (g a) ≡ h a) → (xs : List A) → map f (map g xs) ≡ map h xs
 map-twice f g h same [] = refl
 map-twice f g h same (x ∷ xs) = ap (λ y. y ∷ map f (map g xs)) (same x) ∙ ap (λ ys. h x ∷ ys) (map-twice f g h same xs)
 
@@ -66,22 +66,22 @@ over-first true x y r s first others = first
 over-first false x y r s first others = others
 
 -- whether a component of these is terminated
-abbrev over_in : List Component → Path → Bool
+abbrev pub over_in : List Component → Path → Bool
 over_in xs p = is_terminated_component (find (λ x. same_path (path_of x) p) xs)
 
 -- a search by path meets terminated components alike
-found-over : (u v : Component → Component) → ((x : Component) → path_of (u x) ≡ path_of (v x)) → ((x : Component) → is_over (u x) ≡ is_over (v x)) → (p : Path) (xs : List Component)
+pub found-over : (u v : Component → Component) → ((x : Component) → path_of (u x) ≡ path_of (v x)) → ((x : Component) → is_over (u x) ≡ is_over (v x)) → (p : Path) (xs : List Component)
     → over_in (map u xs) p ≡ over_in (map v xs) p
 found-over u v paths overs p [] = refl
 found-over u v paths overs p (x ∷ xs) =
     ap (λ q. is_terminated_component (if same_path q p then Some (u x) else find (λ y. same_path (path_of y) p) (map u xs))) (paths x)
     ∙ over-first (same_path (path_of (v x)) p) (u x) (v x) (find (λ y. same_path (path_of y) p) (map u xs)) (find (λ y. same_path (path_of y) p) (map v xs)) (overs x) (found-over u v paths overs p xs)
 
-map-same : {A : Type 0} (xs : List A) → map (λ x. x) xs ≡ xs
+pub map-same : {A : Type 0} (xs : List A) → map (λ x. x) xs ≡ xs
 map-same [] = refl
 map-same (x ∷ xs) = ap (λ ys. x ∷ ys) (map-same xs)
 
-live-over-in : (p : Path) (xs : List Component) → over_in (map live_component xs) p ≡ over_in xs p
+pub live-over-in : (p : Path) (xs : List Component) → over_in (map live_component xs) p ≡ over_in xs p
 live-over-in p xs = found-over live_component (λ x. x) live-path live-is-over p xs ∙ ap (λ ys. over_in ys p) (map-same xs)
 
 -- who is terminated stays so
@@ -139,10 +139,10 @@ filter-append p (x ∷ xs) ys = filter-first-append (p x) x (filter p xs) (filte
 
 -- ---- verdicts that are forgotten
 
-contribution : Component → Verdict
+unfoldable pub contribution : Component → Verdict
 contribution x = if is_over x then x.verdict else verdict.None
 
-total : List Component → Verdict
+unfoldable pub total : List Component → Verdict
 total [] = verdict.None
 total (x ∷ xs) = worse (contribution x) (total xs)
 
@@ -150,17 +150,17 @@ forget-one : (b : Bool) (v w : Verdict) → (if b then worse v w else v) ≡ wor
 forget-one true v w = refl
 forget-one false v w = sym (worse_none v)
 
-fold-total : (v : Verdict) (xs : List Component) → fold forget_verdict v xs ≡ worse v (total xs)
+pub fold-total : (v : Verdict) (xs : List Component) → fold forget_verdict v xs ≡ worse v (total xs)
 unfolding total contribution
 fold-total v [] = sym (worse_none v)
 fold-total v (x ∷ xs) =
     fold-total (forget_verdict v x) xs ∙ ap (λ w. worse w (total xs)) (forget-one (is_over x) v x.verdict) ∙ worse_associates v (contribution x) (total xs)
 
-contribution-over : (x : Component) → is_over x ≡ true → contribution x ≡ x.verdict
+pub contribution-over : (x : Component) → is_over x ≡ true → contribution x ≡ x.verdict
 unfolding contribution
 contribution-over x e = ap (λ b. if b then x.verdict else verdict.None) e
 
-contribution-alive : (x : Component) → is_over x ≡ false → contribution x ≡ verdict.None
+pub contribution-alive : (x : Component) → is_over x ≡ false → contribution x ≡ verdict.None
 unfolding contribution
 contribution-alive x e = ap (λ b. if b then x.verdict else verdict.None) e
 
@@ -190,10 +190,10 @@ abbrev changed : (Component → Component) → Going → Going
 changed f c = record { components = map f c.components; connections = c.connections; forgotten = c.forgotten }
 
 -- what is done has the same live part from a configuration and from its live part
-abbrev Keeps : (Going → Going) → Type 0
+abbrev pub Keeps : (Going → Going) → Type 0
 Keeps f = (c : Going) → live_going (f (live_going c)) ≡ live_going (f c)
 
-keeps-both : (f g : Going → Going) → Keeps f → Keeps g → Keeps (λ c. f (g c))
+pub keeps-both : (f g : Going → Going) → Keeps f → Keeps g → Keeps (λ c. f (g c))
 keeps-both f g one other c = sym (one (g (live_going c))) ∙ ap (λ d. live_going (f d)) (other c) ∙ one (g c)
 
 abbrev going_of : List Component → List Connection → Verdict → Going
@@ -237,10 +237,10 @@ keeps-changed f gentle c =
         ∙ sym (fold-total c.forgotten (map f c.components))
 
 -- a change of one component that keeps its path
-pick : (Component → Component) → Path → Component → Component
+unfoldable pub pick : (Component → Component) → Path → Component → Component
 pick change p x = if same_path (path_of x) p then unless_terminated change x else x
 
-unless-path : (b : Bool) (change : Component → Component) (x : Component) → path_of (change x) ≡ path_of x → path_of (if b then x else change x) ≡ path_of x
+pub unless-path : (b : Bool) (change : Component → Component) (x : Component) → path_of (change x) ≡ path_of x → path_of (if b then x else change x) ≡ path_of x
 unless-path true change x e = refl
 unless-path false change x e = e
 
@@ -336,7 +336,7 @@ new-rest-first : (b : Bool) (x : Component) (o : Option Component) → not (is_s
 new-rest-first true x o e = absurd (let no = e in cc)
 new-rest-first false x o e = e
 
-path-is : (p q : Path) → same_path p q ≡ true → p ≡ q
+pub path-is : (p q : Path) → same_path p q ≡ true → p ≡ q
 path-is p q e = ap (λ n. record { numbers = n }) ((bytes_eq-Decides p.numbers q.numbers).0 e)
 
 stays-first : (b : Bool) (new : Component) (p : Path) (xs : List Component) → same_path (path_of new) p ≡ b → is_new (path_of new) xs ≡ true → over_in xs p ≡ true
@@ -416,7 +416,7 @@ keeps_new new c =
 filter-own : {A : Type 0} (p : A → Bool) (xs : List A) → filter p (filter p xs) ≡ filter p xs
 filter-own p xs = filter-stronger p p (λ x e. e) xs
 
-live-flags : (c : Going) (k : Connection) → is_live (live_going c) k ≡ is_live c k
+pub live-flags : (c : Going) (k : Connection) → is_live (live_going c) k ≡ is_live c k
 live-flags c k = ap (λ b. not (b && over_in (map live_component c.components) k.other.component)) (live-over-in k.one.component c.components)
     ∙ ap (λ b. not (over_in c.components k.one.component && b)) (live-over-in k.other.component c.components)
 

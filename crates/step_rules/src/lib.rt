@@ -13,6 +13,8 @@ ghost use Rattle.step_rules.specs.Places.{branch_of, place_of};
 ghost use Rattle.step_rules.specs.Runs.{graph_of, replay, start};
 ghost use Rattle.step_rules.specs.Snapshots.{Test};
 ghost use Rattle.step_rules.specs.Steps.{Label, step, touch, with_connection, with_new};
+ghost use Rattle.std.specs.Option.{option_map};
+ghost use Rattle.ttcn_values.specs.Outcomes.{outcome_map};
 ghost use Rattle.ttcn_values.specs.declared.path.Path.{Path};
 
 /// A test case that ended has no step and no label, and its live part is its verdict.
@@ -59,4 +61,11 @@ pub fn changes_keep_live_parts()
     ensures change { (change : Component → Component) → ((x : Component) → path_of (change x) ≡ path_of x) → (p : Path) (c : Going) → live_going (touch (live_going c) p change) ≡ live_going (touch c p change) }
     ensures new { (new : Component) (c : Going) → live_going (with_new new (live_going c)) ≡ live_going (with_new new c) }
     ensures connection { (k : Connection) (c : Going) → live_going (with_connection k (live_going c)) ≡ live_going (with_connection k c) }
+{}
+
+/// From a configuration and from its live part the same labels are enabled, and each leads to configurations of one live part.
+#[tactic(auto, using(crate::proofs::LiveTheorem::steps_live, crate::proofs::LiveTheorem::labels_live))]
+pub fn live_parts_step_alike()
+    ensures labels { (test : Test) (c : Configuration) → labels test (live_part c) ≡ labels test c }
+    ensures steps { (test : Test) (c : Configuration) (label : Label) → option_map (outcome_map live_part) (step test (live_part c) label) ≡ option_map (outcome_map live_part) (step test c label) }
 {}
