@@ -10,6 +10,8 @@ use Rattle.step_rules.proofs.Verdicts.{none_worse, worse_associates, worse_none,
 use Rattle.step_rules.specs.Configurations.{Component, Configuration, Connection, Created, Data, End, Ended, Frame, Goes, Going, Message, Running, State, Terminated, component_at, is_running_state, is_terminated_state, overall, path_of, same_path, with_component, worse}
 use Rattle.step_rules.specs.Labels.{expiries, labels, labels_of_component, statement_labels}
 use Rattle.step_rules.specs.LiveParts.{forget_verdict, husk, is_live, live_component, live_going, live_part}
+use Rattle.step_rules.specs.Places.{blocked, branch_in, branch_of, branch_of_component, if_none, place_in_frames, place_of, place_of_frames, standing, unless_fault, with_place}
+use Rattle.step_rules.specs.Runs.{mark_of}
 use Rattle.step_rules.specs.Snapshots.{Snapshot, Test, mtc_of, snapshot_of}
 use Rattle.step_rules.specs.Statements.{Act, Connects, Continues, Creates, Errs, Removes, Sends, Starts, Stops, Waits, Worsens, act, same_end}
 use Rattle.step_rules.specs.Steps.{Expiry, Label, Statement, addressed, apply, at_queue, begin, connect, connection, deliver, ending, exchanged, expired, expiry_step, if_running, is_double, is_terminated_at, is_terminated_component, next, opposite, peers, send, settle, settled, start_component, start_created, start_in, statement_step, step, step_in, stop, touch, unless_terminated, with_connection, with_data, with_new, with_state, with_verdict, without_first}
@@ -346,3 +348,54 @@ flat-twice f g h same (x ∷ xs) = ap (λ us. us ++ flat_map f (map g xs)) (same
 pub labels_live : (test : Test) (c : Configuration) → labels test (live_part c) ≡ labels test c
 labels_live test (Ended v) = refl
 labels_live test (Goes c) = flat-twice (labels_of_component test (live_going c)) live_component (labels_of_component test c) (labels-of-live test c) c.components
+
+-- ---- where labels lead, and what is seen
+
+settled-live : (o : Outcome Configuration) → live_part (settled o) ≡ settled (live_outcome o)
+settled-live (Yields c) = refl
+settled-live (Fails why) = refl
+
+options-settled : (o : Option (Outcome Configuration)) → option_map live_part (option_map settled o) ≡ option_map settled (option_map live_outcome o)
+options-settled None = refl
+options-settled (Some o) = ap Some (settled-live o)
+
+pub next_live : (test : Test) (c : Configuration) (label : Label) → option_map live_part (next test (live_part c) label) ≡ option_map live_part (next test c label)
+next_live test c label = options-settled (step test (live_part c) label) ∙ ap (option_map settled) (steps_live test c label) ∙ sym (options-settled (step test c label))
+
+pub mark_live : (c : Configuration) → mark_of (live_part c) ≡ mark_of c
+mark_live (Ended v) = refl
+mark_live (Goes c) = refl
+
+branch-of-live : (test : Test) (c : Going) (x : Component) → branch_of_component test (live_going c) (live_component x) ≡ branch_of_component test c x
+branch-of-live test c x = by-state (λ y. branch_of_component test (live_going c) (live_component y) ≡ branch_of_component test c y) x
+    (λ e. ap (branch_of_component test (live_going c)) (live-over x e)
+        ∙ sym (ap (λ b. if b then unless_fault (act test (snapshot_of c x) x.own) (place_in_frames test (snapshot_of c x) x.own x.own.calls) else None) (over-rests x e)))
+    (λ e. ap (branch_of_component test (live_going c)) (live-alive x e)
+        ∙ ap (λ s. if_running x (unless_fault (act test s x.own) (place_in_frames test s x.own x.own.calls))) (snapshot-live c x))
+
+branch-told : (test : Test) (c : Going) (o : Option Component) → option_and_then (branch_of_component test (live_going c)) (option_map live_component o) ≡ option_and_then (branch_of_component test c) o
+branch-told test c None = refl
+branch-told test c (Some x) = branch-of-live test c x
+
+branch-in : (test : Test) (c : Going) (label : Label) → branch_in test (live_going c) label ≡ branch_in test c label
+branch-in test c (Statement p) = ap (option_and_then (branch_of_component test (live_going c))) (component-live c p) ∙ branch-told test c (component_at c p)
+branch-in test c (Expiry p number name) = refl
+
+pub branch_live : (test : Test) (c : Configuration) (label : Label) → branch_of test (live_part c) label ≡ branch_of test c label
+branch_live test (Ended v) label = refl
+branch_live test (Goes c) label = branch-in test c label
+
+place-live : (x : Component) → with_place (live_component x) (place_of (live_component x)) ≡ with_place x (place_of x)
+place-live x = by-state (λ y. with_place (live_component y) (place_of (live_component y)) ≡ with_place y (place_of y)) x
+    (λ e. ap (λ y. with_place y (place_of y)) (live-over x e) ∙ sym (ap (λ b. with_place x (if b then place_of_frames x.own.calls else None)) (over-rests x e)))
+    (λ e. ap (λ y. with_place y (place_of y)) (live-alive x e))
+
+pub blocked_live : (test : Test) (c : Configuration) → blocked test (live_part c) ≡ blocked test c
+blocked_live test (Ended v) = refl
+blocked_live test (Goes c) =
+    ap (λ ls. if_none ls (standing (live_going c))) (labels_live test (Goes c))
+    ∙ ap (if_none (labels test (Goes c))) (flat-twice (λ x. with_place x (place_of x)) live_component (λ x. with_place x (place_of x)) place-live c.components)
+
+pub live_twice : (c : Configuration) → live_part (live_part c) ≡ live_part c
+live_twice (Ended v) = refl
+live_twice (Goes c) = ap Goes (live-twice c)

@@ -1,14 +1,17 @@
 -- The places that reports name: of the branch that a step takes, and of the statement at which a component stands.
 use Rattle.std.specs.Prelude.{List, [], ◌∷◌, Option, Some, None}
+use Rattle.std.specs.List.{flat_map}
 use Rattle.std.specs.Option.{option_and_then}
 use Rattle.ttcn_syntax.specs.declared.place.Span.{Span}
 use Rattle.ttcn_syntax.specs.declared.tree.statement.Statement.{out-Statement}
-use Rattle.step_rules.specs.Configurations.{Component, Configuration, Data, Ended, Frame, Goes, Going, component_at}
+use Rattle.step_rules.specs.Configurations.{Component, Configuration, Data, Ended, Frame, Goes, Going, component_at, path_of}
 use Rattle.step_rules.specs.Events.{Choice, Taken}
 use Rattle.step_rules.specs.Items.{Doing, Item, Whole}
+use Rattle.step_rules.specs.Labels.{labels}
 use Rattle.step_rules.specs.Snapshots.{Snapshot, Test, snapshot_of}
 use Rattle.step_rules.specs.Statements.{Act, Errs, act, choice_at}
 use Rattle.step_rules.specs.Steps.{Expiry, Label, Statement as OfStatement, if_running}
+use Rattle.ttcn_values.specs.declared.path.Path.{Path}
 
 -- ---- branches
 
@@ -58,3 +61,22 @@ place_of_frames (frame ∷ frames) = place_of_item frame.remaining
 -- the place of the first remaining statement of a component that runs
 abbrev pub place_of : Component → Option Span
 place_of component = if_running component (place_of_frames component.own.calls)
+
+-- ---- blocked components
+
+abbrev pub with_place : Component → Option Span → List (Path × Span)
+with_place component None = []
+with_place component (Some place) = (path_of component, place) ∷ []
+
+-- the components that run, each with the place of its first remaining statement
+abbrev pub standing : Going → List (Path × Span)
+standing c = flat_map (λ component. with_place component (place_of component)) c.components
+
+abbrev pub if_none : {A : Type 0} → List Label → List A → List A
+if_none [] found = found
+if_none (label ∷ others) found = []
+
+-- where no label is enabled, the components that run are blocked
+abbrev pub blocked : Test → Configuration → List (Path × Span)
+blocked test (Ended v) = []
+blocked test (Goes c) = if_none (labels test (Goes c)) (standing c)

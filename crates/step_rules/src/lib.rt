@@ -9,10 +9,10 @@ ghost use Rattle.step_rules.specs.Examples.{CreatesComponent, Repeats, RepeatsOu
 ghost use Rattle.step_rules.specs.Labels.{label_cmp, labels};
 ghost use Rattle.step_rules.specs.LiveParts.{live_going, live_part};
 ghost use Rattle.step_rules.specs.Order.{IsOrdered};
-ghost use Rattle.step_rules.specs.Places.{branch_of, place_of};
-ghost use Rattle.step_rules.specs.Runs.{graph_of, replay, start};
+ghost use Rattle.step_rules.specs.Places.{blocked, branch_of};
+ghost use Rattle.step_rules.specs.Runs.{graph_of, mark_of, replay, start};
 ghost use Rattle.step_rules.specs.Snapshots.{Test};
-ghost use Rattle.step_rules.specs.Steps.{Label, step, touch, with_connection, with_new};
+ghost use Rattle.step_rules.specs.Steps.{Label, next, step, touch, with_connection, with_new};
 ghost use Rattle.std.specs.Option.{option_map};
 ghost use Rattle.ttcn_values.specs.Outcomes.{outcome_map};
 ghost use Rattle.ttcn_values.specs.declared.path.Path.{Path};
@@ -63,9 +63,16 @@ pub fn changes_keep_live_parts()
     ensures connection { (k : Connection) (c : Going) → live_going (with_connection k (live_going c)) ≡ live_going (with_connection k c) }
 {}
 
-/// From a configuration and from its live part the same labels are enabled, and each leads to configurations of one live part.
-#[tactic(auto, using(crate::proofs::LiveTheorem::steps_live, crate::proofs::LiveTheorem::labels_live))]
+/// From a configuration and from its live part the same labels are enabled, each leads to configurations of one live part,
+/// and the same is seen: the mark, the branch that a step takes, and the components that are blocked. So configurations of
+/// one live part are the same for all that follows.
+#[tactic(auto, using(crate::proofs::LiveTheorem::steps_live, crate::proofs::LiveTheorem::labels_live, crate::proofs::LiveTheorem::next_live, crate::proofs::LiveTheorem::mark_live, crate::proofs::LiveTheorem::branch_live, crate::proofs::LiveTheorem::blocked_live, crate::proofs::LiveTheorem::live_twice))]
 pub fn live_parts_step_alike()
     ensures labels { (test : Test) (c : Configuration) → labels test (live_part c) ≡ labels test c }
     ensures steps { (test : Test) (c : Configuration) (label : Label) → option_map (outcome_map live_part) (step test (live_part c) label) ≡ option_map (outcome_map live_part) (step test c label) }
+    ensures next { (test : Test) (c : Configuration) (label : Label) → option_map live_part (next test (live_part c) label) ≡ option_map live_part (next test c label) }
+    ensures mark { (c : Configuration) → mark_of (live_part c) ≡ mark_of c }
+    ensures branch { (test : Test) (c : Configuration) (label : Label) → branch_of test (live_part c) label ≡ branch_of test c label }
+    ensures blocked { (test : Test) (c : Configuration) → blocked test (live_part c) ≡ blocked test c }
+    ensures once { (c : Configuration) → live_part (live_part c) ≡ live_part c }
 {}
