@@ -5,3 +5,4 @@ pub mod LabelsEnabled
 pub mod Verdicts
 pub mod LiveSteps
 pub mod LiveTheorem
+pub mod CanonicalRuns

@@ -1,16 +1,14 @@
 -- What is done among the components is the same from a configuration and from its live part.
-use Rattle.std.proofs.Common.{◌≡◌, ◌≢◌, ℕ, ◌+◌, Bool, true, false, ◌&&◌, ◌||◌, not, List, [], ◌∷◌, ◌++◌, map, length, Option, Some, None, is_some, option_map, refl, sym, ap, subst, ◌∙◌, if◌then◌else◌, bytes_eq}
-use Rattle.std.specs.List.{filter, find, flat_map, fold, list_any}
-use Rattle.std.specs.Option.{option_and_then}
+use Rattle.std.proofs.Common.{◌≡◌, Bool, true, false, ◌&&◌, not, List, [], ◌∷◌, ◌++◌, map, Option, Some, None, is_some, option_map, refl, sym, ap, ◌∙◌, if◌then◌else◌}
+use Rattle.std.specs.List.{filter, find, fold}
 use Rattle.std.specs.Ordering.{is_lt}
 use Rattle.std.proofs.lemmas.Slice.Eq.{bytes_eq-Decides}
 use Rattle.ttcn_syntax.specs.declared.tree.statement.Verdict.{Verdict}
 use Rattle.ttcn_syntax.specs.declared.tree.statement.Verdict.TheVariants as verdict
 use Rattle.step_rules.proofs.Verdicts.{none_worse, worse_associates, worse_commutes, worse_none, worse_pairs}
-use Rattle.step_rules.specs.Configurations.{Component, Configuration, Connection, Data, End, Ended, Frame, Goes, Going, Message, State, Created, Running, Terminated, component_at, is_terminated_state, overall, path_of, path_cmp, same_path, with_component, worse}
-use Rattle.step_rules.specs.LiveParts.{forget_verdict, husk, is_live, live_component, live_going, live_part}
-use Rattle.step_rules.specs.Statements.{same_end}
-use Rattle.step_rules.specs.Steps.{add_connection, connect, connection_cmp, insert, is_before, is_double, is_terminated_at, is_terminated_component, opposite, peers, touch, unless_terminated, with_connection, with_new}
+use Rattle.step_rules.specs.Configurations.{Component, Connection, Going, component_at, is_terminated_state, path_of, path_cmp, same_path, worse}
+use Rattle.step_rules.specs.LiveParts.{forget_verdict, husk, is_live, live_component, live_going}
+use Rattle.step_rules.specs.Steps.{add_connection, connection_cmp, insert, is_before, is_terminated_component, touch, unless_terminated, with_connection, with_new}
 use Rattle.ttcn_values.specs.declared.path.Path.{Path}
 
 -- ---- components
@@ -46,7 +44,7 @@ live-is-over x = by-state (λ y. is_over (live_component y) ≡ is_over y) x (λ
 gentle-live : (f : Component → Component) → IsGentle f → (x : Component) → live_component (f (live_component x)) ≡ live_component (f x)
 gentle-live f gentle x = by-state (λ y. live_component (f (live_component y)) ≡ live_component (f y)) x
     (λ e. ap (λ y. live_component (f y)) (live-over x e) ∙ ap live_component (gentle.over (husk (path_of x)) refl)
-          ∙ sym (ap live_component (gentle.over x e) ∙ live-over x e))
+    ∙ sym (ap live_component (gentle.over x e) ∙ live-over x e))
     (λ e. ap (λ y. live_component (f y)) (live-alive x e))
 
 gentle-over : (f : Component → Component) → IsGentle f → (x : Component) → is_over (f (live_component x)) ≡ is_over (f x)
@@ -95,7 +93,7 @@ over-stays f gentle p [] e = e
 over-stays f gentle p (x ∷ xs) e =
     ap (λ q. is_terminated_component (if same_path q p then Some (f x) else find (λ y. same_path (path_of y) p) (map f xs))) (gentle.path x)
     ∙ over-stays-first (same_path (path_of x) p) x (f x) (find (λ y. same_path (path_of y) p) xs) (find (λ y. same_path (path_of y) p) (map f xs))
-      (λ over. ap is_over (gentle.over x over) ∙ over) (over-stays f gentle p xs) e
+    (λ over. ap is_over (gentle.over x over) ∙ over) (over-stays f gentle p xs) e
 
 -- ---- filters
 
@@ -172,7 +170,7 @@ contribution-live x = by-state (λ y. contribution (live_component y) ≡ verdic
 contribution-gentle : (f : Component → Component) → IsGentle f → (x : Component) → worse (contribution x) (contribution (f (live_component x))) ≡ contribution (f x)
 contribution-gentle f gentle x = by-state (λ y. worse (contribution y) (contribution (f (live_component y))) ≡ contribution (f y)) x
     (λ e. ap (λ y. worse (contribution x) (contribution (f y))) (live-over x e) ∙ ap (λ y. worse (contribution x) (contribution y)) (gentle.over (husk (path_of x)) refl)
-          ∙ ap (λ w. worse (contribution x) w) (sym (ap contribution (live-over x e)) ∙ contribution-live x) ∙ worse_none (contribution x) ∙ sym (ap contribution (gentle.over x e)))
+    ∙ ap (λ w. worse (contribution x) w) (sym (ap contribution (live-over x e)) ∙ contribution-live x) ∙ worse_none (contribution x) ∙ sym (ap contribution (gentle.over x e)))
     (λ e. ap (λ w. worse w (contribution (f (live_component x)))) (contribution-alive x e) ∙ none_worse (contribution (f (live_component x))) ∙ ap (λ y. contribution (f y)) (live-alive x e))
 
 total-gentle : (f : Component → Component) → IsGentle f → (xs : List Component) → worse (total xs) (total (map f (map live_component xs))) ≡ total (map f xs)
@@ -214,21 +212,25 @@ keeps-changed f gentle c =
   where
     before : Going
     before = live_going c
+
     components : map live_component (map f (map live_component c.components)) ≡ map live_component (map f c.components)
     components = map-twice live_component f (λ x. live_component (f x)) (λ x. refl) (map live_component c.components)
         ∙ map-twice (λ x. live_component (f x)) live_component (λ x. live_component (f x)) (gentle-live f gentle) c.components
         ∙ sym (map-twice live_component f (λ x. live_component (f x)) (λ x. refl) c.components)
+
     overs : (p : Path) → over_in (map f (map live_component c.components)) p ≡ over_in (map f c.components) p
     overs p = ap (λ xs. over_in xs p) (map-twice f live_component (λ x. f (live_component x)) (λ x. refl) c.components)
         ∙ found-over (λ x. f (live_component x)) f (λ x. gentle.path (live_component x) ∙ live-path x ∙ sym (gentle.path x)) (gentle-over f gentle) p c.components
+
     connections : filter (is_live (changed f (live_going c))) (filter (is_live c) c.connections) ≡ filter (is_live (changed f c)) c.connections
     connections = filter-alike (is_live (changed f (live_going c))) (is_live (changed f c))
-          (λ k. ap (λ b. not (b && over_in (map f (map live_component c.components)) k.other.component)) (overs k.one.component) ∙ ap (λ b. not (over_in (map f c.components) k.one.component && b)) (overs k.other.component))
-          (filter (is_live c) c.connections)
+        (λ k. ap (λ b. not (b && over_in (map f (map live_component c.components)) k.other.component)) (overs k.one.component) ∙ ap (λ b. not (over_in (map f c.components) k.one.component && b)) (overs k.other.component))
+        (filter (is_live c) c.connections)
         ∙ filter-stronger (is_live (changed f c)) (is_live c)
-          (λ k. both-over (over_in c.components k.one.component) (over_in c.components k.other.component) (over_in (map f c.components) k.one.component) (over_in (map f c.components) k.other.component)
-                (over-stays f gentle k.one.component c.components) (over-stays f gentle k.other.component c.components))
-          c.connections
+        (λ k. both-over (over_in c.components k.one.component) (over_in c.components k.other.component) (over_in (map f c.components) k.one.component) (over_in (map f c.components) k.other.component)
+        (over-stays f gentle k.one.component c.components) (over-stays f gentle k.other.component c.components))
+        c.connections
+
     forgotten : fold forget_verdict (fold forget_verdict c.forgotten c.components) (map f (map live_component c.components)) ≡ fold forget_verdict c.forgotten (map f c.components)
     forgotten = fold-total (fold forget_verdict c.forgotten c.components) (map f (map live_component c.components))
         ∙ ap (λ v. worse v (total (map f (map live_component c.components)))) (fold-total c.forgotten c.components)
@@ -343,8 +345,8 @@ stays-first : (b : Bool) (new : Component) (p : Path) (xs : List Component) → 
     → is_terminated_component (if b then Some new else find (λ y. same_path (path_of y) p) xs) ≡ true
 stays-first true new p xs is none e =
     absurd (let same : path_of new ≡ p = path-is (path_of new) p is in
-            let over : over_in xs (path_of new) ≡ false = no-one (path_of new) (find (λ x. same_path (path_of x) (path_of new)) xs) none in
-            let no : true ≡ false = sym e ∙ ap (over_in xs) (sym same) ∙ over in cc)
+    let over : over_in xs (path_of new) ≡ false = no-one (path_of new) (find (λ x. same_path (path_of x) (path_of new)) xs) none in
+    let no : true ≡ false = sym e ∙ ap (over_in xs) (sym same) ∙ over in cc)
 stays-first false new p xs is none e = e
 
 insert-stays-first : (b : Bool) (new x : Component) (p : Path) (xs us : List Component) → is_new (path_of new) (x ∷ xs) ≡ true → over_in (x ∷ xs) p ≡ true → (over_in xs p ≡ true → over_in us p ≡ true)
@@ -385,15 +387,17 @@ keeps-new-if false new c is = going-alike _ _ _ _ _ _ (insert-live new c.compone
   where
     none : is_new (path_of new) c.components ≡ true
     none = ap not is
+
     connections : filter (is_live (new_if false new (live_going c))) (filter (is_live c) c.connections) ≡ filter (is_live (new_if false new c)) c.connections
     connections = filter-alike (is_live (new_if false new (live_going c))) (is_live (new_if false new c))
-          (λ k. ap (λ b. not (b && over_in (insert new (map live_component c.components)) k.other.component)) (insert-over new k.one.component c.components)
-                ∙ ap (λ b. not (over_in (insert new c.components) k.one.component && b)) (insert-over new k.other.component c.components))
-          (filter (is_live c) c.connections)
+        (λ k. ap (λ b. not (b && over_in (insert new (map live_component c.components)) k.other.component)) (insert-over new k.one.component c.components)
+        ∙ ap (λ b. not (over_in (insert new c.components) k.one.component && b)) (insert-over new k.other.component c.components))
+        (filter (is_live c) c.connections)
         ∙ filter-stronger (is_live (new_if false new c)) (is_live c)
-          (λ k. both-over (over_in c.components k.one.component) (over_in c.components k.other.component) (over_in (insert new c.components) k.one.component) (over_in (insert new c.components) k.other.component)
-                (insert-stays new k.one.component c.components none) (insert-stays new k.other.component c.components none))
-          c.connections
+        (λ k. both-over (over_in c.components k.one.component) (over_in c.components k.other.component) (over_in (insert new c.components) k.one.component) (over_in (insert new c.components) k.other.component)
+        (insert-stays new k.one.component c.components none) (insert-stays new k.other.component c.components none))
+        c.connections
+
     forgotten : fold forget_verdict (fold forget_verdict c.forgotten c.components) (insert new (map live_component c.components)) ≡ fold forget_verdict c.forgotten (insert new c.components)
     forgotten = fold-total (fold forget_verdict c.forgotten c.components) (insert new (map live_component c.components))
         ∙ ap (λ v. worse v (total (insert new (map live_component c.components)))) (fold-total c.forgotten c.components)

@@ -1,21 +1,20 @@
 -- Each step from a live part has the live part of the step from the whole.
-use Rattle.std.proofs.Common.{◌≡◌, ◌≢◌, ℕ, Bool, true, false, ◌&&◌, ◌||◌, not, List, [], ◌∷◌, ◌++◌, map, length, Option, Some, None, is_some, option_map, refl, sym, ap, subst, ◌∙◌, if◌then◌else◌, bytes_eq}
+use Rattle.std.proofs.Common.{◌≡◌, ℕ, Bool, true, false, ◌&&◌, ◌||◌, not, List, [], ◌∷◌, ◌++◌, map, Option, Some, None, is_some, option_map, refl, sym, ap, subst, ◌∙◌, if◌then◌else◌, bytes_eq}
 use Rattle.std.specs.List.{filter, find, flat_map, fold, list_any}
 use Rattle.std.specs.Option.{option_and_then}
-use Rattle.std.proofs.lemmas.Slice.Eq.{bytes_eq-Decides}
 use Rattle.ttcn_syntax.specs.declared.tree.statement.Verdict.{Verdict}
 use Rattle.ttcn_syntax.specs.declared.tree.statement.Verdict.TheVariants as verdict
-use Rattle.step_rules.proofs.LiveSteps.{Keeps, alike, by-state, component-live, contribution, contribution-alive, contribution-over, fold-total, found-over, is_over, keeps-both, keeps_connection, keeps_new, keeps_touch, live-alive, live-is-over, live-over, live-over-in, live-path, live-twice, map-same, map-twice, over_in, path-is, pick, total}
+use Rattle.step_rules.proofs.LiveSteps.{alike, by-state, component-live, contribution, contribution-alive, contribution-over, fold-total, found-over, is_over, keeps_connection, keeps_new, keeps_touch, live-alive, live-over, live-over-in, live-path, live-twice, map-same, map-twice, over_in, path-is, pick, total}
 use Rattle.step_rules.proofs.Verdicts.{none_worse, worse_associates, worse_none, worse_pairs}
-use Rattle.step_rules.specs.Configurations.{Component, Configuration, Connection, Created, Data, End, Ended, Frame, Goes, Going, Message, Running, State, Terminated, component_at, is_running_state, is_terminated_state, overall, path_of, same_path, with_component, worse}
+use Rattle.step_rules.specs.Configurations.{Component, Configuration, Connection, Created, Data, End, Ended, Frame, Goes, Going, Message, Running, State, Terminated, component_at, is_running_state, is_terminated_state, overall, path_of, same_path, worse}
 use Rattle.step_rules.specs.Labels.{expiries, labels, labels_of_component, statement_labels}
-use Rattle.step_rules.specs.LiveParts.{forget_verdict, husk, is_live, live_component, live_going, live_part}
+use Rattle.step_rules.specs.LiveParts.{forget_verdict, is_live, live_component, live_going, live_part}
 use Rattle.step_rules.specs.Places.{blocked, branch_in, branch_of, branch_of_component, if_none, place_in_frames, place_of, place_of_frames, standing, unless_fault, with_place}
 use Rattle.step_rules.specs.Runs.{mark_of}
-use Rattle.step_rules.specs.Snapshots.{Snapshot, Test, mtc_of, snapshot_of}
+use Rattle.step_rules.specs.Snapshots.{Test, mtc_of, snapshot_of}
 use Rattle.step_rules.specs.Statements.{Act, Connects, Continues, Creates, Errs, Removes, Sends, Starts, Stops, Waits, Worsens, act, same_end}
-use Rattle.step_rules.specs.Steps.{Expiry, Label, Statement, addressed, apply, at_queue, begin, connect, connection, deliver, ending, exchanged, expired, expiry_step, if_running, is_double, is_terminated_at, is_terminated_component, next, opposite, peers, send, settle, settled, start_component, start_created, start_in, statement_step, step, step_in, stop, touch, unless_terminated, with_connection, with_data, with_new, with_state, with_verdict, without_first}
-use Rattle.ttcn_values.specs.Outcomes.{Failure, Fails, Outcome, Yields, dynamic_error, outcome_map}
+use Rattle.step_rules.specs.Steps.{Expiry, Label, Statement, addressed, apply, at_queue, begin, connect, connection, deliver, ending, exchanged, expired, expiry_step, if_running, is_double, is_terminated_at, is_terminated_component, next, opposite, peers, send, settle, settled, start_component, start_created, start_in, statement_step, step, step_in, touch, with_connection, with_data, with_new, with_state, with_verdict, without_first}
+use Rattle.ttcn_values.specs.Outcomes.{Fails, Outcome, Yields, dynamic_error, outcome_map}
 use Rattle.ttcn_values.specs.declared.path.Path.{Path}
 use Rattle.ttcn_values.specs.declared.value.ComponentId.{ComponentId}
 use Rattle.ttcn_values.specs.declared.value.Value.{Value}
@@ -183,9 +182,9 @@ connect-alike : (c d : Going) → Alike c d → (e f : End) → live_outcome (en
 connect-alike c d same e f =
     connect-told (is_terminated_at c e.component || is_terminated_at c f.component || is_double c e f || is_double c f e) c d same (connection e f)
     ∙ ap (λ b. live_outcome (ending (if b then dynamic_error else Yields (with_connection (connection e f) d))))
-      (refused-told c d same e f (is_terminated_at c e.component) (is_terminated_at c f.component) refl refl
-       ∙ ap (λ a. a || is_terminated_at c f.component || is_double d e f || is_double d f e) (alike-over c d same e.component)
-       ∙ ap (λ b. is_terminated_at d e.component || b || is_double d e f || is_double d f e) (alike-over c d same f.component))
+    (refused-told c d same e f (is_terminated_at c e.component) (is_terminated_at c f.component) refl refl
+    ∙ ap (λ a. a || is_terminated_at c f.component || is_double d e f || is_double d f e) (alike-over c d same e.component)
+    ∙ ap (λ b. is_terminated_at d e.component || b || is_double d e f || is_double d f e) (alike-over c d same f.component))
 
 -- ---- what a component asks for
 
@@ -227,7 +226,7 @@ apply-live test c itself alive (Removes port own) =
     ap (λ x. Some (Yields (Goes x))) (alike (λ x. touch x itself.path (at_queue port without_first)) (keeps_touch (at_queue port without_first) (λ x. refl) itself.path) (settle (live_going c) itself.path own) (settle c itself.path own) (settle-alike c itself.path own))
 apply-live test c itself alive (Sends port to v own) =
     ap Some (send-alike (settle (live_going c) itself.path own) (settle c itself.path own) (settle-alike c itself.path own) itself
-      (settle-over (live_going c) itself.path own itself.path ∙ over-live c itself.path ∙ alive) port to v)
+    (settle-over (live_going c) itself.path own itself.path ∙ over-live c itself.path ∙ alive) port to v)
 apply-live test c itself alive (Creates new own) =
     ap (λ x. Some (Yields (Goes x))) (alike (with_new new) (keeps_new new) (settle (live_going c) itself.path own) (settle c itself.path own) (settle-alike c itself.path own))
 apply-live test c itself alive (Starts path frame own) = ap Some (start-alike (settle (live_going c) itself.path own) (settle c itself.path own) (settle-alike c itself.path own) path frame)
@@ -258,11 +257,11 @@ statement-live : (test : Test) (c : Going) (p : Path) (x : Component) → compon
     → option_map live_outcome (statement_step test (live_going c) (live_component x)) ≡ option_map live_outcome (statement_step test c x)
 statement-live test c p x found same = by-state (λ y. component_at c p ≡ Some y → path_of y ≡ p → option_map live_outcome (statement_step test (live_going c) (live_component y)) ≡ option_map live_outcome (statement_step test c y)) x
     (λ e i j. ap (λ y. option_map live_outcome (statement_step test (live_going c) y)) (live-over x e)
-        ∙ sym (ap (λ b. option_map live_outcome (if b then apply test c x.itself (act test (snapshot_of c x) x.own) else None)) (over-rests x e)))
+    ∙ sym (ap (λ b. option_map live_outcome (if b then apply test c x.itself (act test (snapshot_of c x) x.own) else None)) (over-rests x e)))
     (λ e i j. ap (λ y. option_map live_outcome (statement_step test (live_going c) y)) (live-alive x e)
-        ∙ ap (λ s. option_map live_outcome (if_running x (apply test (live_going c) x.itself (act test s x.own)))) (snapshot-live c x)
-        ∙ running-told live_outcome (is_running_state x.state) (apply test (live_going c) x.itself (act test (snapshot_of c x) x.own)) (apply test c x.itself (act test (snapshot_of c x) x.own))
-          (λ runs. apply-live test c x.itself (found-alive c p x i j e) (act test (snapshot_of c x) x.own)))
+    ∙ ap (λ s. option_map live_outcome (if_running x (apply test (live_going c) x.itself (act test s x.own)))) (snapshot-live c x)
+    ∙ running-told live_outcome (is_running_state x.state) (apply test (live_going c) x.itself (act test (snapshot_of c x) x.own)) (apply test c x.itself (act test (snapshot_of c x) x.own))
+    (λ runs. apply-live test c x.itself (found-alive c p x i j e) (act test (snapshot_of c x) x.own)))
     found same
 
 expired-told : (c : Going) (p : Path) (o : Option Data) → option_map live_outcome (option_map (λ own. Yields (Goes (touch (live_going c) p (exchanged own)))) o) ≡ option_map live_outcome (option_map (λ own. Yields (Goes (touch c p (exchanged own)))) o)
@@ -273,10 +272,10 @@ expiry-live : (c : Going) (number : ℕ) (name : List ℕ) (x : Component)
     → option_map live_outcome (expiry_step (live_going c) number name (live_component x)) ≡ option_map live_outcome (expiry_step c number name x)
 expiry-live c number name x = by-state (λ y. option_map live_outcome (expiry_step (live_going c) number name (live_component y)) ≡ option_map live_outcome (expiry_step c number name y)) x
     (λ e. ap (λ y. option_map live_outcome (expiry_step (live_going c) number name y)) (live-over x e)
-        ∙ sym (ap (λ b. option_map live_outcome (if b then option_map (λ own. Yields (Goes (touch c (path_of x) (exchanged own)))) (expired number name x.own) else None)) (over-rests x e)))
+    ∙ sym (ap (λ b. option_map live_outcome (if b then option_map (λ own. Yields (Goes (touch c (path_of x) (exchanged own)))) (expired number name x.own) else None)) (over-rests x e)))
     (λ e. ap (λ y. option_map live_outcome (expiry_step (live_going c) number name y)) (live-alive x e)
-        ∙ running-told live_outcome (is_running_state x.state) (option_map (λ own. Yields (Goes (touch (live_going c) (path_of x) (exchanged own)))) (expired number name x.own))
-          (option_map (λ own. Yields (Goes (touch c (path_of x) (exchanged own)))) (expired number name x.own)) (λ runs. expired-told c (path_of x) (expired number name x.own)))
+    ∙ running-told live_outcome (is_running_state x.state) (option_map (λ own. Yields (Goes (touch (live_going c) (path_of x) (exchanged own)))) (expired number name x.own))
+    (option_map (λ own. Yields (Goes (touch c (path_of x) (exchanged own)))) (expired number name x.own)) (λ runs. expired-told c (path_of x) (expired number name x.own)))
 
 found-path-first : (b : Bool) (x y : Component) (p : Path) (o : Option Component) → same_path (path_of x) p ≡ b → (if b then Some x else o) ≡ Some y → (o ≡ Some y → path_of y ≡ p) → path_of y ≡ p
 found-path-first true x y p o is e rest = subst (λ z. path_of z ≡ p) (let found = e in let same : x ≡ y = cc in same) (path-is (path_of x) p is)
@@ -336,10 +335,10 @@ labels-of-live : (test : Test) (c : Going) (x : Component) → labels_of_compone
 labels-of-live test c x = by-state (λ y. labels_of_component test (live_going c) (live_component y) ≡ labels_of_component test c y) x
     (λ e. ap (labels_of_component test (live_going c)) (live-over x e) ∙ sym (ap (λ b. if b then statement_labels test c x ++ expiries x else []) (over-rests x e)))
     (λ e. ap (labels_of_component test (live_going c)) (live-alive x e)
-        ∙ ap (λ b. if is_running_state x.state then ((if b then Statement (path_of x) ∷ [] else []) ++ expiries x) else [])
-          (ap (λ s. is_some (if_running x (apply test (live_going c) x.itself (act test s x.own)))) (snapshot-live c x)
-           ∙ running-some (is_running_state x.state) (apply test (live_going c) x.itself (act test (snapshot_of c x) x.own)) (apply test c x.itself (act test (snapshot_of c x) x.own))
-             (apply-some test (live_going c) c x.itself (act test (snapshot_of c x) x.own))))
+    ∙ ap (λ b. if is_running_state x.state then ((if b then Statement (path_of x) ∷ [] else []) ++ expiries x) else [])
+    (ap (λ s. is_some (if_running x (apply test (live_going c) x.itself (act test s x.own)))) (snapshot-live c x)
+    ∙ running-some (is_running_state x.state) (apply test (live_going c) x.itself (act test (snapshot_of c x) x.own)) (apply test c x.itself (act test (snapshot_of c x) x.own))
+    (apply-some test (live_going c) c x.itself (act test (snapshot_of c x) x.own))))
 
 flat-twice : {A B C : Type 0} (f : B → List C) (g : A → B) (h : A → List C) → ((a : A) → f (g a) ≡ h a) → (xs : List A) → flat_map f (map g xs) ≡ flat_map h xs
 flat-twice f g h same [] = refl
@@ -369,9 +368,9 @@ mark_live (Goes c) = refl
 branch-of-live : (test : Test) (c : Going) (x : Component) → branch_of_component test (live_going c) (live_component x) ≡ branch_of_component test c x
 branch-of-live test c x = by-state (λ y. branch_of_component test (live_going c) (live_component y) ≡ branch_of_component test c y) x
     (λ e. ap (branch_of_component test (live_going c)) (live-over x e)
-        ∙ sym (ap (λ b. if b then unless_fault (act test (snapshot_of c x) x.own) (place_in_frames test (snapshot_of c x) x.own x.own.calls) else None) (over-rests x e)))
+    ∙ sym (ap (λ b. if b then unless_fault (act test (snapshot_of c x) x.own) (place_in_frames test (snapshot_of c x) x.own x.own.calls) else None) (over-rests x e)))
     (λ e. ap (branch_of_component test (live_going c)) (live-alive x e)
-        ∙ ap (λ s. if_running x (unless_fault (act test s x.own) (place_in_frames test s x.own x.own.calls))) (snapshot-live c x))
+    ∙ ap (λ s. if_running x (unless_fault (act test s x.own) (place_in_frames test s x.own x.own.calls))) (snapshot-live c x))
 
 branch-told : (test : Test) (c : Going) (o : Option Component) → option_and_then (branch_of_component test (live_going c)) (option_map live_component o) ≡ option_and_then (branch_of_component test c) o
 branch-told test c None = refl

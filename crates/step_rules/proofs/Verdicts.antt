@@ -1,5 +1,5 @@
 -- The worse of two verdicts, in any order and grouping.
-use Rattle.std.proofs.Common.{◌≡◌, ℕ, ◌<◌, ◌≤◌, ◌⊎◌, ⊎_elim, refl, sym, ap, ◌∙◌, arith, max, nat_eq, if◌then◌else◌}
+use Rattle.std.proofs.Common.{◌≡◌, ℕ, ⊎_elim, refl, sym, ap, ◌∙◌, arith, max, nat_eq, if◌then◌else◌}
 use Rattle.std.specs.Ordering.{match_ordering, nat_cmp}
 use Rattle.std.specs.Cmp.{nat_cmp_is}
 use Rattle.std.specs.declared.cmp.Ordering.{Ordering}
@@ -32,7 +32,7 @@ greater-number : (n m : ℕ) → match_ordering (nat_cmp n m) m n n ≡ max n m
 greater-number n m =
     ⊎_elim (λ same. ap (λ o. match_ordering o m n n) (sym (nat_cmp_is n m Equal same)) ∙ sym (max-eq_left (omega (arith, same))))
     (λ differ. ⊎_elim (λ lt. ap (λ o. match_ordering o m n n) (sym (nat_cmp_is n m Less lt)) ∙ sym (max-eq_right (omega (arith, lt))))
-      (λ lt. ap (λ o. match_ordering o m n n) (sym (nat_cmp_is n m Greater lt)) ∙ sym (max-eq_left (omega (arith, lt)))) differ)
+    (λ lt. ap (λ o. match_ordering o m n n) (sym (nat_cmp_is n m Greater lt)) ∙ sym (max-eq_left (omega (arith, lt)))) differ)
     (cases_order n m)
 
 max_assoc : (n m k : ℕ) → max (max n m) k ≡ max n (max m k)
@@ -47,7 +47,7 @@ worse_commutes v w = same-badness (worse v w) (worse w v) (badness-worse v w ∙
 pub worse_associates : (u v w : Verdict) → worse (worse u v) w ≡ worse u (worse v w)
 worse_associates u v w = same-badness (worse (worse u v) w) (worse u (worse v w))
     (badness-worse (worse u v) w ∙ ap (λ n. max n (badness w)) (badness-worse u v) ∙ max_assoc (badness u) (badness v) (badness w)
-     ∙ sym (badness-worse u (worse v w) ∙ ap (max (badness u)) (badness-worse v w)))
+    ∙ sym (badness-worse u (worse v w) ∙ ap (max (badness u)) (badness-worse v w)))
 
 pub worse_none : (v : Verdict) → worse v verdict.None ≡ v
 worse_none verdict.None = refl

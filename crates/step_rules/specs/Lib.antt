@@ -15,4 +15,5 @@ pub mod Order
 pub mod Runs
 pub mod Places
 pub mod LiveParts
+pub mod Canonical
 pub mod Examples

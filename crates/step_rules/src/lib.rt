@@ -1,9 +1,11 @@
 //! The rules of steps: configurations, what each statement does in its step, and runs (ES 201 873-1 and 873-4). They run no code.
 #![tactic(auto)]
 
-ghost use Rattle.std.specs.Prelude.{◌≡◌, List, [], None, Ok, AllPairs, Contains, true, is_some, ◌↔◌};
+ghost use Rattle.std.specs.Prelude.{◌≡◌, ℕ, List, [], None, Ok, AllPairs, Contains, true, is_some, ◌↔◌};
+ghost use Rattle.std.specs.declared.cmp.Ordering.{Ordering};
 ghost use Rattle.std.specs.declared.cmp.Ordering.TheVariants.{Less};
 ghost use Rattle.ttcn_syntax.specs.declared.tree.statement.Verdict.{Verdict};
+ghost use Rattle.step_rules.specs.Canonical.{SeesLiveParts, canonical_graph};
 ghost use Rattle.step_rules.specs.Configurations.{Component, Configuration, Connection, Ended, Goes, Going, path_of};
 ghost use Rattle.step_rules.specs.Examples.{CreatesComponent, Repeats, RepeatsOutside, SetsVerdict, StartsTheTest, TakesDefault, TakesElse};
 ghost use Rattle.step_rules.specs.Labels.{label_cmp, labels};
@@ -14,6 +16,9 @@ ghost use Rattle.step_rules.specs.Runs.{graph_of, mark_of, replay, start};
 ghost use Rattle.step_rules.specs.Snapshots.{Test};
 ghost use Rattle.step_rules.specs.Steps.{Label, next, step, touch, with_connection, with_new};
 ghost use Rattle.std.specs.Option.{option_map};
+ghost use Rattle.summary.specs.Exploration.{IsBest};
+ghost use Rattle.summary.specs.Reading.{Join, Reading, sum_of};
+ghost use Rattle.summary.specs.Run.{Run, all_runs, end_of};
 ghost use Rattle.ttcn_values.specs.Outcomes.{outcome_map};
 ghost use Rattle.ttcn_values.specs.declared.path.Path.{Path};
 
@@ -75,4 +80,19 @@ pub fn live_parts_step_alike()
     ensures branch { (test : Test) (c : Configuration) (label : Label) → branch_of test (live_part c) label ≡ branch_of test c label }
     ensures blocked { (test : Test) (c : Configuration) → blocked test (live_part c) ≡ blocked test c }
     ensures once { (c : Configuration) → live_part (live_part c) ≡ live_part c }
+{}
+
+/// The runs over live parts are the runs over configurations, with the live parts of their ends: so a search over live parts
+/// finds the same runs, and the same least ones.
+#[tactic(auto, using(crate::proofs::CanonicalRuns::ends_live, crate::proofs::CanonicalRuns::runs_alike, crate::proofs::CanonicalRuns::all_runs_alike, crate::proofs::CanonicalRuns::best_alike))]
+pub fn canonical_runs_stand_for_all()
+    ensures ends { (test : Test) (run : Run Label) → end_of (canonical_graph test) run ≡ live_part (end_of (graph_of test) run) }
+    ensures runs { (test : Test) (n : ℕ) → all_runs (canonical_graph test) n ≡ all_runs (graph_of test) n }
+    ensures best { (test : Test) (cmp : Label → Label → Ordering) (n mark : ℕ) (run : Run Label) → IsBest (canonical_graph test) cmp n mark run ↔ IsBest (graph_of test) cmp n mark run }
+{}
+
+/// What is summed up over the runs over live parts is what is summed up over all runs, where it is seen of live parts.
+#[tactic(auto, using(crate::proofs::CanonicalRuns::sums_alike))]
+pub fn canonical_sums_stand_for_all<S>()
+    ensures { (test : Test) (j : Join S) (r : Reading Configuration Label S) → SeesLiveParts r → (n : ℕ) → sum_of (canonical_graph test) j r n ≡ sum_of (graph_of test) j r n }
 {}
