@@ -1,5 +1,5 @@
 -- A statement that breaks no rule has parts that break none.
-use Rattle.std.proofs.Common.{◌≡◌, ◌≢◌, true, false, List, [], ◌∷◌, ◌++◌, map, Option, option_map, Some, None, refl, sym, ap, ◌∙◌}
+use Rattle.std.proofs.Common.{◌≡◌, ◌≢◌, Bool, true, false, IsTrue, List, [], ◌∷◌, ◌++◌, map, Option, option_map, Some, None, refl, sym, ap, ◌∙◌}
 use Rattle.std.specs.List.{All, flat_map}
 use Rattle.std.proofs.lemmas.List.Elements.{All-cons, All-nil}
 use Rattle.ttcn_syntax.specs.declared.tree.expression.Expr.{Expr}
@@ -16,7 +16,7 @@ use Rattle.check_expressions.specs.Calls.{at_call, is_altstep}
 use Rattle.check_expressions.specs.Expressions.{expression}
 use Rattle.check_expressions.specs.Targets.{at_assignment}
 use Rattle.check_scope.specs.Names.{Scope}
-use Rattle.check_scope.specs.Typings.{same_type}
+use Rattle.check_scope.specs.Typings.{same_type, unless}
 use Rattle.check_scope.specs.declared.rule.Rule.{Rule}
 use Rattle.check_scope.specs.declared.rule.Rule.TheVariants as rule
 use Rattle.check_scope.specs.declared.types.DataType.{DataType}
@@ -131,6 +131,10 @@ chain_fine place whole conditionals last nothing =
       block_fine place last (nothing-rest conditions block nothing),
     )
 
+inside_fine : (inside : Bool) → unless inside rule.RepeatPlace ≡ [] → IsTrue inside
+inside_fine true nothing = refl
+inside_fine false nothing = cc
+
 parts_fine : (place : Place) → IsWhole place.scope → (x : Action-F Action Alternative Branch Conditional Statement)
     → (action_step (map-Action Action Alternative Branch Conditional Statement Stated AtPlace AtPlace AtPlace Stated action alternative branch conditional statement x)).broken place ≡ []
     → HasFineParts place x
@@ -141,7 +145,7 @@ parts_fine place whole (Action-F.Assign assignment) nothing = nothing
 parts_fine place whole (Action-F.«Action::Call» call) nothing = nothing
 parts_fine place whole (Action-F.«Action::Event» event) nothing = nothing
 parts_fine place whole (Action-F.Alt branches) nothing = each_fine branch place (IsFineBranch place) (λ b fine. branch_fine b place whole fine) branches nothing
-parts_fine place whole Action-F.Repeat nothing = nothing
+parts_fine place whole Action-F.Repeat nothing = inside_fine place.in_branch nothing
 parts_fine place whole (Action-F.If conditionals None) nothing = chain_fine place whole conditionals None nothing
 parts_fine place whole (Action-F.If conditionals (Some last)) nothing = chain_fine place whole conditionals (Some last) nothing
 parts_fine place whole (Action-F.While condition block) nothing = (
@@ -166,7 +170,7 @@ parts_fine place whole (Action-F.For start condition step block) nothing =
       nothing-rest (first ++ tests ++ steps) (statements block inside) nothing,
     )
 parts_fine place whole (Action-F.Return v) nothing = nothing
-parts_fine place whole Action-F.Stop nothing = nothing
+parts_fine place whole Action-F.Stop nothing = tt
 parts_fine place whole (Action-F.Log items) nothing = nothing
 parts_fine place whole (Action-F.Setverdict verdict reasons) nothing = nothing
 parts_fine place whole (Action-F.Connect one other) nothing = nothing
