@@ -14,8 +14,8 @@ use Rattle.check_expressions.specs.Targets.{at_assignment, at_constants, at_time
 use Rattle.check_scope.specs.Names.{Scope}
 use Rattle.check_scope.specs.declared.types.DataType.TheVariants as type
 use Rattle.check_scope.specs.declared.types.Typing.TheVariants as typing
-use Rattle.check_statements.specs.Messages.{at_event, at_send, at_timer}
-use Rattle.check_statements.specs.Statements.{Place, at_deactivate, at_ends, at_for_start, at_log, at_return, at_setverdict, at_start, at_stop, behind_for_start, inside_branch, statements, with_scope}
+use Rattle.check_statements.specs.Messages.{check_event, check_send, check_timer}
+use Rattle.check_statements.specs.Statements.{Place, check_deactivate, check_ends, check_for_start, check_log, check_return, check_setverdict, check_start, check_stop, behind_for_start, inside_branch, statements, with_scope}
 
 -- a condition: it breaks no rule, and is boolean
 pub record IsCondition (scope : Scope) (e : Expr) : Type 0 where
@@ -44,7 +44,7 @@ pub record IsFineConditional (place : Place) (c : Conditional) : Type 0 where
 -- what a branch waits for, and the block behind it
 abbrev pub HasFineAlternative : Place → Alternative-F Action Alternative Branch Conditional Statement → Type 0
 HasFineAlternative place (Alternative-F.«Alternative::Event» guard event block) =
-    IsGuard place.scope guard × (at_event place.scope event ≡ []) × IsFineIfAny (inside_branch place) block
+    IsGuard place.scope guard × (check_event place.scope event ≡ []) × IsFineIfAny (inside_branch place) block
 HasFineAlternative place (Alternative-F.«Alternative::Call» guard call block) =
     IsGuard place.scope guard × (at_call place.scope is_altstep call ≡ []) × IsFineIfAny (inside_branch place) block
 HasFineAlternative place (Alternative-F.Else block) = IsFine (inside_branch place) block
@@ -63,22 +63,22 @@ HasFineParts place (Action-F.If conditionals last) = All (IsFineConditional plac
 HasFineParts place (Action-F.While condition block) = IsCondition place.scope condition × IsFine place block
 HasFineParts place (Action-F.DoWhile block condition) = IsFine place block × IsCondition place.scope condition
 HasFineParts place (Action-F.For start condition step block) =
-    (at_for_start place.scope start ≡ []) ×
+    (check_for_start place.scope start ≡ []) ×
     IsCondition (behind_for_start place.scope start) condition ×
     (at_assignment (behind_for_start place.scope start) step ≡ []) ×
     IsFine (with_scope place (behind_for_start place.scope start)) block
 HasFineParts place (Action-F.Assign assignment) = at_assignment place.scope assignment ≡ []
 HasFineParts place (Action-F.«Action::Call» call) = at_call place.scope stands_alone call ≡ []
-HasFineParts place (Action-F.«Action::Event» event) = at_event place.scope event ≡ []
+HasFineParts place (Action-F.«Action::Event» event) = check_event place.scope event ≡ []
 HasFineParts place Action-F.Repeat = IsTrue place.in_branch
-HasFineParts place (Action-F.Return v) = at_return place.scope place.returns v ≡ []
+HasFineParts place (Action-F.Return v) = check_return place.scope place.returns v ≡ []
 HasFineParts place Action-F.Stop = Unit {0}
-HasFineParts place (Action-F.Log items) = at_log place.scope items ≡ []
-HasFineParts place (Action-F.Setverdict verdict reasons) = at_setverdict place.scope verdict reasons ≡ []
-HasFineParts place (Action-F.Connect one other) = at_ends place.scope one.component other.component ≡ []
-HasFineParts place (Action-F.Send send) = at_send place.scope send ≡ []
-HasFineParts place (Action-F.StartComponent reference call) = at_start place.scope reference call ≡ []
-HasFineParts place (Action-F.StartTimer timer) = at_timer place.scope timer ≡ []
-HasFineParts place (Action-F.StopOf reference) = at_stop place.scope reference ≡ []
+HasFineParts place (Action-F.Log items) = check_log place.scope items ≡ []
+HasFineParts place (Action-F.Setverdict verdict reasons) = check_setverdict place.scope verdict reasons ≡ []
+HasFineParts place (Action-F.Connect one other) = check_ends place.scope one.component other.component ≡ []
+HasFineParts place (Action-F.Send send) = check_send place.scope send ≡ []
+HasFineParts place (Action-F.StartComponent reference call) = check_start place.scope reference call ≡ []
+HasFineParts place (Action-F.StartTimer timer) = check_timer place.scope timer ≡ []
+HasFineParts place (Action-F.StopOf reference) = check_stop place.scope reference ≡ []
 HasFineParts place (Action-F.Activate call) = at_activation place.scope call ≡ []
-HasFineParts place (Action-F.Deactivate reference) = at_deactivate place.scope reference ≡ []
+HasFineParts place (Action-F.Deactivate reference) = check_deactivate place.scope reference ≡ []

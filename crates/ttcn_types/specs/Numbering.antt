@@ -8,12 +8,12 @@ use Rattle.ttcn_types.specs.Parts.{how_many_in, number_at}
 use Rattle.ttcn_types.specs.declared.parts.numbers.Numbers.{Numbers}
 
 -- how many constants and templates come before a definition
-abbrev pub numbered : Numbers → ℕ → ℕ
-numbered numbers at = slice_index_or numbers.before.items at (length numbers.places.items)
+abbrev pub count_before : Numbers → ℕ → ℕ
+count_before numbers at = slice_index_or numbers.before.items at (length numbers.places.items)
 
 -- these are the numbers of the definitions, and there are as many places
 pub record AreNumbers (numbers : Numbers) (definitions : List Definition) : Type 0 where
-  pub number : (at : ℕ) → numbered numbers at ≡ number_at definitions at
+  pub number : (at : ℕ) → count_before numbers at ≡ number_at definitions at
   pub count : length numbers.places.items ≡ how_many_in definitions
 
 -- no name stands for a constant of the module

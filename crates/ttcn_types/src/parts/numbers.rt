@@ -1,7 +1,7 @@
 //! The numbers of constants and templates.
 ghost use Rattle.std.specs.Prelude.{◌≡◌, ◌+◌, ◌<◌, length, IfOk, OnOk};
 ghost use Rattle.ttcn_types.specs.Parts.{how_many};
-ghost use Rattle.ttcn_types.specs.Numbering.{AreNumbers, numbered};
+ghost use Rattle.ttcn_types.specs.Numbering.{AreNumbers, count_before};
 
 use std::alloc::{AllocError, Global};
 use ttcn_syntax::{Definition, DefinitionKind, Span};
@@ -31,7 +31,7 @@ impl Numbers {
 
     /// The number of the first that the definition at a position defines.
     pub(crate) fn at(&self, at: usize) -> usize
-        ensures { result ≡ numbered self.now at }
+        ensures { result ≡ count_before self.now at }
     {
         match self.before.get(at) {
             Some(number) => *number,
@@ -41,8 +41,8 @@ impl Numbers {
 
     /// The number of one of the constants that the definition at a position defines.
     pub(crate) fn of_item(&self, at: usize, item: usize) -> usize
-        requires { numbered self.now at + item < length self.now.places.items }
-        ensures { result ≡ numbered self.now at + item }
+        requires { count_before self.now at + item < length self.now.places.items }
+        ensures { result ≡ count_before self.now at + item }
     {
         self.at(at) + item
     }

@@ -138,20 +138,20 @@ fn things_of(alloc: Global, scope: &Scope<'_>, numbers: &Numbers) -> Result<Vec<
 
 /// The constants and templates of a module.
 #[derive(Drop)]
-pub(crate) struct Written {
+pub(crate) struct Numbering {
     pub(crate) things: Vec<Thing>,
     /// For each the place of the definition that has it.
     pub(crate) places: Vec<Span>,
 }
 
 /// The constants and templates of the module.
-pub(crate) fn written_out(alloc: Global, scope: &Scope<'_>) -> Result<Written, AllocError>
+pub(crate) fn written_out(alloc: Global, scope: &Scope<'_>) -> Result<Numbering, AllocError>
     ensures things { IfOk result (λ written. written.things.items ≡ map tally (spec.written_out scope.now.definitions.now)) }
     ensures places { IfOk result (λ written. length written.places.items ≡ length written.things.items) }
 {
     let numbers = Numbers::of(alloc, scope.definitions)?;
     let things = things_of(alloc, scope, &numbers)?;
-    Ok(Written {
+    Ok(Numbering {
         things,
         places: numbers.places,
     })
