@@ -22,7 +22,7 @@ use Rattle.check_scope.specs.Checking.{around, both, least, view, view_in}
 use Rattle.check_statements.specs.Places.{place_with}
 use Rattle.check_scope.specs.Names.{Scope}
 use Rattle.check_statements.specs.Statements as spec
-use Rattle.check_statements.specs.Statements.{AtPlace, Stated, action, alternative, at_condition, at_for_head, at_guarded_call, at_guarded_event, behind_for_start, branch, conditional, inside_branch, statement, statements, with_scope}
+use Rattle.check_statements.specs.Statements.{Check, StatementRules, action, alternative, check_condition, check_for_head, check_guarded_call, check_guarded_event, behind_for_start, branch, conditional, inside_branch, statement, statements, with_scope}
 use Rattle.check_scope.specs.declared.broken.Broken.{Broken}
 use Rattle.check_statements.specs.declared.place.Place.{Place}
 use Rattle.check_scope.specs.declared.scope.Scope as code
@@ -51,7 +51,7 @@ block-end place scope body i found past = ap (λ all. rest_of_block place scope 
 
 -- one condition with its block more
 pub conditional-next : (place : Place) (scope : Scope) (all : List Conditional) (i : ℕ) (c : Conditional) (found noted next condition : Broken) → i < length all → c ≡ get_or all i c
-    → condition ≡ least (at_condition scope (out-Conditional c).condition) → noted ≡ both found condition
+    → condition ≡ least (check_condition scope (out-Conditional c).condition) → noted ≡ both found condition
     → next ≡ both noted (least (statements (out-Conditional c).block (place_with scope place)))
     → rest_of_parts (λ c. conditional c (place_with scope place)) (drop i all) found ≡ rest_of_parts (λ c. conditional c (place_with scope place)) (drop (i + 1) all) next
 conditional-next place scope all i c found noted next condition inside is condition_is noted_is next_is =
@@ -72,7 +72,7 @@ in_turn old first second noted noted_is = sym (both_assoc old first second) ∙ 
 
 module _ (s : Statement) (place : spec.Place) (old : Broken) where
   broken_of : (a : Action) → (out-Statement s).action ≡ a → least ((statement s).broken place) ≡ least ((action a).broken place)
-  broken_of a is = ap (λ (said : Stated). least (said.broken place)) (statement_out s ∙ ap action is)
+  broken_of a is = ap (λ (said : StatementRules). least (said.broken place)) (statement_out s ∙ ap action is)
 
   pub alt-whole : (branches : List Branch) → (out-Statement s).action ≡ form.Alt branches
       → both old (least ((statement s).broken place)) ≡ both old (least (flat_map (λ b. branch b place) branches))
@@ -90,48 +90,48 @@ module _ (s : Statement) (place : spec.Place) (old : Broken) where
       ∙ in_turn old (least (flat_map (λ c. conditional c place) conditionals)) (least (statements body place)) noted noted_is
 
   pub while-rest : (condition : Expr) (body : List Statement) (tested noted : Broken) → (out-Statement s).action ≡ form.While condition body
-      → tested ≡ least (at_condition place.scope condition) → noted ≡ both old tested → both old (least ((statement s).broken place)) ≡ both noted (least (statements body place))
+      → tested ≡ least (check_condition place.scope condition) → noted ≡ both old tested → both old (least ((statement s).broken place)) ≡ both noted (least (statements body place))
   while-rest condition body tested noted is tested_is noted_is =
       ap (both old) (broken_of (form.While condition body) is ∙ of_while place condition body)
-      ∙ in_turn old (least (at_condition place.scope condition)) (least (statements body place)) noted (noted_is ∙ ap (both old) tested_is)
+      ∙ in_turn old (least (check_condition place.scope condition)) (least (statements body place)) noted (noted_is ∙ ap (both old) tested_is)
 
   pub do_while-rest : (body : List Statement) (condition : Expr) (blocked : Broken) → (out-Statement s).action ≡ form.DoWhile body condition
-      → blocked ≡ both old (least (statements body place)) → both old (least ((statement s).broken place)) ≡ both blocked (least (at_condition place.scope condition))
+      → blocked ≡ both old (least (statements body place)) → both old (least ((statement s).broken place)) ≡ both blocked (least (check_condition place.scope condition))
   do_while-rest body condition blocked is blocked_is =
       ap (both old) (broken_of (form.DoWhile body condition) is ∙ of_do_while place body condition)
-      ∙ in_turn old (least (statements body place)) (least (at_condition place.scope condition)) blocked blocked_is
+      ∙ in_turn old (least (statements body place)) (least (check_condition place.scope condition)) blocked blocked_is
 
   pub for-rest : (start : ForStart) (condition : Expr) (step : Assignment) (body : List Statement) (head noted : Broken) → (out-Statement s).action ≡ form.For start condition step body
-      → head ≡ least (at_for_head place.scope start condition step) → noted ≡ both old head
+      → head ≡ least (check_for_head place.scope start condition step) → noted ≡ both old head
       → both old (least ((statement s).broken place)) ≡ both noted (least (statements body (with_scope place (behind_for_start place.scope start))))
   for-rest start condition step body head noted is head_is noted_is =
       ap (both old) (broken_of (form.For start condition step body) is ∙ of_for place start condition step body)
-      ∙ in_turn old (least (at_for_head place.scope start condition step)) (least (statements body (with_scope place (behind_for_start place.scope start)))) noted (noted_is ∙ ap (both old) head_is)
+      ∙ in_turn old (least (check_for_head place.scope start condition step)) (least (statements body (with_scope place (behind_for_start place.scope start)))) noted (noted_is ∙ ap (both old) head_is)
 
 pub behind_is_for : (s : Statement) (start : ForStart) (condition : Expr) (step : Assignment) (body : List Statement) → (out-Statement s).action ≡ form.For start condition step body
     → (statement s).scope_behind ≡ (λ scope. scope)
-behind_is_for s start condition step body is = ap (λ (said : Stated). said.scope_behind) (statement_out s ∙ ap action is) ∙ behind_for start condition step body
+behind_is_for s start condition step body is = ap (λ (said : StatementRules). said.scope_behind) (statement_out s ∙ ap action is) ∙ behind_for start condition step body
 
 -- ---- branches, with what was found before them
 
 module _ (b : Branch) (place : spec.Place) (old : Broken) where
   waiting_for : (a : Alternative) → (out-Branch b).alternative ≡ a → least (branch b place) ≡ least (alternative a place)
-  waiting_for a is = ap (λ (f : AtPlace). least (f place)) (branch_out b ∙ ap alternative is)
+  waiting_for a is = ap (λ (f : Check). least (f place)) (branch_out b ∙ ap alternative is)
 
   pub event-rest : (guard : Option Expr) (event : Event) (block : Option (List Statement)) (body : List Statement) (head noted : Broken) (inside : spec.Place)
-      → (out-Branch b).alternative ≡ alternative_form.Event guard event block → block ≡ Some body → head ≡ least (at_guarded_event place.scope guard event) → noted ≡ both old head
+      → (out-Branch b).alternative ≡ alternative_form.Event guard event block → block ≡ Some body → head ≡ least (check_guarded_event place.scope guard event) → noted ≡ both old head
       → inside ≡ inside_branch place → both old (least (branch b place)) ≡ both noted (least (statements body inside))
   event-rest guard event block body head noted inside is some head_is noted_is inside_is =
       ap (both old) (waiting_for (alternative_form.Event guard event (Some body)) (is ∙ ap (alternative_form.Event guard event) some) ∙ of_event_block place guard event body)
-      ∙ in_turn old (least (at_guarded_event place.scope guard event)) (least (statements body (inside_branch place))) noted (noted_is ∙ ap (both old) head_is)
+      ∙ in_turn old (least (check_guarded_event place.scope guard event)) (least (statements body (inside_branch place))) noted (noted_is ∙ ap (both old) head_is)
       ∙ ap (λ p. both noted (least (statements body p))) (sym inside_is)
 
   pub call-rest : (guard : Option Expr) (call : Call) (block : Option (List Statement)) (body : List Statement) (head noted : Broken) (inside : spec.Place)
-      → (out-Branch b).alternative ≡ alternative_form.Call guard call block → block ≡ Some body → head ≡ least (at_guarded_call place.scope guard call) → noted ≡ both old head
+      → (out-Branch b).alternative ≡ alternative_form.Call guard call block → block ≡ Some body → head ≡ least (check_guarded_call place.scope guard call) → noted ≡ both old head
       → inside ≡ inside_branch place → both old (least (branch b place)) ≡ both noted (least (statements body inside))
   call-rest guard call block body head noted inside is some head_is noted_is inside_is =
       ap (both old) (waiting_for (alternative_form.Call guard call (Some body)) (is ∙ ap (alternative_form.Call guard call) some) ∙ of_call_block place guard call body)
-      ∙ in_turn old (least (at_guarded_call place.scope guard call)) (least (statements body (inside_branch place))) noted (noted_is ∙ ap (both old) head_is)
+      ∙ in_turn old (least (check_guarded_call place.scope guard call)) (least (statements body (inside_branch place))) noted (noted_is ∙ ap (both old) head_is)
       ∙ ap (λ p. both noted (least (statements body p))) (sym inside_is)
 
   pub else-whole : (body : List Statement) (inside : spec.Place) → (out-Branch b).alternative ≡ alternative_form.Else body → inside ≡ inside_branch place

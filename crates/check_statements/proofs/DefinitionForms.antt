@@ -3,7 +3,7 @@ use Rattle.std.proofs.Common.{◌≡◌, ◌≤◌, ℕ, ◌+◌, ◌<◌, List,
 use Rattle.std.proofs.lemmas.List.{drop_all}
 use Rattle.ttcn_syntax.specs.declared.tree.definition.Definition.{Definition}
 use Rattle.check_scope.specs.Checking.{both, least}
-use Rattle.check_statements.specs.Definitions.{in_definition, in_definitions}
+use Rattle.check_statements.specs.Definitions.{check_definition, check_definitions}
 use Rattle.check_scope.specs.declared.broken.Broken.{Broken}
 use Rattle.check_scope.specs.declared.rule.Rule.{Rule}
 use Rattle.check_scope.proofs.Leasts.{both_assoc, both_nothing, least_append}
@@ -35,18 +35,18 @@ testcase_noted found head system whole next named others more head_is system_is 
 
 -- what was found so far, with what the definitions that are left break
 abbrev pub rest_of_definitions : List Definition → ℕ → List Definition → Broken → Broken
-rest_of_definitions all at definitions found = both found (least (in_definitions all at definitions))
+rest_of_definitions all at definitions found = both found (least (check_definitions all at definitions))
 
 -- one definition more
-pub in_definitions-next : (all : List Definition) (definitions : List Definition) (i : ℕ) (definition : Definition) (found next : Broken)
-    → i < length definitions → definition ≡ get_or definitions i definition → next ≡ both found (least (in_definition all i definition.kind))
+pub check_definitions-next : (all : List Definition) (definitions : List Definition) (i : ℕ) (definition : Definition) (found next : Broken)
+    → i < length definitions → definition ≡ get_or definitions i definition → next ≡ both found (least (check_definition all i definition.kind))
     → rest_of_definitions all i (drop i definitions) found ≡ rest_of_definitions all (i + 1) (drop (i + 1) definitions) next
-in_definitions-next all definitions i definition found next inside is next_is =
-    let rules : List Rule = in_definition all i definition.kind in
+check_definitions-next all definitions i definition found next inside is next_is =
+    let rules : List Rule = check_definition all i definition.kind in
     ap (λ others. rest_of_definitions all i others found) (drop-next definitions i definition inside is)
-    ∙ sym (noted_before found (least rules) next rules (in_definitions all (i + 1) (drop (i + 1) definitions)) refl next_is)
+    ∙ sym (noted_before found (least rules) next rules (check_definitions all (i + 1) (drop (i + 1) definitions)) refl next_is)
 
 -- none is left
-pub in_definitions-end : (all : List Definition) (definitions : List Definition) (i : ℕ) (found : Broken) → length definitions ≤ i
+pub check_definitions-end : (all : List Definition) (definitions : List Definition) (i : ℕ) (found : Broken) → length definitions ≤ i
     → rest_of_definitions all i (drop i definitions) found ≡ found
-in_definitions-end all definitions i found past = ap (λ others. rest_of_definitions all i others found) (drop_all i definitions past) ∙ both_nothing found
+check_definitions-end all definitions i found past = ap (λ others. rest_of_definitions all i others found) (drop_all i definitions past) ∙ both_nothing found

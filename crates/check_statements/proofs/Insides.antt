@@ -12,7 +12,7 @@ use Rattle.check_expressions.proofs.Elements.{one-more, regroup}
 use Rattle.check_scope.proofs.Leasts.{both_assoc, both_nothing, least_append}
 use Rattle.check_scope.proofs.Lookups.{drop-next}
 use Rattle.check_scope.specs.Checking.{both, least}
-use Rattle.check_statements.specs.Definitions.{and_number, at_number, at_part, in_fields, in_numbers, same_number, same_sign}
+use Rattle.check_statements.specs.Definitions.{and_number, check_number, at_part, in_fields, check_numbers, same_number, same_sign}
 use Rattle.check_scope.specs.Names.{Names}
 use Rattle.check_statements.specs.Places.{AreGiven, given, is_negative}
 use Rattle.check_scope.specs.Tables.{has}
@@ -112,35 +112,35 @@ given-more set next n before behind same other =
 pub record Numbered (set : NumberSet) (enumerators : List Enumerator) (found whole : Broken) : Type 0 where
   pub before : List EnumNumber
   pub same : AreGiven set before
-  pub sum : both found (least (in_numbers before enumerators)) ≡ whole
+  pub sum : both found (least (check_numbers before enumerators)) ≡ whole
 
 pub numbered-first : (set : NumberSet) (enumerators : List Enumerator) (found : Broken) → ((n : EnumNumber) → given set n ≡ false) → found ≡ least []
-    → Numbered set enumerators found (least (in_numbers [] enumerators))
+    → Numbered set enumerators found (least (check_numbers [] enumerators))
 numbered-first set enumerators found none found_is = record {
   before = [];
   same = none;
-  sum = ap (λ b. both b (least (in_numbers [] enumerators))) found_is;
+  sum = ap (λ b. both b (least (check_numbers [] enumerators))) found_is;
 }
 
 pub numbered-next : (set next_set : NumberSet) (enumerators : List Enumerator) (i : ℕ) (enumerator : Enumerator) (found part next whole : Broken)
     → i < length enumerators → enumerator ≡ get_or enumerators i enumerator
-    → ((before : List EnumNumber) → AreGiven set before → part ≡ least (at_number before enumerator.number))
+    → ((before : List EnumNumber) → AreGiven set before → part ≡ least (check_number before enumerator.number))
     → ((before : List EnumNumber) → AreGiven set before → AreGiven next_set (and_number before enumerator.number))
     → next ≡ both found part → Numbered set (drop i enumerators) found whole → Numbered next_set (drop (i + 1) enumerators) next whole
 numbered-next set next_set enumerators i enumerator found part next whole inside is part_is behind next_is so_far =
-    let rules : List Rule = at_number so_far.before enumerator.number in
-    let rest : List Rule = in_numbers (and_number so_far.before enumerator.number) (drop (i + 1) enumerators) in
+    let rules : List Rule = check_number so_far.before enumerator.number in
+    let rest : List Rule = check_numbers (and_number so_far.before enumerator.number) (drop (i + 1) enumerators) in
     record {
       before = and_number so_far.before enumerator.number;
       same = behind so_far.before so_far.same;
       sum = ap (λ b. both b (least rest)) (next_is ∙ ap (both found) (part_is so_far.before so_far.same))
           ∙ both_assoc found (least rules) (least rest)
           ∙ ap (both found) (sym (least_append rules rest))
-          ∙ ap (λ es. both found (least (in_numbers so_far.before es))) (sym (drop-next enumerators i enumerator inside is))
+          ∙ ap (λ es. both found (least (check_numbers so_far.before es))) (sym (drop-next enumerators i enumerator inside is))
           ∙ so_far.sum;
     }
 
 pub numbered-end : (set : NumberSet) (enumerators : List Enumerator) (i : ℕ) (found whole : Broken) → length enumerators ≤ i → Numbered set (drop i enumerators) found whole
     → found ≡ whole
 numbered-end set enumerators i found whole past so_far =
-    sym (both_nothing found) ∙ ap (λ es. both found (least (in_numbers so_far.before es))) (sym (drop_all i enumerators past)) ∙ so_far.sum
+    sym (both_nothing found) ∙ ap (λ es. both found (least (check_numbers so_far.before es))) (sym (drop_all i enumerators past)) ∙ so_far.sum

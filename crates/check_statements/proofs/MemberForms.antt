@@ -9,7 +9,7 @@ use Rattle.ttcn_syntax.specs.declared.tree.statement.Constants.{Constants}
 use Rattle.ttcn_syntax.specs.declared.tree.statement.Timer.{Timer}
 use Rattle.check_scope.specs.Checking.{both, least}
 use Rattle.check_expressions.specs.Declarations.{behind_all}
-use Rattle.check_statements.specs.Definitions.{in_member, in_members, member_variable_entry, port_entry}
+use Rattle.check_statements.specs.Definitions.{check_member, check_members, member_variable_entry, port_entry}
 use Rattle.check_scope.specs.Names.{Entry, Names, Scope, declaring, member_entries, resolved}
 use Rattle.check_expressions.specs.Targets.{behind_constants, behind_timers}
 use Rattle.check_scope.specs.declared.broken.Broken.{Broken}
@@ -45,20 +45,20 @@ behind_member_timers scope timers = behind_map (λ (timer : Timer). (timer.name,
 
 -- what was found so far, with what the declarations that are left break
 abbrev pub rest_of_members : Scope → List Member → Broken → Broken
-rest_of_members scope members found = both found (least (in_members scope members))
+rest_of_members scope members found = both found (least (check_members scope members))
 
 -- one declaration more
-pub in_members-next : (scope next_scope : Scope) (members : List Member) (i : ℕ) (m : Member) (found part next : Broken) → i < length members → m ≡ get_or members i m
-    → part ≡ least (in_member scope m) → next_scope ≡ declaring scope (member_entries scope.names m) → next ≡ both found part
+pub check_members-next : (scope next_scope : Scope) (members : List Member) (i : ℕ) (m : Member) (found part next : Broken) → i < length members → m ≡ get_or members i m
+    → part ≡ least (check_member scope m) → next_scope ≡ declaring scope (member_entries scope.names m) → next ≡ both found part
     → rest_of_members scope (drop i members) found ≡ rest_of_members next_scope (drop (i + 1) members) next
-in_members-next scope next_scope members i m found part next inside is part_is scope_is next_is =
+check_members-next scope next_scope members i m found part next inside is part_is scope_is next_is =
     let behind : Scope = declaring scope (member_entries scope.names m) in
     ap (λ others. rest_of_members scope others found) (drop-next members i m inside is)
-    ∙ ap (both found) (least_append (in_member scope m) (in_members behind (drop (i + 1) members)))
-    ∙ sym (both_assoc found (least (in_member scope m)) (least (in_members behind (drop (i + 1) members))))
+    ∙ ap (both found) (least_append (check_member scope m) (check_members behind (drop (i + 1) members)))
+    ∙ sym (both_assoc found (least (check_member scope m)) (least (check_members behind (drop (i + 1) members))))
     ∙ ap (rest_of_members behind (drop (i + 1) members)) (sym (next_is ∙ ap (both found) part_is))
     ∙ ap (λ s. rest_of_members s (drop (i + 1) members) next) (sym scope_is)
 
 -- none is left
-pub in_members-end : (scope : Scope) (members : List Member) (i : ℕ) (found : Broken) → length members ≤ i → rest_of_members scope (drop i members) found ≡ found
-in_members-end scope members i found past = ap (λ others. rest_of_members scope others found) (drop_all i members past) ∙ both_nothing found
+pub check_members-end : (scope : Scope) (members : List Member) (i : ℕ) (found : Broken) → length members ≤ i → rest_of_members scope (drop i members) found ≡ found
+check_members-end scope members i found past = ap (λ others. rest_of_members scope others found) (drop_all i members past) ∙ both_nothing found

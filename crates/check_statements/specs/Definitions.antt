@@ -69,52 +69,52 @@ abbrev pub same_number : EnumNumber → EnumNumber → Bool
 same_number n m = nat_eq n.magnitude m.magnitude && (nat_eq n.magnitude 0 || same_sign n.minus m.minus)
 
 -- a number is none of those before it
-abbrev pub at_number : List EnumNumber → Option EnumNumber → List Rule
-at_number before None = []
-at_number before (Some n) = unless (not (list_any (same_number n) before)) rule.EnumNumbers
+abbrev pub check_number : List EnumNumber → Option EnumNumber → List Rule
+check_number before None = []
+check_number before (Some n) = unless (not (list_any (same_number n) before)) rule.EnumNumbers
 
 -- the numbers that are given, with a further one
 abbrev pub and_number : List EnumNumber → Option EnumNumber → List EnumNumber
 and_number before None = before
 and_number before (Some n) = before ++ n ∷ []
 
-abbrev pub in_numbers : List EnumNumber → List Enumerator → List Rule
-in_numbers before [] = []
-in_numbers before (enumerator ∷ enumerators) = at_number before enumerator.number ++ in_numbers (and_number before enumerator.number) enumerators
+abbrev pub check_numbers : List EnumNumber → List Enumerator → List Rule
+check_numbers before [] = []
+check_numbers before (enumerator ∷ enumerators) = check_number before enumerator.number ++ check_numbers (and_number before enumerator.number) enumerators
 
-abbrev pub in_messages : Names → PortMessages → List Rule
-in_messages names messages = flat_map (at_part names) messages.types
+abbrev pub check_messages : Names → PortMessages → List Rule
+check_messages names messages = flat_map (at_part names) messages.types
 
 -- ---- component types
 
-abbrev pub at_port_name : Scope → List ℕ → List Rule
-at_port_name scope name = at_new_name scope.names name
+abbrev pub check_port_name : Scope → List ℕ → List Rule
+check_port_name scope name = at_new_name scope.names name
 
 abbrev pub port_entry : Option ℕ → Scope → List ℕ → Entry
 port_entry of scope name = (name, meaning.Port of)
 
-abbrev pub at_initial_value : Scope → Target → Option Value → List Rule
-at_initial_value scope target None = []
-at_initial_value scope target (Some v) = value v scope target
+abbrev pub check_initial_value : Scope → Target → Option Value → List Rule
+check_initial_value scope target None = []
+check_initial_value scope target (Some v) = value v scope target
 
-abbrev pub at_member_variable : Option DataType → Scope → MemberVariable → List Rule
-at_member_variable of scope variable = at_new_name scope.names variable.name ++ at_initial_value scope (target_of of) variable.value
+abbrev pub check_member_variable : Option DataType → Scope → MemberVariable → List Rule
+check_member_variable of scope variable = at_new_name scope.names variable.name ++ check_initial_value scope (target_of of) variable.value
 
 abbrev pub member_variable_entry : Option DataType → Scope → MemberVariable → Entry
 member_variable_entry of scope variable = (variable.name, meaning.Variable of)
 
-abbrev pub in_member : Scope → Member → List Rule
-in_member scope (member.Ports port_type ports) =
+abbrev pub check_member : Scope → Member → List Rule
+check_member scope (member.Ports port_type ports) =
     unless (is_some (port_type_meant (scope.names port_type))) rule.UnknownName ++
-    one_by_one at_port_name (port_entry (port_type_meant (scope.names port_type))) scope ports
-in_member scope (member.Constants cs) = at_constants scope cs
-in_member scope (member.Variables of variables) = at_type scope.names true of ++
-    one_by_one (at_member_variable (resolved scope.names of)) (member_variable_entry (resolved scope.names of)) scope variables
-in_member scope (member.Timers timers) = at_timers scope timers
+    one_by_one check_port_name (port_entry (port_type_meant (scope.names port_type))) scope ports
+check_member scope (member.Constants cs) = at_constants scope cs
+check_member scope (member.Variables of variables) = at_type scope.names true of ++
+    one_by_one (check_member_variable (resolved scope.names of)) (member_variable_entry (resolved scope.names of)) scope variables
+check_member scope (member.Timers timers) = at_timers scope timers
 
-abbrev pub in_members : Scope → List Member → List Rule
-in_members scope [] = []
-in_members scope (member ∷ members) = in_member scope member ++ in_members (declaring scope (member_entries scope.names member)) members
+abbrev pub check_members : Scope → List Member → List Rule
+check_members scope [] = []
+check_members scope (member ∷ members) = check_member scope member ++ check_members (declaring scope (member_entries scope.names member)) members
 
 -- ---- constants and templates
 
@@ -136,21 +136,21 @@ in_parameters scope parameters = one_by_one at_parameter parameter_entry scope p
 abbrev pub with_parameters : Scope → List Parameter → Scope
 with_parameters scope parameters = behind_all parameter_entry scope parameters
 
-abbrev pub in_template : Scope → TemplateDefinition → List Rule
-in_template scope t =
+abbrev pub check_template : Scope → TemplateDefinition → List Rule
+check_template scope t =
     at_type scope.names false t.type_name ++ in_parameters scope t.parameters ++
     template t.template (with_parameters scope t.parameters) (target_of (resolved scope.names t.type_name))
 
 -- ---- behaviours
 
 -- a name is that of a component type
-abbrev pub at_component_name : List Definition → Option (List ℕ) → List Rule
-at_component_name definitions None = []
-at_component_name definitions (Some name) = unless (is_some (component_meant (module_names definitions name))) rule.UnknownName
+abbrev pub check_component_name : List Definition → Option (List ℕ) → List Rule
+check_component_name definitions None = []
+check_component_name definitions (Some name) = unless (is_some (component_meant (module_names definitions name))) rule.UnknownName
 
-abbrev pub at_result : List Definition → Option TypeName → List Rule
-at_result definitions None = []
-at_result definitions (Some name) = at_type (module_names definitions) false name
+abbrev pub check_result : List Definition → Option TypeName → List Rule
+check_result definitions None = []
+check_result definitions (Some name) = at_type (module_names definitions) false name
 
 -- what a function may return
 abbrev pub returns_of : List Definition → Option TypeName → Returns
@@ -163,31 +163,31 @@ place_in scope parameters returns = record { scope = with_parameters scope param
 -- ---- definitions
 
 -- the rules that the definition at a position breaks inside
-abbrev pub in_definition : List Definition → ℕ → DefinitionKind → List Rule
-in_definition definitions at (kind.Record r) = in_fields (module_names definitions) [] r.fields
-in_definition definitions at (kind.Enumerated e) = in_numbers [] e.enumerators
-in_definition definitions at (kind.Port p) = flat_map (in_messages (module_names definitions)) p.messages
-in_definition definitions at (kind.Component c) =
-    in_members (component_scope definitions at) c.members
-in_definition definitions at (kind.Constants cs) =
+abbrev pub check_definition : List Definition → ℕ → DefinitionKind → List Rule
+check_definition definitions at (kind.Record r) = in_fields (module_names definitions) [] r.fields
+check_definition definitions at (kind.Enumerated e) = check_numbers [] e.enumerators
+check_definition definitions at (kind.Port p) = flat_map (check_messages (module_names definitions)) p.messages
+check_definition definitions at (kind.Component c) =
+    check_members (component_scope definitions at) c.members
+check_definition definitions at (kind.Constants cs) =
     at_type (module_names definitions) false cs.type_name ++
     in_module_constants (module_scope definitions) (resolved (module_names definitions) cs.type_name) cs.constants
-in_definition definitions at (kind.Template t) = in_template (module_scope definitions) t
-in_definition definitions at (kind.Function f) =
-    at_component_name definitions f.runs_on ++ in_parameters (scope_on definitions (component_named definitions f.runs_on)) f.parameters ++
-    at_result definitions f.returns ++
+check_definition definitions at (kind.Template t) = check_template (module_scope definitions) t
+check_definition definitions at (kind.Function f) =
+    check_component_name definitions f.runs_on ++ in_parameters (scope_on definitions (component_named definitions f.runs_on)) f.parameters ++
+    check_result definitions f.returns ++
     statements f.body (place_in (scope_on definitions (component_named definitions f.runs_on)) f.parameters (returns_of definitions f.returns))
-in_definition definitions at (kind.Altstep a) =
-    at_component_name definitions a.runs_on ++ in_parameters (scope_on definitions (component_named definitions a.runs_on)) a.parameters ++
+check_definition definitions at (kind.Altstep a) =
+    check_component_name definitions a.runs_on ++ in_parameters (scope_on definitions (component_named definitions a.runs_on)) a.parameters ++
     flat_map (λ b. branch b (place_in (scope_on definitions (component_named definitions a.runs_on)) a.parameters returns.Nowhere)) a.branches
-in_definition definitions at (kind.Testcase t) =
-    at_component_name definitions (Some t.runs_on) ++ at_component_name definitions t.system ++
+check_definition definitions at (kind.Testcase t) =
+    check_component_name definitions (Some t.runs_on) ++ check_component_name definitions t.system ++
     statements t.body (place_in (scope_on definitions (component_named definitions (Some t.runs_on))) [] returns.Nowhere)
 
-abbrev pub in_definitions : List Definition → ℕ → List Definition → List Rule
-in_definitions all at [] = []
-in_definitions all at (definition ∷ definitions) = in_definition all at definition.kind ++ in_definitions all (at + 1) definitions
+abbrev pub check_definitions : List Definition → ℕ → List Definition → List Rule
+check_definitions all at [] = []
+check_definitions all at (definition ∷ definitions) = check_definition all at definition.kind ++ check_definitions all (at + 1) definitions
 
 -- the rules that the sites of a module break, each as often as there are sites that break it
-abbrev pub at_sites : List Definition → List Rule
-at_sites definitions = at_module_names definitions ++ in_definitions definitions 0 definitions
+abbrev pub check_sites : List Definition → List Rule
+check_sites definitions = at_module_names definitions ++ check_definitions definitions 0 definitions

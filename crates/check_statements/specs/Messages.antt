@@ -86,58 +86,58 @@ by_type_name scope passing otherwise t (Some name) = type_by_itself passing (typ
 abbrev pub type_of_message : Scope → Passing → Judged → MessageTemplate → Judged
 type_of_message scope passing otherwise message = by_type_name scope passing otherwise message.template message.type_name
 
-abbrev pub at_type_name : Scope → Option TypeName → List Rule
-at_type_name scope None = []
-at_type_name scope (Some name) = at_type scope.names false name
+abbrev pub check_type_name : Scope → Option TypeName → List Rule
+check_type_name scope None = []
+check_type_name scope (Some name) = at_type scope.names false name
 
 -- a message where messages of some types pass
-abbrev pub at_message : Scope → Passing → Judged → MessageTemplate → List Rule
-at_message scope passing otherwise message =
-    at_type_name scope message.type_name ++ (type_of_message scope passing otherwise message).broken ++
+abbrev pub check_message : Scope → Passing → Judged → MessageTemplate → List Rule
+check_message scope passing otherwise message =
+    check_type_name scope message.type_name ++ (type_of_message scope passing otherwise message).broken ++
     template message.template scope (target_of (type_known (type_of_message scope passing otherwise message).typing))
 
 -- ---- sends
 
 -- what is known where a message passes: the types that pass, and the type of a message that says nothing of it
-abbrev pub AtPort : Type 0
-AtPort = Passing × Judged
+abbrev pub Passage : Type 0
+Passage = Passing × Judged
 
 -- at a port whose type stands at a position, if that is known
-abbrev pub at_port : List Definition → Bool → Option ℕ → AtPort
-at_port definitions incoming port = (passing_at definitions incoming port, type_by_port (passing_at definitions incoming port))
+abbrev pub passage_at : List Definition → Bool → Option ℕ → Passage
+passage_at definitions incoming port = (passing_at definitions incoming port, type_by_port (passing_at definitions incoming port))
 
-abbrev pub at_to : Scope → Option ComponentRef → List Rule
-at_to scope None = []
-at_to scope (Some reference) = (at_wanted_component scope reference).broken
+abbrev pub check_to : Scope → Option ComponentRef → List Rule
+check_to scope None = []
+check_to scope (Some reference) = (at_wanted_component scope reference).broken
 
-abbrev pub at_sent : Scope → Option (Option ℕ) → MessageTemplate → List Rule
-at_sent scope None message = rule.UnknownName ∷ at_message scope None (type_by_port None) message
-at_sent scope (Some port) message = at_message scope (at_port scope.definitions false port).0 (at_port scope.definitions false port).1 message
+abbrev pub check_sent : Scope → Option (Option ℕ) → MessageTemplate → List Rule
+check_sent scope None message = rule.UnknownName ∷ check_message scope None (type_by_port None) message
+check_sent scope (Some port) message = check_message scope (passage_at scope.definitions false port).0 (passage_at scope.definitions false port).1 message
 
-abbrev pub at_send : Scope → Send → List Rule
-at_send scope send = at_sent scope (port_meant (scope.names send.port)) send.message ++ at_to scope send.to
+abbrev pub check_send : Scope → Send → List Rule
+check_send scope send = check_sent scope (port_meant (scope.names send.port)) send.message ++ check_to scope send.to
 
 -- ---- receives
 
-abbrev pub incoming_at : List Definition → Option (Option ℕ) → AtPort
+abbrev pub incoming_at : List Definition → Option (Option ℕ) → Passage
 incoming_at definitions None = (None, type_by_port None)
-incoming_at definitions (Some port) = at_port definitions true port
+incoming_at definitions (Some port) = passage_at definitions true port
 
-abbrev pub incoming : Scope → PortSelector → AtPort
+abbrev pub incoming : Scope → PortSelector → Passage
 incoming scope selector.Any = (None, type_anywhere)
 incoming scope (selector.Named name) = incoming_at scope.definitions (port_meant (scope.names name))
 
-abbrev pub at_selector : Scope → PortSelector → List Rule
-at_selector scope selector.Any = []
-at_selector scope (selector.Named name) = unless (is_some (port_meant (scope.names name))) rule.UnknownName
+abbrev pub check_selector : Scope → PortSelector → List Rule
+check_selector scope selector.Any = []
+check_selector scope (selector.Named name) = unless (is_some (port_meant (scope.names name))) rule.UnknownName
 
 -- what is received: any message, or one that a template tells
-abbrev pub at_received : Scope → AtPort → Option MessageTemplate → List Rule
-at_received scope incoming None = []
-at_received scope incoming (Some message) = at_message scope incoming.0 incoming.1 message
+abbrev pub check_received : Scope → Passage → Option MessageTemplate → List Rule
+check_received scope incoming None = []
+check_received scope incoming (Some message) = check_message scope incoming.0 incoming.1 message
 
 -- what is known of the type of what is received, where a template tells it
-abbrev pub received_type : Scope → AtPort → Option MessageTemplate → Option DataType
+abbrev pub received_type : Scope → Passage → Option MessageTemplate → Option DataType
 received_type scope incoming None = None
 received_type scope incoming (Some message) = type_known (type_of_message scope incoming.0 incoming.1 message).typing
 
@@ -160,33 +160,33 @@ stores_sender typing.AnyComponent = true
 stores_sender typing.NoValue = true
 stores_sender typing.Unknown = true
 
-abbrev pub at_value_redirect : Scope → Bool → Option DataType → Option Reference → List Rule
-at_value_redirect scope finding of None = []
-at_value_redirect scope finding of (Some reference) =
+abbrev pub check_value_redirect : Scope → Bool → Option DataType → Option Reference → List Rule
+check_value_redirect scope finding of None = []
+check_value_redirect scope finding of (Some reference) =
     (at_target scope reference).broken ++ unless finding rule.Redirect ++ unless (stores of (at_target scope reference).typing) rule.Redirect
 
-abbrev pub at_sender_redirect : Scope → Option Reference → List Rule
-at_sender_redirect scope None = []
-at_sender_redirect scope (Some reference) =
+abbrev pub check_sender_redirect : Scope → Option Reference → List Rule
+check_sender_redirect scope None = []
+check_sender_redirect scope (Some reference) =
     (at_target scope reference).broken ++ unless (stores_sender (at_target scope reference).typing) rule.Redirect
 
 -- ---- events
 
-abbrev pub at_receive : Scope → Receive → List Rule
-at_receive scope receive =
-    at_selector scope receive.port ++ at_received scope (incoming scope receive.port) receive.message ++ at_to scope receive.from ++
-    at_value_redirect scope (is_some receive.message) (received_type scope (incoming scope receive.port) receive.message) receive.value ++
-    at_sender_redirect scope receive.sender
+abbrev pub check_receive : Scope → Receive → List Rule
+check_receive scope receive =
+    check_selector scope receive.port ++ check_received scope (incoming scope receive.port) receive.message ++ check_to scope receive.from ++
+    check_value_redirect scope (is_some receive.message) (received_type scope (incoming scope receive.port) receive.message) receive.value ++
+    check_sender_redirect scope receive.sender
 
 abbrev pub is_timer_name : Option Meaning → Bool
 is_timer_name (Some meaning.Timer) = true
 is_timer_name _ = false
 
-abbrev pub at_timer : Scope → List ℕ → List Rule
-at_timer scope name = unless (is_timer_name (scope.names name)) rule.UnknownName
+abbrev pub check_timer : Scope → List ℕ → List Rule
+check_timer scope name = unless (is_timer_name (scope.names name)) rule.UnknownName
 
-abbrev pub at_event : Scope → Event → List Rule
-at_event scope (event.Receive receive) = at_receive scope receive
-at_event scope (event.Timeout timer) = at_timer scope timer
-at_event scope (event.Done reference) = (at_wanted_component scope reference).broken
-at_event scope event.AllDone = []
+abbrev pub check_event : Scope → Event → List Rule
+check_event scope (event.Receive receive) = check_receive scope receive
+check_event scope (event.Timeout timer) = check_timer scope timer
+check_event scope (event.Done reference) = (at_wanted_component scope reference).broken
+check_event scope event.AllDone = []

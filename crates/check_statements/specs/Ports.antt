@@ -20,5 +20,5 @@ otherwise at.Unknown = spec.type_by_port None
 otherwise at.Anywhere = spec.type_anywhere
 
 -- both of these
-abbrev pub known : Passing → spec.AtPort
+abbrev pub known : Passing → spec.Passage
 known at = (passing at, otherwise at)

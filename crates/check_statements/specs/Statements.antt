@@ -24,7 +24,7 @@ use Rattle.ttcn_syntax.specs.declared.tree.value.Call.{Call}
 use Rattle.ttcn_syntax.specs.declared.tree.value.Value.{Value}
 use Rattle.check_expressions.specs.Calls.{at_activation, at_arguments, at_call, behaviour_meant, component_named, is_altstep, lone_arguments, parameters_of, runs_on_of, stands_alone}
 use Rattle.check_expressions.specs.Expressions.{at_component, at_reference, at_wanted_component, expression, names_timer}
-use Rattle.check_statements.specs.Messages.{at_event, at_send, at_timer}
+use Rattle.check_statements.specs.Messages.{check_event, check_send, check_timer}
 use Rattle.check_scope.specs.Names.{Scope, kind_at}
 use Rattle.check_expressions.specs.Targets.{at_assignment, at_constants, at_timers, at_variables, behind_constants, behind_timers, behind_variables}
 use Rattle.check_scope.specs.Typings.{is_default, refers_to_component, same_type, target_of, unless}
@@ -54,89 +54,89 @@ abbrev pub inside_branch : Place → Place
 inside_branch place = record { scope = place.scope; returns = place.returns; in_branch = true }
 
 -- the rules that something breaks at a place
-abbrev pub AtPlace : Type 0
-AtPlace = Place → List Rule
+abbrev pub Check : Type 0
+Check = Place → List Rule
 
 -- what is said of a statement: the rules that it breaks, and the scope behind it, which has what it declares
-pub record Stated : Type 0 where
-  pub broken : AtPlace
+pub record StatementRules : Type 0 where
+  pub broken : Check
   pub scope_behind : Scope → Scope
 
 -- one that declares nothing
-abbrev pub without_declaration : AtPlace → Stated
+abbrev pub without_declaration : Check → StatementRules
 without_declaration broken = record { broken = broken; scope_behind = λ scope. scope }
 
 -- ---- blocks and conditions
 
 -- statements one behind the other: what one declares is visible in those behind it
-abbrev pub in_block : List Stated → AtPlace
-in_block [] place = []
-in_block (statement ∷ statements) place =
-    statement.broken place ++ in_block statements (with_scope place (statement.scope_behind place.scope))
+abbrev pub check_block : List StatementRules → Check
+check_block [] place = []
+check_block (statement ∷ statements) place =
+    statement.broken place ++ check_block statements (with_scope place (statement.scope_behind place.scope))
 
-abbrev pub in_block_if_any : Option (List Stated) → AtPlace
-in_block_if_any None place = []
-in_block_if_any (Some block) place = in_block block place
+abbrev pub check_block_if_any : Option (List StatementRules) → Check
+check_block_if_any None place = []
+check_block_if_any (Some block) place = check_block block place
 
-abbrev pub as_condition : Typing → List Rule
-as_condition (typing.Known t) = unless (same_type type.Boolean t) rule.Condition
-as_condition typing.Null = rule.ValueType ∷ []
-as_condition typing.AnyComponent = rule.Condition ∷ []
-as_condition typing.NoValue = rule.Condition ∷ []
-as_condition typing.Unknown = []
+abbrev pub check_boolean : Typing → List Rule
+check_boolean (typing.Known t) = unless (same_type type.Boolean t) rule.Condition
+check_boolean typing.Null = rule.ValueType ∷ []
+check_boolean typing.AnyComponent = rule.Condition ∷ []
+check_boolean typing.NoValue = rule.Condition ∷ []
+check_boolean typing.Unknown = []
 
-abbrev pub at_condition : Scope → Expr → List Rule
-at_condition scope e = (expression e scope false).broken ++ as_condition (expression e scope false).typing
+abbrev pub check_condition : Scope → Expr → List Rule
+check_condition scope e = (expression e scope false).broken ++ check_boolean (expression e scope false).typing
 
-abbrev pub at_guard : Scope → Option Expr → List Rule
-at_guard scope None = []
-at_guard scope (Some e) = at_condition scope e
+abbrev pub check_guard : Scope → Option Expr → List Rule
+check_guard scope None = []
+check_guard scope (Some e) = check_condition scope e
 
 -- ---- parts of statements
 
-abbrev pub at_for_start : Scope → ForStart → List Rule
-at_for_start scope (for_start.Variables vs) = at_variables scope vs
-at_for_start scope (for_start.Assign assignment) = at_assignment scope assignment
+abbrev pub check_for_start : Scope → ForStart → List Rule
+check_for_start scope (for_start.Variables vs) = at_variables scope vs
+check_for_start scope (for_start.Assign assignment) = at_assignment scope assignment
 
 abbrev pub behind_for_start : Scope → ForStart → Scope
 behind_for_start scope (for_start.Variables vs) = behind_variables scope vs
 behind_for_start scope (for_start.Assign assignment) = scope
 
 -- what stands in front of the block of a `for`
-abbrev pub at_for_head : Scope → ForStart → Expr → Assignment → List Rule
-at_for_head scope start condition step =
-    at_for_start scope start ++ at_condition (behind_for_start scope start) condition ++ at_assignment (behind_for_start scope start) step
+abbrev pub check_for_head : Scope → ForStart → Expr → Assignment → List Rule
+check_for_head scope start condition step =
+    check_for_start scope start ++ check_condition (behind_for_start scope start) condition ++ at_assignment (behind_for_start scope start) step
 
 -- what stands in front of the block of a branch
-abbrev pub at_guarded_event : Scope → Option Expr → Event → List Rule
-at_guarded_event scope guard event = at_guard scope guard ++ at_event scope event
+abbrev pub check_guarded_event : Scope → Option Expr → Event → List Rule
+check_guarded_event scope guard event = check_guard scope guard ++ check_event scope event
 
-abbrev pub at_guarded_call : Scope → Option Expr → Call → List Rule
-at_guarded_call scope guard call = at_guard scope guard ++ at_call scope is_altstep call
+abbrev pub check_guarded_call : Scope → Option Expr → Call → List Rule
+check_guarded_call scope guard call = check_guard scope guard ++ at_call scope is_altstep call
 
 -- what is logged: `mtc` may stand there
-abbrev pub at_log_item : Scope → LogItem → List Rule
-at_log_item scope log_item.Text = []
-at_log_item scope (log_item.Expr e) = (expression e scope true).broken
+abbrev pub check_log_item : Scope → LogItem → List Rule
+check_log_item scope log_item.Text = []
+check_log_item scope (log_item.Expr e) = (expression e scope true).broken
 
 -- what is logged, or the reasons of a verdict
-abbrev pub at_log : Scope → List LogItem → List Rule
-at_log scope items = flat_map (at_log_item scope) items
+abbrev pub check_log : Scope → List LogItem → List Rule
+check_log scope items = flat_map (check_log_item scope) items
 
 abbrev pub is_error : Verdict → Bool
 is_error verdict.Error = true
 is_error _ = false
 
-abbrev pub at_setverdict : Scope → Verdict → List LogItem → List Rule
-at_setverdict scope verdict reasons = unless (not (is_error verdict)) rule.VerdictError ++ at_log scope reasons
+abbrev pub check_setverdict : Scope → Verdict → List LogItem → List Rule
+check_setverdict scope verdict reasons = unless (not (is_error verdict)) rule.VerdictError ++ check_log scope reasons
 
-abbrev pub at_return : Scope → Returns → Option Value → List Rule
-at_return scope returns.Nowhere None = rule.ReturnPlace ∷ []
-at_return scope returns.Nowhere (Some v) = rule.ReturnPlace ∷ value v scope (target_of None)
-at_return scope returns.WithoutValue None = []
-at_return scope returns.WithoutValue (Some v) = rule.ReturnPlace ∷ value v scope (target_of None)
-at_return scope (returns.WithValue of) None = rule.ReturnPlace ∷ []
-at_return scope (returns.WithValue of) (Some v) = value v scope (target_of of)
+abbrev pub check_return : Scope → Returns → Option Value → List Rule
+check_return scope returns.Nowhere None = rule.ReturnPlace ∷ []
+check_return scope returns.Nowhere (Some v) = rule.ReturnPlace ∷ value v scope (target_of None)
+check_return scope returns.WithoutValue None = []
+check_return scope returns.WithoutValue (Some v) = rule.ReturnPlace ∷ value v scope (target_of None)
+check_return scope (returns.WithValue of) None = rule.ReturnPlace ∷ []
+check_return scope (returns.WithValue of) (Some v) = value v scope (target_of of)
 
 -- a default that goes
 abbrev pub refers_to_default : Typing → Bool
@@ -144,17 +144,17 @@ refers_to_default (typing.Known t) = is_default t
 refers_to_default typing.Unknown = true
 refers_to_default _ = false
 
-abbrev pub at_deactivate : Scope → Option Reference → List Rule
-at_deactivate scope None = []
-at_deactivate scope (Some reference) =
+abbrev pub check_deactivate : Scope → Option Reference → List Rule
+check_deactivate scope None = []
+check_deactivate scope (Some reference) =
     (at_reference scope reference).broken ++ unless (refers_to_default (at_reference scope reference).typing) rule.UnknownName
 
-abbrev pub at_stop : Scope → ComponentRef → List Rule
-at_stop scope reference = if names_timer scope reference then [] else (at_wanted_component scope reference).broken
+abbrev pub check_stop : Scope → ComponentRef → List Rule
+check_stop scope reference = if names_timer scope reference then [] else (at_wanted_component scope reference).broken
 
 -- both ends of a connection; the names of their ports are not judged
-abbrev pub at_ends : Scope → ComponentRef → ComponentRef → List Rule
-at_ends scope one other = (at_wanted_component scope one).broken ++ (at_wanted_component scope other).broken
+abbrev pub check_ends : Scope → ComponentRef → ComponentRef → List Rule
+check_ends scope one other = (at_wanted_component scope one).broken ++ (at_wanted_component scope other).broken
 
 -- ---- starts of components
 
@@ -172,39 +172,39 @@ abbrev pub is_function : Option DefinitionKind → Bool
 is_function (Some (kind.Function f)) = true
 is_function _ = false
 
-abbrev pub at_started : Scope → Typing → Call → Option ℕ → List Rule
-at_started scope started call None = rule.UnknownName ∷ lone_arguments scope call.arguments
-at_started scope started call (Some at) =
+abbrev pub check_started : Scope → Typing → Call → Option ℕ → List Rule
+check_started scope started call None = rule.UnknownName ∷ lone_arguments scope call.arguments
+check_started scope started call (Some at) =
     at_arguments scope (parameters_of (kind_at scope.definitions at)) call.arguments ++
     unless (says_component (kind_at scope.definitions at)) rule.RunsOn ++
     unless (runs_there started (component_named scope.definitions (runs_on_of (kind_at scope.definitions at)))) rule.RunsOn ++
     unless (is_function (kind_at scope.definitions at)) rule.CallKind
 
-abbrev pub at_start : Scope → ComponentRef → Call → List Rule
-at_start scope reference call =
+abbrev pub check_start : Scope → ComponentRef → Call → List Rule
+check_start scope reference call =
     (at_component scope reference false).broken ++
     unless (refers_to_component (at_component scope reference false).typing) rule.UnknownName ++
-    at_started scope (at_component scope reference false).typing call (behaviour_meant (scope.names call.name))
+    check_started scope (at_component scope reference false).typing call (behaviour_meant (scope.names call.name))
 
 -- ---- statements
 
 -- the rules that a statement breaks which has no block and declares nothing: declarations and blocks are judged below
-abbrev pub leaf_rules : {A B C D E : Type 0} → Action-F A B C D E → AtPlace
+abbrev pub leaf_rules : {A B C D E : Type 0} → Action-F A B C D E → Check
 leaf_rules (Action-F.Assign assignment) place = at_assignment place.scope assignment
 leaf_rules (Action-F.«Action::Call» call) place = at_call place.scope stands_alone call
-leaf_rules (Action-F.«Action::Event» event) place = at_event place.scope event
+leaf_rules (Action-F.«Action::Event» event) place = check_event place.scope event
 leaf_rules Action-F.Repeat place = unless place.in_branch rule.RepeatPlace
-leaf_rules (Action-F.Return v) place = at_return place.scope place.returns v
+leaf_rules (Action-F.Return v) place = check_return place.scope place.returns v
 leaf_rules Action-F.Stop place = []
-leaf_rules (Action-F.Log items) place = at_log place.scope items
-leaf_rules (Action-F.Setverdict verdict reasons) place = at_setverdict place.scope verdict reasons
-leaf_rules (Action-F.Connect one other) place = at_ends place.scope one.component other.component
-leaf_rules (Action-F.Send send) place = at_send place.scope send
-leaf_rules (Action-F.StartComponent reference call) place = at_start place.scope reference call
-leaf_rules (Action-F.StartTimer timer) place = at_timer place.scope timer
-leaf_rules (Action-F.StopOf reference) place = at_stop place.scope reference
+leaf_rules (Action-F.Log items) place = check_log place.scope items
+leaf_rules (Action-F.Setverdict verdict reasons) place = check_setverdict place.scope verdict reasons
+leaf_rules (Action-F.Connect one other) place = check_ends place.scope one.component other.component
+leaf_rules (Action-F.Send send) place = check_send place.scope send
+leaf_rules (Action-F.StartComponent reference call) place = check_start place.scope reference call
+leaf_rules (Action-F.StartTimer timer) place = check_timer place.scope timer
+leaf_rules (Action-F.StopOf reference) place = check_stop place.scope reference
 leaf_rules (Action-F.Activate call) place = at_activation place.scope call
-leaf_rules (Action-F.Deactivate reference) place = at_deactivate place.scope reference
+leaf_rules (Action-F.Deactivate reference) place = check_deactivate place.scope reference
 leaf_rules (Action-F.Variables vs) place = []
 leaf_rules (Action-F.Constants cs) place = []
 leaf_rules (Action-F.Timers timers) place = []
@@ -215,57 +215,57 @@ leaf_rules (Action-F.DoWhile block condition) place = []
 leaf_rules (Action-F.For start condition step block) place = []
 
 -- what is said of a statement without blocks
-abbrev pub leaf : {A B C D E : Type 0} → Action-F A B C D E → Stated
+abbrev pub leaf : {A B C D E : Type 0} → Action-F A B C D E → StatementRules
 leaf (Action-F.Variables vs) = record { broken = λ place. at_variables place.scope vs; scope_behind = λ scope. behind_variables scope vs }
 leaf (Action-F.Constants cs) = record { broken = λ place. at_constants place.scope cs; scope_behind = λ scope. behind_constants scope cs }
 leaf (Action-F.Timers timers) = record { broken = λ place. at_timers place.scope timers; scope_behind = λ scope. behind_timers scope timers }
 leaf action = without_declaration (leaf_rules action)
 
-abbrev pub action_step : Action-F Stated AtPlace AtPlace AtPlace Stated → Stated
+abbrev pub action_step : Action-F StatementRules Check Check Check StatementRules → StatementRules
 action_step (Action-F.Alt branches) = without_declaration (λ place. flat_map (λ branch. branch place) branches)
-action_step (Action-F.If conditionals last) = without_declaration (λ place. flat_map (λ conditional. conditional place) conditionals ++ in_block_if_any last place)
-action_step (Action-F.While condition block) = without_declaration (λ place. at_condition place.scope condition ++ in_block block place)
-action_step (Action-F.DoWhile block condition) = without_declaration (λ place. in_block block place ++ at_condition place.scope condition)
+action_step (Action-F.If conditionals last) = without_declaration (λ place. flat_map (λ conditional. conditional place) conditionals ++ check_block_if_any last place)
+action_step (Action-F.While condition block) = without_declaration (λ place. check_condition place.scope condition ++ check_block block place)
+action_step (Action-F.DoWhile block condition) = without_declaration (λ place. check_block block place ++ check_condition place.scope condition)
 action_step (Action-F.For start condition step block) = without_declaration (λ place.
-    at_for_head place.scope start condition step ++ in_block block (with_scope place (behind_for_start place.scope start)))
+    check_for_head place.scope start condition step ++ check_block block (with_scope place (behind_for_start place.scope start)))
 action_step action = leaf action
 
-abbrev pub statement_step : Statement-F Stated AtPlace AtPlace AtPlace Stated → Stated
+abbrev pub statement_step : Statement-F StatementRules Check Check Check StatementRules → StatementRules
 statement_step s = s.action
 
-abbrev pub conditional_step : Conditional-F Stated AtPlace AtPlace AtPlace Stated → AtPlace
-conditional_step c place = at_condition place.scope c.condition ++ in_block c.block place
+abbrev pub conditional_step : Conditional-F StatementRules Check Check Check StatementRules → Check
+conditional_step c place = check_condition place.scope c.condition ++ check_block c.block place
 
-abbrev pub alternative_step : Alternative-F Stated AtPlace AtPlace AtPlace Stated → AtPlace
+abbrev pub alternative_step : Alternative-F StatementRules Check Check Check StatementRules → Check
 alternative_step (Alternative-F.«Alternative::Event» guard event block) place =
-    at_guarded_event place.scope guard event ++ in_block_if_any block (inside_branch place)
+    check_guarded_event place.scope guard event ++ check_block_if_any block (inside_branch place)
 alternative_step (Alternative-F.«Alternative::Call» guard call block) place =
-    at_guarded_call place.scope guard call ++ in_block_if_any block (inside_branch place)
-alternative_step (Alternative-F.Else block) place = in_block block (inside_branch place)
+    check_guarded_call place.scope guard call ++ check_block_if_any block (inside_branch place)
+alternative_step (Alternative-F.Else block) place = check_block block (inside_branch place)
 
-abbrev pub branch_step : Branch-F Stated AtPlace AtPlace AtPlace Stated → AtPlace
+abbrev pub branch_step : Branch-F StatementRules Check Check Check StatementRules → Check
 branch_step b = b.alternative
 
 -- what is said of what a statement does
-abbrev pub action : Action → Stated
-action = fold-Action Stated AtPlace AtPlace AtPlace Stated action_step alternative_step branch_step conditional_step statement_step
+abbrev pub action : Action → StatementRules
+action = fold-Action StatementRules Check Check Check StatementRules action_step alternative_step branch_step conditional_step statement_step
 
 -- the rules that what stands in a branch breaks
-abbrev pub alternative : Alternative → AtPlace
-alternative = fold-Alternative Stated AtPlace AtPlace AtPlace Stated action_step alternative_step branch_step conditional_step statement_step
+abbrev pub alternative : Alternative → Check
+alternative = fold-Alternative StatementRules Check Check Check StatementRules action_step alternative_step branch_step conditional_step statement_step
 
 -- what is said of a statement
-abbrev pub statement : Statement → Stated
-statement = fold-Statement Stated AtPlace AtPlace AtPlace Stated action_step alternative_step branch_step conditional_step statement_step
+abbrev pub statement : Statement → StatementRules
+statement = fold-Statement StatementRules Check Check Check StatementRules action_step alternative_step branch_step conditional_step statement_step
 
 -- the rules that a branch breaks
-abbrev pub branch : Branch → AtPlace
-branch = fold-Branch Stated AtPlace AtPlace AtPlace Stated action_step alternative_step branch_step conditional_step statement_step
+abbrev pub branch : Branch → Check
+branch = fold-Branch StatementRules Check Check Check StatementRules action_step alternative_step branch_step conditional_step statement_step
 
 -- the rules that a condition with its block breaks
-abbrev pub conditional : Conditional → AtPlace
-conditional = fold-Conditional Stated AtPlace AtPlace AtPlace Stated action_step alternative_step branch_step conditional_step statement_step
+abbrev pub conditional : Conditional → Check
+conditional = fold-Conditional StatementRules Check Check Check StatementRules action_step alternative_step branch_step conditional_step statement_step
 
 -- the rules that statements one behind the other break
-abbrev pub statements : List Statement → AtPlace
-statements body = in_block (map statement body)
+abbrev pub statements : List Statement → Check
+statements body = check_block (map statement body)

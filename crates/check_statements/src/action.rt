@@ -30,8 +30,8 @@ use ttcn_syntax::{
 // ---- conditions
 
 /// Something of this typing as a condition.
-fn as_condition(typing: Typing) -> Broken
-    ensures { result ≡ least (spec.as_condition typing) }
+fn check_boolean(typing: Typing) -> Broken
+    ensures { result ≡ least (spec.check_boolean typing) }
 {
     match typing {
         Typing::Known(data_type) => {
@@ -45,15 +45,15 @@ fn as_condition(typing: Typing) -> Broken
 
 #[tactic(auto, using(crate::proofs::Leasts::least_append))]
 pub(crate) fn check_condition(scope: &Scope<'_>, condition: &Expr) -> Broken
-    ensures { result ≡ least (spec.at_condition (view scope.now) condition.now) }
+    ensures { result ≡ least (spec.check_condition (view scope.now) condition.now) }
 {
     let found = expression(scope, condition, false);
-    found.broken.and(as_condition(found.typing))
+    found.broken.and(check_boolean(found.typing))
 }
 
 /// The guard of a branch, if it has one.
 pub(crate) fn check_guard(scope: &Scope<'_>, guard: Option<&Expr>) -> Broken
-    ensures { result ≡ least (spec.at_guard (view scope.now) (option_map (λ guard. guard.now) guard.entry)) }
+    ensures { result ≡ least (spec.check_guard (view scope.now) (option_map (λ guard. guard.now) guard.entry)) }
 {
     match guard {
         Some(guard) => check_condition(scope, guard),
@@ -64,7 +64,7 @@ pub(crate) fn check_guard(scope: &Scope<'_>, guard: Option<&Expr>) -> Broken
 // ---- what is logged
 
 fn check_log_item(scope: &Scope<'_>, item: &LogItem) -> Broken
-    ensures { result ≡ least (spec.at_log_item (view scope.now) item.now) }
+    ensures { result ≡ least (spec.check_log_item (view scope.now) item.now) }
 {
     match item {
         LogItem::Text => Broken::nothing(),
@@ -74,7 +74,7 @@ fn check_log_item(scope: &Scope<'_>, item: &LogItem) -> Broken
 
 /// What is logged, or the reasons of a verdict.
 fn check_log(scope: &Scope<'_>, items: &[LogItem]) -> Broken
-    ensures { result ≡ least (spec.at_log (view scope.now) items.now) }
+    ensures { result ≡ least (spec.check_log (view scope.now) items.now) }
 {
     let mut broken = Broken::nothing();
     for item in items {
@@ -85,7 +85,7 @@ fn check_log(scope: &Scope<'_>, items: &[LogItem]) -> Broken
 
 #[tactic(auto, using(crate::proofs::Leasts::least_append))]
 fn check_setverdict(scope: &Scope<'_>, verdict: Verdict, reasons: &[LogItem]) -> Broken
-    ensures { result ≡ least (spec.at_setverdict (view scope.now) verdict reasons.now) }
+    ensures { result ≡ least (spec.check_setverdict (view scope.now) verdict reasons.now) }
 {
     let may_be_set = !matches!(verdict, Verdict::Error);
     Broken::unless(may_be_set, Rule::VerdictError).and(check_log(scope, reasons))
@@ -101,7 +101,7 @@ fn check_return(
     returns: Returns,
     given: Option<&Value>,
 ) -> Result<Broken, AllocError>
-    ensures { IfOk result (λ broken. broken ≡ least (spec.at_return (view scope.now) returns (option_map (λ value. value.now) given.entry))) }
+    ensures { IfOk result (λ broken. broken ≡ least (spec.check_return (view scope.now) returns (option_map (λ value. value.now) given.entry))) }
 {
     let misplaced = Broken::of(Rule::ReturnPlace);
     let Some(given) = given else {
@@ -130,7 +130,7 @@ fn refers_to_default(typing: Typing) -> bool
 
 #[tactic(auto, using(crate::proofs::Leasts::least_append))]
 fn check_deactivate(scope: &Scope<'_>, reference: Option<&Reference>) -> Broken
-    ensures { result ≡ least (spec.at_deactivate (view scope.now) (option_map (λ reference. reference.now) reference.entry)) }
+    ensures { result ≡ least (spec.check_deactivate (view scope.now) (option_map (λ reference. reference.now) reference.entry)) }
 {
     let Some(reference) = reference else {
         return Broken::nothing();
@@ -144,7 +144,7 @@ fn check_deactivate(scope: &Scope<'_>, reference: Option<&Reference>) -> Broken
 
 /// `.stop`, of a timer or a component.
 fn check_stop(scope: &Scope<'_>, component: &ComponentRef) -> Broken
-    ensures { result ≡ least (spec.at_stop (view scope.now) component.now) }
+    ensures { result ≡ least (spec.check_stop (view scope.now) component.now) }
 {
     if names_timer(scope, component) {
         Broken::nothing()
@@ -188,7 +188,7 @@ fn check_started(
     call: &Call,
     behaviour: Option<usize>,
 ) -> Result<Broken, AllocError>
-    ensures { IfOk result (λ broken. broken ≡ least (spec.at_started (view scope.now) started call.now behaviour)) }
+    ensures { IfOk result (λ broken. broken ≡ least (spec.check_started (view scope.now) started call.now behaviour)) }
 {
     let given = call.arguments.as_slice();
     let Some(at) = behaviour else {
@@ -214,7 +214,7 @@ fn check_start(
     component: &ComponentRef,
     call: &Call,
 ) -> Result<Broken, AllocError>
-    ensures { IfOk result (λ broken. broken ≡ least (spec.at_start (view scope.now) component.now call.now)) }
+    ensures { IfOk result (λ broken. broken ≡ least (spec.check_start (view scope.now) component.now call.now)) }
 {
     let found = check_component(scope, component, false);
     let is_component = found.typing.refers_to_component();
@@ -231,7 +231,7 @@ fn check_start(
 /// Both ends of a connection.
 #[tactic(auto, using(crate::proofs::Leasts::least_append))]
 fn check_ends(scope: &Scope<'_>, one: &ComponentRef, other: &ComponentRef) -> Broken
-    ensures { result ≡ least (spec.at_ends (view scope.now) one.now other.now) }
+    ensures { result ≡ least (spec.check_ends (view scope.now) one.now other.now) }
 {
     let one = check_wanted_component(scope, one);
     let other = check_wanted_component(scope, other);

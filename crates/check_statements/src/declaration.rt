@@ -11,7 +11,22 @@ use check_scope::names::Meaning;
 use check_scope::scope::Scope;
 use check_scope::types::{DataType, Target};
 use std::alloc::{AllocError, Global};
-use ttcn_syntax::{Constant, Constants, Timer, Variable, Variables};
+use ttcn_syntax::{Constant, Constants, Name, Timer, Variable, Variables};
+
+/// A new name, which is visible behind its own part of the declaration.
+pub(crate) fn declare<'a>(
+    scope: &mut Scope<'a>,
+    name: &'a Name,
+    meaning: Meaning,
+) -> Result<Broken, AllocError>
+    ensures broken { IfOk result (λ broken. broken ≡ least (spec.at_new_name (view scope.old).names name.now)) }
+    ensures view { OnOk result (view scope.new ≡ declaring (view scope.old) ((name.now, meaning) ∷ [])) }
+    ensures around { OnOk result (around scope.new ≡ around scope.old) }
+{
+    let broken = check_new_name(scope, name);
+    scope.declare(name.as_bytes(), meaning)?;
+    Ok(broken)
+}
 
 /// A variable of a type, which is visible behind its own part of the declaration.
 #[tactic(auto, using(crate::proofs::Leasts::least_append))]
@@ -25,9 +40,8 @@ fn variable<'a>(
     ensures view { OnOk result (view scope.new ≡ declaring (view scope.old) (spec.variable_entry of (view scope.old) variable.now ∷ [])) }
     ensures around { OnOk result (around scope.new ≡ around scope.old) }
 {
-    let name = check_new_name(scope, &variable.name);
     let initial = check_initial(alloc, scope, Target::of(of), variable.value.as_ref())?;
-    scope.declare(variable.name.as_bytes(), Meaning::Variable(of))?;
+    let name = declare(scope, &variable.name, Meaning::Variable(of))?;
     Ok(name.and(initial))
 }
 
@@ -61,9 +75,8 @@ fn constant<'a>(
     ensures view { OnOk result (view scope.new ≡ declaring (view scope.old) (spec.constant_entry of (view scope.old) constant.now ∷ [])) }
     ensures around { OnOk result (around scope.new ≡ around scope.old) }
 {
-    let name = check_new_name(scope, &constant.name);
     let initial = value(alloc, scope, &constant.value, Target::of(of))?;
-    scope.declare(constant.name.as_bytes(), Meaning::Constant(of))?;
+    let name = declare(scope, &constant.name, Meaning::Constant(of))?;
     Ok(name.and(initial))
 }
 
@@ -85,16 +98,6 @@ pub(crate) fn constants<'a>(
     Ok(broken)
 }
 
-fn timer<'a>(scope: &mut Scope<'a>, timer: &'a Timer) -> Result<Broken, AllocError>
-    ensures broken { IfOk result (λ broken. broken ≡ least (spec.at_timer_name (view scope.old) timer.now)) }
-    ensures view { OnOk result (view scope.new ≡ declaring (view scope.old) (spec.timer_entry (view scope.old) timer.now ∷ [])) }
-    ensures around { OnOk result (around scope.new ≡ around scope.old) }
-{
-    let name = check_new_name(scope, &timer.name);
-    scope.declare(timer.name.as_bytes(), Meaning::Timer)?;
-    Ok(name)
-}
-
 pub(crate) fn timers<'a>(scope: &mut Scope<'a>, timers: &'a [Timer]) -> Result<Broken, AllocError>
     ensures broken { IfOk result (λ broken. broken ≡ least (spec.at_timers (view scope.old) timers.now)) }
     ensures view { OnOk result (view scope.new ≡ spec.behind_timers (view scope.old) timers.now) }
@@ -102,7 +105,7 @@ pub(crate) fn timers<'a>(scope: &mut Scope<'a>, timers: &'a [Timer]) -> Result<B
 {
     let mut broken = Broken::nothing();
     for item in timers {
-        let more = timer(scope, item)?;
+        let more = declare(scope, &item.name, Meaning::Timer)?;
         broken = broken.and(more);
     }
     Ok(broken)

@@ -24,86 +24,11 @@ use check_scope::scope::Scope;
 use check_scope::types::Target;
 use std::alloc::{AllocError, Global};
 use ttcn_syntax::{
-    Altstep, ComponentType, Constants, Definition, DefinitionKind, EnumeratedType, Function, Name,
-    Parameter, PortType, RecordType, Span, TemplateDefinition, Testcase,
+    Altstep, Definition, DefinitionKind, Function, Name, Parameter, Span, TemplateDefinition,
+    Testcase,
 };
 
-// ---- types
-
-/// A record type.
-fn check_record(
-    alloc: Global,
-    scope: &Scope<'_>,
-    place: Span,
-    record: &RecordType,
-    found: &mut Least,
-) -> Result<(), AllocError>
-    ensures found { OnOk result (least_in found.new ≡ both (least_in found.old) (least (spec.in_definition (view scope.now).definitions 0 (kind.Record «record».now)))) }
-{
-    let broken = check_fields(alloc, scope, record.fields.as_slice())?;
-    found.note(broken, place);
-    Ok(())
-}
-
-/// An enumeration.
-fn check_enumerated(
-    alloc: Global,
-    scope: &Scope<'_>,
-    place: Span,
-    enumerated: &EnumeratedType,
-    found: &mut Least,
-) -> Result<(), AllocError>
-    ensures found { OnOk result (least_in found.new ≡ both (least_in found.old) (least (spec.in_definition (view scope.now).definitions 0 (kind.Enumerated enumerated.now)))) }
-{
-    let broken = check_numbers(alloc, enumerated.enumerators.as_slice())?;
-    found.note(broken, place);
-    Ok(())
-}
-
-/// A type of ports.
-fn check_port_type(scope: &Scope<'_>, place: Span, port: &PortType, found: &mut Least)
-    ensures { least_in found.new ≡ both (least_in found.old) (least (spec.in_definition (view scope.now).definitions 0 (kind.Port port.now))) }
-{
-    let broken = check_port(scope, port.messages.as_slice());
-    found.note(broken, place);
-}
-
-/// The component type at a position.
-fn check_component_type<'a>(
-    alloc: Global,
-    scope: &mut Scope<'a>,
-    at: usize,
-    place: Span,
-    component: &'a ComponentType,
-    found: &mut Least,
-) -> Result<(), AllocError>
-    ensures found { OnOk result (least_in found.new ≡ both (least_in found.old) (least (spec.in_definition (view scope.old).definitions at (kind.Component component.now)))) }
-    ensures definitions { OnOk result ((view scope.new).definitions ≡ (view scope.old).definitions) }
-{
-    scope.go_to_component(alloc, at);
-    let broken = check_members(alloc, scope, component.members.as_slice())?;
-    found.note(broken, place);
-    Ok(())
-}
-
-// ---- constants and templates
-
-/// A declaration of constants.
-fn check_declaration<'a>(
-    alloc: Global,
-    scope: &mut Scope<'a>,
-    place: Span,
-    constants: &'a Constants,
-    found: &mut Least,
-) -> Result<(), AllocError>
-    ensures found { OnOk result (least_in found.new ≡ both (least_in found.old) (least (spec.in_definition (view scope.old).definitions 0 (kind.Constants constants.now)))) }
-    ensures definitions { OnOk result ((view scope.new).definitions ≡ (view scope.old).definitions) }
-{
-    scope.go_to_module(alloc);
-    let broken = check_constants(alloc, scope, constants)?;
-    found.note(broken, place);
-    Ok(())
-}
+// ---- templates
 
 /// A named template. Its type is not that of a parameter's name.
 #[tactic(auto, using(crate::proofs::Leasts::least_append))]
@@ -112,7 +37,7 @@ fn check_template<'a>(
     scope: &mut Scope<'a>,
     definition: &'a TemplateDefinition,
 ) -> Result<Broken, AllocError>
-    ensures broken { IfOk result (λ broken. broken ≡ least (spec.in_template (view scope.old) definition.now)) }
+    ensures broken { IfOk result (λ broken. broken ≡ least (spec.check_template (view scope.old) definition.now)) }
     ensures around { OnOk result (around scope.new ≡ around scope.old) }
 {
     let typed = check_type(scope, false, &definition.type_name);
@@ -120,23 +45,6 @@ fn check_template<'a>(
     let parameters = check_parameters(scope, definition.parameters.as_slice())?;
     let body = template(alloc, scope, &definition.template, target)?;
     Ok(typed.and(parameters).and(body))
-}
-
-/// A named template of the module.
-fn check_named_template<'a>(
-    alloc: Global,
-    scope: &mut Scope<'a>,
-    place: Span,
-    definition: &'a TemplateDefinition,
-    found: &mut Least,
-) -> Result<(), AllocError>
-    ensures found { OnOk result (least_in found.new ≡ both (least_in found.old) (least (spec.in_definition (view scope.old).definitions 0 (kind.Template definition.now)))) }
-    ensures definitions { OnOk result ((view scope.new).definitions ≡ (view scope.old).definitions) }
-{
-    scope.go_to_module(alloc);
-    let broken = check_template(alloc, scope, definition)?;
-    found.note(broken, place);
-    Ok(())
 }
 
 // ---- behaviours
@@ -151,7 +59,7 @@ fn go_into_behaviour<'a>(
 ) -> Result<Broken, AllocError>
     ensures broken { let runs_on = option_map (λ name. name.now) runs_on.entry in
         let definitions = (view scope.old).definitions in
-        IfOk result (λ broken. broken ≡ least (spec.at_component_name definitions runs_on ++ spec.in_parameters (scope_on definitions (component_named definitions runs_on)) parameters.now)) }
+        IfOk result (λ broken. broken ≡ least (spec.check_component_name definitions runs_on ++ spec.in_parameters (scope_on definitions (component_named definitions runs_on)) parameters.now)) }
     ensures view { let runs_on = option_map (λ name. name.now) runs_on.entry in
         let definitions = (view scope.old).definitions in
         OnOk result (view scope.new ≡ spec.with_parameters (scope_on definitions (component_named definitions runs_on)) parameters.now) }
@@ -172,7 +80,7 @@ fn check_function<'a>(
     function: &'a Function,
     found: &mut Least,
 ) -> Result<(), AllocError>
-    ensures found { OnOk result (least_in found.new ≡ both (least_in found.old) (least (spec.in_definition (view scope.old).definitions 0 (kind.Function function.now)))) }
+    ensures found { OnOk result (least_in found.new ≡ both (least_in found.old) (least (spec.check_definition (view scope.old).definitions 0 (kind.Function function.now)))) }
     ensures definitions { OnOk result ((view scope.new).definitions ≡ (view scope.old).definitions) }
 {
     let result = check_result(scope, function.returns.as_ref());
@@ -195,7 +103,7 @@ fn check_altstep<'a>(
     altstep: &'a Altstep,
     found: &mut Least,
 ) -> Result<(), AllocError>
-    ensures found { OnOk result (least_in found.new ≡ both (least_in found.old) (least (spec.in_definition (view scope.old).definitions 0 (kind.Altstep altstep.now)))) }
+    ensures found { OnOk result (least_in found.new ≡ both (least_in found.old) (least (spec.check_definition (view scope.old).definitions 0 (kind.Altstep altstep.now)))) }
     ensures definitions { OnOk result ((view scope.new).definitions ≡ (view scope.old).definitions) }
 {
     let runs_on = altstep.runs_on.as_ref();
@@ -216,7 +124,7 @@ fn check_testcase<'a>(
     testcase: &'a Testcase,
     found: &mut Least,
 ) -> Result<(), AllocError>
-    ensures found { OnOk result (least_in found.new ≡ both (least_in found.old) (least (spec.in_definition (view scope.old).definitions 0 (kind.Testcase testcase.now)))) }
+    ensures found { OnOk result (least_in found.new ≡ both (least_in found.old) (least (spec.check_definition (view scope.old).definitions 0 (kind.Testcase testcase.now)))) }
     ensures definitions { OnOk result ((view scope.new).definitions ≡ (view scope.old).definitions) }
 {
     let system = check_component_name(scope, testcase.system.as_ref());
@@ -239,32 +147,40 @@ fn check_definition<'a>(
     definition: &'a Definition,
     found: &mut Least,
 ) -> Result<(), AllocError>
-    ensures found { OnOk result (least_in found.new ≡ both (least_in found.old) (least (spec.in_definition (view scope.old).definitions at definition.now.kind))) }
+    ensures found { OnOk result (least_in found.new ≡ both (least_in found.old) (least (spec.check_definition (view scope.old).definitions at definition.now.kind))) }
     ensures definitions { OnOk result ((view scope.new).definitions ≡ (view scope.old).definitions) }
 {
     let place = definition.place;
-    match &definition.kind {
-        DefinitionKind::Record(record) => check_record(alloc, scope, place, record, found),
+    let broken = match &definition.kind {
+        DefinitionKind::Record(record) => check_fields(alloc, scope, record.fields.as_slice())?,
         DefinitionKind::Enumerated(enumerated) => {
-            check_enumerated(alloc, scope, place, enumerated, found)
+            check_numbers(alloc, enumerated.enumerators.as_slice())?
         }
-        DefinitionKind::Port(port) => {
-            check_port_type(scope, place, port, found);
-            Ok(())
-        }
+        DefinitionKind::Port(port) => check_port(scope, port.messages.as_slice()),
         DefinitionKind::Component(component) => {
-            check_component_type(alloc, scope, at, place, component, found)
+            scope.go_to_component(alloc, at);
+            check_members(alloc, scope, component.members.as_slice())?
         }
         DefinitionKind::Constants(constants) => {
-            check_declaration(alloc, scope, place, constants, found)
+            scope.go_to_module(alloc);
+            check_constants(alloc, scope, constants)?
         }
-        DefinitionKind::Template(template) => check_named_template(
-            alloc, scope, place, template, found,
-        ),
-        DefinitionKind::Function(function) => check_function(alloc, scope, place, function, found),
-        DefinitionKind::Altstep(altstep) => check_altstep(alloc, scope, place, altstep, found),
-        DefinitionKind::Testcase(testcase) => check_testcase(alloc, scope, place, testcase, found),
-    }
+        DefinitionKind::Template(template) => {
+            scope.go_to_module(alloc);
+            check_template(alloc, scope, template)?
+        }
+        DefinitionKind::Function(function) => {
+            return check_function(alloc, scope, place, function, found);
+        }
+        DefinitionKind::Altstep(altstep) => {
+            return check_altstep(alloc, scope, place, altstep, found);
+        }
+        DefinitionKind::Testcase(testcase) => {
+            return check_testcase(alloc, scope, place, testcase, found);
+        }
+    };
+    found.note(broken, place);
+    Ok(())
 }
 
 /// The definitions of a module.
@@ -274,7 +190,7 @@ pub fn check_definitions<'a>(
     definitions: &'a [Definition],
     found: &mut Least,
 ) -> Result<(), AllocError>
-    ensures { OnOk result (least_in found.new ≡ both (least_in found.old) (least (spec.in_definitions (view scope.old).definitions 0 definitions.now))) }
+    ensures { OnOk result (least_in found.new ≡ both (least_in found.old) (least (spec.check_definitions (view scope.old).definitions 0 definitions.now))) }
 {
     for (at, definition) in definitions.iter().enumerate() {
         check_definition(alloc, scope, at, definition, found)?;

@@ -72,7 +72,7 @@ pub(crate) fn check_fields(
 
 /// A number, if one is given, which is none of those so far.
 fn add_number(numbers: &mut NumberSet, number: Option<EnumNumber>) -> Result<Broken, AllocError>
-    ensures broken { IfOk result (λ broken. (before : List EnumNumber) → AreGiven numbers.old before → broken ≡ least (spec.at_number before number)) }
+    ensures broken { IfOk result (λ broken. (before : List EnumNumber) → AreGiven numbers.old before → broken ≡ least (spec.check_number before number)) }
     ensures given { OnOk result ((before : List EnumNumber) → AreGiven numbers.old before → AreGiven numbers.new (spec.and_number before number)) }
 {
     match number {
@@ -86,7 +86,7 @@ fn add_number(numbers: &mut NumberSet, number: Option<EnumNumber>) -> Result<Bro
 
 /// The names of an enumeration. Each number that is given is another one.
 pub(crate) fn check_numbers(alloc: Global, enumerators: &[Enumerator]) -> Result<Broken, AllocError>
-    ensures { IfOk result (λ broken. broken ≡ least (spec.in_numbers [] enumerators.now)) }
+    ensures { IfOk result (λ broken. broken ≡ least (spec.check_numbers [] enumerators.now)) }
 {
     let mut broken = Broken::nothing();
     let mut numbers = NumberSet::new(alloc);
@@ -101,7 +101,7 @@ pub(crate) fn check_numbers(alloc: Global, enumerators: &[Enumerator]) -> Result
 
 /// The types of messages that a port lets pass in a direction.
 fn check_messages(scope: &Scope<'_>, messages: &PortMessages) -> Broken
-    ensures { result ≡ least (spec.in_messages (module_names (view scope.now).definitions) messages.now) }
+    ensures { result ≡ least (spec.check_messages (module_names (view scope.now).definitions) messages.now) }
 {
     let mut broken = Broken::nothing();
     for type_name in messages.types.as_slice() {
@@ -112,7 +112,7 @@ fn check_messages(scope: &Scope<'_>, messages: &PortMessages) -> Broken
 
 /// The types of messages that a port lets pass.
 pub(crate) fn check_port(scope: &Scope<'_>, messages: &[PortMessages]) -> Broken
-    ensures { result ≡ least (flat_map (spec.in_messages (module_names (view scope.now).definitions)) messages.now) }
+    ensures { result ≡ least (flat_map (spec.check_messages (module_names (view scope.now).definitions)) messages.now) }
 {
     let mut broken = Broken::nothing();
     for direction in messages {
@@ -159,7 +159,7 @@ pub(crate) fn check_constants(
 
 /// The name of a component type, if there is one.
 pub(crate) fn check_component_name(scope: &Scope<'_>, name: Option<&Name>) -> Broken
-    ensures { result ≡ least (spec.at_component_name (view scope.now).definitions (option_map (λ name. name.now) name.entry)) }
+    ensures { result ≡ least (spec.check_component_name (view scope.now).definitions (option_map (λ name. name.now) name.entry)) }
 {
     let is_component = name.is_none() || component_named(scope, name).is_some();
     Broken::unless(is_component, Rule::UnknownName)
@@ -167,7 +167,7 @@ pub(crate) fn check_component_name(scope: &Scope<'_>, name: Option<&Name>) -> Br
 
 /// The type of the result of a function, if it has one.
 pub(crate) fn check_result(scope: &Scope<'_>, type_name: Option<&TypeName>) -> Broken
-    ensures { result ≡ least (spec.at_result (view scope.now).definitions (option_map (λ name. name.now) type_name.entry)) }
+    ensures { result ≡ least (spec.check_result (view scope.now).definitions (option_map (λ name. name.now) type_name.entry)) }
 {
     match type_name {
         None => Broken::nothing(),

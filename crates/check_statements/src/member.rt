@@ -7,8 +7,8 @@ ghost use Rattle.check_expressions.specs.Declarations.{behind_all, one_by_one};
 ghost use Rattle.check_statements.specs.Definitions as spec;
 ghost use Rattle.check_scope.specs.Names.{declaring, member_entries};
 
-use crate::declaration::{constants, timers};
-use check_expressions::target::{check_new_name, check_type};
+use crate::declaration::{constants, declare, timers};
+use check_expressions::target::check_type;
 use check_expressions::value::value;
 use check_scope::broken::Broken;
 use check_scope::names::Meaning;
@@ -20,30 +20,19 @@ use ttcn_syntax::{Member, MemberVariable, Name, TypeName, Value};
 
 // ---- ports
 
-/// A port of a type, which is visible behind its own part of the declaration.
-fn port<'a>(scope: &mut Scope<'a>, of: Option<usize>, name: &'a Name) -> Result<Broken, AllocError>
-    ensures broken { IfOk result (λ broken. broken ≡ least (spec.at_port_name (view scope.old) name.now)) }
-    ensures view { OnOk result (view scope.new ≡ declaring (view scope.old) (spec.port_entry of (view scope.old) name.now ∷ [])) }
-    ensures around { OnOk result (around scope.new ≡ around scope.old) }
-{
-    let broken = check_new_name(scope, name);
-    scope.declare(name.as_bytes(), Meaning::Port(of))?;
-    Ok(broken)
-}
-
 /// Ports of a type.
 fn named_ports<'a>(
     scope: &mut Scope<'a>,
     of: Option<usize>,
     names: &'a [Name],
 ) -> Result<Broken, AllocError>
-    ensures broken { IfOk result (λ broken. broken ≡ least (one_by_one spec.at_port_name (spec.port_entry of) (view scope.old) names.now)) }
+    ensures broken { IfOk result (λ broken. broken ≡ least (one_by_one spec.check_port_name (spec.port_entry of) (view scope.old) names.now)) }
     ensures view { OnOk result (view scope.new ≡ behind_all (spec.port_entry of) (view scope.old) names.now) }
     ensures around { OnOk result (around scope.new ≡ around scope.old) }
 {
     let mut broken = Broken::nothing();
     for name in names {
-        let more = port(scope, of, name)?;
+        let more = declare(scope, name, Meaning::Port(of))?;
         broken = broken.and(more);
     }
     Ok(broken)
@@ -56,7 +45,7 @@ fn check_ports<'a>(
     port_type: &Name,
     names: &'a [Name],
 ) -> Result<Broken, AllocError>
-    ensures broken { IfOk result (λ broken. broken ≡ least (spec.in_member (view scope.old) (member.Ports port_type.now names.now))) }
+    ensures broken { IfOk result (λ broken. broken ≡ least (spec.check_member (view scope.old) (member.Ports port_type.now names.now))) }
     ensures view { OnOk result (view scope.new ≡ declaring (view scope.old) (member_entries (view scope.old).names (member.Ports port_type.now names.now))) }
     ensures around { OnOk result (around scope.new ≡ around scope.old) }
 {
@@ -75,7 +64,7 @@ fn check_initial_value(
     target: Target,
     initial: Option<&Value>,
 ) -> Result<Broken, AllocError>
-    ensures { IfOk result (λ broken. broken ≡ least (spec.at_initial_value (view scope.now) target (option_map (λ initial. initial.now) initial.entry))) }
+    ensures { IfOk result (λ broken. broken ≡ least (spec.check_initial_value (view scope.now) target (option_map (λ initial. initial.now) initial.entry))) }
 {
     match initial {
         Some(initial) => value(alloc, scope, initial, target),
@@ -91,14 +80,13 @@ fn member_variable<'a>(
     of: Option<DataType>,
     variable: &'a MemberVariable,
 ) -> Result<Broken, AllocError>
-    ensures broken { IfOk result (λ broken. broken ≡ least (spec.at_member_variable of (view scope.old) variable.now)) }
+    ensures broken { IfOk result (λ broken. broken ≡ least (spec.check_member_variable of (view scope.old) variable.now)) }
     ensures view { OnOk result (view scope.new ≡ declaring (view scope.old) (spec.member_variable_entry of (view scope.old) variable.now ∷ [])) }
     ensures around { OnOk result (around scope.new ≡ around scope.old) }
 {
-    let named = check_new_name(scope, &variable.name);
     let initial = check_initial_value(alloc, scope, Target::of(of), variable.value.as_ref())?;
-    scope.declare(variable.name.as_bytes(), Meaning::Variable(of))?;
-    Ok(named.and(initial))
+    let name = declare(scope, &variable.name, Meaning::Variable(of))?;
+    Ok(name.and(initial))
 }
 
 /// Variables of a type.
@@ -108,7 +96,7 @@ fn member_variables<'a>(
     of: Option<DataType>,
     variables: &'a [MemberVariable],
 ) -> Result<Broken, AllocError>
-    ensures broken { IfOk result (λ broken. broken ≡ least (one_by_one (spec.at_member_variable of) (spec.member_variable_entry of) (view scope.old) variables.now)) }
+    ensures broken { IfOk result (λ broken. broken ≡ least (one_by_one (spec.check_member_variable of) (spec.member_variable_entry of) (view scope.old) variables.now)) }
     ensures view { OnOk result (view scope.new ≡ behind_all (spec.member_variable_entry of) (view scope.old) variables.now) }
     ensures around { OnOk result (around scope.new ≡ around scope.old) }
 {
@@ -128,7 +116,7 @@ fn check_variables<'a>(
     type_name: &TypeName,
     variables: &'a [MemberVariable],
 ) -> Result<Broken, AllocError>
-    ensures broken { IfOk result (λ broken. broken ≡ least (spec.in_member (view scope.old) (member.Variables type_name.now variables.now))) }
+    ensures broken { IfOk result (λ broken. broken ≡ least (spec.check_member (view scope.old) (member.Variables type_name.now variables.now))) }
     ensures view { OnOk result (view scope.new ≡ declaring (view scope.old) (member_entries (view scope.old).names (member.Variables type_name.now variables.now))) }
     ensures around { OnOk result (around scope.new ≡ around scope.old) }
 {
@@ -146,7 +134,7 @@ fn check_member<'a>(
     scope: &mut Scope<'a>,
     member: &'a Member,
 ) -> Result<Broken, AllocError>
-    ensures broken { IfOk result (λ broken. broken ≡ least (spec.in_member (view scope.old) member.now)) }
+    ensures broken { IfOk result (λ broken. broken ≡ least (spec.check_member (view scope.old) member.now)) }
     ensures view { OnOk result (view scope.new ≡ declaring (view scope.old) (member_entries (view scope.old).names member.now)) }
     ensures around { OnOk result (around scope.new ≡ around scope.old) }
 {
@@ -166,7 +154,7 @@ pub(crate) fn check_members<'a>(
     scope: &mut Scope<'a>,
     members: &'a [Member],
 ) -> Result<Broken, AllocError>
-    ensures broken { IfOk result (λ broken. broken ≡ least (spec.in_members (view scope.old) members.now)) }
+    ensures broken { IfOk result (λ broken. broken ≡ least (spec.check_members (view scope.old) members.now)) }
     ensures around { OnOk result (around scope.new ≡ around scope.old) }
 {
     let mut broken = Broken::nothing();

@@ -41,7 +41,7 @@ pub(crate) enum Passing<'s> {
 impl<'s> Passing<'s> {
     /// At a port whose type stands at a position, if that is known.
     fn at(scope: &'s Scope<'_>, incoming: bool, at: Option<usize>) -> Passing<'s>
-        ensures { known result ≡ spec.at_port (view scope.now).definitions incoming at }
+        ensures { known result ≡ spec.passage_at (view scope.now).definitions incoming at }
     {
         let Some(at) = at else {
             return Passing::Unknown;
@@ -149,7 +149,7 @@ fn type_of_message(scope: &Scope<'_>, ports: &Passing<'_>, message: &MessageTemp
 }
 
 fn check_type_name(scope: &Scope<'_>, type_name: Option<&TypeName>) -> Broken
-    ensures { result ≡ least (spec.at_type_name (view scope.now) (option_map (λ name. name.now) type_name.entry)) }
+    ensures { result ≡ least (spec.check_type_name (view scope.now) (option_map (λ name. name.now) type_name.entry)) }
 {
     match type_name {
         Some(type_name) => check_type(scope, false, type_name),
@@ -165,7 +165,7 @@ fn check_message(
     ports: &Passing<'_>,
     message: &MessageTemplate,
 ) -> Result<Broken, AllocError>
-    ensures { IfOk result (λ broken. broken ≡ least (spec.at_message (view scope.now) (passing ports.now) (otherwise ports.now) message.now)) }
+    ensures { IfOk result (λ broken. broken ≡ least (spec.check_message (view scope.now) (passing ports.now) (otherwise ports.now) message.now)) }
 {
     let named = check_type_name(scope, message.type_name.as_ref());
     let found = type_of_message(scope, ports, message);
@@ -178,7 +178,7 @@ fn check_message(
 
 /// The receiver of a message, or its sender.
 fn check_recipient(scope: &Scope<'_>, component: Option<&ComponentRef>) -> Broken
-    ensures { result ≡ least (spec.at_to (view scope.now) (option_map (λ component. component.now) component.entry)) }
+    ensures { result ≡ least (spec.check_to (view scope.now) (option_map (λ component. component.now) component.entry)) }
 {
     match component {
         Some(component) => check_wanted_component(scope, component).broken,
@@ -193,7 +193,7 @@ fn check_sent(
     port: Option<Option<usize>>,
     message: &MessageTemplate,
 ) -> Result<Broken, AllocError>
-    ensures { IfOk result (λ broken. broken ≡ least (spec.at_sent (view scope.now) port message.now)) }
+    ensures { IfOk result (λ broken. broken ≡ least (spec.check_sent (view scope.now) port message.now)) }
 {
     match port {
         Some(port) => {
@@ -213,7 +213,7 @@ pub(crate) fn check_send(
     scope: &Scope<'_>,
     send: &Send,
 ) -> Result<Broken, AllocError>
-    ensures { IfOk result (λ broken. broken ≡ least (spec.at_send (view scope.now) send.now)) }
+    ensures { IfOk result (λ broken. broken ≡ least (spec.check_send (view scope.now) send.now)) }
 {
     let port = port_meant(scope.get(send.port.as_bytes()));
     let sent = check_sent(alloc, scope, port, &send.message)?;
@@ -238,7 +238,7 @@ impl<'s> Passing<'s> {
 }
 
 fn check_selector(scope: &Scope<'_>, selector: &PortSelector) -> Broken
-    ensures { result ≡ least (spec.at_selector (view scope.now) selector.now) }
+    ensures { result ≡ least (spec.check_selector (view scope.now) selector.now) }
 {
     match selector {
         PortSelector::Named(name) => {
@@ -256,7 +256,7 @@ fn check_received(
     ports: &Passing<'_>,
     message: Option<&MessageTemplate>,
 ) -> Result<Broken, AllocError>
-    ensures { IfOk result (λ broken. broken ≡ least (spec.at_received (view scope.now) (known ports.now) (option_map (λ message. message.now) message.entry))) }
+    ensures { IfOk result (λ broken. broken ≡ least (spec.check_received (view scope.now) (known ports.now) (option_map (λ message. message.now) message.entry))) }
 {
     match message {
         Some(message) => check_message(alloc, scope, ports, message),
@@ -310,7 +310,7 @@ fn check_value_redirect(
     data_type: Option<DataType>,
     target: Option<&Reference>,
 ) -> Broken
-    ensures { result ≡ least (spec.at_value_redirect (view scope.now) is_told data_type (option_map (λ target. target.now) target.entry)) }
+    ensures { result ≡ least (spec.check_value_redirect (view scope.now) is_told data_type (option_map (λ target. target.now) target.entry)) }
 {
     let Some(target) = target else {
         return Broken::nothing();
@@ -325,7 +325,7 @@ fn check_value_redirect(
 
 #[tactic(auto, using(crate::proofs::Leasts::least_append))]
 fn check_sender_redirect(scope: &Scope<'_>, target: Option<&Reference>) -> Broken
-    ensures { result ≡ least (spec.at_sender_redirect (view scope.now) (option_map (λ target. target.now) target.entry)) }
+    ensures { result ≡ least (spec.check_sender_redirect (view scope.now) (option_map (λ target. target.now) target.entry)) }
 {
     let Some(target) = target else {
         return Broken::nothing();
@@ -339,7 +339,7 @@ fn check_sender_redirect(scope: &Scope<'_>, target: Option<&Reference>) -> Broke
 
 #[tactic(auto, using(crate::proofs::Leasts::least_append))]
 fn check_receive(alloc: Global, scope: &Scope<'_>, receive: &Receive) -> Result<Broken, AllocError>
-    ensures { IfOk result (λ broken. broken ≡ least (spec.at_receive (view scope.now) receive.now)) }
+    ensures { IfOk result (λ broken. broken ≡ least (spec.check_receive (view scope.now) receive.now)) }
 {
     let ports = Passing::incoming(scope, &receive.port);
     let message = receive.message.as_ref();
@@ -357,7 +357,7 @@ fn check_receive(alloc: Global, scope: &Scope<'_>, receive: &Receive) -> Result<
 }
 
 pub(crate) fn check_timer(scope: &Scope<'_>, name: &Name) -> Broken
-    ensures { result ≡ least (spec.at_timer (view scope.now) name.now) }
+    ensures { result ≡ least (spec.check_timer (view scope.now) name.now) }
 {
     let is_timer = matches!(scope.get(name.as_bytes()), Some(Meaning::Timer));
     Broken::unless(is_timer, Rule::UnknownName)
@@ -368,7 +368,7 @@ pub(crate) fn check_event(
     scope: &Scope<'_>,
     event: &Event,
 ) -> Result<Broken, AllocError>
-    ensures { IfOk result (λ broken. broken ≡ least (spec.at_event (view scope.now) event.now)) }
+    ensures { IfOk result (λ broken. broken ≡ least (spec.check_event (view scope.now) event.now)) }
 {
     match event {
         Event::Receive(receive) => check_receive(alloc, scope, receive),

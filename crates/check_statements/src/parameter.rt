@@ -4,7 +4,8 @@ ghost use Rattle.check_scope.specs.Checking.{around, least, view};
 ghost use Rattle.check_statements.specs.Definitions as spec;
 ghost use Rattle.check_scope.specs.Names.{declaring};
 
-use check_expressions::target::{check_new_name, check_type};
+use crate::declaration::declare;
+use check_expressions::target::check_type;
 use check_scope::broken::Broken;
 use check_scope::names::Meaning;
 use check_scope::scope::Scope;
@@ -18,11 +19,10 @@ fn parameter<'a>(scope: &mut Scope<'a>, parameter: &'a Parameter) -> Result<Brok
     ensures view { OnOk result (view scope.new ≡ declaring (view scope.old) (spec.parameter_entry (view scope.old) parameter.now ∷ [])) }
     ensures around { OnOk result (around scope.new ≡ around scope.old) }
 {
-    let named = check_new_name(scope, &parameter.name);
     let typed = check_type(scope, true, &parameter.type_name);
     let of = scope.resolved(&parameter.type_name);
-    scope.declare(parameter.name.as_bytes(), Meaning::Variable(of))?;
-    Ok(named.and(typed))
+    let name = declare(scope, &parameter.name, Meaning::Variable(of))?;
+    Ok(name.and(typed))
 }
 
 /// The parameters of a behaviour or a template.

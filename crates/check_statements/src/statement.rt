@@ -29,7 +29,7 @@ fn check_for_start<'a>(
     scope: &mut Scope<'a>,
     start: &'a ForStart,
 ) -> Result<Broken, AllocError>
-    ensures broken { IfOk result (λ broken. broken ≡ least (spec.at_for_start (view scope.old) start.now)) }
+    ensures broken { IfOk result (λ broken. broken ≡ least (spec.check_for_start (view scope.old) start.now)) }
     ensures view { OnOk result (view scope.new ≡ spec.behind_for_start (view scope.old) start.now) }
     ensures around { OnOk result (around scope.new ≡ around scope.old) }
 {
@@ -48,7 +48,7 @@ fn check_for_head<'a>(
     condition: &Expr,
     step: &Assignment,
 ) -> Result<Broken, AllocError>
-    ensures broken { IfOk result (λ broken. broken ≡ least (spec.at_for_head (view scope.old) start.now condition.now step.now)) }
+    ensures broken { IfOk result (λ broken. broken ≡ least (spec.check_for_head (view scope.old) start.now condition.now step.now)) }
     ensures view { OnOk result (view scope.new ≡ spec.behind_for_start (view scope.old) start.now) }
     ensures around { OnOk result (around scope.new ≡ around scope.old) }
 {
@@ -66,7 +66,7 @@ fn check_guarded_event(
     guard: Option<&Expr>,
     event: &Event,
 ) -> Result<Broken, AllocError>
-    ensures { IfOk result (λ broken. broken ≡ least (spec.at_guarded_event (view scope.now) (option_map (λ guard. guard.now) guard.entry) event.now)) }
+    ensures { IfOk result (λ broken. broken ≡ least (spec.check_guarded_event (view scope.now) (option_map (λ guard. guard.now) guard.entry) event.now)) }
 {
     let guard = check_guard(scope, guard);
     let event = check_event(alloc, scope, event)?;
@@ -81,7 +81,7 @@ fn check_guarded_call(
     guard: Option<&Expr>,
     call: &Call,
 ) -> Result<Broken, AllocError>
-    ensures { IfOk result (λ broken. broken ≡ least (spec.at_guarded_call (view scope.now) (option_map (λ guard. guard.now) guard.entry) call.now)) }
+    ensures { IfOk result (λ broken. broken ≡ least (spec.check_guarded_call (view scope.now) (option_map (λ guard. guard.now) guard.entry) call.now)) }
 {
     let guard = check_guard(scope, guard);
     let call = check_call(alloc, scope, CallPlace::Branch, call)?;

@@ -19,7 +19,7 @@ use Rattle.check_expressions.specs.Calls.{at_arguments, parameters_of}
 use Rattle.check_expressions.specs.Expressions.{along, at_meaning, at_reference, expression}
 use Rattle.checker_laws.specs.Laws.{AreArguments, IsKnown, IsWhole}
 use Rattle.check_scope.specs.Names.{Scope, kind_at}
-use Rattle.check_statements.specs.Statements.{AtPlace, Place, Stated, action, action_step, alternative, alternative_step, branch, branch_step, conditional, conditional_step, statement, statement_step, statements, with_scope}
+use Rattle.check_statements.specs.Statements.{Check, Place, StatementRules, action, action_step, alternative, alternative_step, branch, branch_step, conditional, conditional_step, statement, statement_step, statements, with_scope}
 use Rattle.check_expressions.specs.Templates.{at_template, type_of_template}
 use Rattle.check_scope.specs.Typings.{fits, goes_to, same_type, typed, unless}
 use Rattle.check_expressions.specs.Values.{at_expression}
@@ -123,11 +123,11 @@ template_arguments_fit scope at target given nothing =
 -- ---- statements
 
 -- what is said of a statement that leaves whole scopes whole
-abbrev LeavesWhole : Stated → Type 0
+abbrev LeavesWhole : StatementRules → Type 0
 LeavesWhole said = (place : Place) → IsWhole place.scope → said.broken place ≡ [] → IsWhole (said.scope_behind place.scope)
 
 plain-whole : (x : Action-F Action Alternative Branch Conditional Statement)
-    → LeavesWhole (action_step (map-Action Action Alternative Branch Conditional Statement Stated AtPlace AtPlace AtPlace Stated action alternative branch conditional statement x))
+    → LeavesWhole (action_step (map-Action Action Alternative Branch Conditional Statement StatementRules Check Check Check StatementRules action alternative branch conditional statement x))
 plain-whole (Action-F.Variables vs) place whole nothing = variables_whole place.scope vs nothing whole
 plain-whole (Action-F.Constants cs) place whole nothing = constants_whole place.scope cs nothing whole
 plain-whole (Action-F.Timers timers) place whole nothing = timers_whole place.scope timers nothing whole
@@ -154,7 +154,7 @@ plain-whole (Action-F.Deactivate reference) place whole nothing = whole
 
 action-whole : (a : Action) → LeavesWhole (action a)
 action-whole = ind-Action (λ a. LeavesWhole (action a)) (λ a. Unit {0}) (λ b. Unit {0}) (λ c. Unit {0}) (λ s. Unit {0})
-    (λ x y is. subst LeavesWhole (sym (fold-roll-Action Stated AtPlace AtPlace AtPlace Stated action_step alternative_step branch_step conditional_step statement_step x)) (plain-whole x))
+    (λ x y is. subst LeavesWhole (sym (fold-roll-Action StatementRules Check Check Check StatementRules action_step alternative_step branch_step conditional_step statement_step x)) (plain-whole x))
     (λ x y is. tt) (λ x y is. tt) (λ x y is. tt) (λ x y is. tt)
 
 -- a statement that breaks no rule leaves a whole scope whole

@@ -23,7 +23,7 @@ use Rattle.ttcn_syntax.specs.declared.tree.value.TypeName.TheVariants as type_na
 use Rattle.ttcn_types.proofs.Meanings.{EachMeans, means-append}
 use Rattle.checker_laws.proofs.Nothing.{kept, nothing-first, nothing-rest}
 use Rattle.check_expressions.specs.Declarations.{behind_all, one_by_one}
-use Rattle.check_statements.specs.Definitions.{as_part, at_component_name, at_result, place_in, returns_of, at_member_variable, at_parameter, at_part, at_port_name, at_sites, in_definition, in_definitions, in_fields, in_member, in_members, in_module_constants, in_parameters, member_variable_entry, parameter_entry, port_entry, with_parameters}
+use Rattle.check_statements.specs.Definitions.{as_part, check_component_name, check_result, place_in, returns_of, check_member_variable, at_parameter, at_part, check_port_name, check_sites, check_definition, check_definitions, in_fields, check_member, check_members, in_module_constants, in_parameters, member_variable_entry, parameter_entry, port_entry, with_parameters}
 use Rattle.check_scope.specs.Scopes.{at_module_names, component_scope, module_scope, scope_on}
 use Rattle.check_expressions.specs.Calls.{component_named, result_type_of, template_type}
 use Rattle.checker_laws.specs.Laws.{HasFieldType, IsKnown, IsWhole}
@@ -45,30 +45,30 @@ none-listed : (rules : List Rule) → ((r : Rule) → Contains rules r → ⊥) 
 none-listed [] none = refl
 none-listed (r ∷ rules) none = absurd (none r (0, omega arith, refl))
 
-pub nothing_at_sites : (definitions : List Definition) → AreWellTyped definitions → at_sites definitions ≡ []
-nothing_at_sites definitions well = none-listed (at_sites definitions) (λ r contains. well r (site contains))
+pub nothing_at_sites : (definitions : List Definition) → AreWellTyped definitions → check_sites definitions ≡ []
+nothing_at_sites definitions well = none-listed (check_sites definitions) (λ r contains. well r (site contains))
 
-nothing-in : (definitions : List Definition) → AreWellTyped definitions → in_definitions definitions 0 definitions ≡ []
-nothing-in definitions well = nothing-rest (at_module_names definitions) (in_definitions definitions 0 definitions) (nothing_at_sites definitions well)
+nothing-in : (definitions : List Definition) → AreWellTyped definitions → check_definitions definitions 0 definitions ≡ []
+nothing-in definitions well = nothing-rest (at_module_names definitions) (check_definitions definitions 0 definitions) (nothing_at_sites definitions well)
 
 some-is : (k other : DefinitionKind) → Some k ≡ Some other → k ≡ other
 some-is k other is = cc
 
-at-position : (all : List Definition) (at : ℕ) (definitions : List Definition) (i : ℕ) (k : DefinitionKind) → in_definitions all at definitions ≡ []
-    → kind_at definitions i ≡ Some k → in_definition all (i + at) k ≡ []
+at-position : (all : List Definition) (at : ℕ) (definitions : List Definition) (i : ℕ) (k : DefinitionKind) → check_definitions all at definitions ≡ []
+    → kind_at definitions i ≡ Some k → check_definition all (i + at) k ≡ []
 at-position all at [] i k nothing is = absurd (let e = is in cc)
 at-position all at (d ∷ definitions) zero k nothing is =
-    subst (λ n. in_definition all n k ≡ []) (omega arith)
-    (subst (λ other. in_definition all at other ≡ []) (some-is d.kind k is) (nothing-first (in_definition all at d.kind) (in_definitions all (at + 1) definitions) nothing))
+    subst (λ n. check_definition all n k ≡ []) (omega arith)
+    (subst (λ other. check_definition all at other ≡ []) (some-is d.kind k is) (nothing-first (check_definition all at d.kind) (check_definitions all (at + 1) definitions) nothing))
 at-position all at (d ∷ definitions) (suc i) k nothing is =
-    subst (λ n. in_definition all n k ≡ []) (omega arith)
-    (at-position all (at + 1) definitions i k (nothing-rest (in_definition all at d.kind) (in_definitions all (at + 1) definitions) nothing) is)
+    subst (λ n. check_definition all n k ≡ []) (omega arith)
+    (at-position all (at + 1) definitions i k (nothing-rest (check_definition all at d.kind) (check_definitions all (at + 1) definitions) nothing) is)
 
 -- a definition breaks nothing inside
 pub definition_is_fine : (definitions : List Definition) → AreWellTyped definitions → (at : ℕ) (k : DefinitionKind) → kind_at definitions at ≡ Some k
-    → in_definition definitions at k ≡ []
+    → check_definition definitions at k ≡ []
 definition_is_fine definitions well at k is =
-    subst (λ n. in_definition definitions n k ≡ []) (omega arith) (at-position definitions 0 definitions at k (nothing-in definitions well) is)
+    subst (λ n. check_definition definitions n k ≡ []) (omega arith) (at-position definitions 0 definitions at k (nothing-in definitions well) is)
 
 -- ---- types
 
@@ -177,11 +177,11 @@ each-mapped : {A : Type 0} (P : Meaning → Type 0) (entry : A → Entry) (items
 each-mapped P entry [] holds = tt
 each-mapped P entry (x ∷ items) holds = (holds x, each-mapped P entry items holds)
 
-member-known : (scope : Scope) (m : Member) → in_member scope m ≡ [] → EachMeans (IsKnown scope.definitions) (member_entries scope.names m)
+member-known : (scope : Scope) (m : Member) → check_member scope m ≡ [] → EachMeans (IsKnown scope.definitions) (member_entries scope.names m)
 member-known scope (member.Ports port_type ports) nothing =
     let of = port_type_meant (scope.names port_type) in
     each-mapped (IsKnown scope.definitions) (λ (name : List ℕ). (name, meaning.Port of)) ports
-    (λ name. kept (is_some of) rule.UnknownName (nothing-first (unless (is_some of) rule.UnknownName) (one_by_one at_port_name (port_entry of) scope ports) nothing))
+    (λ name. kept (is_some of) rule.UnknownName (nothing-first (unless (is_some of) rule.UnknownName) (one_by_one check_port_name (port_entry of) scope ports) nothing))
 member-known scope (member.Constants cs) nothing =
     let of = resolved scope.names cs.type_name in
     each-mapped (IsKnown scope.definitions) (λ (c : Constant). (c.name, meaning.Constant of)) cs.constants
@@ -189,19 +189,19 @@ member-known scope (member.Constants cs) nothing =
 member-known scope (member.Variables t variables) nothing =
     let of = resolved scope.names t in
     each-mapped (IsKnown scope.definitions) (λ (v : MemberVariable). (v.name, meaning.Variable of)) variables
-    (λ v. type-known scope.names true t (nothing-first (at_type scope.names true t) (one_by_one (at_member_variable of) (member_variable_entry of) scope variables) nothing))
+    (λ v. type-known scope.names true t (nothing-first (at_type scope.names true t) (one_by_one (check_member_variable of) (member_variable_entry of) scope variables) nothing))
 member-known scope (member.Timers timers) nothing = each-mapped (IsKnown scope.definitions) (λ (t : Timer). (t.name, meaning.Timer)) timers (λ t. tt)
 
 -- a scope with other names
 abbrev pub naming : Scope → Names → Scope
 naming scope names = record { definitions = scope.definitions; names = names; itself = scope.itself }
 
-members-whole : (scope : Scope) (members : List Member) → in_members scope members ≡ [] → IsWhole scope → IsWhole (naming scope (behind_members scope.names members))
+members-whole : (scope : Scope) (members : List Member) → check_members scope members ≡ [] → IsWhole scope → IsWhole (naming scope (behind_members scope.names members))
 members-whole scope [] nothing whole = whole
 members-whole scope (m ∷ members) nothing whole =
     let behind : Scope = declaring scope (member_entries scope.names m) in
-    members-whole behind members (nothing-rest (in_member scope m) (in_members behind members) nothing)
-    (declaring-whole scope (member_entries scope.names m) whole (member-known scope m (nothing-first (in_member scope m) (in_members behind members) nothing)))
+    members-whole behind members (nothing-rest (check_member scope m) (check_members behind members) nothing)
+    (declaring-whole scope (member_entries scope.names m) whole (member-known scope m (nothing-first (check_member scope m) (check_members behind members) nothing)))
 
 -- ---- the module
 
@@ -211,7 +211,7 @@ module _ (definitions : List Definition) (well : AreWellTyped definitions) where
   constants-known at item cs [] is = tt
   constants-known at item cs (c ∷ constants) is =
       let names = module_names definitions in
-      let fine : in_definition definitions at (kind.Constants cs) ≡ [] = definition_is_fine definitions well at (kind.Constants cs) is in (
+      let fine : check_definition definitions at (kind.Constants cs) ≡ [] = definition_is_fine definitions well at (kind.Constants cs) is in (
         subst (λ k. is_some (constants_type names k) ≡ true) (sym is)
             (type-known names false cs.type_name (nothing-first (at_type names false cs.type_name) (in_module_constants (module_scope definitions) (resolved names cs.type_name) cs.constants) fine)),
         constants-known at (item + 1) cs constants is,
@@ -226,7 +226,7 @@ module _ (definitions : List Definition) (well : AreWellTyped definitions) where
       subst (λ k. is_some (template_type definitions k) ≡ true) (sym is)
       (type-known scope.names false t.type_name (nothing-first typed parameters (nothing-first (typed ++ parameters) body (definition_is_fine definitions well at (kind.Template t) is))))
 
-  result-known : (of : Option TypeName) → at_result definitions of ≡ [] → IfSome of (λ t. is_some (resolved (module_names definitions) t) ≡ true)
+  result-known : (of : Option TypeName) → check_result definitions of ≡ [] → IfSome of (λ t. is_some (resolved (module_names definitions) t) ≡ true)
   result-known None nothing = tt
   result-known (Some t) nothing = type-known (module_names definitions) false t nothing
 
@@ -234,9 +234,9 @@ module _ (definitions : List Definition) (well : AreWellTyped definitions) where
       → IfSome (result_type_of (kind_at definitions at)) (λ of. is_some (resolved (module_names definitions) of) ≡ true)
   function-known at f is =
       let scope : Scope = scope_on definitions (component_named definitions f.runs_on) in
-      let named : List Rule = at_component_name definitions f.runs_on in
+      let named : List Rule = check_component_name definitions f.runs_on in
       let parameters : List Rule = in_parameters scope f.parameters in
-      let result : List Rule = at_result definitions f.returns in
+      let result : List Rule = check_result definitions f.returns in
       let body : List Rule = statements f.body (place_in scope f.parameters (returns_of definitions f.returns)) in
       subst (λ k. IfSome (result_type_of k) (λ of. is_some (resolved (module_names definitions) of) ≡ true)) (sym is)
       (result-known f.returns (nothing-rest (named ++ parameters) result

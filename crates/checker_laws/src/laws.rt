@@ -18,7 +18,7 @@ ghost use Rattle.ttcn_syntax.specs.declared.tree.value.Value.{Value};
 ghost use Rattle.ttcn_syntax.specs.declared.tree.value.Value.TheVariants as form;
 ghost use Rattle.check_expressions.specs.Calls.{at_call, parameters_of};
 ghost use Rattle.check_scope.specs.Scopes.{component_scope, module_scope, scope_on};
-ghost use Rattle.check_statements.specs.Definitions.{in_definition, in_parameters, with_parameters};
+ghost use Rattle.check_statements.specs.Definitions.{check_definition, in_parameters, with_parameters};
 ghost use Rattle.check_expressions.specs.Expressions.{at_reference, expression};
 ghost use Rattle.checker_laws.specs.Laws.{AreArguments, AreElements, AreNamedElements, IsTyped, IsWhole, Resolves};
 ghost use Rattle.check_scope.specs.Names.{Scope, fields_at, kind_at};
@@ -37,7 +37,7 @@ use ttcn_types::Program;
 /// Each definition breaks no rule inside.
 #[tactic(auto, using(crate::proofs::Whole::definition_is_fine))]
 pub fn definitions_are_fine(program: &Program)
-    ensures { (at : ℕ) (kind : DefinitionKind) → kind_at program.now.definitions at ≡ Some kind → in_definition program.now.definitions at kind ≡ [] }
+    ensures { (at : ℕ) (kind : DefinitionKind) → kind_at program.now.definitions at ≡ Some kind → check_definition program.now.definitions at kind ≡ [] }
 {
     let _ = program.module();
 }

@@ -24,7 +24,7 @@ use Rattle.check_scope.specs.declared.types.DataType.{DataType}
 use Rattle.check_scope.specs.declared.types.Target.{Target}
 use Rattle.check_scope.specs.declared.types.Typing.{Typing}
 use Rattle.check_scope.specs.declared.types.Typing.TheVariants as typing
-use Rattle.check_statements.specs.Messages.{at_message, at_port, at_type_name, by_template, by_type_name, of_only, type_by_itself, type_by_port, type_of_message}
+use Rattle.check_statements.specs.Messages.{check_message, passage_at, check_type_name, by_template, by_type_name, of_only, type_by_itself, type_by_port, type_of_message}
 use Rattle.checker_laws.proofs.Nothing.{kept, nothing-first, nothing-rest}
 use Rattle.checker_laws.proofs.Typed.{expression_typed}
 use Rattle.checker_laws.specs.Laws.{IsKnown, IsWhole}
@@ -125,27 +125,27 @@ module _ (scope : Scope) (whole : IsWhole scope) where
   type-resolved type_name.Default nothing = absurd (let e = nothing in cc)
   type-resolved (type_name.Named name) nothing = kept (is_some (type_meant (scope.names name))) rule.UnknownName nothing
 
-  by-name : (types : List (Option DataType)) (t : Template) (target : Target) (name : Option TypeName) → at_type_name scope name ≡ []
+  by-name : (types : List (Option DataType)) (t : Template) (target : Target) (name : Option TypeName) → check_type_name scope name ≡ []
       → template t scope target ≡ [] → (by_type_name scope (Some types) (type_by_port (Some types)) t name).broken ≡ []
       → HasKnown (by_type_name scope (Some types) (type_by_port (Some types)) t name)
   by-name types t target None named fine nothing = by-template types (typing_of_template scope t) (template-typed target t fine) nothing
   by-name types t target (Some name) named fine nothing =
       by-itself types (typed (resolved scope.names name)) (typed-known (resolved scope.names name) (type-resolved name named)) nothing
 
-  message-typed : (types : List (Option DataType)) (message : MessageTemplate) → at_message scope (Some types) (type_by_port (Some types)) message ≡ []
+  message-typed : (types : List (Option DataType)) (message : MessageTemplate) → check_message scope (Some types) (type_by_port (Some types)) message ≡ []
       → HasType scope (Some types, type_by_port (Some types)) message
   message-typed types message nothing =
       let judged : Judged = type_of_message scope (Some types) (type_by_port (Some types)) message in
       let target : Target = target_of (type_known judged.typing) in
-      let front = nothing-first (at_type_name scope message.type_name ++ judged.broken) (template message.template scope target) nothing in
+      let front = nothing-first (check_type_name scope message.type_name ++ judged.broken) (template message.template scope target) nothing in
       let known = by-name types message.template target message.type_name
-      (nothing-first (at_type_name scope message.type_name) judged.broken front)
-      (nothing-rest (at_type_name scope message.type_name ++ judged.broken) (template message.template scope target) nothing)
-      (nothing-rest (at_type_name scope message.type_name) judged.broken front) in
+      (nothing-first (check_type_name scope message.type_name) judged.broken front)
+      (nothing-rest (check_type_name scope message.type_name ++ judged.broken) (template message.template scope target) nothing)
+      (nothing-rest (check_type_name scope message.type_name) judged.broken front) in
       record { data_type = known.0; is = known.1 }
 
   -- at a port of a known type
   pub passing_typed : (incoming : Bool) (port : ℕ) (message : MessageTemplate)
-      → at_message scope (at_port scope.definitions incoming (Some port)).0 (at_port scope.definitions incoming (Some port)).1 message ≡ []
-      → HasType scope (at_port scope.definitions incoming (Some port)) message
+      → check_message scope (passage_at scope.definitions incoming (Some port)).0 (passage_at scope.definitions incoming (Some port)).1 message ≡ []
+      → HasType scope (passage_at scope.definitions incoming (Some port)) message
   passing_typed incoming port message nothing = message-typed (types_of_port (module_names scope.definitions) incoming (kind_at scope.definitions port)) message nothing

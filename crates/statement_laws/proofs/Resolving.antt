@@ -9,7 +9,7 @@ use Rattle.check_scope.specs.Names.{Scope, kind_at}
 use Rattle.check_scope.specs.Typings.{refers_to_component, unless}
 use Rattle.check_scope.specs.declared.rule.Rule.{Rule}
 use Rattle.check_scope.specs.declared.rule.Rule.TheVariants as rule
-use Rattle.check_statements.specs.Statements.{at_start, at_started, is_function, runs_there, says_component}
+use Rattle.check_statements.specs.Statements.{check_start, check_started, is_function, runs_there, says_component}
 use Rattle.checker_laws.proofs.Fitting.{arguments_fit}
 use Rattle.checker_laws.proofs.Nothing.{kept, nothing-first, nothing-rest}
 use Rattle.statement_laws.specs.Resolved.{Activates, Starts}
@@ -36,7 +36,7 @@ module _ (scope : Scope) (call : Call) where
 
   module _ (reference : ComponentRef) where
     starts : (meant : Option ℕ) → behaviour_meant (scope.names call.name) ≡ meant → (at_component scope reference false).broken ≡ []
-        → refers_to_component (at_component scope reference false).typing ≡ true → at_started scope (at_component scope reference false).typing call meant ≡ [] → Starts scope reference call
+        → refers_to_component (at_component scope reference false).typing ≡ true → check_started scope (at_component scope reference false).typing call meant ≡ [] → Starts scope reference call
     starts None is fine component nothing = absurd (let e = nothing in cc)
     starts (Some at) is fine component nothing =
         let started : Judged = at_component scope reference false in
@@ -58,15 +58,15 @@ module _ (scope : Scope) (call : Call) where
           function = kept (is_function k) rule.CallKind (nothing-rest (given ++ says ++ there) called nothing);
         }
 
-    start_resolves : at_start scope reference call ≡ [] → Starts scope reference call
+    start_resolves : check_start scope reference call ≡ [] → Starts scope reference call
     start_resolves nothing =
         let started : Judged = at_component scope reference false in
         let component : List Rule = unless (refers_to_component started.typing) rule.UnknownName in
-        let function : List Rule = at_started scope started.typing call (behaviour_meant (scope.names call.name)) in
+        let function : List Rule = check_started scope started.typing call (behaviour_meant (scope.names call.name)) in
         let front : started.broken ++ component ≡ [] = nothing-first (started.broken ++ component) function nothing in
         starts (behaviour_meant (scope.names call.name)) refl (nothing-first started.broken component front)
         (kept (refers_to_component started.typing) rule.UnknownName (nothing-rest started.broken component front))
         (nothing-rest (started.broken ++ component) function nothing)
 
-pub started : (scope : Scope) (reference : ComponentRef) (call : Call) → at_start scope reference call ≡ [] → Starts scope reference call
+pub started : (scope : Scope) (reference : ComponentRef) (call : Call) → check_start scope reference call ≡ [] → Starts scope reference call
 started scope reference call nothing = start_resolves scope call reference nothing

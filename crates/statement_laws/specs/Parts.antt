@@ -1,5 +1,5 @@
 -- What stands within a statement or branch, where it breaks no rule.
-use Rattle.std.specs.Prelude.{◌≡◌, false, List, [], Option, Some, None}
+use Rattle.std.specs.Prelude.{◌≡◌, false, IsTrue, List, [], Option, Some, None}
 use Rattle.std.specs.List.{All}
 use Rattle.ttcn_syntax.specs.declared.tree.expression.Expr.{Expr}
 use Rattle.ttcn_syntax.specs.declared.tree.statement.Action.{Action}
@@ -8,14 +8,14 @@ use Rattle.ttcn_syntax.specs.declared.tree.statement.Alternative.{Alternative, o
 use Rattle.ttcn_syntax.specs.declared.tree.statement.Branch.{Branch, out-Branch}
 use Rattle.ttcn_syntax.specs.declared.tree.statement.Conditional.{Conditional, out-Conditional}
 use Rattle.ttcn_syntax.specs.declared.tree.statement.Statement.{Statement}
-use Rattle.check_expressions.specs.Calls.{at_call, is_altstep}
+use Rattle.check_expressions.specs.Calls.{at_activation, at_call, is_altstep, stands_alone}
 use Rattle.check_expressions.specs.Expressions.{expression}
 use Rattle.check_expressions.specs.Targets.{at_assignment, at_constants, at_timers, at_variables}
 use Rattle.check_scope.specs.Names.{Scope}
 use Rattle.check_scope.specs.declared.types.DataType.TheVariants as type
 use Rattle.check_scope.specs.declared.types.Typing.TheVariants as typing
-use Rattle.check_statements.specs.Messages.{at_event}
-use Rattle.check_statements.specs.Statements.{Place, at_for_start, behind_for_start, inside_branch, leaf_rules, statements, with_scope}
+use Rattle.check_statements.specs.Messages.{check_event, check_send, check_timer}
+use Rattle.check_statements.specs.Statements.{Place, check_deactivate, check_ends, check_for_start, check_log, check_return, check_setverdict, check_start, check_stop, behind_for_start, inside_branch, statements, with_scope}
 
 -- a condition: it breaks no rule, and is boolean
 pub record IsCondition (scope : Scope) (e : Expr) : Type 0 where
@@ -44,7 +44,7 @@ pub record IsFineConditional (place : Place) (c : Conditional) : Type 0 where
 -- what a branch waits for, and the block behind it
 abbrev pub HasFineAlternative : Place → Alternative-F Action Alternative Branch Conditional Statement → Type 0
 HasFineAlternative place (Alternative-F.«Alternative::Event» guard event block) =
-    IsGuard place.scope guard × (at_event place.scope event ≡ []) × IsFineIfAny (inside_branch place) block
+    IsGuard place.scope guard × (check_event place.scope event ≡ []) × IsFineIfAny (inside_branch place) block
 HasFineAlternative place (Alternative-F.«Alternative::Call» guard call block) =
     IsGuard place.scope guard × (at_call place.scope is_altstep call ≡ []) × IsFineIfAny (inside_branch place) block
 HasFineAlternative place (Alternative-F.Else block) = IsFine (inside_branch place) block
@@ -63,8 +63,22 @@ HasFineParts place (Action-F.If conditionals last) = All (IsFineConditional plac
 HasFineParts place (Action-F.While condition block) = IsCondition place.scope condition × IsFine place block
 HasFineParts place (Action-F.DoWhile block condition) = IsFine place block × IsCondition place.scope condition
 HasFineParts place (Action-F.For start condition step block) =
-    (at_for_start place.scope start ≡ []) ×
+    (check_for_start place.scope start ≡ []) ×
     IsCondition (behind_for_start place.scope start) condition ×
     (at_assignment (behind_for_start place.scope start) step ≡ []) ×
     IsFine (with_scope place (behind_for_start place.scope start)) block
-HasFineParts place action = leaf_rules action place ≡ []
+HasFineParts place (Action-F.Assign assignment) = at_assignment place.scope assignment ≡ []
+HasFineParts place (Action-F.«Action::Call» call) = at_call place.scope stands_alone call ≡ []
+HasFineParts place (Action-F.«Action::Event» event) = check_event place.scope event ≡ []
+HasFineParts place Action-F.Repeat = IsTrue place.in_branch
+HasFineParts place (Action-F.Return v) = check_return place.scope place.returns v ≡ []
+HasFineParts place Action-F.Stop = Unit {0}
+HasFineParts place (Action-F.Log items) = check_log place.scope items ≡ []
+HasFineParts place (Action-F.Setverdict verdict reasons) = check_setverdict place.scope verdict reasons ≡ []
+HasFineParts place (Action-F.Connect one other) = check_ends place.scope one.component other.component ≡ []
+HasFineParts place (Action-F.Send send) = check_send place.scope send ≡ []
+HasFineParts place (Action-F.StartComponent reference call) = check_start place.scope reference call ≡ []
+HasFineParts place (Action-F.StartTimer timer) = check_timer place.scope timer ≡ []
+HasFineParts place (Action-F.StopOf reference) = check_stop place.scope reference ≡ []
+HasFineParts place (Action-F.Activate call) = at_activation place.scope call ≡ []
+HasFineParts place (Action-F.Deactivate reference) = check_deactivate place.scope reference ≡ []

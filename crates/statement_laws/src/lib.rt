@@ -15,8 +15,8 @@ ghost use Rattle.check_expressions.specs.Calls.{at_activation};
 ghost use Rattle.check_expressions.specs.Targets.{at_assignment};
 ghost use Rattle.check_scope.specs.Names.{Scope, module_names};
 ghost use Rattle.check_scope.specs.declared.names.Meaning.{Meaning};
-ghost use Rattle.check_statements.specs.Messages.{at_message, at_port};
-ghost use Rattle.check_statements.specs.Statements.{Place, at_condition, at_start, branch, statement};
+ghost use Rattle.check_statements.specs.Messages.{check_message, passage_at};
+ghost use Rattle.check_statements.specs.Statements.{Place, check_condition, check_start, branch, statement};
 ghost use Rattle.checker_laws.specs.Laws.{IsWhole};
 ghost use Rattle.statement_laws.specs.Messages.{HasType};
 ghost use Rattle.statement_laws.specs.Named.{IsDefinedAs};
@@ -32,7 +32,7 @@ use ttcn_types::Program;
 /// A condition that breaks no rule is boolean.
 #[tactic(auto, using(crate::proofs::Descent::condition_fine))]
 pub fn conditions_are_boolean()
-    ensures { (scope : Scope) → IsWhole scope → (e : Expr) → at_condition scope e ≡ [] → IsCondition scope e }
+    ensures { (scope : Scope) → IsWhole scope → (e : Expr) → check_condition scope e ≡ [] → IsCondition scope e }
 {}
 
 /// What stands within a statement that breaks no rule breaks none: conditions are boolean, and blocks, branches and what
@@ -58,13 +58,13 @@ pub fn activations_resolve()
 /// A start that breaks no rule is that of a component with a function that runs on its type, with an argument of its type
 /// for each parameter.
 pub fn starts_resolve()
-    ensures { (scope : Scope) (reference : ComponentRef) (call : Call) → at_start scope reference call ≡ [] → Starts scope reference call }
+    ensures { (scope : Scope) (reference : ComponentRef) (call : Call) → check_start scope reference call ≡ [] → Starts scope reference call }
 {}
 
 /// The type of a message that breaks no rule at a port of a known type is known, whether it is sent or received.
 #[tactic(auto, using(crate::proofs::MessageTypes::passing_typed))]
 pub fn message_types_are_known()
-    ensures { (scope : Scope) → IsWhole scope → (incoming : Bool) (port : ℕ) (message : MessageTemplate) → at_message scope (at_port scope.definitions incoming (Some port)).0 (at_port scope.definitions incoming (Some port)).1 message ≡ [] → HasType scope (at_port scope.definitions incoming (Some port)) message }
+    ensures { (scope : Scope) → IsWhole scope → (incoming : Bool) (port : ℕ) (message : MessageTemplate) → check_message scope (passage_at scope.definitions incoming (Some port)).0 (passage_at scope.definitions incoming (Some port)).1 message ≡ [] → HasType scope (passage_at scope.definitions incoming (Some port)) message }
 {}
 
 /// What a name of a module stands for is defined at the position that it means, under that name, in every module.

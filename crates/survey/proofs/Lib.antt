@@ -3,3 +3,4 @@ pub mod Chains
 pub mod Ends
 pub mod Sizes
 pub mod Steps
+pub mod Tallies

@@ -1,15 +1,12 @@
 -- What is known during a depth-first search of things.
-use Rattle.std.specs.Prelude.{◌≡◌, ℕ, ◌+◌, ◌-◌, ◌^◌, ◌<◌, ◌≤◌, min, List, [], ◌∷◌, length, map, take, slice_index_or, sum_by, All, Contains}
+use Rattle.std.specs.Prelude.{◌≡◌, ℕ, ◌+◌, ◌-◌, ◌<◌, ◌≤◌, List, [], ◌∷◌, length, map, take, slice_index_or, sum_by, All, Contains}
 use Rattle.survey.specs.Graphs.{IsChain, Weigh, references}
+use Rattle.survey.specs.Things.{capped}
 use Rattle.survey.specs.declared.search.State.{State}
 use Rattle.survey.specs.declared.search.State.TheVariants.{New, Open, Done}
 use Rattle.survey.specs.declared.search.Step.{Step}
 use Rattle.survey.specs.declared.size.Size.{Size}
 use Rattle.survey.specs.declared.thing.Thing.{Thing}
-
--- a number, or the largest of its type
-abbrev pub capped : ℕ → ℕ
-capped n = min n (2 ^ 64 - 1)
 
 -- so many members has the longest chain that begins at one of these things
 pub record HasLongest (things : List Thing) (these : List ℕ) (longest : ℕ) : Type 0 where

@@ -1,6 +1,6 @@
 //! How long the longest chain from some things is, and what they weigh together.
 ghost use Rattle.std.specs.Prelude.{◌≡◌, ◌+◌, max};
-ghost use Rattle.survey.specs.Search.{capped};
+ghost use Rattle.survey.specs.Things.{capped};
 
 /// How many members the longest chain has that begins at one of some things, and what they weigh together. A number that
 /// is too large for its type is the largest of it.
@@ -17,13 +17,13 @@ impl Size {
     };
 
     /// The size of a thing that refers to what has this size.
-    pub(crate) fn around(self, own: u32) -> Size
+    pub(crate) fn around(self, own: u64) -> Size
         ensures chain { result.chain ≡ capped (self.chain + 1) }
         ensures weight { result.weight ≡ capped (self.weight + own) }
     {
         Size {
             chain: self.chain.saturating_add(1),
-            weight: self.weight.saturating_add(u64::from(own)),
+            weight: self.weight.saturating_add(own),
         }
     }
 

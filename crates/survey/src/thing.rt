@@ -1,7 +1,7 @@
 //! Things that refer to one another.
 ghost use Rattle.std.specs.Prelude.{◌≡◌, ◌↔◌, ◌∷◌, ◌<◌, [], length, All, IsTrue, OnOk, get_or};
 ghost use Rattle.survey.specs.Graphs.{AreComplete};
-ghost use Rattle.survey.specs.Things.{beside, leaf, parts};
+ghost use Rattle.survey.specs.Things.{add, leaf, parts};
 
 use std::alloc::{AllocError, Global};
 use ttcn_syntax::Seq;
@@ -9,8 +9,8 @@ use ttcn_syntax::Seq;
 /// A thing, named by its place among all of them.
 #[derive(Drop)]
 pub struct Thing {
-    /// How many parts it has itself.
-    pub own: u32,
+    /// How many parts it has itself, or the largest number of the type where there are more.
+    pub own: u64,
     /// The things that it refers to, one as often as it is referred to.
     pub references: Seq<usize>,
 }
@@ -26,19 +26,18 @@ impl Thing {
         }
     }
 
-    /// One more part. A thing that has as many already as can be counted has no room for it.
+    /// One more part.
     #[tactic(auto, using(crate::proofs::Beside::with_leaf))]
-    pub fn add_leaf(&mut self) -> Result<(), AllocError>
-        ensures { OnOk result (self.new ≡ beside self.old leaf) }
+    pub fn add_leaf(&mut self)
+        ensures { self.new ≡ add self.old leaf }
     {
-        self.own = self.own.checked_add(1).ok_or(AllocError)?;
-        Ok(())
+        self.own = self.own.saturating_add(1);
     }
 
     /// One more reference.
     #[tactic(auto, using(crate::proofs::Beside::with_reference))]
     pub fn add_reference(&mut self, to: usize) -> Result<(), AllocError>
-        ensures { OnOk result (self.new ≡ beside self.old (parts 0 (to ∷ []))) }
+        ensures { OnOk result (self.new ≡ add self.old (parts 0 (to ∷ []))) }
     {
         self.references.push(to)?;
         Ok(())

@@ -186,7 +186,7 @@ fn doubling(rt: HostRuntime) -> Result<(), Fail> {
 fn own_parts(rt: HostRuntime) -> Result<(), Fail> {
     let alloc = rt.alloc();
     let mut things = Vec::new(alloc);
-    for own in [3, 0, u32::MAX] {
+    for own in [3, 0, u64::from(u32::MAX)] {
         things.push(Thing {
             own,
             references: Seq::new(alloc),
@@ -198,5 +198,25 @@ fn own_parts(rt: HostRuntime) -> Result<(), Fail> {
         too_heavy: Some(2),
     };
     assert_eq!(rt; found(&rt, alloc, &things, 1, u32::MAX - 1)?, expected);
+    Ok(())
+}
+
+/// A count of parts stops at its largest number.
+#[test]
+fn most_parts(rt: HostRuntime) -> Result<(), Fail> {
+    let alloc = rt.alloc();
+    let mut thing = Thing {
+        own: u64::MAX - 1,
+        references: Seq::new(alloc),
+    };
+    thing.add_leaf();
+    assert_eq!(rt; thing.own, u64::MAX);
+    thing.add_leaf();
+    assert_eq!(rt; thing.own, u64::MAX);
+    thing.add_reference(1)?;
+    let mut things = Vec::new(alloc);
+    things.push(thing)?;
+    things.push(Thing::empty(alloc))?;
+    assert_eq!(rt; found(&rt, alloc, &things, 2, u32::MAX)?, HEAVY);
     Ok(())
 }

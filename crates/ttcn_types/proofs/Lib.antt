@@ -8,5 +8,6 @@ pub mod Numbered
 pub mod Sums
 pub mod Surrounded
 pub mod SurveyLemmas
+pub mod Tallies
 pub mod TestCaseLemmas
 pub mod WrittenOut

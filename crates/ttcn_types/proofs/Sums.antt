@@ -42,6 +42,10 @@ summing-next definitions i definition before before' total total' inside is befo
       ∙ so_far.whole;
 }
 
+pub summing-count : (definitions : List Definition) (i : ℕ) (before : List ℕ) (total : ℕ) → length definitions ≤ i → Summing definitions i before total → total ≡ how_many_in definitions
+summing-count definitions i before total past so_far =
+    sym (add-zero total) ∙ ap (λ ds. total + how_many_in ds) (sym (drop_all i definitions past)) ∙ so_far.whole
+
 pub summing-end : (definitions : List Definition) (i : ℕ) (before : List ℕ) (total : ℕ) → length definitions ≤ i → Summing definitions i before total
     → (at : ℕ) → get_or before at total ≡ number_at definitions at
 summing-end definitions i before total past so_far at =

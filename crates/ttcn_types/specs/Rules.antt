@@ -3,7 +3,7 @@ use Rattle.std.specs.Prelude.{ℕ, ◌≤◌, ◌⊎◌, List, Contains}
 use Rattle.survey.specs.Graphs.{BeginsLongerChain, IsOnCircle, WeighsMore}
 use Rattle.survey.specs.declared.thing.Thing.{Thing}
 use Rattle.ttcn_syntax.specs.declared.tree.definition.Definition.{Definition}
-use Rattle.check_statements.specs.Definitions.{at_sites}
+use Rattle.check_statements.specs.Definitions.{check_sites}
 use Rattle.check_scope.specs.Numbers.{number_of}
 use Rattle.ttcn_types.specs.Limits.{longest_chain, most_fields, most_parts}
 use Rattle.ttcn_types.specs.Parts.{altsteps, records, written_out}
@@ -26,7 +26,7 @@ AreTooLarge things longest heaviest = ((i : ℕ) × BeginsLongerChain things lon
 
 -- a rule that the definitions of a module break: at some site, or by a circle or a size
 pub data Breaks (definitions : List Definition) : Rule → Type 0 where
-  site : {r : Rule} → Contains (at_sites definitions) r → Breaks definitions r
+  site : {r : Rule} → Contains (check_sites definitions) r → Breaks definitions r
   -- a record contains itself
   in_itself : HasCircle (records definitions) → Breaks definitions rule.BadType
   -- constants or templates, or altsteps as branches, refer to themselves

@@ -1,15 +1,9 @@
 -- What stands round constants and templates, in the words of the private contracts.
-use Rattle.std.specs.Prelude.{Bool, List, None, Option, Some, [], bytes_eq, nat_eq, not, slice_index_or, ℕ, ◌&&◌, ◌++◌, ◌∷◌, ◌≡◌}
-use Rattle.std.specs.Bool.{beq}
-use Rattle.std.specs.HashMap.{get_by}
-use Rattle.std.specs.HashSet.{contains_by}
-use Rattle.std.specs.List.{list_any, slice_get}
-use Rattle.std.specs.Option.{option_map, option_or}
-use Rattle.ttcn_types.specs.declared.parts.numbers.Numbers.{Numbers}
+use Rattle.std.specs.Prelude.{None}
+use Rattle.std.specs.Option.{option_or}
 use Rattle.check_scope.specs.Names.{module_names}
 use Rattle.check_scope.specs.Names as spec
 use Rattle.ttcn_types.specs.declared.parts.surroundings.Surroundings.{Surroundings}
-use Rattle.check_scope.specs.declared.scope.Scope.{Scope}
 use Rattle.check_scope.specs.Tables.{said}
 
 -- the scope of a constant or a template of the module: the parameters first, and the module

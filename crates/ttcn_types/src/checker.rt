@@ -7,7 +7,7 @@ ghost use Rattle.ttcn_types.specs.Rules.{AreWellTyped, Breaks, IsRefusal};
 ghost use Rattle.ttcn_types.specs.Surveys.{BreaksAmong, BreaksBySurvey, BreaksInAltsteps, BreaksInRecords, BreaksWritten, IsLeastWhere, rule_of};
 
 use crate::error::CheckError;
-use crate::parts::{altsteps, place_of, records, written_out};
+use crate::parts::{altsteps, records, written_out};
 use crate::program::Program;
 use check_scope::least::Least;
 use check_scope::rule::Rule;
@@ -65,7 +65,7 @@ fn least_at(definitions: &[Definition], fault: Option<(Rule, usize)>) -> Least
 }
 
 /// A record that contains itself, or is too large.
-#[tactic(auto, using(crate::proofs::Complete::records_complete))]
+#[tactic(auto, using(crate::proofs::Complete::records_complete, crate::proofs::Tallies::tally_complete, crate::proofs::Tallies::least_tally))]
 fn check_records(alloc: Global, scope: &Scope<'_>) -> Result<Least, AllocError>
     ensures { IfOk result (λ found. IsLeastWhere (BreaksInRecords scope.now.definitions.now) (least_in found).least) }
 {
@@ -75,20 +75,20 @@ fn check_records(alloc: Global, scope: &Scope<'_>) -> Result<Least, AllocError>
 }
 
 /// A constant or a template that refers to itself, or is too large.
-#[tactic(auto, using(crate::proofs::WrittenOut::written_complete, crate::proofs::WrittenOut::length_written))]
+#[tactic(auto, using(crate::proofs::WrittenOut::written_complete, crate::proofs::Tallies::tally_complete, crate::proofs::Tallies::least_tally))]
 fn check_written(alloc: Global, scope: &Scope<'_>) -> Result<Least, AllocError>
     ensures { IfOk result (λ found. IsLeastWhere (BreaksWritten scope.now.definitions.now) (least_in found).least) }
 {
-    let things = written_out(alloc, scope)?;
-    let fault = match check_survey(alloc, things.as_slice(), MOST_PARTS, Rule::Cycle)? {
-        Some((rule, number)) => Some((rule, place_of(scope.definitions, number))),
+    let written = written_out(alloc, scope)?;
+    let fault = match check_survey(alloc, written.things.as_slice(), MOST_PARTS, Rule::Cycle)? {
+        Some((rule, number)) => Some((rule, written.places[number])),
         None => None,
     };
     Ok(Least { fault })
 }
 
 /// An altstep that is a branch of itself, or too large.
-#[tactic(auto, using(crate::proofs::Complete::altsteps_complete))]
+#[tactic(auto, using(crate::proofs::Complete::altsteps_complete, crate::proofs::Tallies::tally_complete, crate::proofs::Tallies::least_tally))]
 fn check_altsteps(alloc: Global, scope: &Scope<'_>) -> Result<Least, AllocError>
     ensures { IfOk result (λ found. IsLeastWhere (BreaksInAltsteps scope.now.definitions.now) (least_in found).least) }
 {

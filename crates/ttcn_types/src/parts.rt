@@ -1,5 +1,6 @@
 //! What records, constants, templates and altsteps refer to, and of how many parts they are.
 ghost use Rattle.std.specs.Prelude.{◌≡◌, IfOk, OnOk, map};
+ghost use Rattle.survey.specs.Things.{add, tally};
 ghost use Rattle.ttcn_types.specs.Parts as spec;
 
 mod numbers;
@@ -10,7 +11,6 @@ mod written;
 use check_scope::names::Meaning;
 use check_scope::scope::Scope;
 use check_scope::types::DataType;
-pub(crate) use numbers::place_of;
 use std::alloc::{AllocError, Global};
 use survey::Thing;
 use ttcn_syntax::{Alternative, Branch, DefinitionKind, Field};
@@ -19,16 +19,19 @@ pub(crate) use written::written_out;
 // ---- records
 
 fn add_field(scope: &Scope<'_>, field: &Field, into: &mut Thing) -> Result<(), AllocError>
-    ensures { OnOk result (into.new ≡ spec.beside into.old (spec.part_of_field scope.now.definitions.now field.now)) }
+    ensures { OnOk result (into.new ≡ add into.old (spec.part_of_field scope.now.definitions.now field.now)) }
 {
     match scope.resolved_in_module(&field.type_name) {
         Some(DataType::Record(at)) => into.add_reference(at),
-        _ => into.add_leaf(),
+        _ => {
+            into.add_leaf();
+            Ok(())
+        }
     }
 }
 
 fn fields_parts(alloc: Global, scope: &Scope<'_>, fields: &[Field]) -> Result<Thing, AllocError>
-    ensures { IfOk result (λ thing. thing ≡ spec.all_of (map (spec.part_of_field scope.now.definitions.now) fields.now)) }
+    ensures { IfOk result (λ thing. thing ≡ tally (spec.all_of (map (spec.part_of_field scope.now.definitions.now) fields.now))) }
 {
     let mut thing = Thing::empty(alloc);
     for field in fields {
@@ -43,13 +46,13 @@ fn record_parts(
     scope: &Scope<'_>,
     kind: &DefinitionKind,
 ) -> Result<Thing, AllocError>
-    ensures { IfOk result (λ thing. thing ≡ spec.record_parts scope.now.definitions.now kind.now) }
+    ensures { IfOk result (λ thing. thing ≡ tally (spec.record_parts scope.now.definitions.now kind.now)) }
 {
     match kind {
         DefinitionKind::Record(record) => {
             let mut thing = fields_parts(alloc, scope, record.fields.as_slice())?;
             if record.fields.as_slice().is_empty() {
-                thing.add_leaf()?;
+                thing.add_leaf();
             }
             Ok(thing)
         }
@@ -59,7 +62,7 @@ fn record_parts(
 
 /// The records of the module, by the positions of the definitions.
 pub(crate) fn records(alloc: Global, scope: &Scope<'_>) -> Result<Vec<Thing>, AllocError>
-    ensures { IfOk result (λ things. things.items ≡ spec.records scope.now.definitions.now) }
+    ensures { IfOk result (λ things. things.items ≡ map tally (spec.records scope.now.definitions.now)) }
 {
     let mut things = Vec::new(alloc);
     for definition in scope.definitions {
@@ -71,14 +74,15 @@ pub(crate) fn records(alloc: Global, scope: &Scope<'_>) -> Result<Vec<Thing>, Al
 // ---- altsteps
 
 fn add_branch(scope: &Scope<'_>, branch: &Branch, into: &mut Thing) -> Result<(), AllocError>
-    ensures { OnOk result (into.new ≡ spec.beside into.old (spec.branch_parts scope.now.definitions.now branch.now)) }
+    ensures { OnOk result (into.new ≡ add into.old (spec.branch_parts scope.now.definitions.now branch.now)) }
 {
     if let Alternative::Call(_, call, _) = &branch.alternative
         && let Some(Meaning::Altstep(at)) = scope.in_module(call.name.as_bytes())
     {
         return into.add_reference(at);
     }
-    into.add_leaf()
+    into.add_leaf();
+    Ok(())
 }
 
 fn branches_parts(
@@ -86,7 +90,7 @@ fn branches_parts(
     scope: &Scope<'_>,
     branches: &[Branch],
 ) -> Result<Thing, AllocError>
-    ensures { IfOk result (λ thing. thing ≡ spec.all_of (map (spec.branch_parts scope.now.definitions.now) branches.now)) }
+    ensures { IfOk result (λ thing. thing ≡ tally (spec.all_of (map (spec.branch_parts scope.now.definitions.now) branches.now))) }
 {
     let mut thing = Thing::empty(alloc);
     for branch in branches {
@@ -100,7 +104,7 @@ fn altstep_parts(
     scope: &Scope<'_>,
     kind: &DefinitionKind,
 ) -> Result<Thing, AllocError>
-    ensures { IfOk result (λ thing. thing ≡ spec.altstep_parts scope.now.definitions.now kind.now) }
+    ensures { IfOk result (λ thing. thing ≡ tally (spec.altstep_parts scope.now.definitions.now kind.now)) }
 {
     match kind {
         DefinitionKind::Altstep(altstep) => {
@@ -112,7 +116,7 @@ fn altstep_parts(
 
 /// The altsteps of the module, by the positions of the definitions.
 pub(crate) fn altsteps(alloc: Global, scope: &Scope<'_>) -> Result<Vec<Thing>, AllocError>
-    ensures { IfOk result (λ things. things.items ≡ spec.altsteps scope.now.definitions.now) }
+    ensures { IfOk result (λ things. things.items ≡ map tally (spec.altsteps scope.now.definitions.now)) }
 {
     let mut things = Vec::new(alloc);
     for definition in scope.definitions {

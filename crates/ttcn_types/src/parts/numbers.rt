@@ -1,7 +1,7 @@
 //! The numbers of constants and templates.
-ghost use Rattle.std.specs.Prelude.{◌≡◌, ℕ, ◌<◌, IfOk};
-ghost use Rattle.ttcn_types.specs.Parts.{how_many, how_many_in, number_at};
-ghost use Rattle.ttcn_types.specs.Numbering.{numbered};
+ghost use Rattle.std.specs.Prelude.{◌≡◌, ◌+◌, ◌<◌, length, IfOk, OnOk};
+ghost use Rattle.ttcn_types.specs.Parts.{how_many};
+ghost use Rattle.ttcn_types.specs.Numbering.{AreNumbers, count_before};
 
 use std::alloc::{AllocError, Global};
 use ttcn_syntax::{Definition, DefinitionKind, Span};
@@ -11,34 +11,40 @@ use ttcn_syntax::{Definition, DefinitionKind, Span};
 pub(crate) struct Numbers {
     /// For each definition how many come before it.
     before: Vec<usize>,
-    /// How many there are.
-    total: usize,
+    /// For each number the place of the definition that has it.
+    pub(crate) places: Vec<Span>,
 }
 
 impl Numbers {
-    /// Counts them. No memory holds more than can be counted.
+    /// Counts them.
     pub(crate) fn of(alloc: Global, definitions: &[Definition]) -> Result<Numbers, AllocError>
-        ensures { IfOk result (λ numbers. (at : ℕ) → numbered numbers at ≡ number_at definitions.now at) }
+        ensures { IfOk result (λ numbers. AreNumbers numbers definitions.now) }
     {
         let mut before = Vec::new(alloc);
-        let mut total = 0_usize;
+        let mut places = Vec::new(alloc);
         for definition in definitions {
-            before.push(total)?;
-            total = total
-                .checked_add(how_many(&definition.kind))
-                .ok_or(AllocError)?;
+            before.push(places.len())?;
+            push_places(definition, &mut places)?;
         }
-        Ok(Numbers { before, total })
+        Ok(Numbers { before, places })
     }
 
     /// The number of the first that the definition at a position defines.
     pub(crate) fn at(&self, at: usize) -> usize
-        ensures { result ≡ numbered self.now at }
+        ensures { result ≡ count_before self.now at }
     {
         match self.before.get(at) {
             Some(number) => *number,
-            None => self.total,
+            None => self.places.len(),
         }
+    }
+
+    /// The number of one of the constants that the definition at a position defines.
+    pub(crate) fn of_item(&self, at: usize, item: usize) -> usize
+        requires { count_before self.now at + item < length self.now.places.items }
+        ensures { result ≡ count_before self.now at + item }
+    {
+        self.at(at) + item
     }
 }
 
@@ -52,17 +58,12 @@ fn how_many(kind: &DefinitionKind) -> usize
     }
 }
 
-/// The place of the definition that has a number.
-pub(crate) fn place_of(definitions: &[Definition], number: usize) -> Span
-    requires { number < how_many_in definitions.now }
+/// The place of a definition, once for each number that it has.
+fn push_places(definition: &Definition, places: &mut Vec<Span>) -> Result<(), AllocError>
+    ensures { OnOk result (length places.new.items ≡ length places.old.items + how_many definition.now.kind) }
 {
-    let mut left = number;
-    for definition in definitions {
-        let count = how_many(&definition.kind);
-        if left < count {
-            return definition.place;
-        }
-        left -= count;
+    for _item in 0..how_many(&definition.kind) {
+        places.push(definition.place)?;
     }
-    unreachable!()
+    Ok(())
 }

@@ -1,7 +1,8 @@
 //! What stands in constants and templates.
-ghost use Rattle.std.specs.Prelude.{◌≡◌, ℕ, IfOk, OnOk, map};
-ghost use Rattle.ttcn_types.specs.Parts.{number_at};
-ghost use Rattle.ttcn_types.specs.Numbering.{numbered};
+ghost use Rattle.std.specs.Prelude.{◌≡◌, IfOk, OnOk, map};
+ghost use Rattle.check_scope.specs.Tables.{said};
+ghost use Rattle.survey.specs.Things.{add, tally};
+ghost use Rattle.ttcn_types.specs.Numbering.{AreNumbers, IsNumbered, NoConstants};
 
 use super::numbers::Numbers;
 use check_scope::names::Meaning;
@@ -17,7 +18,8 @@ pub(super) struct Surroundings<'p, 'a> {
     pub(super) scope: &'p Scope<'a>,
     pub(super) numbers: &'p Numbers,
     pub(super) parameters: Table<'a>,
-    ghost are_numbers: { (at : ℕ) → numbered numbers.now at ≡ number_at scope.now.definitions.now at },
+    ghost are_numbers: { AreNumbers numbers.now scope.now.definitions.now },
+    ghost no_constants: { NoConstants (said parameters) },
 }
 
 impl Surroundings<'_, '_> {
@@ -26,7 +28,8 @@ impl Surroundings<'_, '_> {
 
     /// What a name stands for.
     pub(super) fn get(&self, name: &[u8]) -> Option<Meaning>
-        ensures { result ≡ (scope_of self.now).names name.now }
+        ensures meaning { result ≡ (scope_of self.now).names name.now }
+        ensures has_number { IsNumbered self.now.scope.now.definitions.now result }
     {
         if let Some(meaning) = self.parameters.get(name) {
             return Some(meaning);
@@ -35,34 +38,41 @@ impl Surroundings<'_, '_> {
     }
 
     fn add_meaning(&self, meaning: Option<Meaning>, into: &mut Thing) -> Result<(), AllocError>
-        ensures { OnOk result (into.new ≡ spec.beside into.old (spec.of_meaning (scope_of self.now).definitions meaning)) }
+        requires { IsNumbered self.now.scope.now.definitions.now meaning }
+        ensures { OnOk result (into.new ≡ add into.old (spec.of_meaning (scope_of self.now).definitions meaning)) }
     {
         match meaning {
             Some(Meaning::ModuleConstant(at, item)) => {
-                into.add_reference(self.numbers.at(at).checked_add(item).ok_or(AllocError)?)
+                into.add_reference(self.numbers.of_item(at, item))
             }
-            _ => into.add_leaf(),
+            _ => {
+                into.add_leaf();
+                Ok(())
+            }
         }
     }
 
     fn add_reference(&self, reference: &Reference, into: &mut Thing) -> Result<(), AllocError>
-        ensures { OnOk result (into.new ≡ spec.beside into.old (spec.of_meaning (scope_of self.now).definitions ((scope_of self.now).names reference.now.name))) }
+        ensures { OnOk result (into.new ≡ add into.old (spec.of_meaning (scope_of self.now).definitions ((scope_of self.now).names reference.now.name))) }
     {
         self.add_meaning(self.get(reference.name.as_bytes()), into)
     }
 
     fn add_component(&self, component: &ComponentRef, into: &mut Thing) -> Result<(), AllocError>
-        ensures { OnOk result (into.new ≡ spec.beside into.old (spec.of_component (scope_of self.now) component.now)) }
+        ensures { OnOk result (into.new ≡ add into.old (spec.of_component (scope_of self.now) component.now)) }
     {
         match component {
-            ComponentRef::Itself | ComponentRef::Mtc => into.add_leaf(),
+            ComponentRef::Itself | ComponentRef::Mtc => {
+                into.add_leaf();
+                Ok(())
+            }
             ComponentRef::Named(reference) => self.add_reference(reference, into),
         }
     }
 
     /// The parts of an expression.
     pub(super) fn add_expression(&self, expr: &Expr, into: &mut Thing) -> Result<(), AllocError>
-        ensures { OnOk result (into.new ≡ spec.beside into.old (spec.expression_parts (scope_of self.now) expr.now)) }
+        ensures { OnOk result (into.new ≡ add into.old (spec.expression_parts (scope_of self.now) expr.now)) }
     {
         match expr {
             Expr::Reference(component) | Expr::Running(component) => {
@@ -78,27 +88,35 @@ impl Surroundings<'_, '_> {
                 }
                 Ok(())
             }
-            Expr::Int(_) | Expr::Bool(_) | Expr::Null => into.add_leaf(),
+            Expr::Int(_) | Expr::Bool(_) | Expr::Null => {
+                into.add_leaf();
+                Ok(())
+            }
         }
     }
 
     /// The parts of a value.
     #[cycle(value)]
     fn add_value(&self, value: &Value, into: &mut Thing) -> Result<(), AllocError>
-        ensures { OnOk result (into.new ≡ spec.beside into.old (spec.value_parts (scope_of self.now) value.now)) }
+        ensures { OnOk result (into.new ≡ add into.old (spec.value_parts (scope_of self.now) value.now)) }
     {
         match value {
             Value::Expr(expr) => self.add_expression(expr, into),
-            Value::Omit => into.add_leaf(),
+            Value::Omit => {
+                into.add_leaf();
+                Ok(())
+            }
             Value::Listed(elements) => {
                 if elements.as_slice().is_empty() {
-                    return into.add_leaf();
+                    into.add_leaf();
+                    return Ok(());
                 }
                 self.add_values(elements.as_slice(), into)
             }
             Value::Assigned(elements) => {
                 if elements.as_slice().is_empty() {
-                    return into.add_leaf();
+                    into.add_leaf();
+                    return Ok(());
                 }
                 self.add_field_values(elements.as_slice(), into)
             }
@@ -108,7 +126,7 @@ impl Surroundings<'_, '_> {
     /// The parts of values.
     #[cycle(value)]
     pub(super) fn add_values(&self, values: &[Value], into: &mut Thing) -> Result<(), AllocError>
-        ensures { OnOk result (into.new ≡ spec.beside into.old (spec.all_of (map (spec.value_parts (scope_of self.now)) values.now))) }
+        ensures { OnOk result (into.new ≡ add into.old (spec.all_of (map (spec.value_parts (scope_of self.now)) values.now))) }
     {
         for value in values {
             self.add_value(value, into)?;
@@ -118,7 +136,7 @@ impl Surroundings<'_, '_> {
 
     #[cycle(value)]
     fn add_field_values(&self, fields: &[FieldValue], into: &mut Thing) -> Result<(), AllocError>
-        ensures { OnOk result (into.new ≡ spec.beside into.old (spec.all_of (map (spec.field_value_parts (scope_of self.now)) fields.now))) }
+        ensures { OnOk result (into.new ≡ add into.old (spec.all_of (map (spec.field_value_parts (scope_of self.now)) fields.now))) }
     {
         for field in fields {
             self.add_value(&field.value, into)?;
@@ -128,7 +146,7 @@ impl Surroundings<'_, '_> {
 
     /// What a constant is.
     pub(super) fn constant(&self, alloc: Global, constant: &Constant) -> Result<Thing, AllocError>
-        ensures { IfOk result (λ thing. thing ≡ spec.constant_parts (scope_of self.now) constant.now) }
+        ensures { IfOk result (λ thing. thing ≡ tally (spec.constant_parts (scope_of self.now) constant.now)) }
     {
         let mut thing = Thing::empty(alloc);
         self.add_value(&constant.value, &mut thing)?;

@@ -1,5 +1,6 @@
 //! What stands in templates.
 ghost use Rattle.std.specs.Prelude.{◌≡◌, IfOk, OnOk, map};
+ghost use Rattle.survey.specs.Things.{add, tally};
 
 use super::surroundings::Surroundings;
 use check_expressions::template::template_meant;
@@ -31,7 +32,7 @@ impl Surroundings<'_, '_> {
         template: Option<usize>,
         into: &mut Thing,
     ) -> Result<(), AllocError>
-        ensures { OnOk result (into.new ≡ spec.beside into.old (spec.of_template (scope_of self.now).definitions template)) }
+        ensures { OnOk result (into.new ≡ add into.old (spec.of_template (scope_of self.now).definitions template)) }
     {
         match template {
             Some(at) => into.add_reference(self.numbers.at(at)),
@@ -40,7 +41,7 @@ impl Surroundings<'_, '_> {
     }
 
     fn add_call(&self, call: &Call, into: &mut Thing) -> Result<(), AllocError>
-        ensures { OnOk result (into.new ≡ spec.beside into.old (spec.call_parts (scope_of self.now) call.now)) }
+        ensures { OnOk result (into.new ≡ add into.old (spec.call_parts (scope_of self.now) call.now)) }
     {
         self.add_named_template(template_meant(self.get(call.name.as_bytes())), into)?;
         self.add_values(call.arguments.as_slice(), into)
@@ -48,7 +49,7 @@ impl Surroundings<'_, '_> {
 
     /// An expression, or the name of a template.
     fn add_expression_or_name(&self, expr: &Expr, into: &mut Thing) -> Result<(), AllocError>
-        ensures { OnOk result (into.new ≡ spec.beside into.old (spec.of_name (scope_of self.now) expr.now (named.template_named (scope_of self.now) expr.now))) }
+        ensures { OnOk result (into.new ≡ add into.old (spec.of_name (scope_of self.now) expr.now (named.template_named (scope_of self.now) expr.now))) }
     {
         match self.template_named(expr) {
             Some(at) => into.add_reference(self.numbers.at(at)),
@@ -57,16 +58,19 @@ impl Surroundings<'_, '_> {
     }
 
     fn add_bound(&self, bound: &Bound, into: &mut Thing) -> Result<(), AllocError>
-        ensures { OnOk result (into.new ≡ spec.beside into.old (spec.of_bound (scope_of self.now) bound.now)) }
+        ensures { OnOk result (into.new ≡ add into.old (spec.of_bound (scope_of self.now) bound.now)) }
     {
         match bound {
             Bound::Expr(expr) => self.add_expression(expr, into),
-            Bound::Infinity => into.add_leaf(),
+            Bound::Infinity => {
+                into.add_leaf();
+                Ok(())
+            }
         }
     }
 
     fn add_range(&self, low: &Bound, high: &Bound, into: &mut Thing) -> Result<(), AllocError>
-        ensures { OnOk result (into.new ≡ spec.beside into.old (spec.beside (spec.of_bound (scope_of self.now) low.now) (spec.of_bound (scope_of self.now) high.now))) }
+        ensures { OnOk result (into.new ≡ add into.old (spec.beside (spec.of_bound (scope_of self.now) low.now) (spec.of_bound (scope_of self.now) high.now))) }
     {
         self.add_bound(low, into)?;
         self.add_bound(high, into)
@@ -75,7 +79,7 @@ impl Surroundings<'_, '_> {
     /// The parts of a template.
     #[cycle(template)]
     fn add_template(&self, template: &Template, into: &mut Thing) -> Result<(), AllocError>
-        ensures { OnOk result (into.new ≡ spec.beside into.old (spec.template_parts (scope_of self.now) template.now)) }
+        ensures { OnOk result (into.new ≡ add into.old (spec.template_parts (scope_of self.now) template.now)) }
     {
         match &template.body {
             TemplateBody::Complement(elements) | TemplateBody::List(elements) => {
@@ -86,23 +90,28 @@ impl Surroundings<'_, '_> {
             TemplateBody::Expr(expr) => self.add_expression_or_name(expr, into),
             TemplateBody::Listed(elements) => {
                 if elements.as_slice().is_empty() {
-                    return into.add_leaf();
+                    into.add_leaf();
+                    return Ok(());
                 }
                 self.add_templates(elements.as_slice(), into)
             }
             TemplateBody::Assigned(elements) => {
                 if elements.as_slice().is_empty() {
-                    return into.add_leaf();
+                    into.add_leaf();
+                    return Ok(());
                 }
                 self.add_field_templates(elements.as_slice(), into)
             }
-            TemplateBody::Any | TemplateBody::AnyOrOmit | TemplateBody::Omit => into.add_leaf(),
+            TemplateBody::Any | TemplateBody::AnyOrOmit | TemplateBody::Omit => {
+                into.add_leaf();
+                Ok(())
+            }
         }
     }
 
     #[cycle(template)]
     fn add_templates(&self, templates: &[Template], into: &mut Thing) -> Result<(), AllocError>
-        ensures { OnOk result (into.new ≡ spec.beside into.old (spec.all_of (map (spec.template_parts (scope_of self.now)) templates.now))) }
+        ensures { OnOk result (into.new ≡ add into.old (spec.all_of (map (spec.template_parts (scope_of self.now)) templates.now))) }
     {
         for template in templates {
             self.add_template(template, into)?;
@@ -116,7 +125,7 @@ impl Surroundings<'_, '_> {
         fields: &[FieldTemplate],
         into: &mut Thing,
     ) -> Result<(), AllocError>
-        ensures { OnOk result (into.new ≡ spec.beside into.old (spec.all_of (map (spec.field_template_parts (scope_of self.now)) fields.now))) }
+        ensures { OnOk result (into.new ≡ add into.old (spec.all_of (map (spec.field_template_parts (scope_of self.now)) fields.now))) }
     {
         for field in fields {
             self.add_template(&field.template, into)?;
@@ -126,7 +135,7 @@ impl Surroundings<'_, '_> {
 
     /// What a template is.
     pub(super) fn template(&self, alloc: Global, template: &Template) -> Result<Thing, AllocError>
-        ensures { IfOk result (λ thing. thing ≡ spec.template_parts (scope_of self.now) template.now) }
+        ensures { IfOk result (λ thing. thing ≡ tally (spec.template_parts (scope_of self.now) template.now)) }
     {
         let mut thing = Thing::empty(alloc);
         self.add_template(template, &mut thing)?;

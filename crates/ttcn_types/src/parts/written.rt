@@ -1,11 +1,12 @@
 //! The constants and templates of a module.
-ghost use Rattle.std.specs.Prelude.{◌≡◌, ℕ, [], ◌∷◌, ◌++◌, IfOk, OnOk, map};
+ghost use Rattle.std.specs.Prelude.{◌≡◌, [], ◌∷◌, ◌++◌, length, IfOk, OnOk, map};
+ghost use Rattle.survey.specs.Things.{tally};
 ghost use Rattle.ttcn_types.specs.Surrounding.{scope_of};
 ghost use Rattle.check_scope.specs.Scopes.{module_scope};
 ghost use Rattle.check_statements.specs.Definitions.{with_parameters};
 ghost use Rattle.check_scope.specs.Names.{declaring, resolved};
 ghost use Rattle.ttcn_types.specs.Parts as spec;
-ghost use Rattle.ttcn_types.specs.Numbering.{numbered};
+ghost use Rattle.ttcn_types.specs.Numbering.{AreNumbers};
 
 use super::numbers::Numbers;
 use super::surroundings::Surroundings;
@@ -15,12 +16,12 @@ use check_scope::table::Table;
 use check_scope::types::DataType;
 use std::alloc::{AllocError, Global};
 use survey::Thing;
-use ttcn_syntax::{Constant, DefinitionKind, Parameter, TemplateDefinition, TypeName};
+use ttcn_syntax::{Constant, DefinitionKind, Parameter, Span, TemplateDefinition, TypeName};
 
 impl<'p, 'a> Surroundings<'p, 'a> {
     /// The module, where there are no parameters.
     fn of_module(alloc: Global, scope: &'p Scope<'a>, numbers: &'p Numbers) -> Surroundings<'p, 'a>
-        requires { (at : ℕ) → numbered numbers.now at ≡ spec.number_at scope.now.definitions.now at }
+        requires { AreNumbers numbers.now scope.now.definitions.now }
         ensures { scope_of result ≡ module_scope scope.now.definitions.now }
     {
         Surroundings {
@@ -40,12 +41,18 @@ impl<'p, 'a> Surroundings<'p, 'a> {
         }
     }
 
-    fn declare(&mut self, parameter: &'a Parameter) -> Result<(), AllocError>
-        ensures { OnOk result (scope_of self.new ≡ declaring (scope_of self.old) ((parameter.now.name, Meaning.Variable (resolved (scope_of self.old).names parameter.now.type_name)) ∷ [])) }
+    /// What stands round it behind one more parameter.
+    fn with_parameter(self, parameter: &'a Parameter) -> Result<Surroundings<'p, 'a>, AllocError>
+        ensures { IfOk result (λ around. scope_of around ≡ declaring (scope_of self.entry) ((parameter.now.name, Meaning.Variable (resolved (scope_of self.entry).names parameter.now.type_name)) ∷ [])) }
     {
         let meaning = Meaning::Variable(self.resolved(&parameter.type_name));
-        self.parameters.insert(parameter.name.as_bytes(), meaning)?;
-        Ok(())
+        let mut parameters = self.parameters;
+        parameters.insert(parameter.name.as_bytes(), meaning)?;
+        Ok(Surroundings {
+            scope: self.scope,
+            numbers: self.numbers,
+            parameters,
+        })
     }
 
     /// The module with the parameters of a template.
@@ -55,12 +62,12 @@ impl<'p, 'a> Surroundings<'p, 'a> {
         numbers: &'p Numbers,
         parameters: &'a [Parameter],
     ) -> Result<Surroundings<'p, 'a>, AllocError>
-        requires { (at : ℕ) → numbered numbers.now at ≡ spec.number_at scope.now.definitions.now at }
+        requires { AreNumbers numbers.now scope.now.definitions.now }
         ensures { IfOk result (λ around. scope_of around ≡ with_parameters (module_scope scope.now.definitions.now) parameters.now) }
     {
         let mut around = Surroundings::of_module(alloc, scope, numbers);
         for parameter in parameters {
-            around.declare(parameter)?;
+            around = around.with_parameter(parameter)?;
         }
         Ok(around)
     }
@@ -72,7 +79,7 @@ fn push_constants(
     constants: &[Constant],
     things: &mut Vec<Thing>,
 ) -> Result<(), AllocError>
-    ensures { OnOk result (things.new.items ≡ things.old.items ++ map (spec.constant_parts (scope_of around.now)) constants.now) }
+    ensures { OnOk result (things.new.items ≡ things.old.items ++ map tally (map (spec.constant_parts (scope_of around.now)) constants.now)) }
 {
     for constant in constants {
         things.push(around.constant(alloc, constant)?)?;
@@ -86,7 +93,7 @@ fn push_template<'a>(
     template: &'a TemplateDefinition,
     things: &mut Vec<Thing>,
 ) -> Result<(), AllocError>
-    ensures { OnOk result (things.new.items ≡ things.old.items ++ spec.template_parts (with_parameters (module_scope around.now.scope.now.definitions.now) template.now.parameters) template.now.template ∷ []) }
+    ensures { OnOk result (things.new.items ≡ things.old.items ++ tally (spec.template_parts (with_parameters (module_scope around.now.scope.now.definitions.now) template.now.parameters) template.now.template) ∷ []) }
 {
     let parameters = template.parameters.as_slice();
     let within = Surroundings::of_template(alloc, around.scope, around.numbers, parameters)?;
@@ -102,7 +109,7 @@ fn push_written<'a>(
     things: &mut Vec<Thing>,
 ) -> Result<(), AllocError>
     requires { scope_of around.now ≡ module_scope around.now.scope.now.definitions.now }
-    ensures { OnOk result (things.new.items ≡ things.old.items ++ spec.written_at around.now.scope.now.definitions.now kind.now) }
+    ensures { OnOk result (things.new.items ≡ things.old.items ++ map tally (spec.written_at around.now.scope.now.definitions.now kind.now)) }
 {
     match kind {
         DefinitionKind::Constants(constants) => {
@@ -116,15 +123,36 @@ fn push_written<'a>(
     }
 }
 
-/// The constants and templates of the module.
-pub(crate) fn written_out(alloc: Global, scope: &Scope<'_>) -> Result<Vec<Thing>, AllocError>
-    ensures { IfOk result (λ things. things.items ≡ spec.written_out scope.now.definitions.now) }
+/// What each constant and each template of the module is.
+fn things_of(alloc: Global, scope: &Scope<'_>, numbers: &Numbers) -> Result<Vec<Thing>, AllocError>
+    requires { AreNumbers numbers.now scope.now.definitions.now }
+    ensures { IfOk result (λ things. things.items ≡ map tally (spec.written_out scope.now.definitions.now)) }
 {
-    let numbers = Numbers::of(alloc, scope.definitions)?;
-    let around = Surroundings::of_module(alloc, scope, &numbers);
+    let around = Surroundings::of_module(alloc, scope, numbers);
     let mut things = Vec::new(alloc);
     for definition in scope.definitions {
         push_written(alloc, &around, &definition.kind, &mut things)?;
     }
     Ok(things)
+}
+
+/// The constants and templates of a module.
+#[derive(Drop)]
+pub(crate) struct Numbering {
+    pub(crate) things: Vec<Thing>,
+    /// For each the place of the definition that has it.
+    pub(crate) places: Vec<Span>,
+}
+
+/// The constants and templates of the module.
+pub(crate) fn written_out(alloc: Global, scope: &Scope<'_>) -> Result<Numbering, AllocError>
+    ensures things { IfOk result (λ written. written.things.items ≡ map tally (spec.written_out scope.now.definitions.now)) }
+    ensures places { IfOk result (λ written. length written.places.items ≡ length written.things.items) }
+{
+    let numbers = Numbers::of(alloc, scope.definitions)?;
+    let things = things_of(alloc, scope, &numbers)?;
+    Ok(Numbering {
+        things,
+        places: numbers.places,
+    })
 }

@@ -13,7 +13,7 @@ loop-item-init c = record {
 pub loop-item-preserved : goal.loop-item-preserved
 loop-item-preserved c = record {
   walked = walked-next at_timer_name timer_entry c.loop-item.broken c.in_ok-more.more c.and-broken.result (least [])
-      (view c.loop-item.scope) (view c.timer.new.scope) (view c.args.scope.now)
+      (view c.loop-item.scope) (view c.declare.new.scope) (view c.args.scope.now)
       c.args.timers.now c.loop-item.item-index c.item-item.result c.args.timers.now
       c.loop-item-test.true c.item-item.is c.loop-item.invariant.walked c.in_ok-more.ensures.broken c.in_ok-more.ensures.view c.and-broken.ensures;
   around_is = c.in_ok-more.ensures.around ∙ c.loop-item.invariant.around_is;

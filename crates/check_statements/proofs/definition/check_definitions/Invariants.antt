@@ -8,6 +8,6 @@ use Rattle.check_statements.proofs.definition.check_definitions.Given as goal
 abbrev pub invariant-loop-at : goal.invariant-loop-at
 invariant-loop-at l = record {
   rules_are : rest_of_definitions (view l.fn.scope).definitions l.at (drop l.at l.definitions) (least_in l.found)
-      ≡ both (least_in l.fn.found) (least (spec.in_definitions (view l.fn.scope).definitions 0 l.fn.definitions));
+      ≡ both (least_in l.fn.found) (least (spec.check_definitions (view l.fn.scope).definitions 0 l.fn.definitions));
   definitions_are : (view l.scope).definitions ≡ (view l.fn.scope).definitions;
 }

@@ -1,7 +1,7 @@
 use Rattle.std.proofs.Common.{[], Some}
 use Rattle.check_scope.specs.Checking.{least_in}
 use Rattle.check_expressions.specs.Calls.{component_named}
-use Rattle.check_statements.specs.Definitions.{at_component_name, place_in}
+use Rattle.check_statements.specs.Definitions.{check_component_name, place_in}
 use Rattle.check_scope.specs.Scopes.{scope_on}
 use Rattle.check_statements.specs.Statements.{statements}
 use Rattle.check_statements.specs.declared.place.Returns.TheVariants as returns
@@ -14,7 +14,7 @@ returns-clause-found c =
     let testcase = c.args.testcase.now in
     let system = rw c.as_ref.ensures.value at c.check_component_name-system.ensures in
     rw (testcase_noted (least_in c.args.found.now) c.in_ok-head.head c.check_component_name-system.result c.and.result (least_in c.note.new.self)
-    (at_component_name definitions (Some testcase.runs_on)) (at_component_name definitions testcase.system)
+    (check_component_name definitions (Some testcase.runs_on)) (check_component_name definitions testcase.system)
     (statements testcase.body (place_in (scope_on definitions (component_named definitions (Some testcase.runs_on))) [] returns.Nowhere))
     c.in_ok-head.ensures.broken system c.and.ensures c.note.ensures)
     at (rw (c.as_slice.ensures, c.in_ok-head.ensures.view) at c.block.ensures.found)

@@ -1,6 +1,6 @@
 use Rattle.std.proofs.Common.{◌∙◌, ap, refl, sym}
 use Rattle.check_scope.specs.Checking.{view}
-use Rattle.check_statements.proofs.MemberForms.{in_members-end, in_members-next, rest_of_members}
+use Rattle.check_statements.proofs.MemberForms.{check_members-end, check_members-next, rest_of_members}
 use Rattle.check_statements.proofs.member.check_members.Goals as goal
 
 pub loop-member-init : goal.loop-member-init
@@ -12,7 +12,7 @@ loop-member-init c = record {
 pub loop-member-preserved : goal.loop-member-preserved
 loop-member-preserved c = record {
   rules_are =
-      sym (in_members-next (view c.loop-member.scope) (view c.check_member.new.scope) c.args.members.now c.loop-member.member-index c.member-item.result
+      sym (check_members-next (view c.loop-member.scope) (view c.check_member.new.scope) c.args.members.now c.loop-member.member-index c.member-item.result
       c.loop-member.broken c.in_ok-more.more c.and-broken.result c.loop-member-test.true c.member-item.is
       c.in_ok-more.ensures.broken c.in_ok-more.ensures.view c.and-broken.ensures)
       ∙ c.loop-member.invariant.rules_are;
@@ -21,7 +21,7 @@ loop-member-preserved c = record {
 
 pub returns-clause-broken : goal.returns-clause-broken
 returns-clause-broken c =
-    sym (in_members-end (view c.loop-member.scope) c.args.members.now c.loop-member.member-index c.loop-member.broken c.loop-member-test.false)
+    sym (check_members-end (view c.loop-member.scope) c.args.members.now c.loop-member.member-index c.loop-member.broken c.loop-member-test.false)
     ∙ c.loop-member.invariant.rules_are
 
 pub returns-clause-around : goal.returns-clause-around

@@ -1,4 +1,5 @@
-use Rattle.std.proofs.Common.{◌≡◌}
+use Rattle.std.proofs.Common.{◌≡◌, map}
+use Rattle.survey.specs.Things.{tally}
 use Rattle.ttcn_types.specs.Parts.{altstep_parts, altsteps}
 use Rattle.ttcn_types.proofs.Listing.{listing}
 use Rattle.ttcn_types.proofs.parts.altsteps.Given as goal
@@ -6,4 +7,4 @@ use Rattle.ttcn_types.proofs.parts.altsteps.Given as goal
 -- the altsteps so far, with those that are left, are all of them
 abbrev pub invariant-loop-definition : goal.invariant-loop-definition
 invariant-loop-definition l =
-    listing (λ definition. altstep_parts l.fn.scope.definitions.now definition.kind) l.definition-items l.definition-index l.things.items ≡ altsteps l.fn.scope.definitions.now
+    listing (λ definition. altstep_parts l.fn.scope.definitions.now definition.kind) l.definition-items l.definition-index l.things.items ≡ map tally (altsteps l.fn.scope.definitions.now)

@@ -1,6 +1,6 @@
 use Rattle.std.proofs.Common.{◌≤◌, ◌+◌, [], ◌∷◌, ◌++◌, length, refl, sym, ap, ◌∙◌, arith}
 use Rattle.survey.specs.Graphs.{references}
-use Rattle.survey.specs.Search.{capped}
+use Rattle.survey.specs.Things.{capped}
 use Rattle.survey.specs.declared.search.State.TheVariants.{New, Open, Done}
 use Rattle.survey.proofs.Chains.{own-read, references-read}
 use Rattle.survey.proofs.Sizes.{size_around}

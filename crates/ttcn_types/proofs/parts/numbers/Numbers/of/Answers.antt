@@ -1,5 +1,13 @@
-use Rattle.ttcn_types.proofs.Sums.{summing-end}
+use Rattle.std.proofs.Common.{length}
+use Rattle.ttcn_types.proofs.Sums.{summing-count, summing-end}
 use Rattle.ttcn_types.proofs.parts.numbers.Numbers.of.Goals as goal
 
 pub returns : goal.returns
-returns c = summing-end c.args.definitions.now c.loop-definition.definition-index c.loop-definition.before.items c.loop-definition.total c.loop-definition-test.false c.loop-definition.invariant
+returns c =
+    let end = c.loop-definition-test.false in
+    let so_far = c.loop-definition.invariant in
+    let before = c.loop-definition.before.items in
+    let total = length c.loop-definition.places.items in record {
+      number = summing-end c.args.definitions.now c.loop-definition.definition-index before total end so_far;
+      count = summing-count c.args.definitions.now c.loop-definition.definition-index before total end so_far;
+    }
