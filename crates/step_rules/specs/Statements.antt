@@ -30,7 +30,7 @@ use Rattle.check_scope.specs.Names.{Scope, component_meant, kind_at, module_name
 use Rattle.check_scope.specs.PortTypes.{agrees, types_of_port}
 use Rattle.check_scope.specs.Typings.{type_known}
 use Rattle.check_scope.specs.declared.types.DataType.{DataType}
-use Rattle.check_statements.specs.Messages.{at_port, port_meant, type_of_message}
+use Rattle.check_statements.specs.Messages.{passage_at, port_meant, type_of_message}
 use Rattle.step_rules.specs.Branches.{Judge, Written, frame_with, guard_holds, written_alt, written_defaults}
 use Rattle.step_rules.specs.Configurations.{ActiveDefault, Component, Data, End, Frame, same_path}
 use Rattle.step_rules.specs.Creating.{child_of, new_component, new_members}
@@ -351,7 +351,7 @@ act_connect stand site one other =
 abbrev pub sent_at : Scope → Option (Option ℕ) → Send → Option DataType
 sent_at scope None send = None
 sent_at scope (Some port) send =
-    type_known (type_of_message scope (at_port scope.definitions false port).0 (at_port scope.definitions false port).1 send.message).typing
+    type_known (type_of_message scope (passage_at scope.definitions false port).0 (passage_at scope.definitions false port).1 send.message).typing
 
 -- the type of a message that is sent
 abbrev pub sent_type : Scope → Send → Option DataType
