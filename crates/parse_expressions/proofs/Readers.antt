@@ -1,9 +1,9 @@
 -- The readers that go down a bracket at a time.
 use Rattle.std.proofs.Common.{◌≡◌, ℕ, zero, suc, ◌-◌, ◌<◌, List, refl, arith}
 use Rattle.ttcn_syntax.specs.declared.token.Spanned.{Spanned}
-use Rattle.parse_reader.specs.Reading.{head_token}
-use Rattle.parse_reader.specs.Values.{value_below, value_by, value_in}
-use Rattle.parse_reader.specs.Templates.{shape_below, shape_by, shape_in}
+use Rattle.parse_reader.specs.internal.Reading.{head_token}
+use Rattle.parse_reader.specs.internal.Values.{value_below, value_by, value_in}
+use Rattle.parse_reader.specs.internal.Templates.{shape_below, shape_by, shape_in}
 
 pub value_in_step : (depth : ℕ) (ts : List Spanned) → value_in depth ts ≡ value_by (value_below depth) (head_token ts) ts
 unfolding value_in value_below

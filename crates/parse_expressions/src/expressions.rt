@@ -1,8 +1,8 @@
 //! Expressions, by the levels at which their operators bind.
 ghost use Rattle.std.specs.Prelude.{◌≡◌, ◌≤◌, ◌+◌, [], Some, None};
-ghost use Rattle.parse_expressions.specs.Level.{rank_of};
-ghost use Rattle.parse_reader.specs.Expressions as spec;
-ghost use Rattle.parse_reader.specs.Reading.{Reads};
+ghost use Rattle.parse_expressions.specs.internal.Level.{rank_of};
+ghost use Rattle.parse_reader.specs.internal.Expressions as spec;
+ghost use Rattle.parse_reader.specs.internal.Reading.{Reads};
 
 use parse_reader::{ParseError, Parser, is_word};
 use ttcn_syntax::{
@@ -11,7 +11,7 @@ use ttcn_syntax::{
 };
 
 /// A name, and the fields behind it.
-#[tactic(auto, unfolding(parse_reader::specs::Expressions::reference))]
+#[tactic(auto, unfolding(parse_reader::specs::internal::Expressions::reference))]
 pub fn reference(parser: &mut Parser<'_>) -> Result<Reference, ParseError>
     ensures { Reads (spec.reference parser.old) result parser.new }
 {
@@ -34,7 +34,7 @@ fn fields(parser: &mut Parser<'_>) -> Result<Seq<Name>, ParseError>
 }
 
 /// Takes the field and its dot, if one comes next.
-#[tactic(auto, unfolding(parse_reader::specs::Expressions::eat_field))]
+#[tactic(auto, unfolding(parse_reader::specs::internal::Expressions::eat_field))]
 fn take_field(parser: &mut Parser<'_>) -> Result<Option<Name>, ParseError>
     ensures { Reads (spec.eat_field parser.old) result parser.new }
 {
@@ -50,7 +50,7 @@ fn take_field(parser: &mut Parser<'_>) -> Result<Option<Name>, ParseError>
     Ok(Some(field))
 }
 
-#[tactic(auto, unfolding(parse_reader::specs::Expressions::component, parse_reader::specs::Expressions::named_reference))]
+#[tactic(auto, unfolding(parse_reader::specs::internal::Expressions::component, parse_reader::specs::internal::Expressions::named_reference))]
 pub fn component(parser: &mut Parser<'_>) -> Result<ComponentRef, ParseError>
     ensures { Reads (spec.component parser.old) result parser.new }
 {
@@ -67,7 +67,7 @@ pub fn component(parser: &mut Parser<'_>) -> Result<ComponentRef, ParseError>
     }
 }
 
-#[tactic(auto, unfolding(parse_reader::specs::Expressions::expression))]
+#[tactic(auto, unfolding(parse_reader::specs::internal::Expressions::expression))]
 pub fn expression(parser: &mut Parser<'_>) -> Result<Expr, ParseError>
     ensures { Reads (spec.expression parser.old) result parser.new }
 {
@@ -76,7 +76,7 @@ pub fn expression(parser: &mut Parser<'_>) -> Result<Expr, ParseError>
 }
 
 /// The expression whose first primary was read.
-#[tactic(auto, unfolding(parse_reader::specs::Expressions::expression_from))]
+#[tactic(auto, unfolding(parse_reader::specs::internal::Expressions::expression_from))]
 pub(crate) fn expression_from(parser: &mut Parser<'_>, begun: Expr) -> Result<Expr, ParseError>
     ensures { Reads (spec.expression_from begun parser.old) result parser.new }
 {
@@ -109,7 +109,7 @@ fn operand(
 
 /// Operands with operators of one level between them.
 #[cycle(expression)]
-#[tactic(auto, unfolding(parse_reader::specs::Expressions::chain))]
+#[tactic(auto, unfolding(parse_reader::specs::internal::Expressions::chain))]
 fn chain(
     parser: &mut Parser<'_>,
     level: Level,
@@ -151,7 +151,7 @@ fn links(
 }
 
 /// Of comparisons by order there is one at most.
-#[tactic(auto, unfolding(parse_reader::specs::Expressions::most_links, parse_reader::specs::Reading::same_level))]
+#[tactic(auto, unfolding(parse_reader::specs::internal::Expressions::most_links, parse_reader::specs::internal::Reading::same_level))]
 fn most_links(parser: &Parser<'_>, level: Level) -> usize
     ensures { result ≡ spec.most_links level parser.now }
 {
@@ -163,7 +163,7 @@ fn most_links(parser: &Parser<'_>, level: Level) -> usize
 }
 
 /// Takes the operator, if one of the level comes next.
-#[tactic(auto, unfolding(parse_reader::specs::Expressions::eat_operator, parse_reader::specs::Reading::same_level))]
+#[tactic(auto, unfolding(parse_reader::specs::internal::Expressions::eat_operator, parse_reader::specs::internal::Reading::same_level))]
 fn take_operator(parser: &mut Parser<'_>, level: Level) -> Option<Operator>
     ensures { spec.eat_operator level parser.old ≡ Some (result, parser.new) }
 {
@@ -176,7 +176,7 @@ fn take_operator(parser: &mut Parser<'_>, level: Level) -> Option<Operator>
 }
 
 #[cycle(expression)]
-#[tactic(auto, unfolding(parse_reader::specs::Expressions::negation))]
+#[tactic(auto, unfolding(parse_reader::specs::internal::Expressions::negation))]
 fn negation(parser: &mut Parser<'_>, depth: usize, begun: Option<Expr>) -> Result<Expr, ParseError>
     ensures { Reads (spec.at_not (spec.inner depth) begun parser.old) result parser.new }
 {
@@ -188,7 +188,7 @@ fn negation(parser: &mut Parser<'_>, depth: usize, begun: Option<Expr>) -> Resul
 }
 
 #[cycle(expression)]
-#[tactic(auto, unfolding(parse_reader::specs::Expressions::signed))]
+#[tactic(auto, unfolding(parse_reader::specs::internal::Expressions::signed))]
 fn signed(parser: &mut Parser<'_>, depth: usize, begun: Option<Expr>) -> Result<Expr, ParseError>
     ensures { Reads (spec.signed (spec.inner depth) begun parser.old) result parser.new }
 {
@@ -207,7 +207,7 @@ fn signed(parser: &mut Parser<'_>, depth: usize, begun: Option<Expr>) -> Result<
 }
 
 #[cycle(expression)]
-#[tactic(auto, unfolding(parse_reader::specs::Expressions::primary))]
+#[tactic(auto, unfolding(parse_reader::specs::internal::Expressions::primary))]
 fn primary(parser: &mut Parser<'_>, depth: usize) -> Result<Expr, ParseError>
     ensures { Reads (spec.primary (spec.inner depth) parser.old) result parser.new }
 {
@@ -226,7 +226,7 @@ fn primary(parser: &mut Parser<'_>, depth: usize) -> Result<Expr, ParseError>
 
 /// An expression in brackets, which leave no trace in the tree.
 #[cycle(expression)]
-#[tactic(auto, unfolding(parse_reader::specs::Expressions::bracketed))]
+#[tactic(auto, unfolding(parse_reader::specs::internal::Expressions::bracketed))]
 fn bracketed(parser: &mut Parser<'_>, depth: usize) -> Result<Expr, ParseError>
     ensures { Reads (spec.bracketed (spec.inner depth) parser.old) result parser.new }
 {
@@ -239,7 +239,7 @@ fn bracketed(parser: &mut Parser<'_>, depth: usize) -> Result<Expr, ParseError>
     Ok(expr)
 }
 
-#[tactic(auto, unfolding(parse_reader::specs::Expressions::is_present))]
+#[tactic(auto, unfolding(parse_reader::specs::internal::Expressions::is_present))]
 fn ispresent(parser: &mut Parser<'_>) -> Result<Expr, ParseError>
     ensures { Reads (spec.is_present parser.old) result parser.new }
 {
@@ -251,7 +251,7 @@ fn ispresent(parser: &mut Parser<'_>) -> Result<Expr, ParseError>
 }
 
 /// What a name, `parser` or `mtc` stands for, or whether that is running.
-#[tactic(auto, unfolding(parse_reader::specs::Expressions::referred))]
+#[tactic(auto, unfolding(parse_reader::specs::internal::Expressions::referred))]
 fn referred(parser: &mut Parser<'_>) -> Result<Expr, ParseError>
     ensures { Reads (spec.referred parser.old) result parser.new }
 {

@@ -1,8 +1,8 @@
 //! Templates.
 ghost use Rattle.std.specs.Prelude.{◌≡◌};
-ghost use Rattle.parse_reader.specs.Reading as reading;
-ghost use Rattle.parse_reader.specs.Templates as spec;
-ghost use Rattle.parse_reader.specs.Reading.{Reads};
+ghost use Rattle.parse_reader.specs.internal.Reading as reading;
+ghost use Rattle.parse_reader.specs.internal.Templates as spec;
+ghost use Rattle.parse_reader.specs.internal.Reading.{Reads};
 
 use crate::expressions::{expression, expression_from};
 use crate::values::{call, is_at_call, is_at_field, type_name};
@@ -11,7 +11,7 @@ use ttcn_syntax::{
     Bound, Expr, FieldTemplate, MessageTemplate, Seq, Symbol, Template, TemplateBody, Token, Word,
 };
 
-#[tactic(auto, using(crate::proofs::Readers::shape_in_step), unfolding(parse_reader::specs::Templates::a_template, parse_reader::specs::Templates::template_by))]
+#[tactic(auto, using(crate::proofs::Readers::shape_in_step), unfolding(parse_reader::specs::internal::Templates::a_template, parse_reader::specs::internal::Templates::template_by))]
 pub fn template(parser: &mut Parser<'_>) -> Result<Template, ParseError>
     ensures { Reads (spec.a_template parser.old) result parser.new }
 {
@@ -22,7 +22,7 @@ pub fn template(parser: &mut Parser<'_>) -> Result<Template, ParseError>
 }
 
 /// The template of a message, with its type or without.
-#[tactic(auto, unfolding(parse_reader::specs::Templates::message))]
+#[tactic(auto, unfolding(parse_reader::specs::internal::Templates::message))]
 pub fn message(parser: &mut Parser<'_>) -> Result<MessageTemplate, ParseError>
     ensures { Reads (spec.message parser.old) result parser.new }
 {
@@ -57,7 +57,7 @@ fn shape_in(parser: &mut Parser<'_>, depth: usize) -> Result<Shape, ParseError>
 }
 
 /// An expression, or a named template with arguments.
-#[tactic(auto, unfolding(parse_reader::specs::Templates::shape_expression))]
+#[tactic(auto, unfolding(parse_reader::specs::internal::Templates::shape_expression))]
 fn shape_expression(parser: &mut Parser<'_>) -> Result<Shape, ParseError>
     ensures { Reads (spec.shape_expression parser.old) result parser.new }
 {
@@ -68,7 +68,7 @@ fn shape_expression(parser: &mut Parser<'_>) -> Result<Shape, ParseError>
 }
 
 #[cycle(template)]
-#[tactic(auto, unfolding(parse_reader::specs::Templates::complement))]
+#[tactic(auto, unfolding(parse_reader::specs::internal::Templates::complement))]
 fn complement(parser: &mut Parser<'_>, depth: usize) -> Result<Shape, ParseError>
     ensures { Reads (spec.complement (spec.shape_below depth) parser.old) result parser.new }
 {
@@ -82,7 +82,7 @@ fn complement(parser: &mut Parser<'_>, depth: usize) -> Result<Shape, ParseError
 
 /// A record template.
 #[cycle(template)]
-#[tactic(auto, unfolding(parse_reader::specs::Templates::braced_template, parse_reader::specs::Reading::separated_until))]
+#[tactic(auto, unfolding(parse_reader::specs::internal::Templates::braced_template, parse_reader::specs::internal::Reading::separated_until))]
 fn braced_template(parser: &mut Parser<'_>, depth: usize) -> Result<Shape, ParseError>
     ensures { Reads (spec.braced_template (spec.shape_below depth) parser.old) result parser.new }
 {
@@ -103,7 +103,7 @@ fn braced_template(parser: &mut Parser<'_>, depth: usize) -> Result<Shape, Parse
 
 /// A list, a range, or an expression that begins with a bracket.
 #[cycle(template)]
-#[tactic(auto, unfolding(parse_reader::specs::Templates::in_parens))]
+#[tactic(auto, unfolding(parse_reader::specs::internal::Templates::in_parens))]
 fn in_parens(parser: &mut Parser<'_>, depth: usize) -> Result<Shape, ParseError>
     ensures { Reads (spec.in_parens (spec.shape_below depth) parser.old) result parser.new }
 {
@@ -122,7 +122,7 @@ fn in_parens(parser: &mut Parser<'_>, depth: usize) -> Result<Shape, ParseError>
 
 /// What an expression behind the opening bracket begins.
 #[cycle(template)]
-#[tactic(auto, unfolding(parse_reader::specs::Templates::opened_by))]
+#[tactic(auto, unfolding(parse_reader::specs::internal::Templates::opened_by))]
 fn opened_by(parser: &mut Parser<'_>, expr: Expr, depth: usize) -> Result<Shape, ParseError>
     ensures { Reads (spec.opened_by (spec.shape_below depth) expr parser.old) result parser.new }
 {
@@ -137,7 +137,7 @@ fn opened_by(parser: &mut Parser<'_>, expr: Expr, depth: usize) -> Result<Shape,
 }
 
 /// An expression that begins with this one in brackets.
-#[tactic(auto, unfolding(parse_reader::specs::Templates::closed_expression))]
+#[tactic(auto, unfolding(parse_reader::specs::internal::Templates::closed_expression))]
 fn closed_expression(parser: &mut Parser<'_>, expr: Expr) -> Result<Shape, ParseError>
     ensures { Reads (spec.closed_expression expr parser.old) result parser.new }
 {
@@ -147,7 +147,7 @@ fn closed_expression(parser: &mut Parser<'_>, expr: Expr) -> Result<Shape, Parse
 
 /// The list that begins with this template.
 #[cycle(template)]
-#[tactic(auto, unfolding(parse_reader::specs::Templates::list_from))]
+#[tactic(auto, unfolding(parse_reader::specs::internal::Templates::list_from))]
 fn list_from(parser: &mut Parser<'_>, first: Template, depth: usize) -> Result<Shape, ParseError>
     ensures { Reads (spec.list_from (spec.shape_below depth) first parser.old) result parser.new }
 {
@@ -194,7 +194,7 @@ fn field_templates(parser: &mut Parser<'_>, depth: usize) -> Result<Seq<FieldTem
 }
 
 #[cycle(template)]
-#[tactic(auto, unfolding(parse_reader::specs::Templates::field_template_by))]
+#[tactic(auto, unfolding(parse_reader::specs::internal::Templates::field_template_by))]
 fn field_template(parser: &mut Parser<'_>, depth: usize) -> Result<FieldTemplate, ParseError>
     ensures { Reads (spec.field_template_by (spec.template_by (spec.shape_below depth)) parser.old) result parser.new }
 {
@@ -206,7 +206,7 @@ fn field_template(parser: &mut Parser<'_>, depth: usize) -> Result<FieldTemplate
 
 /// A template within brackets.
 #[cycle(template)]
-#[tactic(auto, unfolding(parse_reader::specs::Templates::template_by))]
+#[tactic(auto, unfolding(parse_reader::specs::internal::Templates::template_by))]
 fn template_below(parser: &mut Parser<'_>, depth: usize) -> Result<Template, ParseError>
     ensures { Reads (spec.template_by (spec.shape_below depth) parser.old) result parser.new }
 {
@@ -227,7 +227,7 @@ fn shape_below(parser: &mut Parser<'_>, depth: usize) -> Result<Shape, ParseErro
 }
 
 /// `infinity` comes next, with a sign or without.
-#[tactic(auto, unfolding(parse_reader::specs::Templates::infinite))]
+#[tactic(auto, unfolding(parse_reader::specs::internal::Templates::infinite))]
 fn is_at_infinity(parser: &Parser<'_>) -> bool
     ensures { result ≡ spec.infinite parser.now }
 {
@@ -235,7 +235,7 @@ fn is_at_infinity(parser: &Parser<'_>) -> bool
         || parser.is_at(Symbol::Minus) && is_word(parser.second(), Word::Infinity)
 }
 
-#[tactic(auto, unfolding(parse_reader::specs::Templates::a_bound))]
+#[tactic(auto, unfolding(parse_reader::specs::internal::Templates::a_bound))]
 fn bound(parser: &mut Parser<'_>) -> Result<Bound, ParseError>
     ensures { Reads (spec.a_bound parser.old) result parser.new }
 {
@@ -248,7 +248,7 @@ fn bound(parser: &mut Parser<'_>) -> Result<Bound, ParseError>
 }
 
 /// A range behind its lower bound.
-#[tactic(auto, unfolding(parse_reader::specs::Templates::range_from))]
+#[tactic(auto, unfolding(parse_reader::specs::internal::Templates::range_from))]
 fn range_from(parser: &mut Parser<'_>, low: Bound) -> Result<Shape, ParseError>
     ensures { Reads (spec.range_from low parser.old) result parser.new }
 {

@@ -1,14 +1,14 @@
 //! Values, calls, and what may stand on the right of `:=`.
 ghost use Rattle.std.specs.Prelude.{◌≡◌};
-ghost use Rattle.parse_reader.specs.Reading as reading;
-ghost use Rattle.parse_reader.specs.Values as spec;
-ghost use Rattle.parse_reader.specs.Reading.{Reads};
+ghost use Rattle.parse_reader.specs.internal.Reading as reading;
+ghost use Rattle.parse_reader.specs.internal.Values as spec;
+ghost use Rattle.parse_reader.specs.internal.Reading.{Reads};
 
 use crate::expressions::expression;
 use parse_reader::{Listed, ParseError, Parser, is_name, is_symbol, is_word};
 use ttcn_syntax::{Call, FieldValue, Rhs, Seq, Symbol, Token, TypeName, Value, Word};
 
-#[tactic(auto, unfolding(parse_reader::specs::Values::a_type))]
+#[tactic(auto, unfolding(parse_reader::specs::internal::Values::a_type))]
 pub fn type_name(parser: &mut Parser<'_>) -> Result<TypeName, ParseError>
     ensures { Reads (spec.a_type parser.old) result parser.new }
 {
@@ -23,7 +23,7 @@ pub fn type_name(parser: &mut Parser<'_>) -> Result<TypeName, ParseError>
     Ok(type_name)
 }
 
-#[tactic(auto, using(crate::proofs::Readers::value_in_step), unfolding(parse_reader::specs::Values::a_value))]
+#[tactic(auto, using(crate::proofs::Readers::value_in_step), unfolding(parse_reader::specs::internal::Values::a_value))]
 pub fn value(parser: &mut Parser<'_>) -> Result<Value, ParseError>
     ensures { Reads (spec.a_value parser.old) result parser.new }
 {
@@ -33,7 +33,7 @@ pub fn value(parser: &mut Parser<'_>) -> Result<Value, ParseError>
 
 /// A value, within which so many braces may still nest.
 #[cycle(value)]
-#[tactic(auto, unfolding(parse_reader::specs::Values::value_expression))]
+#[tactic(auto, unfolding(parse_reader::specs::internal::Values::value_expression))]
 fn value_in(parser: &mut Parser<'_>, depth: usize) -> Result<Value, ParseError>
     ensures { Reads (spec.value_by (spec.value_below depth) (reading.head_token parser.old) parser.old) result parser.new }
 {
@@ -49,7 +49,7 @@ fn value_in(parser: &mut Parser<'_>, depth: usize) -> Result<Value, ParseError>
 
 /// A record literal.
 #[cycle(value)]
-#[tactic(auto, unfolding(parse_reader::specs::Values::braced_value, parse_reader::specs::Reading::separated_until))]
+#[tactic(auto, unfolding(parse_reader::specs::internal::Values::braced_value, parse_reader::specs::internal::Reading::separated_until))]
 fn braced_value(parser: &mut Parser<'_>, depth: usize) -> Result<Value, ParseError>
     ensures { Reads (spec.braced_value (spec.value_below depth) parser.old) result parser.new }
 {
@@ -96,7 +96,7 @@ fn field_values(parser: &mut Parser<'_>, depth: usize) -> Result<Seq<FieldValue>
 }
 
 #[cycle(value)]
-#[tactic(auto, unfolding(parse_reader::specs::Values::field_value_by))]
+#[tactic(auto, unfolding(parse_reader::specs::internal::Values::field_value_by))]
 fn field_value(parser: &mut Parser<'_>, depth: usize) -> Result<FieldValue, ParseError>
     ensures { Reads (spec.field_value_by (spec.value_below depth) parser.old) result parser.new }
 {
@@ -118,7 +118,7 @@ fn value_below(parser: &mut Parser<'_>, depth: usize) -> Result<Value, ParseErro
 }
 
 /// A name and `:=` come next.
-#[tactic(auto, unfolding(parse_reader::specs::Values::assigns))]
+#[tactic(auto, unfolding(parse_reader::specs::internal::Values::assigns))]
 pub(crate) fn is_at_field(parser: &Parser<'_>) -> bool
     ensures { result ≡ spec.assigns parser.now }
 {
@@ -126,7 +126,7 @@ pub(crate) fn is_at_field(parser: &Parser<'_>) -> bool
 }
 
 /// A name and `(` come next.
-#[tactic(auto, unfolding(parse_reader::specs::Values::calls))]
+#[tactic(auto, unfolding(parse_reader::specs::internal::Values::calls))]
 pub fn is_at_call(parser: &Parser<'_>) -> bool
     ensures { result ≡ spec.calls parser.now }
 {
@@ -134,7 +134,7 @@ pub fn is_at_call(parser: &Parser<'_>) -> bool
 }
 
 /// A name with its arguments.
-#[tactic(auto, unfolding(parse_reader::specs::Values::call))]
+#[tactic(auto, unfolding(parse_reader::specs::internal::Values::call))]
 pub fn call(parser: &mut Parser<'_>) -> Result<Call, ParseError>
     ensures { Reads (spec.call parser.old) result parser.new }
 {
@@ -144,7 +144,7 @@ pub fn call(parser: &mut Parser<'_>) -> Result<Call, ParseError>
     Ok(Call { name, arguments })
 }
 
-#[tactic(auto, unfolding(parse_reader::specs::Values::a_rhs))]
+#[tactic(auto, unfolding(parse_reader::specs::internal::Values::a_rhs))]
 pub fn rhs(parser: &mut Parser<'_>) -> Result<Rhs, ParseError>
     ensures { Reads (spec.a_rhs parser.old) result parser.new }
 {
@@ -164,7 +164,7 @@ pub fn rhs(parser: &mut Parser<'_>) -> Result<Rhs, ParseError>
 }
 
 /// A name, a dot and `create` come next.
-#[tactic(auto, unfolding(parse_reader::specs::Values::creates))]
+#[tactic(auto, unfolding(parse_reader::specs::internal::Values::creates))]
 fn is_at_create(parser: &Parser<'_>) -> bool
     ensures { result ≡ spec.creates parser.now }
 {
@@ -173,7 +173,7 @@ fn is_at_create(parser: &Parser<'_>) -> bool
         && is_word(parser.third(), Word::Create)
 }
 
-#[tactic(auto, unfolding(parse_reader::specs::Values::activation))]
+#[tactic(auto, unfolding(parse_reader::specs::internal::Values::activation))]
 pub fn activation(parser: &mut Parser<'_>) -> Result<Call, ParseError>
     ensures { Reads (spec.activation parser.old) result parser.new }
 {

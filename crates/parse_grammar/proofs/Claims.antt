@@ -21,18 +21,18 @@ use Rattle.parse_reader.specs.declared.shape.Shape.TheVariants as shape
 use Rattle.parse_limits.specs.Groups.{Group, Is}
 use Rattle.parse_grammar.specs.Grammar.{Ends, InTurn, Part, Parts, Phrase, Spells, a_block, a_bound, a_branch, a_body, a_call, a_component, a_conditional, a_constant, a_control, a_definition, a_field, a_field_template, a_field_value, a_for_start, a_kind, a_log_item, a_member, a_member_variable, a_message, a_module, a_number, a_parameter, a_pattern, a_port, a_port_ref, a_primary, a_reference, a_rhs, a_statement, a_template, a_timer, a_type, a_value, a_variable, a_with, an_action, an_alternative, an_assignment, an_enumerator, an_event, an_operand, at, commas, ended, group, items, nil, one, phrase, semicolons, the_constants, the_language, the_links, the_messages, the_parameters, the_timers, the_variables, turn, ◌▸◌}
 use Rattle.parse_grammar.specs.Grammar as spelled
-use Rattle.parse_reader.specs.Reading.{sees}
-use Rattle.parse_reader.specs.Expressions.{inner, links_from, next_field, operand_of}
-use Rattle.parse_reader.specs.Values.{calls}
-use Rattle.parse_reader.specs.Templates.{body_of, infinite}
-use Rattle.parse_reader.specs.Expressions as read_expressions
-use Rattle.parse_reader.specs.Values as read_values
-use Rattle.parse_reader.specs.Templates as read_templates
-use Rattle.parse_reader.specs.Declarations as read_declarations
-use Rattle.parse_reader.specs.Events as read_events
-use Rattle.parse_reader.specs.Actions as read_actions
-use Rattle.parse_reader.specs.Statements as read_statements
-use Rattle.parse_reader.specs.Definitions as read_definitions
+use Rattle.parse_reader.specs.internal.Reading.{sees}
+use Rattle.parse_reader.specs.internal.Expressions.{inner, links_from, next_field, operand_of}
+use Rattle.parse_reader.specs.internal.Values.{calls}
+use Rattle.parse_reader.specs.internal.Templates.{body_of, infinite}
+use Rattle.parse_reader.specs.internal.Expressions as read_expressions
+use Rattle.parse_reader.specs.internal.Values as read_values
+use Rattle.parse_reader.specs.internal.Templates as read_templates
+use Rattle.parse_reader.specs.internal.Declarations as read_declarations
+use Rattle.parse_reader.specs.internal.Events as read_events
+use Rattle.parse_reader.specs.internal.Actions as read_actions
+use Rattle.parse_reader.specs.internal.Statements as read_statements
+use Rattle.parse_reader.specs.internal.Definitions as read_definitions
 use Rattle.parse_reader.specs.Modules as read_modules
 use Rattle.parse_grammar.proofs.Follow.{Follows, number}
 use Rattle.parse_grammar.proofs.Spellings.{shrinks, turn_shrinks}

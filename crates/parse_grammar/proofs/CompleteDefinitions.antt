@@ -32,15 +32,15 @@ use Rattle.ttcn_syntax.specs.declared.tree.definition.PortMessages.{PortMessages
 use Rattle.parse_limits.specs.Groups.{Balanced, Group, Is, braces, closes, nothing, opens, pair, partner, plain}
 use Rattle.parse_grammar.specs.Grammar.{Parts, Production, Spells, a_block, a_control, a_definition, a_field, a_kind, a_member, a_member_variable, a_module, a_number, a_parameter, a_template, a_type, a_value, a_with, an_enumerator, branches, direction_word, id, items, key, nil, one, optional, phrase, runs_on, separated, the_constants, the_language, the_messages, the_parameters, the_timers, turn, ◌▸◌}
 use Rattle.parse_grammar.specs.Grammar as spelled
-use Rattle.parse_reader.specs.Reading.{after_semicolons, at_brace, behind, same_symbol, same_word, sees, sees_word}
-use Rattle.parse_reader.specs.Statements.{block_in}
+use Rattle.parse_reader.specs.internal.Reading.{after_semicolons, at_brace, behind, same_symbol, same_word, sees, sees_word}
+use Rattle.parse_reader.specs.internal.Statements.{block_in}
 use Rattle.parse_reader.specs.Modules.{at_last, balanced_from, over_token}
-use Rattle.parse_reader.specs.Reading as read
-use Rattle.parse_reader.specs.Values as read_values
-use Rattle.parse_reader.specs.Templates as read_templates
-use Rattle.parse_reader.specs.Declarations as read_declarations
-use Rattle.parse_reader.specs.Statements as read_statements
-use Rattle.parse_reader.specs.Definitions as read_definitions
+use Rattle.parse_reader.specs.internal.Reading as read
+use Rattle.parse_reader.specs.internal.Values as read_values
+use Rattle.parse_reader.specs.internal.Templates as read_templates
+use Rattle.parse_reader.specs.internal.Declarations as read_declarations
+use Rattle.parse_reader.specs.internal.Statements as read_statements
+use Rattle.parse_reader.specs.internal.Definitions as read_definitions
 use Rattle.parse_reader.specs.Modules as read_modules
 use Rattle.parse_grammar.proofs.Spellings.{shrinks, turn_shrinks}
 use Rattle.parse_grammar.proofs.Tokens.{expect_here, expect_word_here, name_here, same_symbol_refl, sees_by, sees_here, sees_is, sees_word_by, sees_word_here}

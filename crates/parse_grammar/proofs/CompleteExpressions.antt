@@ -28,14 +28,14 @@ use Rattle.parse_limits.specs.Groups.{Is}
 use Rattle.parse_grammar.specs.Grammar.{Parts, Production, Spells, a_component, a_primary, a_reference, a_type, an_operand, phrase, the_links}
 use Rattle.parse_reader.specs.Trees.{link}
 use Rattle.parse_grammar.specs.Grammar as spelled
-use Rattle.parse_reader.specs.Reading.{Parser, behind, head_token, is_symbol, is_word, same_level, same_symbol, same_word, second, sees, sees_word}
-use Rattle.parse_reader.specs.Expressions.{at_equality, at_level, at_or, at_order, at_product, at_sum, chain, component, eat_operator, expression, inner, links_from, most_links, negation, next_field, next_operator, operand_of, primary, reference, referred, signed}
-use Rattle.parse_reader.specs.Values.{assigns, calls, creates}
-use Rattle.parse_reader.specs.Templates.{infinite, shape_by, shape_expression, shape_in}
-use Rattle.parse_reader.specs.Reading as read
-use Rattle.parse_reader.specs.Expressions as read_expressions
-use Rattle.parse_reader.specs.Values as read_values
-use Rattle.parse_reader.specs.Templates as read_templates
+use Rattle.parse_reader.specs.internal.Reading.{Parser, behind, head_token, is_symbol, is_word, same_level, same_symbol, same_word, second, sees, sees_word}
+use Rattle.parse_reader.specs.internal.Expressions.{at_equality, at_level, at_or, at_order, at_product, at_sum, chain, component, eat_operator, expression, inner, links_from, most_links, negation, next_field, next_operator, operand_of, primary, reference, referred, signed}
+use Rattle.parse_reader.specs.internal.Values.{assigns, calls, creates}
+use Rattle.parse_reader.specs.internal.Templates.{infinite, shape_by, shape_expression, shape_in}
+use Rattle.parse_reader.specs.internal.Reading as read
+use Rattle.parse_reader.specs.internal.Expressions as read_expressions
+use Rattle.parse_reader.specs.internal.Values as read_values
+use Rattle.parse_reader.specs.internal.Templates as read_templates
 use Rattle.parse_grammar.proofs.Spellings.{shrinks, turn_shrinks}
 use Rattle.parse_grammar.proofs.Tokens.{expect_here, expect_word_here, name_here, sees_by, sees_here, sees_is, sees_word_by, sees_word_here, sees_word_is}
 use Rattle.parse_grammar.proofs.Follow.{Follows, at_least, either, follows_at, loosen, no_field, no_symbol, number, rank, tighter, written_operator, written_rank}

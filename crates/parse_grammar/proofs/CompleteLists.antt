@@ -7,10 +7,10 @@ use Rattle.ttcn_syntax.specs.declared.token.Token.TheVariants as token
 use Rattle.ttcn_syntax.specs.declared.token.Spanned.{Spanned}
 use Rattle.parse_limits.specs.Groups.{Is}
 use Rattle.parse_grammar.specs.Grammar.{Part, commas, dotted, each, ended, items, semicolons, separated}
-use Rattle.parse_reader.specs.Reading.{Parser, after_semicolons, items_from, sees, separated_from, separated_until}
-use Rattle.parse_reader.specs.Expressions.{fields_from, next_field}
-use Rattle.parse_reader.specs.Reading as read
-use Rattle.parse_reader.specs.Expressions as read_expressions
+use Rattle.parse_reader.specs.internal.Reading.{Parser, after_semicolons, items_from, sees, separated_from, separated_until}
+use Rattle.parse_reader.specs.internal.Expressions.{fields_from, next_field}
+use Rattle.parse_reader.specs.internal.Reading as read
+use Rattle.parse_reader.specs.internal.Expressions as read_expressions
 use Rattle.parse_grammar.proofs.Tokens.{expect_here, sees_here}
 use Rattle.parse_reader.proofs.Semicolons.{no_semicolon, over_semicolon}
 use Rattle.parse_grammar.proofs.Follow.{Follows, follows_at, loosen, may_end_here, no_symbol}

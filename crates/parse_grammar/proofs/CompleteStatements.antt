@@ -45,18 +45,18 @@ use Rattle.parse_limits.specs.Groups.{Is}
 use Rattle.parse_grammar.specs.Grammar.{Ends, EndsInBrace, Parts, Phrase, Production, Spells, a_block, a_branch, a_call, a_component, a_conditional, a_constant, a_for_start, a_log_item, a_message, a_port_ref, a_reference, a_rhs, a_statement, a_timer, a_type, a_value, a_variable, an_action, an_alternative, an_assignment, an_event, an_operand, before_brace, before_semicolon, branches, commas, each, earlier, else_if, ended, in_brace, into, items, key, last, optional, phrase, separated, set_to, sym as a_symbol, the_constants, the_timers, the_variables, verdict_word, ◌▸◌, nil, one}
 use Rattle.parse_reader.specs.Trees.{branch_at, conditional, statement_at}
 use Rattle.parse_grammar.specs.Grammar as spelled
-use Rattle.parse_reader.specs.Reading.{Parser, at_brace, behind, head_token, is_word, same_symbol, same_word, second, sees, sees_word}
-use Rattle.parse_reader.specs.Expressions.{component, expression, next_field, reference}
-use Rattle.parse_reader.specs.Values.{calls}
-use Rattle.parse_reader.specs.Actions.{returns_nothing}
-use Rattle.parse_reader.specs.Statements.{action_by, action_in, block_in, goes_on}
-use Rattle.parse_reader.specs.Reading as read
-use Rattle.parse_reader.specs.Values as read_values
-use Rattle.parse_reader.specs.Templates as read_templates
-use Rattle.parse_reader.specs.Declarations as read_declarations
-use Rattle.parse_reader.specs.Events as read_events
-use Rattle.parse_reader.specs.Actions as read_actions
-use Rattle.parse_reader.specs.Statements as read_statements
+use Rattle.parse_reader.specs.internal.Reading.{Parser, at_brace, behind, head_token, is_word, same_symbol, same_word, second, sees, sees_word}
+use Rattle.parse_reader.specs.internal.Expressions.{component, expression, next_field, reference}
+use Rattle.parse_reader.specs.internal.Values.{calls}
+use Rattle.parse_reader.specs.internal.Actions.{returns_nothing}
+use Rattle.parse_reader.specs.internal.Statements.{action_by, action_in, block_in, goes_on}
+use Rattle.parse_reader.specs.internal.Reading as read
+use Rattle.parse_reader.specs.internal.Values as read_values
+use Rattle.parse_reader.specs.internal.Templates as read_templates
+use Rattle.parse_reader.specs.internal.Declarations as read_declarations
+use Rattle.parse_reader.specs.internal.Events as read_events
+use Rattle.parse_reader.specs.internal.Actions as read_actions
+use Rattle.parse_reader.specs.internal.Statements as read_statements
 use Rattle.parse_grammar.proofs.Spellings.{shrinks, turn_shrinks}
 use Rattle.parse_grammar.proofs.Tokens.{expect_here, expect_word_here, name_here, sees_by, sees_here, sees_is, sees_word_by, sees_word_here}
 use Rattle.parse_grammar.proofs.Follow.{Follows, brace_shrinks, follows_at, loosen, no_field, no_symbol, no_word, word_rank}

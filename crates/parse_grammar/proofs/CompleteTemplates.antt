@@ -29,13 +29,13 @@ use Rattle.parse_limits.specs.Groups.{Is}
 use Rattle.parse_grammar.specs.Grammar.{Parts, Production, Spells, a_body, a_bound, a_call, a_field_template, a_field_value, a_message, a_pattern, a_rhs, a_template, a_type, a_value, commas, each, phrase, separated}
 use Rattle.parse_reader.specs.Trees.{field_template, field_value, template_of}
 use Rattle.parse_grammar.specs.Grammar as spelled
-use Rattle.parse_reader.specs.Reading.{Parser, behind, is_symbol, is_word, same_symbol, same_word, second, sees, sees_word}
-use Rattle.parse_reader.specs.Expressions.{expression}
-use Rattle.parse_reader.specs.Values.{assigns, calls, creates, value_by, value_in}
-use Rattle.parse_reader.specs.Templates.{infinite, shape_by, shape_expression, shape_in}
-use Rattle.parse_reader.specs.Reading as read
-use Rattle.parse_reader.specs.Values as read_values
-use Rattle.parse_reader.specs.Templates as read_templates
+use Rattle.parse_reader.specs.internal.Reading.{Parser, behind, is_symbol, is_word, same_symbol, same_word, second, sees, sees_word}
+use Rattle.parse_reader.specs.internal.Expressions.{expression}
+use Rattle.parse_reader.specs.internal.Values.{assigns, calls, creates, value_by, value_in}
+use Rattle.parse_reader.specs.internal.Templates.{infinite, shape_by, shape_expression, shape_in}
+use Rattle.parse_reader.specs.internal.Reading as read
+use Rattle.parse_reader.specs.internal.Values as read_values
+use Rattle.parse_reader.specs.internal.Templates as read_templates
 use Rattle.parse_grammar.proofs.Spellings.{shrinks}
 use Rattle.parse_grammar.proofs.Tokens.{expect_here, expect_word_here, first_step, name_here, read_is, sees_by, sees_here, sees_word_by, sees_word_here}
 use Rattle.parse_grammar.proofs.Follow.{Follows, follows_at, loosen, no_symbol, no_word}

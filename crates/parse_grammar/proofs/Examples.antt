@@ -9,8 +9,8 @@ use Rattle.ttcn_syntax.specs.declared.token.Spanned.{Spanned}
 use Rattle.ttcn_syntax.specs.declared.token.Word.TheVariants as word
 use Rattle.ttcn_syntax.specs.declared.tree.expression.Expr.TheVariants as expr
 use Rattle.parse_reader.specs.Trees.{link}
-use Rattle.parse_reader.specs.Reading.{expect, same_level, same_symbol, same_word, sees, sees_word}
-use Rattle.parse_reader.specs.Expressions.{bracketed, chain, eat_operator, expression, inner, links_from, most_links, negation, primary, signed}
+use Rattle.parse_reader.specs.internal.Reading.{expect, same_level, same_symbol, same_word, sees, sees_word}
+use Rattle.parse_reader.specs.internal.Expressions.{bracketed, chain, eat_operator, expression, inner, links_from, most_links, negation, primary, signed}
 
 -- tokens at one place
 abbrev at_one_place : List Token → List Spanned

@@ -15,8 +15,8 @@ use Rattle.ttcn_syntax.specs.declared.token.Word.{Word}
 use Rattle.ttcn_syntax.specs.declared.token.Word.TheVariants as word
 use Rattle.parse_limits.specs.Groups.{Is}
 use Rattle.parse_grammar.specs.Grammar.{EndsInBrace, Ends, last, earlier, in_brace, before_semicolon, before_brace}
-use Rattle.parse_reader.specs.Reading.{head_token, may_end, sees, sees_word}
-use Rattle.parse_reader.specs.Expressions.{next_field}
+use Rattle.parse_reader.specs.internal.Reading.{head_token, may_end, sees, sees_word}
+use Rattle.parse_reader.specs.internal.Expressions.{next_field}
 use Rattle.parse_grammar.proofs.Tokens.{sees_here, sees_is, sees_word_is}
 
 pub either : (b : Bool) → (b ≡ true) ⊎ (b ≡ false)

@@ -22,8 +22,8 @@ use Rattle.parse_limits.specs.Groups.{Balanced, Group, Is, braces, nothing, pair
 use Rattle.parse_grammar.specs.Grammar.{Ends, EndsInBrace, InTurn, Part, Parts, Phrase, Production, Spells, a_component, a_primary, a_reference, an_operand, the_links, dotted, each, key, nil, one, phrase, turn, commas, semicolons, ◌▸◌}
 use Rattle.parse_reader.specs.Trees.{link}
 use Rattle.parse_grammar.specs.Grammar as spelled
-use Rattle.parse_reader.specs.Reading.{Parsed, Parser, after_semicolons, and_then, behind, ended, expect, expect_word, head_token, here, is_symbol, is_word, items, items_from, may_end, name, name_of, same_level, second, sees, sees_word, separated, separated_from, separated_until, token_by}
-use Rattle.parse_reader.specs.Expressions.{after_field, after_operator, at_level, behind_field, behind_operator, bracketed, chain, component, component_by, eat_field, eat_operator, expression, expression_from, field_of, fields_from, inner, is_present, links_from, most_links, named_reference, negation, next_field, next_operator, primary, primary_by, reference, referred, runs, signed, tree_of, at_and, at_equality, at_not, at_or, at_order, at_product, at_sum, at_xor}
+use Rattle.parse_reader.specs.internal.Reading.{Parsed, Parser, after_semicolons, and_then, behind, ended, expect, expect_word, head_token, here, is_symbol, is_word, items, items_from, may_end, name, name_of, same_level, second, sees, sees_word, separated, separated_from, separated_until, token_by}
+use Rattle.parse_reader.specs.internal.Expressions.{after_field, after_operator, at_level, behind_field, behind_operator, bracketed, chain, component, component_by, eat_field, eat_operator, expression, expression_from, field_of, fields_from, inner, is_present, links_from, most_links, named_reference, negation, next_field, next_operator, primary, primary_by, reference, referred, runs, signed, tree_of, at_and, at_equality, at_not, at_or, at_order, at_product, at_sum, at_xor}
 use Rattle.parse_grammar.proofs.Tokens.{Begins, expect_is, expect_word_is, first_step, name_is, read_is, sees_is, sees_word_is, taken_is}
 
 -- ---- what is read

@@ -22,11 +22,11 @@ use Rattle.parse_limits.specs.Groups.{Balanced, Group, Is, closes, nothing, open
 use Rattle.parse_limits.specs.Groups as groups
 use Rattle.parse_grammar.specs.Grammar.{InTurn, IsModule, Part, Parts, Phrase, Spells, a_definition, a_field, a_kind, a_member, a_member_variable, a_module, a_number, a_template, a_type, a_value, a_with, a_control, an_enumerator, by, commas, direction_word, each, end, id, key, nil, one, optional, phrase, set_to, the_language, the_messages, the_parameters, this, turn, ◌▸◌}
 use Rattle.parse_grammar.specs.Grammar as spelled
-use Rattle.parse_reader.specs.Reading.{Parser, after_semicolons, at_brace, behind, head_token, name, same_symbol, sees, sees_word}
-use Rattle.parse_reader.specs.Definitions.{a_direction, component_type, def_altstep, def_function, def_template, def_testcase, definition, direction_of, enumerated_type, enumerator, field, int, int_of, kind_by, member_by, member_ports, member_variable, member_variables, messages, parameter, parameters, parameters_if_any, port_type, record_type, result_type, runs_on, runs_on_if_any, system_type, type_kind, type_kind_by}
+use Rattle.parse_reader.specs.internal.Reading.{Parser, after_semicolons, at_brace, behind, head_token, name, same_symbol, sees, sees_word}
+use Rattle.parse_reader.specs.internal.Definitions.{a_direction, component_type, def_altstep, def_function, def_template, def_testcase, definition, direction_of, enumerated_type, enumerator, field, int, int_of, kind_by, member_by, member_ports, member_variable, member_variables, messages, parameter, parameters, parameters_if_any, port_type, record_type, result_type, runs_on, runs_on_if_any, system_type, type_kind, type_kind_by}
 use Rattle.parse_reader.specs.Modules.{at_end, at_last, balanced_from, closes_one, control, definition_with, go_on, group, language, over_bracket, over_token, text, text_of, whole, with_}
-use Rattle.parse_reader.specs.Values as read_values
-use Rattle.parse_reader.specs.Definitions as read_definitions
+use Rattle.parse_reader.specs.internal.Values as read_values
+use Rattle.parse_reader.specs.internal.Definitions as read_definitions
 use Rattle.parse_grammar.proofs.Tokens.{same_symbol_is}
 use Rattle.parse_grammar.proofs.Sound.{Holds, Sound, after, chosen, done, eaten, either, implied, refused, some_is, sound_expect, sound_expect_word, sound_here, sound_items, sound_name, sound_semicolons, sound_separated, sound_token, sound_until, symbol_at, word_at, word_eaten}
 use Rattle.parse_grammar.proofs.SoundTemplates.{sound_template, sound_type, sound_value}

@@ -23,16 +23,16 @@ use Rattle.ttcn_syntax.specs.declared.tree.statement.Verdict.{Verdict}
 use Rattle.parse_limits.specs.Groups.{Is}
 use Rattle.parse_grammar.specs.Grammar.{InTurn, Part, Parts, Phrase, Spells, a_branch, a_call, a_component, a_conditional, a_constant, a_for_start, a_log_item, a_message, a_port, a_port_ref, a_reference, a_rhs, a_statement, a_timer, a_value, a_variable, an_action, an_alternative, an_assignment, an_event, an_operand, branches, by, commas, each, else_if, end, id, in_brackets, into, key, nil, one, optional, phrase, set_to, the_constants, the_timers, the_variables, this, turn, verdict_word, ◌▸◌}
 use Rattle.parse_grammar.specs.Grammar as spelled
-use Rattle.parse_reader.specs.Reading.{Parser, behind, ended, head_token, is_word, at_brace, second, sees, sees_word, after_semicolons}
-use Rattle.parse_reader.specs.Values.{activation, call, calls}
-use Rattle.parse_reader.specs.Declarations.{constant, constants, float, float_of, initial, timer, timers, variable, variables}
-use Rattle.parse_reader.specs.Events.{all_done, an_event_by, any_port, bare, component_behind, event_behind, event_by, event_of_one, receive, received, redirect, sender, with_name, without_fields}
-use Rattle.parse_reader.specs.Actions.{a_verdict, act_event, assigned_to, assignment, assignment_to, connect, deactivate, log, log_item_by, member_action, member_action_by, named_action, port_ref, return_, returns_nothing, send, setverdict, start, verdict_of}
-use Rattle.parse_reader.specs.Statements.{action_by, action_in, alt_by, alternative_by, block_by, block_if_any, block_in, branch_by, branches_by, conditional_by, do_by, else_block, else_ifs_from, for_by, for_start_, goes_on, guard, guarded_by, if_by, statement_by, while_by}
-use Rattle.parse_reader.specs.Values as read_values
-use Rattle.parse_reader.specs.Events as read_events
-use Rattle.parse_reader.specs.Actions as read_actions
-use Rattle.parse_reader.specs.Statements as read_statements
+use Rattle.parse_reader.specs.internal.Reading.{Parser, behind, ended, head_token, is_word, at_brace, second, sees, sees_word, after_semicolons}
+use Rattle.parse_reader.specs.internal.Values.{activation, call, calls}
+use Rattle.parse_reader.specs.internal.Declarations.{constant, constants, float, float_of, initial, timer, timers, variable, variables}
+use Rattle.parse_reader.specs.internal.Events.{all_done, an_event_by, any_port, bare, component_behind, event_behind, event_by, event_of_one, receive, received, redirect, sender, with_name, without_fields}
+use Rattle.parse_reader.specs.internal.Actions.{a_verdict, act_event, assigned_to, assignment, assignment_to, connect, deactivate, log, log_item_by, member_action, member_action_by, named_action, port_ref, return_, returns_nothing, send, setverdict, start, verdict_of}
+use Rattle.parse_reader.specs.internal.Statements.{action_by, action_in, alt_by, alternative_by, block_by, block_if_any, block_in, branch_by, branches_by, conditional_by, do_by, else_block, else_ifs_from, for_by, for_start_, goes_on, guard, guarded_by, if_by, statement_by, while_by}
+use Rattle.parse_reader.specs.internal.Values as read_values
+use Rattle.parse_reader.specs.internal.Events as read_events
+use Rattle.parse_reader.specs.internal.Actions as read_actions
+use Rattle.parse_reader.specs.internal.Statements as read_statements
 use Rattle.parse_grammar.proofs.Sound.{Added, Holds, Joined, Sound, Until, after, both, chosen, comma_between, done, eaten, implied, none_joined, one_joined, parts_of, refused, some_is, sound_component, sound_ended, sound_expect, sound_expect_word, sound_expression, sound_here, sound_items, sound_name, sound_reference, sound_semicolons, sound_separated, sound_separated_from, sound_token, sound_until, word_at, word_eaten, word_second}
 use Rattle.parse_grammar.proofs.SoundTemplates.{sound_activation, sound_call, sound_message, sound_rhs, sound_type, sound_value}
 

@@ -24,12 +24,12 @@ use Rattle.parse_limits.specs.Groups.{Is}
 use Rattle.parse_grammar.specs.Grammar.{InTurn, Part, Parts, Spells, a_body, a_bound, a_call, a_field_template, a_field_value, a_message, a_pattern, a_rhs, a_template, a_type, a_value, by, commas, each, end, key, nil, phrase, this, turn, ◌▸◌}
 use Rattle.parse_reader.specs.Trees.{template_of}
 use Rattle.parse_grammar.specs.Grammar as spelled
-use Rattle.parse_reader.specs.Reading.{Parsed, Parser, behind, expect, expect_word, head_token, is_symbol, name, second, sees, sees_word, separated}
-use Rattle.parse_reader.specs.Values.{activation, assigns, braced_value, call, calls, creates, field_value_by, type_by, value_by, value_expression, value_in}
-use Rattle.parse_reader.specs.Templates.{body_of, braced_template, closed_expression, complement, field_template_by, in_parens, in_parens_by, infinite, list_from, message, opened_by, range_from, shape_by, shape_expression, shape_in, template_by}
-use Rattle.parse_reader.specs.Reading as read
-use Rattle.parse_reader.specs.Values as read_values
-use Rattle.parse_reader.specs.Templates as read_templates
+use Rattle.parse_reader.specs.internal.Reading.{Parsed, Parser, behind, expect, expect_word, head_token, is_symbol, name, second, sees, sees_word, separated}
+use Rattle.parse_reader.specs.internal.Values.{activation, assigns, braced_value, call, calls, creates, field_value_by, type_by, value_by, value_expression, value_in}
+use Rattle.parse_reader.specs.internal.Templates.{body_of, braced_template, closed_expression, complement, field_template_by, in_parens, in_parens_by, infinite, list_from, message, opened_by, range_from, shape_by, shape_expression, shape_in, template_by}
+use Rattle.parse_reader.specs.internal.Reading as read
+use Rattle.parse_reader.specs.internal.Values as read_values
+use Rattle.parse_reader.specs.internal.Templates as read_templates
 use Rattle.parse_reader.specs.declared.shape.Shape.{Shape}
 use Rattle.parse_reader.specs.declared.shape.Shape.TheVariants as shape
 use Rattle.parse_grammar.proofs.Tokens.{sees_here}

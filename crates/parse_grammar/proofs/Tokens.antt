@@ -10,7 +10,7 @@ use Rattle.ttcn_syntax.specs.declared.token.Spanned.{Spanned}
 use Rattle.ttcn_syntax.specs.declared.token.Symbol.{Symbol}
 use Rattle.ttcn_syntax.specs.declared.token.Word.{Word}
 use Rattle.parse_limits.specs.Groups.{Is}
-use Rattle.parse_reader.specs.Reading.{Parsed, Parser, and_then, taken, behind, expect, expect_word, head_token, is_symbol, is_word, name, name_of, same_symbol, same_word, sees, sees_word}
+use Rattle.parse_reader.specs.internal.Reading.{Parsed, Parser, and_then, taken, behind, expect, expect_word, head_token, is_symbol, is_word, name, name_of, same_symbol, same_word, sees, sees_word}
 
 -- ---- a token that is there is seen
 

@@ -166,12 +166,15 @@ abbrev pub each : {A : Type 0} → (A → Part) → List A → Parts
 each part [] = nil
 each part (x ∷ xs) = part x ▸ each part xs
 
+-- this symbol
 abbrev pub sym : Symbol → Part
 sym s = one (token.Symbol s)
 
+-- this word
 abbrev pub key : Word → Part
 key w = one (token.Word w)
 
+-- this name
 abbrev pub id : List ℕ → Part
 id name = one (token.Id name)
 
@@ -195,6 +198,7 @@ verdict_word verdict.Inconc = word.Inconc
 verdict_word verdict.Fail = word.Fail
 verdict_word verdict.Error = word.Error
 
+-- the word of each direction
 abbrev pub direction_word : Direction → Word
 direction_word direction.In = word.In
 direction_word direction.Out = word.Out

@@ -8,7 +8,7 @@ use Rattle.ttcn_syntax.specs.declared.token.Symbol.TheVariants as mark
 use Rattle.ttcn_syntax.specs.declared.token.Token.{Token}
 use Rattle.ttcn_syntax.specs.declared.token.Token.TheVariants as token
 use Rattle.parse_limits.specs.declared.limits.Closing.{Closing}
-use Rattle.parse_limits.specs.Behind.{Finds, FindsBehind, IsElsewhere, Unopened}
+use Rattle.parse_limits.specs.internal.Behind.{Finds, FindsBehind, IsElsewhere, Unopened}
 use Rattle.parse_limits.specs.Groups.{Balanced, Group, Is, closes, opens, partner}
 use Rattle.parse_limits.specs.Groups.Balanced.{nothing, plain, pair}
 use Rattle.parse_limits.specs.Groups.Group.{braces}

@@ -27,10 +27,11 @@ closes (token.Symbol mark.RightParen) = true
 closes (token.Symbol mark.RightBracket) = true
 closes _ = false
 
--- how many of the tokens open a bracket, and how many close one
+-- how many of the tokens open a bracket
 abbrev pub opened : List Spanned → ℕ
 opened = count_by (λ k. opens k.token)
 
+-- how many of the tokens close a bracket
 abbrev pub closed : List Spanned → ℕ
 closed = count_by (λ k. closes k.token)
 

@@ -1,3 +1,3 @@
-pub mod Behind
 pub mod Groups
 pub mod LeftOut
+pub mod internal

@@ -1,8 +1,8 @@
 //! What is refused of a list of tokens before it is read as a module.
 ghost use Rattle.std.specs.Prelude.{◌≡◌, List, [], ◌∷◌, IfOk, MatchOption};
 ghost use Rattle.std.specs.Result.{OnOk};
-ghost use Rattle.parse_limits.specs.Behind as behind;
-ghost use Rattle.parse_limits.specs.Behind.{IsElsewhere, Knows};
+ghost use Rattle.parse_limits.specs.internal.Behind as behind;
+ghost use Rattle.parse_limits.specs.internal.Behind.{IsElsewhere, Knows};
 ghost use Rattle.parse_limits.specs.Groups as spec;
 ghost use Rattle.parse_limits.specs.Groups.{Is, IsTooDeep};
 ghost use Rattle.parse_limits.specs.LeftOut as left_out;

@@ -2,7 +2,7 @@
 use Rattle.std.proofs.Common.{◌≡◌, List, refl}
 use Rattle.std.specs.Prelude.{None, Some}
 use Rattle.ttcn_syntax.specs.declared.token.Spanned.{Spanned}
-use Rattle.parse_reader.specs.Reading.{Parsed, Parser, and_then}
+use Rattle.parse_reader.specs.internal.Reading.{Parsed, Parser, and_then}
 
 -- a step that a piece begins with is the first step of all
 pub piece : {A B C : Type 0} (o : Parsed A) (f : A → Parser B) (k : B → Parser C) (g : A → Parser C)

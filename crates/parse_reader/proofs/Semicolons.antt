@@ -3,7 +3,7 @@ use Rattle.std.proofs.Common.{◌≡◌, ◌<◌, true, false, List, [], ◌∷�
 use Rattle.ttcn_syntax.specs.declared.token.Spanned.{Spanned}
 use Rattle.ttcn_syntax.specs.declared.token.Symbol.{Symbol}
 use Rattle.ttcn_syntax.specs.declared.token.Symbol.TheVariants as mark
-use Rattle.parse_reader.specs.Reading.{after_semicolons, behind, sees}
+use Rattle.parse_reader.specs.internal.Reading.{after_semicolons, behind, sees}
 
 pub sees_something : (s : Symbol) (ts : List Spanned) → sees s ts ≡ true → length (behind ts) < length ts
 unfolding sees

@@ -1,11 +1,3 @@
-pub mod Actions
-pub mod Declarations
-pub mod Definitions
-pub mod Events
-pub mod Expressions
 pub mod Modules
-pub mod Reading
-pub mod Statements
-pub mod Templates
 pub mod Trees
-pub mod Values
+pub mod internal

@@ -1,7 +1,7 @@
 //! Lists of what stands one behind the other.
 ghost use Rattle.std.specs.Prelude.{◌≡◌};
-ghost use Rattle.parse_reader.specs.Reading as spec;
-ghost use Rattle.parse_reader.specs.Reading.{Reads};
+ghost use Rattle.parse_reader.specs.internal.Reading as spec;
+ghost use Rattle.parse_reader.specs.internal.Reading.{Reads};
 
 use crate::ParseError;
 use crate::parser::Parser;
@@ -33,7 +33,7 @@ impl Parser<'_> {
     }
 
     /// Any number, with commas between them, and the symbol behind them.
-    #[tactic(auto, unfolding(crate::specs::Reading::separated_until))]
+    #[tactic(auto, unfolding(crate::specs::internal::Reading::separated_until))]
     pub fn separated_until<T: Listed>(&mut self, close: Symbol) -> Result<Seq<T::Item>, ParseError>
         ensures { Reads (spec.separated_until close T.reader self.old) result self.new }
     {
@@ -61,7 +61,7 @@ impl Parser<'_> {
     }
 
     /// What was taken from these tokens may end here: it ends with a closing brace, or that or a semicolon follows.
-    #[tactic(auto, unfolding(crate::specs::Reading::may_end, crate::specs::Reading::sees, crate::specs::Reading::same_symbol))]
+    #[tactic(auto, unfolding(crate::specs::internal::Reading::may_end, crate::specs::internal::Reading::sees, crate::specs::internal::Reading::same_symbol))]
     pub fn may_end(&self, before: &[Spanned]) -> bool
         ensures { result ≡ spec.may_end before.now self.now }
     {

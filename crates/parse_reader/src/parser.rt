@@ -1,7 +1,7 @@
 //! The parser's place in the list of tokens, and what it takes from there.
 ghost use Rattle.std.specs.Prelude.{◌≡◌, ◌∷◌, [], length, Some, None, Ok};
-ghost use Rattle.parse_reader.specs.Reading as spec;
-ghost use Rattle.parse_reader.specs.Reading.{Reads};
+ghost use Rattle.parse_reader.specs.internal.Reading as spec;
+ghost use Rattle.parse_reader.specs.internal.Reading.{Reads};
 
 use crate::ParseError;
 use std::alloc::Global;
@@ -75,7 +75,7 @@ impl<'a> Parser<'a> {
     }
 
     /// Where the next token stands.
-    #[tactic(auto, unfolding(crate::specs::Reading::here))]
+    #[tactic(auto, unfolding(crate::specs::internal::Reading::here))]
     pub fn here(&self) -> Result<Span, ParseError>
         ensures { Reads (spec.here self.now) result self.now }
     {
@@ -103,14 +103,14 @@ impl<'a> Parser<'a> {
         }
     }
 
-    #[tactic(auto, unfolding(crate::specs::Reading::sees, crate::specs::Reading::same_symbol))]
+    #[tactic(auto, unfolding(crate::specs::internal::Reading::sees, crate::specs::internal::Reading::same_symbol))]
     pub fn is_at(&self, symbol: Symbol) -> bool
         ensures { result ≡ spec.sees symbol self.now }
     {
         is_symbol(self.token(), symbol)
     }
 
-    #[tactic(auto, unfolding(crate::specs::Reading::sees_word, crate::specs::Reading::same_word))]
+    #[tactic(auto, unfolding(crate::specs::internal::Reading::sees_word, crate::specs::internal::Reading::same_word))]
     pub fn is_at_word(&self, word: Word) -> bool
         ensures { result ≡ spec.sees_word word self.now }
     {
@@ -148,7 +148,7 @@ impl<'a> Parser<'a> {
         }
     }
 
-    #[tactic(auto, unfolding(crate::specs::Reading::expect))]
+    #[tactic(auto, unfolding(crate::specs::internal::Reading::expect))]
     pub fn symbol(&mut self, symbol: Symbol) -> Result<(), ParseError>
         ensures { Reads (spec.expect symbol self.old) result self.new }
     {
@@ -159,7 +159,7 @@ impl<'a> Parser<'a> {
         }
     }
 
-    #[tactic(auto, unfolding(crate::specs::Reading::expect_word))]
+    #[tactic(auto, unfolding(crate::specs::internal::Reading::expect_word))]
     pub fn word(&mut self, word: Word) -> Result<(), ParseError>
         ensures { Reads (spec.expect_word word self.old) result self.new }
     {
@@ -170,7 +170,7 @@ impl<'a> Parser<'a> {
         }
     }
 
-    #[tactic(auto, unfolding(crate::specs::Reading::name))]
+    #[tactic(auto, unfolding(crate::specs::internal::Reading::name))]
     pub fn name(&mut self) -> Result<Name, ParseError>
         ensures { Reads (spec.name self.old) result self.new }
     {
@@ -184,7 +184,7 @@ impl<'a> Parser<'a> {
 }
 
 /// The token is that symbol.
-#[tactic(auto, unfolding(crate::specs::Reading::same_symbol))]
+#[tactic(auto, unfolding(crate::specs::internal::Reading::same_symbol))]
 pub fn is_symbol(token: Option<&Token>, symbol: Symbol) -> bool
     ensures { result ≡ spec.is_symbol symbol (spec.seen token.entry) }
 {
@@ -192,7 +192,7 @@ pub fn is_symbol(token: Option<&Token>, symbol: Symbol) -> bool
 }
 
 /// The token is that word.
-#[tactic(auto, unfolding(crate::specs::Reading::same_word))]
+#[tactic(auto, unfolding(crate::specs::internal::Reading::same_word))]
 pub fn is_word(token: Option<&Token>, word: Word) -> bool
     ensures { result ≡ spec.is_word word (spec.seen token.entry) }
 {

@@ -1,6 +1,6 @@
 //! What a template's body is read as.
 ghost use Rattle.std.specs.Prelude.{◌≡◌};
-ghost use Rattle.parse_reader.specs.Templates as spec;
+ghost use Rattle.parse_reader.specs.internal.Templates as spec;
 ghost use Rattle.parse_reader.specs.Trees.{template_of};
 
 use ttcn_syntax::{Expr, Template, TemplateBody};

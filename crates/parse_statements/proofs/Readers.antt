@@ -16,12 +16,12 @@ use Rattle.parse_reader.specs.declared.heads.Head.TheVariants as head
 use Rattle.parse_reader.specs.declared.heads.Wait.{Wait}
 use Rattle.parse_reader.specs.declared.heads.Wait.TheVariants as wait
 use Rattle.parse_reader.specs.Trees.{branch_at, statement_at}
-use Rattle.parse_reader.specs.Reading.{Parsed, Parser, after_semicolons, at_brace, and_then, behind, end_item, ended, expect, expect_word, head_token, here, items_from, may_end, pure, sees, sees_word, ◌>>=◌}
-use Rattle.parse_reader.specs.Expressions.{expression}
-use Rattle.parse_reader.specs.Values.{call, calls}
-use Rattle.parse_reader.specs.Events.{an_event}
-use Rattle.parse_reader.specs.Actions.{assignment}
-use Rattle.parse_reader.specs.Statements.{action_behind, action_by, action_in, alt_by, alternative_by, alternative_of, block_by, block_if_any, block_in, branch_by, branch_head, do_by, do_condition, for_by, for_head, for_start_, for_step, guard, guarded_by, head_by, if_by, in_brackets, statement_by, statement_head, waits_for, while_by}
+use Rattle.parse_reader.specs.internal.Reading.{Parsed, Parser, after_semicolons, at_brace, and_then, behind, end_item, ended, expect, expect_word, head_token, here, items_from, may_end, pure, sees, sees_word, ◌>>=◌}
+use Rattle.parse_reader.specs.internal.Expressions.{expression}
+use Rattle.parse_reader.specs.internal.Values.{call, calls}
+use Rattle.parse_reader.specs.internal.Events.{an_event}
+use Rattle.parse_reader.specs.internal.Actions.{assignment}
+use Rattle.parse_reader.specs.internal.Statements.{action_behind, action_by, action_in, alt_by, alternative_by, alternative_of, block_by, block_if_any, block_in, branch_by, branch_head, do_by, do_condition, for_by, for_head, for_start_, for_step, guard, guarded_by, head_by, if_by, in_brackets, statement_by, statement_head, waits_for, while_by}
 use Rattle.parse_reader.proofs.Pieces.{piece, step, piece_within, again}
 
 -- ---- what ends where it may

@@ -1,6 +1,6 @@
 //! Statements that hold no block.
-ghost use Rattle.parse_reader.specs.Actions as spec;
-ghost use Rattle.parse_reader.specs.Reading.{Reads};
+ghost use Rattle.parse_reader.specs.internal.Actions as spec;
+ghost use Rattle.parse_reader.specs.internal.Reading.{Reads};
 
 use crate::declarations::float;
 use crate::events::{bare, component_behind, event_behind};
@@ -12,7 +12,7 @@ use ttcn_syntax::{
 };
 
 /// A statement that begins with a name, `parser` or `mtc`.
-#[tactic(auto, unfolding(parse_reader::specs::Actions::named_action))]
+#[tactic(auto, unfolding(parse_reader::specs::internal::Actions::named_action))]
 pub(crate) fn named_action(parser: &mut Parser<'_>) -> Result<Action, ParseError>
     ensures { Reads (spec.named_action parser.old) result parser.new }
 {
@@ -36,7 +36,7 @@ fn assigned_to(parser: &mut Parser<'_>, component: ComponentRef) -> Result<Actio
     }
 }
 
-#[tactic(auto, unfolding(parse_reader::specs::Actions::assignment))]
+#[tactic(auto, unfolding(parse_reader::specs::internal::Actions::assignment))]
 pub(crate) fn assignment(parser: &mut Parser<'_>) -> Result<Assignment, ParseError>
     ensures { Reads (spec.assignment parser.old) result parser.new }
 {
@@ -44,7 +44,7 @@ pub(crate) fn assignment(parser: &mut Parser<'_>) -> Result<Assignment, ParseErr
     assignment_to(parser, target)
 }
 
-#[tactic(auto, unfolding(parse_reader::specs::Actions::assignment_to))]
+#[tactic(auto, unfolding(parse_reader::specs::internal::Actions::assignment_to))]
 fn assignment_to(parser: &mut Parser<'_>, target: Reference) -> Result<Assignment, ParseError>
     ensures { Reads (spec.assignment_to target parser.old) result parser.new }
 {
@@ -54,7 +54,7 @@ fn assignment_to(parser: &mut Parser<'_>, target: Reference) -> Result<Assignmen
 }
 
 /// What follows a component, port or timer.
-#[tactic(auto, unfolding(parse_reader::specs::Actions::member_action, parse_reader::specs::Actions::act_event))]
+#[tactic(auto, unfolding(parse_reader::specs::internal::Actions::member_action, parse_reader::specs::internal::Actions::act_event))]
 fn member_action(parser: &mut Parser<'_>, component: ComponentRef) -> Result<Action, ParseError>
     ensures { Reads (spec.member_action component parser.old) result parser.new }
 {
@@ -73,7 +73,7 @@ fn member_action(parser: &mut Parser<'_>, component: ComponentRef) -> Result<Act
     }
 }
 
-#[tactic(auto, unfolding(parse_reader::specs::Actions::send))]
+#[tactic(auto, unfolding(parse_reader::specs::internal::Actions::send))]
 fn send(parser: &mut Parser<'_>, port: Name) -> Result<Action, ParseError>
     ensures { Reads (spec.send port parser.old) result parser.new }
 {
@@ -86,7 +86,7 @@ fn send(parser: &mut Parser<'_>, port: Name) -> Result<Action, ParseError>
 }
 
 /// The start of a component, with a call, or of a timer.
-#[tactic(auto, unfolding(parse_reader::specs::Actions::start, parse_reader::specs::Values::calls))]
+#[tactic(auto, unfolding(parse_reader::specs::internal::Actions::start, parse_reader::specs::internal::Values::calls))]
 fn start(parser: &mut Parser<'_>, component: ComponentRef) -> Result<Action, ParseError>
     ensures { Reads (spec.start component parser.old) result parser.new }
 {
@@ -108,7 +108,7 @@ fn start(parser: &mut Parser<'_>, component: ComponentRef) -> Result<Action, Par
     Ok(Action::StartTimer(timer))
 }
 
-#[tactic(auto, unfolding(parse_reader::specs::Actions::log))]
+#[tactic(auto, unfolding(parse_reader::specs::internal::Actions::log))]
 pub(crate) fn log(parser: &mut Parser<'_>) -> Result<Action, ParseError>
     ensures { Reads (spec.log parser.old) result parser.new }
 {
@@ -117,7 +117,7 @@ pub(crate) fn log(parser: &mut Parser<'_>) -> Result<Action, ParseError>
     Ok(Action::Log(parser.separated_until::<ALogItem>(Symbol::RightParen)?))
 }
 
-#[tactic(auto, unfolding(parse_reader::specs::Actions::setverdict))]
+#[tactic(auto, unfolding(parse_reader::specs::internal::Actions::setverdict))]
 pub(crate) fn setverdict(parser: &mut Parser<'_>) -> Result<Action, ParseError>
     ensures { Reads (spec.setverdict parser.old) result parser.new }
 {
@@ -133,7 +133,7 @@ pub(crate) fn setverdict(parser: &mut Parser<'_>) -> Result<Action, ParseError>
     Ok(Action::Setverdict(verdict, reasons))
 }
 
-#[tactic(auto, unfolding(parse_reader::specs::Actions::a_verdict))]
+#[tactic(auto, unfolding(parse_reader::specs::internal::Actions::a_verdict))]
 fn verdict(parser: &mut Parser<'_>) -> Result<Verdict, ParseError>
     ensures { Reads (spec.a_verdict parser.old) result parser.new }
 {
@@ -149,7 +149,7 @@ fn verdict(parser: &mut Parser<'_>) -> Result<Verdict, ParseError>
     Ok(verdict)
 }
 
-#[tactic(auto, unfolding(parse_reader::specs::Actions::connect))]
+#[tactic(auto, unfolding(parse_reader::specs::internal::Actions::connect))]
 pub(crate) fn connect(parser: &mut Parser<'_>) -> Result<Action, ParseError>
     ensures { Reads (spec.connect parser.old) result parser.new }
 {
@@ -162,7 +162,7 @@ pub(crate) fn connect(parser: &mut Parser<'_>) -> Result<Action, ParseError>
     Ok(Action::Connect(one, other))
 }
 
-#[tactic(auto, unfolding(parse_reader::specs::Actions::port_ref))]
+#[tactic(auto, unfolding(parse_reader::specs::internal::Actions::port_ref))]
 fn port_ref(parser: &mut Parser<'_>) -> Result<PortRef, ParseError>
     ensures { Reads (spec.port_ref parser.old) result parser.new }
 {
@@ -172,7 +172,7 @@ fn port_ref(parser: &mut Parser<'_>) -> Result<PortRef, ParseError>
     Ok(PortRef { component, port })
 }
 
-#[tactic(auto, unfolding(parse_reader::specs::Actions::deactivate))]
+#[tactic(auto, unfolding(parse_reader::specs::internal::Actions::deactivate))]
 pub(crate) fn deactivate(parser: &mut Parser<'_>) -> Result<Action, ParseError>
     ensures { Reads (spec.deactivate parser.old) result parser.new }
 {
@@ -186,7 +186,7 @@ pub(crate) fn deactivate(parser: &mut Parser<'_>) -> Result<Action, ParseError>
 }
 
 /// A return, without a value where its statement ends.
-#[tactic(auto, unfolding(parse_reader::specs::Actions::return_))]
+#[tactic(auto, unfolding(parse_reader::specs::internal::Actions::return_))]
 pub(crate) fn return_value(parser: &mut Parser<'_>) -> Result<Action, ParseError>
     ensures { Reads (spec.return_ parser.old) result parser.new }
 {
@@ -205,7 +205,7 @@ impl Listed for ALogItem {
 
     ghost reader = { spec.a_log_item };
 
-    #[tactic(auto, unfolding(parse_reader::specs::Actions::a_log_item))]
+    #[tactic(auto, unfolding(parse_reader::specs::internal::Actions::a_log_item))]
     fn read(parser: &mut Parser<'_>) -> Result<LogItem, ParseError> {
         if let Some(Token::Text) = parser.token() {
             parser.advance();

@@ -1,7 +1,7 @@
 //! Declarations of variables, constants and timers.
-ghost use Rattle.parse_reader.specs.Values as read_values;
-ghost use Rattle.parse_reader.specs.Declarations as spec;
-ghost use Rattle.parse_reader.specs.Reading.{Reads};
+ghost use Rattle.parse_reader.specs.internal.Values as read_values;
+ghost use Rattle.parse_reader.specs.internal.Declarations as spec;
+ghost use Rattle.parse_reader.specs.internal.Reading.{Reads};
 
 use parse_expressions::{rhs, type_name, value};
 use parse_reader::{Listed, ParseError, Parser};
@@ -9,7 +9,7 @@ use ttcn_syntax::{
     Constant, Constants, Rhs, Seq, Symbol, Timer, Token, Value, Variable, Variables, Word,
 };
 
-#[tactic(auto, unfolding(parse_reader::specs::Declarations::variables))]
+#[tactic(auto, unfolding(parse_reader::specs::internal::Declarations::variables))]
 pub(crate) fn variables(parser: &mut Parser<'_>) -> Result<Variables, ParseError>
     ensures { Reads (spec.variables parser.old) result parser.new }
 {
@@ -22,7 +22,7 @@ pub(crate) fn variables(parser: &mut Parser<'_>) -> Result<Variables, ParseError
     })
 }
 
-#[tactic(auto, unfolding(parse_reader::specs::Declarations::constants))]
+#[tactic(auto, unfolding(parse_reader::specs::internal::Declarations::constants))]
 pub fn constants(parser: &mut Parser<'_>) -> Result<Constants, ParseError>
     ensures { Reads (spec.constants parser.old) result parser.new }
 {
@@ -35,7 +35,7 @@ pub fn constants(parser: &mut Parser<'_>) -> Result<Constants, ParseError>
     })
 }
 
-#[tactic(auto, unfolding(parse_reader::specs::Declarations::timers))]
+#[tactic(auto, unfolding(parse_reader::specs::internal::Declarations::timers))]
 pub fn timers(parser: &mut Parser<'_>) -> Result<Seq<Timer>, ParseError>
     ensures { Reads (spec.timers parser.old) result parser.new }
 {
@@ -43,7 +43,7 @@ pub fn timers(parser: &mut Parser<'_>) -> Result<Seq<Timer>, ParseError>
     parser.separated::<ATimer>()
 }
 
-#[tactic(auto, unfolding(parse_reader::specs::Declarations::initial))]
+#[tactic(auto, unfolding(parse_reader::specs::internal::Declarations::initial))]
 fn initial_rhs(parser: &mut Parser<'_>) -> Result<Option<Rhs>, ParseError>
     ensures { Reads (spec.initial read_values.a_rhs parser.old) result parser.new }
 {
@@ -53,7 +53,7 @@ fn initial_rhs(parser: &mut Parser<'_>) -> Result<Option<Rhs>, ParseError>
     Ok(Some(rhs(parser)?))
 }
 
-#[tactic(auto, unfolding(parse_reader::specs::Declarations::initial))]
+#[tactic(auto, unfolding(parse_reader::specs::internal::Declarations::initial))]
 pub fn initial_value(parser: &mut Parser<'_>) -> Result<Option<Value>, ParseError>
     ensures { Reads (spec.initial read_values.a_value parser.old) result parser.new }
 {
@@ -64,7 +64,7 @@ pub fn initial_value(parser: &mut Parser<'_>) -> Result<Option<Value>, ParseErro
 }
 
 /// A duration, which has no value.
-#[tactic(auto, unfolding(parse_reader::specs::Declarations::float))]
+#[tactic(auto, unfolding(parse_reader::specs::internal::Declarations::float))]
 pub(crate) fn float(parser: &mut Parser<'_>) -> Result<(), ParseError>
     ensures { Reads (spec.float parser.old) result parser.new }
 {
@@ -83,7 +83,7 @@ impl Listed for AVariable {
 
     ghost reader = { spec.variable };
 
-    #[tactic(auto, unfolding(parse_reader::specs::Declarations::variable))]
+    #[tactic(auto, unfolding(parse_reader::specs::internal::Declarations::variable))]
     fn read(parser: &mut Parser<'_>) -> Result<Variable, ParseError> {
         let name = parser.name()?;
         let value = initial_rhs(parser)?;
@@ -99,7 +99,7 @@ impl Listed for AConstant {
 
     ghost reader = { spec.constant };
 
-    #[tactic(auto, unfolding(parse_reader::specs::Declarations::constant))]
+    #[tactic(auto, unfolding(parse_reader::specs::internal::Declarations::constant))]
     fn read(parser: &mut Parser<'_>) -> Result<Constant, ParseError> {
         let name = parser.name()?;
         parser.symbol(Symbol::Assign)?;
@@ -116,7 +116,7 @@ impl Listed for ATimer {
 
     ghost reader = { spec.timer };
 
-    #[tactic(auto, unfolding(parse_reader::specs::Declarations::timer, parse_reader::specs::Declarations::initial))]
+    #[tactic(auto, unfolding(parse_reader::specs::internal::Declarations::timer, parse_reader::specs::internal::Declarations::initial))]
     fn read(parser: &mut Parser<'_>) -> Result<Timer, ParseError> {
         let name = parser.name()?;
         if parser.take_symbol(Symbol::Assign) {

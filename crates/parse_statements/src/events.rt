@@ -1,7 +1,7 @@
 //! What a component can wait for.
-ghost use Rattle.parse_reader.specs.Reading as reading;
-ghost use Rattle.parse_reader.specs.Events as spec;
-ghost use Rattle.parse_reader.specs.Reading.{Reads};
+ghost use Rattle.parse_reader.specs.internal.Reading as reading;
+ghost use Rattle.parse_reader.specs.internal.Events as spec;
+ghost use Rattle.parse_reader.specs.internal.Reading.{Reads};
 
 use parse_expressions::{component, message, reference};
 use parse_reader::{ParseError, Parser};
@@ -10,7 +10,7 @@ use ttcn_syntax::{
     Word,
 };
 
-#[tactic(auto, unfolding(parse_reader::specs::Events::an_event, parse_reader::specs::Events::event_of_one))]
+#[tactic(auto, unfolding(parse_reader::specs::internal::Events::an_event, parse_reader::specs::internal::Events::event_of_one))]
 pub(crate) fn event(parser: &mut Parser<'_>) -> Result<Event, ParseError>
     ensures { Reads (spec.an_event parser.old) result parser.new }
 {
@@ -25,7 +25,7 @@ pub(crate) fn event(parser: &mut Parser<'_>) -> Result<Event, ParseError>
     }
 }
 
-#[tactic(auto, unfolding(parse_reader::specs::Events::any_port))]
+#[tactic(auto, unfolding(parse_reader::specs::internal::Events::any_port))]
 pub(crate) fn any_port(parser: &mut Parser<'_>) -> Result<Event, ParseError>
     ensures { Reads (spec.any_port parser.old) result parser.new }
 {
@@ -35,7 +35,7 @@ pub(crate) fn any_port(parser: &mut Parser<'_>) -> Result<Event, ParseError>
     receive(parser, PortSelector::Any)
 }
 
-#[tactic(auto, unfolding(parse_reader::specs::Events::all_done))]
+#[tactic(auto, unfolding(parse_reader::specs::internal::Events::all_done))]
 pub(crate) fn all_done(parser: &mut Parser<'_>) -> Result<Event, ParseError>
     ensures { Reads (spec.all_done parser.old) result parser.new }
 {
@@ -47,7 +47,7 @@ pub(crate) fn all_done(parser: &mut Parser<'_>) -> Result<Event, ParseError>
 }
 
 /// What is waited for, behind its component, port or timer and the dot.
-#[tactic(auto, unfolding(parse_reader::specs::Events::event_behind))]
+#[tactic(auto, unfolding(parse_reader::specs::internal::Events::event_behind))]
 pub(crate) fn event_behind(
     parser: &mut Parser<'_>,
     component: ComponentRef,
@@ -83,7 +83,7 @@ pub(crate) fn bare(parser: &Parser<'_>, component: ComponentRef) -> Result<Name,
 }
 
 /// A receive behind its port and the dot.
-#[tactic(auto, unfolding(parse_reader::specs::Events::receive))]
+#[tactic(auto, unfolding(parse_reader::specs::internal::Events::receive))]
 fn receive(parser: &mut Parser<'_>, port: PortSelector) -> Result<Event, ParseError>
     ensures { Reads (spec.receive port parser.old) result parser.new }
 {
@@ -100,7 +100,7 @@ fn receive(parser: &mut Parser<'_>, port: PortSelector) -> Result<Event, ParseEr
     }))
 }
 
-#[tactic(auto, unfolding(parse_reader::specs::Events::received))]
+#[tactic(auto, unfolding(parse_reader::specs::internal::Events::received))]
 fn received(parser: &mut Parser<'_>) -> Result<Option<MessageTemplate>, ParseError>
     ensures { Reads (spec.received parser.old) result parser.new }
 {
@@ -113,7 +113,7 @@ fn received(parser: &mut Parser<'_>) -> Result<Option<MessageTemplate>, ParseErr
 }
 
 /// A component behind its word, if that comes next.
-#[tactic(auto, unfolding(parse_reader::specs::Events::component_behind))]
+#[tactic(auto, unfolding(parse_reader::specs::internal::Events::component_behind))]
 pub(crate) fn component_behind(
     parser: &mut Parser<'_>,
     word: Word,
@@ -127,7 +127,7 @@ pub(crate) fn component_behind(
 }
 
 /// Where message and sender go.
-#[tactic(auto, unfolding(parse_reader::specs::Events::redirect))]
+#[tactic(auto, unfolding(parse_reader::specs::internal::Events::redirect))]
 fn redirect(parser: &mut Parser<'_>) -> Result<(Option<Reference>, Option<Reference>), ParseError>
     ensures { Reads (spec.redirect parser.old) result parser.new }
 {
@@ -142,7 +142,7 @@ fn redirect(parser: &mut Parser<'_>) -> Result<(Option<Reference>, Option<Refere
     Ok((None, Some(reference(parser)?)))
 }
 
-#[tactic(auto, unfolding(parse_reader::specs::Events::sender))]
+#[tactic(auto, unfolding(parse_reader::specs::internal::Events::sender))]
 fn sender(parser: &mut Parser<'_>) -> Result<Option<Reference>, ParseError>
     ensures { Reads (spec.sender parser.old) result parser.new }
 {

@@ -1,7 +1,7 @@
 //! Statements and branches up to their first block.
 ghost use Rattle.std.specs.Prelude.{Some};
-ghost use Rattle.parse_reader.specs.Statements as spec;
-ghost use Rattle.parse_reader.specs.Reading.{Reads};
+ghost use Rattle.parse_reader.specs.internal.Statements as spec;
+ghost use Rattle.parse_reader.specs.internal.Reading.{Reads};
 ghost use Rattle.ttcn_syntax.specs.declared.token.Token.TheVariants as token;
 ghost use Rattle.ttcn_syntax.specs.declared.token.Word.TheVariants as word_of;
 
@@ -32,7 +32,7 @@ pub(crate) fn alternative(
     }
 }
 
-#[tactic(auto, unfolding(parse_reader::specs::Statements::statement_head))]
+#[tactic(auto, unfolding(parse_reader::specs::internal::Statements::statement_head))]
 pub(crate) fn statement_head(parser: &mut Parser<'_>) -> Result<Head, ParseError>
     ensures { Reads (spec.statement_head parser.old) result parser.new }
 {
@@ -110,7 +110,7 @@ fn for_header(parser: &mut Parser<'_>) -> Result<Head, ParseError>
     }))
 }
 
-#[tactic(auto, unfolding(parse_reader::specs::Statements::for_head))]
+#[tactic(auto, unfolding(parse_reader::specs::internal::Statements::for_head))]
 fn for_head(parser: &mut Parser<'_>) -> Result<ForStart, ParseError>
     ensures { Reads (spec.for_head parser.old) result parser.new }
 {
@@ -121,7 +121,7 @@ fn for_head(parser: &mut Parser<'_>) -> Result<ForStart, ParseError>
     Ok(start)
 }
 
-#[tactic(auto, unfolding(parse_reader::specs::Statements::for_step))]
+#[tactic(auto, unfolding(parse_reader::specs::internal::Statements::for_step))]
 fn for_step(parser: &mut Parser<'_>) -> Result<Assignment, ParseError>
     ensures { Reads (spec.for_step parser.old) result parser.new }
 {
@@ -131,7 +131,7 @@ fn for_step(parser: &mut Parser<'_>) -> Result<Assignment, ParseError>
     Ok(step)
 }
 
-#[tactic(auto, unfolding(parse_reader::specs::Statements::for_start_))]
+#[tactic(auto, unfolding(parse_reader::specs::internal::Statements::for_start_))]
 fn for_start(parser: &mut Parser<'_>) -> Result<ForStart, ParseError>
     ensures { Reads (spec.for_start_ parser.old) result parser.new }
 {
@@ -142,7 +142,7 @@ fn for_start(parser: &mut Parser<'_>) -> Result<ForStart, ParseError>
 }
 
 /// A branch up to its block.
-#[tactic(auto, unfolding(parse_reader::specs::Statements::branch_head))]
+#[tactic(auto, unfolding(parse_reader::specs::internal::Statements::branch_head))]
 pub(crate) fn branch_head(parser: &mut Parser<'_>) -> Result<Wait, ParseError>
     ensures { Reads (spec.branch_head parser.old) result parser.new }
 {
@@ -156,7 +156,7 @@ pub(crate) fn branch_head(parser: &mut Parser<'_>) -> Result<Wait, ParseError>
 }
 
 /// What a branch waits for behind its guard.
-#[tactic(auto, unfolding(parse_reader::specs::Statements::waits_for))]
+#[tactic(auto, unfolding(parse_reader::specs::internal::Statements::waits_for))]
 fn waits_for(parser: &mut Parser<'_>, guard: Option<Expr>) -> Result<Wait, ParseError>
     ensures { Reads (spec.waits_for guard parser.old) result parser.new }
 {
@@ -166,7 +166,7 @@ fn waits_for(parser: &mut Parser<'_>, guard: Option<Expr>) -> Result<Wait, Parse
     Ok(Wait::Event(guard, event(parser)?))
 }
 
-#[tactic(auto, unfolding(parse_reader::specs::Statements::guard))]
+#[tactic(auto, unfolding(parse_reader::specs::internal::Statements::guard))]
 fn guard(parser: &mut Parser<'_>) -> Result<Option<Expr>, ParseError>
     ensures { Reads (spec.guard parser.old) result parser.new }
 {
@@ -179,7 +179,7 @@ fn guard(parser: &mut Parser<'_>) -> Result<Option<Expr>, ParseError>
 }
 
 /// An expression in brackets.
-#[tactic(auto, unfolding(parse_reader::specs::Statements::in_brackets))]
+#[tactic(auto, unfolding(parse_reader::specs::internal::Statements::in_brackets))]
 pub(crate) fn in_brackets(parser: &mut Parser<'_>) -> Result<Expr, ParseError>
     ensures { Reads (spec.in_brackets parser.old) result parser.new }
 {

@@ -1,15 +1,15 @@
 //! Statements and the blocks that hold them.
 ghost use Rattle.std.specs.Prelude.{◌≡◌};
-ghost use Rattle.parse_reader.specs.Reading as reading;
-ghost use Rattle.parse_reader.specs.Statements as spec;
-ghost use Rattle.parse_reader.specs.Reading.{Reads};
+ghost use Rattle.parse_reader.specs.internal.Reading as reading;
+ghost use Rattle.parse_reader.specs.internal.Statements as spec;
+ghost use Rattle.parse_reader.specs.internal.Reading.{Reads};
 ghost use Rattle.parse_reader.specs.declared.heads.Head.TheVariants as head_of;
 
 use crate::heads::{alternative, branch_head, in_brackets, statement_head};
 use parse_reader::{Head, ParseError, Parser, is_word};
 use ttcn_syntax::{Action, Branch, Conditional, Seq, Spanned, Statement, Symbol, Word};
 
-#[tactic(auto, unfolding(parse_reader::specs::Statements::a_block))]
+#[tactic(auto, unfolding(parse_reader::specs::internal::Statements::a_block))]
 pub fn block(parser: &mut Parser<'_>) -> Result<Seq<Statement>, ParseError>
     ensures { Reads (spec.a_block parser.old) result parser.new }
 {
@@ -18,7 +18,7 @@ pub fn block(parser: &mut Parser<'_>) -> Result<Seq<Statement>, ParseError>
 }
 
 /// The branches of an altstep.
-#[tactic(auto, unfolding(parse_reader::specs::Statements::the_branches))]
+#[tactic(auto, unfolding(parse_reader::specs::internal::Statements::the_branches))]
 pub fn branches(parser: &mut Parser<'_>) -> Result<Seq<Branch>, ParseError>
     ensures { Reads (spec.the_branches parser.old) result parser.new }
 {
@@ -59,7 +59,7 @@ fn statements(parser: &mut Parser<'_>, depth: usize) -> Result<Seq<Statement>, P
 }
 
 /// The end of what was taken from these tokens, with the semicolons behind it.
-#[tactic(auto, unfolding(parse_reader::specs::Reading::end_item))]
+#[tactic(auto, unfolding(parse_reader::specs::internal::Reading::end_item))]
 fn end_item(parser: &mut Parser<'_>, before: &[Spanned]) -> Result<(), ParseError>
     ensures { Reads (reading.end_item before.now parser.old) result parser.new }
 {
@@ -99,7 +99,7 @@ fn action_behind(parser: &mut Parser<'_>, head: Head, depth: usize) -> Result<Ac
 }
 
 /// The condition behind the block of a `do`.
-#[tactic(auto, unfolding(parse_reader::specs::Statements::do_condition))]
+#[tactic(auto, unfolding(parse_reader::specs::internal::Statements::do_condition))]
 fn do_condition(parser: &mut Parser<'_>, block: Seq<Statement>) -> Result<Action, ParseError>
     ensures { Reads (spec.do_condition block parser.old) result parser.new }
 {
@@ -109,7 +109,7 @@ fn do_condition(parser: &mut Parser<'_>, block: Seq<Statement>) -> Result<Action
 
 /// An `if` with all its `else if` and its `else`, behind its first word.
 #[cycle(statement)]
-#[tactic(auto, unfolding(parse_reader::specs::Statements::else_block))]
+#[tactic(auto, unfolding(parse_reader::specs::internal::Statements::else_block))]
 fn if_chain(parser: &mut Parser<'_>, depth: usize) -> Result<Action, ParseError>
     ensures { Reads (spec.action_behind (spec.block_in depth) head_of.If parser.old) result parser.new }
 {
@@ -151,7 +151,7 @@ fn goes_on(parser: &Parser<'_>) -> bool
 }
 
 #[cycle(statement)]
-#[tactic(auto, unfolding(parse_reader::specs::Statements::conditional_by))]
+#[tactic(auto, unfolding(parse_reader::specs::internal::Statements::conditional_by))]
 fn conditional(parser: &mut Parser<'_>, depth: usize) -> Result<Conditional, ParseError>
     ensures { Reads (spec.conditional_by (spec.block_in depth) parser.old) result parser.new }
 {
@@ -161,7 +161,7 @@ fn conditional(parser: &mut Parser<'_>, depth: usize) -> Result<Conditional, Par
 }
 
 #[cycle(statement)]
-#[tactic(auto, unfolding(parse_reader::specs::Statements::branches_by))]
+#[tactic(auto, unfolding(parse_reader::specs::internal::Statements::branches_by))]
 fn branches_in(parser: &mut Parser<'_>, depth: usize) -> Result<Seq<Branch>, ParseError>
     ensures { Reads (spec.branches_by (spec.block_in depth) parser.old) result parser.new }
 {

@@ -8,9 +8,9 @@ use Rattle.ttcn_syntax.specs.declared.token.Token.{Token}
 use Rattle.ttcn_syntax.specs.declared.token.Symbol.TheVariants as mark
 use Rattle.ttcn_syntax.specs.declared.token.Word.TheVariants as word
 use Rattle.ttcn_syntax.specs.declared.tree.definition.DefinitionKind.TheVariants as kind
-use Rattle.parse_reader.specs.Reading.{Parsed, after_semicolons, and_then, behind, expect, expect_word, head_token, items, name}
-use Rattle.parse_reader.specs.Statements.{a_block, the_branches}
-use Rattle.parse_reader.specs.Definitions.{def_altstep, def_function, def_testcase, parameters, result_type, runs_on, runs_on_if_any, signature, system_type, testcase_name}
+use Rattle.parse_reader.specs.internal.Reading.{Parsed, after_semicolons, and_then, behind, expect, expect_word, head_token, items, name}
+use Rattle.parse_reader.specs.internal.Statements.{a_block, the_branches}
+use Rattle.parse_reader.specs.internal.Definitions.{def_altstep, def_function, def_testcase, parameters, result_type, runs_on, runs_on_if_any, signature, system_type, testcase_name}
 use Rattle.parse_reader.specs.Modules.{at_last, balanced_from, control, definition_with, go_on, language, module_end, module_head, over_token, whole, with_}
 use Rattle.parse_reader.proofs.Pieces.{piece, step}
 

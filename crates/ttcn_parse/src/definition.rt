@@ -1,6 +1,6 @@
 //! Definitions.
-ghost use Rattle.parse_reader.specs.Definitions as spec;
-ghost use Rattle.parse_reader.specs.Reading.{Reads};
+ghost use Rattle.parse_reader.specs.internal.Definitions as spec;
+ghost use Rattle.parse_reader.specs.internal.Reading.{Reads};
 
 use parse_expressions::{AType, template, type_name};
 use parse_reader::{AName, Listed, ParseError, Parser};
@@ -11,7 +11,7 @@ use ttcn_syntax::{
     RecordType, Seq, Symbol, TemplateDefinition, Testcase, Token, TypeName, Word,
 };
 
-#[tactic(auto, unfolding(parse_reader::specs::Definitions::definition, parse_reader::specs::Definitions::a_kind))]
+#[tactic(auto, unfolding(parse_reader::specs::internal::Definitions::definition, parse_reader::specs::internal::Definitions::a_kind))]
 pub(crate) fn definition(parser: &mut Parser<'_>) -> Result<Definition, ParseError>
     ensures { Reads (spec.definition parser.old) result parser.new }
 {
@@ -28,7 +28,7 @@ pub(crate) fn definition(parser: &mut Parser<'_>) -> Result<Definition, ParseErr
     Ok(Definition { place, kind })
 }
 
-#[tactic(auto, unfolding(parse_reader::specs::Definitions::type_kind))]
+#[tactic(auto, unfolding(parse_reader::specs::internal::Definitions::type_kind))]
 fn type_definition(parser: &mut Parser<'_>) -> Result<DefinitionKind, ParseError>
     ensures { Reads (spec.type_kind parser.old) result parser.new }
 {
@@ -42,7 +42,7 @@ fn type_definition(parser: &mut Parser<'_>) -> Result<DefinitionKind, ParseError
     }
 }
 
-#[tactic(auto, unfolding(parse_reader::specs::Definitions::record_type))]
+#[tactic(auto, unfolding(parse_reader::specs::internal::Definitions::record_type))]
 fn record_type(parser: &mut Parser<'_>) -> Result<DefinitionKind, ParseError>
     ensures { Reads (spec.record_type parser.old) result parser.new }
 {
@@ -53,7 +53,7 @@ fn record_type(parser: &mut Parser<'_>) -> Result<DefinitionKind, ParseError>
     Ok(DefinitionKind::Record(RecordType { name, fields }))
 }
 
-#[tactic(auto, unfolding(parse_reader::specs::Definitions::enumerated_type))]
+#[tactic(auto, unfolding(parse_reader::specs::internal::Definitions::enumerated_type))]
 fn enumerated_type(parser: &mut Parser<'_>) -> Result<DefinitionKind, ParseError>
     ensures { Reads (spec.enumerated_type parser.old) result parser.new }
 {
@@ -65,7 +65,7 @@ fn enumerated_type(parser: &mut Parser<'_>) -> Result<DefinitionKind, ParseError
     Ok(DefinitionKind::Enumerated(EnumeratedType { name, enumerators }))
 }
 
-#[tactic(auto, unfolding(parse_reader::specs::Definitions::port_type))]
+#[tactic(auto, unfolding(parse_reader::specs::internal::Definitions::port_type))]
 fn port_type(parser: &mut Parser<'_>) -> Result<DefinitionKind, ParseError>
     ensures { Reads (spec.port_type parser.old) result parser.new }
 {
@@ -78,7 +78,7 @@ fn port_type(parser: &mut Parser<'_>) -> Result<DefinitionKind, ParseError>
     Ok(DefinitionKind::Port(PortType { name, messages }))
 }
 
-#[tactic(auto, unfolding(parse_reader::specs::Definitions::component_type))]
+#[tactic(auto, unfolding(parse_reader::specs::internal::Definitions::component_type))]
 fn component_type(parser: &mut Parser<'_>) -> Result<DefinitionKind, ParseError>
     ensures { Reads (spec.component_type parser.old) result parser.new }
 {
@@ -90,7 +90,7 @@ fn component_type(parser: &mut Parser<'_>) -> Result<DefinitionKind, ParseError>
     Ok(DefinitionKind::Component(ComponentType { name, members }))
 }
 
-#[tactic(auto, unfolding(parse_reader::specs::Definitions::def_template))]
+#[tactic(auto, unfolding(parse_reader::specs::internal::Definitions::def_template))]
 fn template_definition(parser: &mut Parser<'_>) -> Result<DefinitionKind, ParseError>
     ensures { Reads (spec.def_template parser.old) result parser.new }
 {
@@ -108,7 +108,7 @@ fn template_definition(parser: &mut Parser<'_>) -> Result<DefinitionKind, ParseE
     }))
 }
 
-#[tactic(auto, unfolding(parse_reader::specs::Definitions::parameters_if_any))]
+#[tactic(auto, unfolding(parse_reader::specs::internal::Definitions::parameters_if_any))]
 fn parameters_if_any(parser: &mut Parser<'_>) -> Result<Seq<Parameter>, ParseError>
     ensures { Reads (spec.parameters_if_any parser.old) result parser.new }
 {
@@ -118,7 +118,7 @@ fn parameters_if_any(parser: &mut Parser<'_>) -> Result<Seq<Parameter>, ParseErr
     parameters(parser)
 }
 
-#[tactic(auto, unfolding(parse_reader::specs::Definitions::parameters))]
+#[tactic(auto, unfolding(parse_reader::specs::internal::Definitions::parameters))]
 fn parameters(parser: &mut Parser<'_>) -> Result<Seq<Parameter>, ParseError>
     ensures { Reads (spec.parameters parser.old) result parser.new }
 {
@@ -175,7 +175,7 @@ fn testcase(parser: &mut Parser<'_>) -> Result<DefinitionKind, ParseError>
 }
 
 /// A name and parameters behind their word.
-#[tactic(auto, unfolding(parse_reader::specs::Definitions::signature))]
+#[tactic(auto, unfolding(parse_reader::specs::internal::Definitions::signature))]
 fn signature(parser: &mut Parser<'_>, word: Word) -> Result<(Name, Seq<Parameter>), ParseError>
     ensures { Reads (spec.signature word parser.old) result parser.new }
 {
@@ -185,7 +185,7 @@ fn signature(parser: &mut Parser<'_>, word: Word) -> Result<(Name, Seq<Parameter
     Ok((name, parameters))
 }
 
-#[tactic(auto, unfolding(parse_reader::specs::Definitions::testcase_name))]
+#[tactic(auto, unfolding(parse_reader::specs::internal::Definitions::testcase_name))]
 fn testcase_name(parser: &mut Parser<'_>) -> Result<Name, ParseError>
     ensures { Reads (spec.testcase_name parser.old) result parser.new }
 {
@@ -196,7 +196,7 @@ fn testcase_name(parser: &mut Parser<'_>) -> Result<Name, ParseError>
     Ok(name)
 }
 
-#[tactic(auto, unfolding(parse_reader::specs::Definitions::runs_on))]
+#[tactic(auto, unfolding(parse_reader::specs::internal::Definitions::runs_on))]
 fn runs_on(parser: &mut Parser<'_>) -> Result<Name, ParseError>
     ensures { Reads (spec.runs_on parser.old) result parser.new }
 {
@@ -205,7 +205,7 @@ fn runs_on(parser: &mut Parser<'_>) -> Result<Name, ParseError>
     parser.name()
 }
 
-#[tactic(auto, unfolding(parse_reader::specs::Definitions::runs_on_if_any))]
+#[tactic(auto, unfolding(parse_reader::specs::internal::Definitions::runs_on_if_any))]
 fn runs_on_if_any(parser: &mut Parser<'_>) -> Result<Option<Name>, ParseError>
     ensures { Reads (spec.runs_on_if_any parser.old) result parser.new }
 {
@@ -215,7 +215,7 @@ fn runs_on_if_any(parser: &mut Parser<'_>) -> Result<Option<Name>, ParseError>
     Ok(Some(runs_on(parser)?))
 }
 
-#[tactic(auto, unfolding(parse_reader::specs::Definitions::system_type))]
+#[tactic(auto, unfolding(parse_reader::specs::internal::Definitions::system_type))]
 fn system_type(parser: &mut Parser<'_>) -> Result<Option<Name>, ParseError>
     ensures { Reads (spec.system_type parser.old) result parser.new }
 {
@@ -225,7 +225,7 @@ fn system_type(parser: &mut Parser<'_>) -> Result<Option<Name>, ParseError>
     Ok(Some(parser.name()?))
 }
 
-#[tactic(auto, unfolding(parse_reader::specs::Definitions::result_type))]
+#[tactic(auto, unfolding(parse_reader::specs::internal::Definitions::result_type))]
 fn result_type(parser: &mut Parser<'_>) -> Result<Option<TypeName>, ParseError>
     ensures { Reads (spec.result_type parser.old) result parser.new }
 {
@@ -235,7 +235,7 @@ fn result_type(parser: &mut Parser<'_>) -> Result<Option<TypeName>, ParseError>
     Ok(Some(type_name(parser)?))
 }
 
-#[tactic(auto, unfolding(parse_reader::specs::Definitions::a_number))]
+#[tactic(auto, unfolding(parse_reader::specs::internal::Definitions::a_number))]
 fn enum_number(parser: &mut Parser<'_>) -> Result<EnumNumber, ParseError>
     ensures { Reads (spec.a_number parser.old) result parser.new }
 {
@@ -244,7 +244,7 @@ fn enum_number(parser: &mut Parser<'_>) -> Result<EnumNumber, ParseError>
     Ok(EnumNumber { minus, magnitude })
 }
 
-#[tactic(auto, unfolding(parse_reader::specs::Definitions::int))]
+#[tactic(auto, unfolding(parse_reader::specs::internal::Definitions::int))]
 fn int(parser: &mut Parser<'_>) -> Result<u64, ParseError>
     ensures { Reads (spec.int parser.old) result parser.new }
 {
@@ -255,7 +255,7 @@ fn int(parser: &mut Parser<'_>) -> Result<u64, ParseError>
     Ok(*number)
 }
 
-#[tactic(auto, unfolding(parse_reader::specs::Definitions::a_direction))]
+#[tactic(auto, unfolding(parse_reader::specs::internal::Definitions::a_direction))]
 fn direction(parser: &mut Parser<'_>) -> Result<Direction, ParseError>
     ensures { Reads (spec.a_direction parser.old) result parser.new }
 {
@@ -269,7 +269,7 @@ fn direction(parser: &mut Parser<'_>) -> Result<Direction, ParseError>
     Ok(direction)
 }
 
-#[tactic(auto, unfolding(parse_reader::specs::Definitions::member_ports))]
+#[tactic(auto, unfolding(parse_reader::specs::internal::Definitions::member_ports))]
 fn member_ports(parser: &mut Parser<'_>) -> Result<Member, ParseError>
     ensures { Reads (spec.member_ports parser.old) result parser.new }
 {
@@ -278,7 +278,7 @@ fn member_ports(parser: &mut Parser<'_>) -> Result<Member, ParseError>
     Ok(Member::Ports(port_type, parser.separated::<AName>()?))
 }
 
-#[tactic(auto, unfolding(parse_reader::specs::Definitions::member_variables))]
+#[tactic(auto, unfolding(parse_reader::specs::internal::Definitions::member_variables))]
 fn member_variables(parser: &mut Parser<'_>) -> Result<Member, ParseError>
     ensures { Reads (spec.member_variables parser.old) result parser.new }
 {
@@ -295,7 +295,7 @@ impl Listed for AField {
 
     ghost reader = { spec.field };
 
-    #[tactic(auto, unfolding(parse_reader::specs::Definitions::field))]
+    #[tactic(auto, unfolding(parse_reader::specs::internal::Definitions::field))]
     fn read(parser: &mut Parser<'_>) -> Result<Field, ParseError> {
         let type_name = type_name(parser)?;
         let name = parser.name()?;
@@ -316,7 +316,7 @@ impl Listed for AnEnumerator {
 
     ghost reader = { spec.enumerator };
 
-    #[tactic(auto, unfolding(parse_reader::specs::Definitions::enumerator))]
+    #[tactic(auto, unfolding(parse_reader::specs::internal::Definitions::enumerator))]
     fn read(parser: &mut Parser<'_>) -> Result<Enumerator, ParseError> {
         let name = parser.name()?;
         if !parser.take_symbol(Symbol::LeftParen) {
@@ -336,7 +336,7 @@ impl Listed for SomeMessages {
 
     ghost reader = { spec.messages };
 
-    #[tactic(auto, unfolding(parse_reader::specs::Definitions::messages))]
+    #[tactic(auto, unfolding(parse_reader::specs::internal::Definitions::messages))]
     fn read(parser: &mut Parser<'_>) -> Result<PortMessages, ParseError> {
         let direction = direction(parser)?;
         let types = parser.separated::<AType>()?;
@@ -352,7 +352,7 @@ impl Listed for AMemberVariable {
 
     ghost reader = { spec.member_variable };
 
-    #[tactic(auto, unfolding(parse_reader::specs::Definitions::member_variable))]
+    #[tactic(auto, unfolding(parse_reader::specs::internal::Definitions::member_variable))]
     fn read(parser: &mut Parser<'_>) -> Result<MemberVariable, ParseError> {
         let name = parser.name()?;
         let value = initial_value(parser)?;
@@ -368,7 +368,7 @@ impl Listed for AMember {
 
     ghost reader = { spec.a_member };
 
-    #[tactic(auto, unfolding(parse_reader::specs::Definitions::a_member))]
+    #[tactic(auto, unfolding(parse_reader::specs::internal::Definitions::a_member))]
     fn read(parser: &mut Parser<'_>) -> Result<Member, ParseError> {
         match parser.token() {
             Some(Token::Word(Word::Port)) => member_ports(parser),
@@ -388,7 +388,7 @@ impl Listed for AParameter {
 
     ghost reader = { spec.parameter };
 
-    #[tactic(auto, unfolding(parse_reader::specs::Definitions::parameter))]
+    #[tactic(auto, unfolding(parse_reader::specs::internal::Definitions::parameter))]
     fn read(parser: &mut Parser<'_>) -> Result<Parameter, ParseError> {
         parser.take_word(Word::In);
         let type_name = type_name(parser)?;

@@ -1,8 +1,8 @@
 //! Modules, and what leaves no trace in their tree.
 ghost use Rattle.std.specs.Prelude.{◌≡◌, ◌∷◌, [], reverse};
-ghost use Rattle.parse_reader.specs.Reading as reading;
+ghost use Rattle.parse_reader.specs.internal.Reading as reading;
 ghost use Rattle.parse_reader.specs.Modules as spec;
-ghost use Rattle.parse_reader.specs.Reading.{Reads};
+ghost use Rattle.parse_reader.specs.internal.Reading.{Reads};
 ghost use Rattle.ttcn_syntax.specs.declared.token.Symbol.TheVariants as mark;
 
 use crate::definition::definition;
@@ -146,7 +146,7 @@ fn over(parser: &Parser<'_>, token: &Token, expected: &mut Vec<Symbol>) -> Resul
 }
 
 /// Takes the innermost of the brackets that are to be closed, if it is this one.
-#[tactic(auto, using(crate::proofs::Readers::top_first, crate::proofs::Readers::nothing_first), unfolding(parse_reader::specs::Reading::same_symbol))]
+#[tactic(auto, using(crate::proofs::Readers::top_first, crate::proofs::Readers::nothing_first), unfolding(parse_reader::specs::internal::Reading::same_symbol))]
 fn close(expected: &mut Vec<Symbol>, symbol: Symbol) -> bool
     ensures { spec.closes_one (reverse expected.old.items) symbol ≡ spec.left_if result (reverse expected.new.items) }
 {

@@ -1,6 +1,6 @@
 use Rattle.std.proofs.Common.{rules, arith, None}
 use Rattle.std.proofs.lemmas.Grind.{common_steps}
-use Rattle.parse_reader.specs.Expressions.{bracketed, inner, links_from, operand_of}
+use Rattle.parse_reader.specs.internal.Expressions.{bracketed, inner, links_from, operand_of}
 use Rattle.parse_reader.proofs.Turns.{last_turn, next_turn, positive}
 use Rattle.parse_expressions.proofs.expressions.+expression.Goals as goal
 

@@ -1,6 +1,6 @@
 use Rattle.std.proofs.Common.{◌≡◌, ◌+◌, ◌-◌, ◌*◌, [], None}
-use Rattle.parse_expressions.specs.Level.{rank_of}
-use Rattle.parse_reader.specs.Expressions.{inner, links_from, most_links, operand_of}
+use Rattle.parse_expressions.specs.internal.Level.{rank_of}
+use Rattle.parse_reader.specs.internal.Expressions.{inner, links_from, most_links, operand_of}
 use Rattle.parse_expressions.proofs.expressions.+expression.Given as goal
 
 abbrev pub decreases-operand : goal.decreases-operand

@@ -1,6 +1,6 @@
 use Rattle.std.proofs.Common.{rules, arith}
 use Rattle.std.proofs.lemmas.Grind.{common_steps}
-use Rattle.parse_reader.specs.Expressions.{fields_from}
+use Rattle.parse_reader.specs.internal.Expressions.{fields_from}
 use Rattle.parse_reader.proofs.Turns.{last_turn, next_turn}
 use Rattle.parse_expressions.proofs.expressions.fields.Goals as goal
 

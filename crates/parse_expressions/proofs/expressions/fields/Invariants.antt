@@ -1,5 +1,5 @@
 use Rattle.std.proofs.Common.{◌≡◌, ◌-◌, [], length}
-use Rattle.parse_reader.specs.Expressions.{fields_from}
+use Rattle.parse_reader.specs.internal.Expressions.{fields_from}
 use Rattle.parse_expressions.proofs.expressions.fields.Given as goal
 
 -- the fields so far and those that are left are those of the beginning

@@ -1,7 +1,7 @@
 use Rattle.std.proofs.Common.{rules, arith}
 use Rattle.std.proofs.lemmas.Grind.{common_steps}
-use Rattle.parse_reader.specs.Reading.{separated_from}
-use Rattle.parse_reader.specs.Templates.{field_template_by, shape_below, template_by}
+use Rattle.parse_reader.specs.internal.Reading.{separated_from}
+use Rattle.parse_reader.specs.internal.Templates.{field_template_by, shape_below, template_by}
 use Rattle.parse_reader.proofs.Turns.{last_turn, next_turn}
 use Rattle.parse_expressions.proofs.Readers.{shape_below_step}
 use Rattle.parse_expressions.proofs.templates.+template.Goals as goal

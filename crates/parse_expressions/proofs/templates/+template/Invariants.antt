@@ -1,6 +1,6 @@
 use Rattle.std.proofs.Common.{◌≡◌, ◌+◌, ◌-◌, ◌*◌}
-use Rattle.parse_reader.specs.Reading.{separated, separated_from, separated_onto}
-use Rattle.parse_reader.specs.Templates.{field_template_by, shape_below, template_by}
+use Rattle.parse_reader.specs.internal.Reading.{separated, separated_from, separated_onto}
+use Rattle.parse_reader.specs.internal.Templates.{field_template_by, shape_below, template_by}
 use Rattle.parse_expressions.proofs.templates.+template.Given as goal
 
 abbrev pub decreases-shape_in : goal.decreases-shape_in

@@ -1,7 +1,7 @@
 use Rattle.std.proofs.Common.{rules, arith}
 use Rattle.std.proofs.lemmas.Grind.{common_steps}
-use Rattle.parse_reader.specs.Reading.{separated_from}
-use Rattle.parse_reader.specs.Values.{field_value_by, value_below}
+use Rattle.parse_reader.specs.internal.Reading.{separated_from}
+use Rattle.parse_reader.specs.internal.Values.{field_value_by, value_below}
 use Rattle.parse_reader.proofs.Turns.{last_turn, next_turn}
 use Rattle.parse_expressions.proofs.Readers.{value_below_step}
 use Rattle.parse_expressions.proofs.values.+value.Goals as goal

@@ -1,6 +1,6 @@
 use Rattle.std.proofs.Common.{◌≡◌, ◌+◌, ◌-◌, ◌*◌}
-use Rattle.parse_reader.specs.Reading.{separated, separated_from}
-use Rattle.parse_reader.specs.Values.{field_value_by, value_below}
+use Rattle.parse_reader.specs.internal.Reading.{separated, separated_from}
+use Rattle.parse_reader.specs.internal.Values.{field_value_by, value_below}
 use Rattle.parse_expressions.proofs.values.+value.Given as goal
 
 abbrev pub decreases-value_in : goal.decreases-value_in

@@ -1,5 +1,5 @@
 use Rattle.std.proofs.Common.{map, reverse}
-use Rattle.parse_limits.specs.Behind.{Knows}
+use Rattle.parse_limits.specs.internal.Behind.{Knows}
 use Rattle.parse_limits.proofs.limits.first_left_out.Given as goal
 
 -- the tokens so far, which were taken from the last one on, are known

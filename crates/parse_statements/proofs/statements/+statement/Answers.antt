@@ -1,7 +1,7 @@
 use Rattle.std.proofs.Common.{rules, arith}
 use Rattle.std.proofs.lemmas.Grind.{common_steps}
-use Rattle.parse_reader.specs.Reading.{at_brace, ended, items_from}
-use Rattle.parse_reader.specs.Statements.{block_in, branch_by, conditional_by, else_ifs_from, statement_by, block_by, block_if_any}
+use Rattle.parse_reader.specs.internal.Reading.{at_brace, ended, items_from}
+use Rattle.parse_reader.specs.internal.Statements.{block_in, branch_by, conditional_by, else_ifs_from, statement_by, block_by, block_if_any}
 use Rattle.parse_statements.proofs.Readers.{branch_split, item_turn, statement_split}
 use Rattle.parse_reader.proofs.Turns.{last_turn, next_turn, positive}
 use Rattle.parse_statements.proofs.statements.+statement.Goals as goal

@@ -1,6 +1,6 @@
 use Rattle.std.proofs.Common.{◌≡◌, ◌+◌, ◌-◌, ◌*◌, [], length}
-use Rattle.parse_reader.specs.Reading.{at_brace, ended, items_from}
-use Rattle.parse_reader.specs.Statements.{block_in, branch_by, conditional_by, else_ifs_from, else_ifs_onto, statement_by}
+use Rattle.parse_reader.specs.internal.Reading.{at_brace, ended, items_from}
+use Rattle.parse_reader.specs.internal.Statements.{block_in, branch_by, conditional_by, else_ifs_from, else_ifs_onto, statement_by}
 use Rattle.parse_statements.proofs.statements.+statement.Given as goal
 
 abbrev pub decreases-block_in : goal.decreases-block_in

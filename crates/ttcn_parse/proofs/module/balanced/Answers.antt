@@ -1,6 +1,6 @@
 use Rattle.std.proofs.Common.{◌≡◌, ◌<◌, Some, length, reverse, rules, arith}
 use Rattle.std.proofs.lemmas.Grind.{common_steps}
-use Rattle.parse_reader.specs.Reading.{behind, head_token}
+use Rattle.parse_reader.specs.internal.Reading.{behind, head_token}
 use Rattle.parse_reader.specs.Modules.{balanced_from}
 use Rattle.ttcn_parse.proofs.Readers.{balanced_step, go_on_left}
 use Rattle.ttcn_parse.proofs.module.balanced.Goals as goal

@@ -1,5 +1,5 @@
 use Rattle.std.proofs.Common.{◌≡◌, ◌-◌, [], length}
-use Rattle.parse_reader.specs.Reading.{items_from}
+use Rattle.parse_reader.specs.internal.Reading.{items_from}
 use Rattle.parse_reader.specs.Modules.{at_last, definition_with}
 use Rattle.ttcn_parse.proofs.module.definitions.Given as goal
 

@@ -1,6 +1,6 @@
 use Rattle.std.proofs.Common.{rules, arith}
 use Rattle.std.proofs.lemmas.Grind.{common_steps}
-use Rattle.parse_reader.specs.Reading.{items_from, at_brace}
+use Rattle.parse_reader.specs.internal.Reading.{items_from, at_brace}
 use Rattle.parse_reader.proofs.Turns.{last_turn, next_turn}
 use Rattle.parse_reader.proofs.parser.Parser.items.Goals as goal
 

@@ -1,5 +1,5 @@
 use Rattle.std.proofs.Common.{◌≡◌, ◌-◌, [], length}
-use Rattle.parse_reader.specs.Reading.{at_brace, items_from}
+use Rattle.parse_reader.specs.internal.Reading.{at_brace, items_from}
 use Rattle.parse_reader.proofs.parser.Parser.items.Given as goal
 
 -- the items so far and those that are left are those of the beginning

@@ -1,5 +1,5 @@
 use Rattle.std.proofs.Common.{◌≡◌, ◌-◌, [], length}
-use Rattle.parse_reader.specs.Reading.{separated_from}
+use Rattle.parse_reader.specs.internal.Reading.{separated_from}
 use Rattle.parse_reader.proofs.parser.Parser.separated.Given as goal
 
 -- what was read so far and what is left are those of the beginning

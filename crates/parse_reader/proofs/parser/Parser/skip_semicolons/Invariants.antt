@@ -1,5 +1,5 @@
 use Rattle.std.proofs.Common.{◌≡◌, length}
-use Rattle.parse_reader.specs.Reading.{after_semicolons}
+use Rattle.parse_reader.specs.internal.Reading.{after_semicolons}
 use Rattle.parse_reader.proofs.parser.Parser.skip_semicolons.Given as goal
 
 -- what is left of the semicolons was there from the beginning

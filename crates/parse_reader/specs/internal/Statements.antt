@@ -21,15 +21,16 @@ use Rattle.parse_reader.specs.declared.heads.Head.{Head}
 use Rattle.parse_reader.specs.declared.heads.Head.TheVariants as head
 use Rattle.parse_reader.specs.declared.heads.Wait.{Wait}
 use Rattle.parse_reader.specs.declared.heads.Wait.TheVariants as wait
-use Rattle.parse_reader.specs.Reading.{Parser, and_then, pure, refuse, head_token, is_word, sees, sees_word, behind, eat, eat_word, expect, expect_word, here, skip_semicolons, second, items, at_brace, ended, ◌>>=◌, ◌>>◌}
-use Rattle.parse_reader.specs.Expressions.{expression}
-use Rattle.parse_reader.specs.Values.{call, calls, activation}
-use Rattle.parse_reader.specs.Declarations.{variables, constants, timers}
-use Rattle.parse_reader.specs.Events.{any_port, all_done, an_event}
-use Rattle.parse_reader.specs.Actions.{log, setverdict, connect, deactivate, return_, assignment, named_action}
+use Rattle.parse_reader.specs.internal.Reading.{Parser, and_then, pure, refuse, head_token, is_word, sees, sees_word, behind, eat, eat_word, expect, expect_word, here, skip_semicolons, second, items, at_brace, ended, ◌>>=◌, ◌>>◌}
+use Rattle.parse_reader.specs.internal.Expressions.{expression}
+use Rattle.parse_reader.specs.internal.Values.{call, calls, activation}
+use Rattle.parse_reader.specs.internal.Declarations.{variables, constants, timers}
+use Rattle.parse_reader.specs.internal.Events.{any_port, all_done, an_event}
+use Rattle.parse_reader.specs.internal.Actions.{log, setverdict, connect, deactivate, return_, assignment, named_action}
 
 -- ---- statements
 
+-- '(' Expression ')'
 unfoldable pub in_brackets : Parser Expr
 in_brackets = do
   expect mark.LeftParen
@@ -37,6 +38,7 @@ in_brackets = do
   expect mark.RightParen
   pure e
 
+-- a condition in brackets and its block
 unfoldable pub conditional_by : Parser (List Statement) → Parser Conditional
 conditional_by blocks = do
   e ← in_brackets
@@ -47,19 +49,23 @@ conditional_by blocks = do
 abbrev pub goes_on : List Spanned → Bool
 goes_on ts = sees_word word.Else ts && is_word word.If (second ts)
 
+-- {'else' 'if' Conditional}, added to those found so far, so many of them at most
 unfoldable pub else_ifs_from : Parser Conditional → ℕ → List Conditional → Parser (List Conditional)
 else_ifs_from p zero found = pure found
 else_ifs_from p (suc n) found = λ ts. if goes_on ts then and_then (p (behind (behind ts))) (λ c rest. else_ifs_from p n (found ++ c ∷ []) rest)
     else Some (found, ts)
 
+-- {'else' 'if' Conditional}, added to those found so far
 abbrev pub else_ifs_onto : Parser Conditional → List Conditional → Parser (List Conditional)
 else_ifs_onto p found = λ ts. else_ifs_from p (length ts) found ts
 
+-- ['else' Block]
 unfoldable pub else_block : Parser (List Statement) → Parser (Option (List Statement))
 else_block blocks = do
   found ← eat_word word.Else
   if found then (do ss ← blocks; pure (Some ss)) else pure None
 
+-- an `if` with all its blocks
 unfoldable pub if_by : Parser (List Statement) → Parser Action
 if_by blocks = do
   expect_word word.If
@@ -68,6 +74,7 @@ if_by blocks = do
   last ← else_block blocks
   pure (action.If cs last)
 
+-- a `while` with its block
 unfoldable pub while_by : Parser (List Statement) → Parser Action
 while_by blocks = do
   expect_word word.While
@@ -75,6 +82,7 @@ while_by blocks = do
   ss ← blocks
   pure (action.While e ss)
 
+-- a `do` with its block and its condition
 unfoldable pub do_by : Parser (List Statement) → Parser Action
 do_by blocks = do
   expect_word word.Do
@@ -83,11 +91,12 @@ do_by blocks = do
   e ← in_brackets
   pure (action.DoWhile ss e)
 
+-- what a `for` begins with: variables or an assignment
 unfoldable pub for_start_ : Parser ForStart
 for_start_ = λ ts. if sees_word word.Var ts then (do vs ← variables; pure (for_start.Variables vs)) ts
     else (do a ← assignment; pure (for_start.Assign a)) ts
 
--- a `for` up to its condition, and from its condition to its block
+-- a `for` up to its condition
 unfoldable pub for_head : Parser ForStart
 for_head = do
   expect_word word.For
@@ -96,6 +105,7 @@ for_head = do
   expect mark.Semicolon
   pure start
 
+-- the step of a `for`, from behind its condition to its block
 unfoldable pub for_step : Parser Assignment
 for_step = do
   expect mark.Semicolon
@@ -103,6 +113,7 @@ for_step = do
   expect mark.RightParen
   pure a
 
+-- a `for` with its block
 unfoldable pub for_by : Parser (List Statement) → Parser Action
 for_by blocks = do
   expect_word word.For
@@ -125,6 +136,7 @@ guard = do
     expect mark.RightBracket
     pure (Some e))
 
+-- [Block]
 unfoldable pub block_if_any : Parser (List Statement) → Parser (Option (List Statement))
 block_if_any blocks = λ ts. if sees mark.LeftBrace ts then (do ss ← blocks; pure (Some ss)) ts else Some (None, ts)
 
@@ -140,6 +152,7 @@ guarded_by blocks g = λ ts. if calls ts
       ss ← block_if_any blocks
       pure (alternative.Event g e ss)) ts
 
+-- a branch without its place
 unfoldable pub alternative_by : Parser (List Statement) → Parser Alternative
 alternative_by blocks = do
   expect mark.LeftBracket
@@ -153,12 +166,14 @@ alternative_by blocks = do
         g ← guard
         guarded_by blocks g)
 
+-- a branch at its place
 unfoldable pub branch_by : Parser (List Statement) → Parser Branch
 branch_by blocks = do
   place ← here
   a ← alternative_by blocks
   pure (branch_at place a)
 
+-- '{' {Branch} '}'
 unfoldable pub branches_by : Parser (List Statement) → Parser (List Branch)
 branches_by blocks = do
   expect mark.LeftBrace
@@ -166,12 +181,14 @@ branches_by blocks = do
   expect mark.RightBrace
   pure bs
 
+-- an `alt` with its branches
 unfoldable pub alt_by : Parser (List Statement) → Parser Action
 alt_by blocks = do
   expect_word word.Alt
   bs ← branches_by blocks
   pure (action.Alt bs)
 
+-- a statement without its place, by its first token
 abbrev pub action_by : Parser (List Statement) → Option Token → Parser Action
 action_by blocks (Some (token.Word word.Var)) = do
   vs ← variables
@@ -205,11 +222,13 @@ action_by blocks (Some (token.Word word.Activate)) = do
 action_by blocks (Some (token.Word word.Deactivate)) = deactivate
 action_by blocks _ = named_action
 
+-- a statement without its place
 unfoldable pub action_in : Parser (List Statement) → Parser Action
 action_in blocks ts = action_by blocks (head_token ts) ts
 
 -- ---- what stands before the blocks of a statement or branch
 
+-- a statement that holds no block, by its first token
 abbrev pub simple_by : Option Token → Parser Action
 simple_by (Some (token.Word word.Var)) = do
   vs ← variables
@@ -238,6 +257,7 @@ simple_by (Some (token.Word word.Activate)) = do
 simple_by (Some (token.Word word.Deactivate)) = deactivate
 simple_by _ = named_action
 
+-- a statement up to its first block, by its first token
 abbrev pub head_by : Option Token → Parser Head
 head_by (Some (token.Word word.Alt)) = do
   expect_word word.Alt
@@ -303,6 +323,7 @@ waits_for g = λ ts. if calls ts
       e ← an_event
       pure (wait.Event g e)) ts
 
+-- a branch up to its block
 unfoldable pub branch_head : Parser Wait
 branch_head = do
   expect mark.LeftBracket
@@ -315,18 +336,21 @@ branch_head = do
         g ← guard
         waits_for g)
 
+-- the branch of this head and this block
 abbrev pub alternative_of : Wait → Option (List Statement) → Parser Alternative
 alternative_of wait.Else None = refuse
 alternative_of wait.Else (Some ss) = pure (alternative.Else ss)
 alternative_of (wait.Event g e) ss = pure (alternative.Event g e ss)
 alternative_of (wait.Call g c) ss = pure (alternative.Call g c ss)
 
+-- a statement at its place
 unfoldable pub statement_by : Parser (List Statement) → Parser Statement
 statement_by blocks = do
   place ← here
   a ← action_in blocks
   pure (statement_at place a)
 
+-- '{' {Statement} '}'
 unfoldable pub block_by : Parser (List Statement) → Parser (List Statement)
 block_by blocks = do
   expect mark.LeftBrace
@@ -340,6 +364,7 @@ unfoldable pub block_in : ℕ → Parser (List Statement)
 block_in zero = refuse
 block_in (suc depth) = block_by (block_in depth)
 
+-- a block, whose brackets nest no deeper than there are tokens
 unfoldable pub a_block : Parser (List Statement)
 a_block = λ ts. block_in (length ts) ts
 

@@ -13,10 +13,11 @@ use Rattle.ttcn_syntax.specs.declared.tree.statement.Event.{Event}
 use Rattle.ttcn_syntax.specs.declared.tree.statement.Event.TheVariants as event
 use Rattle.ttcn_syntax.specs.declared.tree.statement.PortSelector.{PortSelector}
 use Rattle.ttcn_syntax.specs.declared.tree.statement.PortSelector.TheVariants as port_selector
-use Rattle.parse_reader.specs.Reading.{Parser, pure, refuse, head_token, behind, eat, eat_word, expect, expect_word, ◌>>=◌, ◌>>◌}
-use Rattle.parse_reader.specs.Expressions.{reference, component}
-use Rattle.parse_reader.specs.Templates.{message}
+use Rattle.parse_reader.specs.internal.Reading.{Parser, pure, refuse, head_token, behind, eat, eat_word, expect, expect_word, ◌>>=◌, ◌>>◌}
+use Rattle.parse_reader.specs.internal.Expressions.{reference, component}
+use Rattle.parse_reader.specs.internal.Templates.{message}
 
+-- ['sender' Reference]
 unfoldable pub sender : Parser (Option Reference)
 sender = do
   found ← eat_word word.Sender
@@ -46,6 +47,7 @@ component_behind w = do
   found ← eat_word w
   if found then (do c ← component; pure (Some c)) else pure None
 
+-- ['(' Message ')']
 unfoldable pub received : Parser (Option MessageTemplate)
 received = do
   found ← eat mark.LeftParen
@@ -65,6 +67,7 @@ receive port = do
   into ← redirect
   pure (event.Receive (record { port = port; message = m; from = from; value = into.0; sender = into.1 }))
 
+-- the name, where no fields are behind it
 abbrev pub without_fields : List ℕ → List (List ℕ) → Option (List ℕ)
 without_fields bytes [] = Some bytes
 without_fields bytes (f ∷ fs) = None
@@ -75,6 +78,7 @@ bare (component_ref.Named r) = without_fields r.name r.fields
 bare component_ref.Itself = None
 bare component_ref.Mtc = None
 
+-- what is read with this name, if there is one
 abbrev pub with_name : {A : Type 0} → (List ℕ → Parser A) → Option (List ℕ) → Parser A
 with_name p (Some bytes) = p bytes
 with_name p None = refuse
@@ -86,9 +90,11 @@ event_by c (Some (token.Word word.Timeout)) = with_name (λ bytes ts. Some (even
 event_by c (Some (token.Word word.Done)) = λ ts. Some (event.Done c, behind ts)
 event_by c _ = refuse
 
+-- an event behind its component, port or timer and the dot
 unfoldable pub event_behind : ComponentRef → Parser Event
 event_behind c ts = event_by c (head_token ts) ts
 
+-- a receive at any port
 unfoldable pub any_port : Parser Event
 any_port = do
   expect_word word.Any
@@ -96,6 +102,7 @@ any_port = do
   expect mark.Dot
   receive port_selector.Any
 
+-- 'all' 'component' '.' 'done'
 unfoldable pub all_done : Parser Event
 all_done = do
   expect_word word.All
@@ -104,16 +111,19 @@ all_done = do
   expect_word word.Done
   pure event.AllDone
 
+-- an event of one component, port or timer
 unfoldable pub event_of_one : Parser Event
 event_of_one = do
   c ← component
   expect mark.Dot
   event_behind c
 
+-- an event, by its first token
 abbrev pub an_event_by : Option Token → Parser Event
 an_event_by (Some (token.Word word.Any)) = any_port
 an_event_by (Some (token.Word word.All)) = all_done
 an_event_by _ = event_of_one
 
+-- an event
 unfoldable pub an_event : Parser Event
 an_event ts = an_event_by (head_token ts) ts

@@ -16,21 +16,23 @@ use Rattle.ttcn_syntax.specs.declared.tree.template.TemplateBody.TheVariants as 
 use Rattle.parse_reader.specs.Trees.{field_template, template_of}
 use Rattle.parse_reader.specs.declared.shape.Shape.{Shape}
 use Rattle.parse_reader.specs.declared.shape.Shape.TheVariants as shape
-use Rattle.parse_reader.specs.Reading.{Parser, pure, refuse, head_token, is_symbol, is_word, sees, sees_word, behind, eat, eat_word, expect, expect_word, name, second, separated_onto, separated, separated_until, ◌>>=◌, ◌>>◌}
-use Rattle.parse_reader.specs.Expressions.{expression, expression_from}
-use Rattle.parse_reader.specs.Values.{a_type, assigns, call, calls}
+use Rattle.parse_reader.specs.internal.Reading.{Parser, pure, refuse, head_token, is_symbol, is_word, sees, sees_word, behind, eat, eat_word, expect, expect_word, name, second, separated_onto, separated, separated_until, ◌>>=◌, ◌>>◌}
+use Rattle.parse_reader.specs.internal.Expressions.{expression, expression_from}
+use Rattle.parse_reader.specs.internal.Values.{a_type, assigns, call, calls}
 
 -- the body that a shape is
 abbrev pub body_of : Shape → TemplateBody
 body_of (shape.Expr e) = body.Expr e
 body_of (shape.Pattern b) = b
 
+-- a body, with 'ifpresent' or without
 unfoldable pub template_by : Parser Shape → Parser Template
 template_by p = do
   s ← p
   present ← eat_word word.Ifpresent
   pure (template_of (body_of s) present)
 
+-- Id ':=' Template
 unfoldable pub field_template_by : Parser Template → Parser FieldTemplate
 field_template_by p = do
   bytes ← name
@@ -38,6 +40,7 @@ field_template_by p = do
   t ← p
   pure (field_template bytes t)
 
+-- 'complement' '(' Template {',' Template} ')'
 unfoldable pub complement : Parser Shape → Parser Shape
 complement inner = do
   expect_word word.Complement
@@ -46,6 +49,7 @@ complement inner = do
   expect mark.RightParen
   pure (shape.Pattern (body.Complement ts))
 
+-- a record template, by fields or by a list
 unfoldable pub braced_template : Parser Shape → Parser Shape
 braced_template inner = do
   expect mark.LeftBrace
@@ -62,6 +66,7 @@ braced_template inner = do
 unfoldable pub infinite : List Spanned → Bool
 infinite ts = sees_word word.Infinity ts || (sees mark.Minus ts && is_word word.Infinity (second ts))
 
+-- a bound of a range
 unfoldable pub a_bound : Parser Bound
 a_bound = λ ts. if infinite ts
     then (do
@@ -93,6 +98,7 @@ list_from inner first = do
         expect mark.RightParen
         pure (shape.Pattern (body.List (first ∷ []))))
 
+-- the expression that begins with this one in brackets
 unfoldable pub closed_expression : Expr → Parser Shape
 closed_expression e = do
   expect mark.RightParen
@@ -105,6 +111,7 @@ opened_by inner e = λ ts. if sees mark.DotDot ts then range_from (bound.Expr e)
     else if sees mark.RightParen ts then closed_expression e ts
     else list_from inner (template_of (body.Expr e) false) ts
 
+-- a list, a range or an expression, by what stands behind '('
 abbrev pub in_parens_by : Parser Shape → Shape → Bool → Parser Shape
 in_parens_by inner (shape.Expr e) false = opened_by inner e
 in_parens_by inner s present = list_from inner (template_of (body_of s) present)
@@ -119,10 +126,12 @@ in_parens inner = do
         present ← eat_word word.Ifpresent
         in_parens_by inner s present) ts
 
+-- a call or an expression
 unfoldable pub shape_expression : Parser Shape
 shape_expression = λ ts. if calls ts then (do c ← call; pure (shape.Pattern (body.Call c))) ts
     else (do e ← expression; pure (shape.Expr e)) ts
 
+-- a template's body, by its first token
 abbrev pub shape_by : Parser Shape → Option Token → Parser Shape
 shape_by inner (Some (token.Symbol mark.Question)) = λ ts. Some (shape.Pattern body.Any, behind ts)
 shape_by inner (Some (token.Symbol mark.Star)) = λ ts. Some (shape.Pattern body.AnyOrOmit, behind ts)
@@ -142,6 +151,7 @@ unfoldable pub shape_below : ℕ → Parser Shape
 shape_below zero = refuse
 shape_below (suc depth) = shape_in depth
 
+-- a template, whose brackets nest no deeper than there are tokens
 unfoldable pub a_template : Parser Template
 a_template = λ ts. template_by (shape_in (length ts)) ts
 

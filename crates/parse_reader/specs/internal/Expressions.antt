@@ -17,10 +17,11 @@ use Rattle.ttcn_syntax.specs.declared.tree.expression.Expr.TheVariants as expr
 use Rattle.ttcn_syntax.specs.declared.tree.expression.Link.{Link}
 use Rattle.ttcn_syntax.specs.declared.tree.expression.Reference.{Reference}
 use Rattle.parse_reader.specs.Trees.{link}
-use Rattle.parse_reader.specs.Reading.{Parser, ◌>>=◌, ◌>>◌, pure, refuse, head_token, same_level, is_word, sees, behind, eat, eat_word, expect, expect_word, name_of, name, second}
+use Rattle.parse_reader.specs.internal.Reading.{Parser, ◌>>=◌, ◌>>◌, pure, refuse, head_token, same_level, is_word, sees, behind, eat, eat_word, expect, expect_word, name_of, name, second}
 
 -- ---- references
 
+-- the name behind a dot, if the dot is there
 abbrev pub field_of : Bool → Option Token → Option (List ℕ)
 field_of true t = name_of t
 field_of false t = None
@@ -29,40 +30,49 @@ field_of false t = None
 abbrev pub next_field : List Spanned → Option (List ℕ)
 next_field ts = field_of (sees mark.Dot ts) (second ts)
 
+-- the tokens behind the field, if there is one
 abbrev pub behind_field : Option (List ℕ) → List Spanned → List Spanned
 behind_field None ts = ts
 behind_field (Some f) ts = behind (behind ts)
 
+-- takes the field that comes next, if there is one
 unfoldable pub eat_field : Parser (Option (List ℕ))
 eat_field = λ ts. Some (next_field ts, behind_field (next_field ts) ts)
 
+-- the fields behind this one, or the end of them
 abbrev pub after_field : (List (List ℕ) → Parser (List (List ℕ))) → List (List ℕ) → Option (List ℕ) → Parser (List (List ℕ))
 after_field others found None = pure found
 after_field others found (Some f) = others (found ++ f ∷ [])
 
+-- {'.' Id}, added to those found so far, so many of them at most
 unfoldable pub fields_from : ℕ → List (List ℕ) → Parser (List (List ℕ))
 fields_from zero found = pure found
 fields_from (suc n) found = eat_field >>= after_field (fields_from n) found
 
+-- {'.' Id}
 abbrev pub fields : Parser (List (List ℕ))
 fields = λ ts. fields_from (length ts) [] ts
 
+-- Id {'.' Id}
 unfoldable pub reference : Parser Reference
 reference = do
   first ← name
   others ← fields
   pure (record { name = first; fields = others })
 
+-- a component by a reference
 unfoldable pub named_reference : Parser ComponentRef
 named_reference = do
   r ← reference
   pure (component_ref.Named r)
 
+-- a component, by its first token
 abbrev pub component_by : Option Token → Parser ComponentRef
 component_by (Some (token.Word word.SelfWord)) = λ ts. Some (component_ref.Itself, behind ts)
 component_by (Some (token.Word word.Mtc)) = λ ts. Some (component_ref.Mtc, behind ts)
 component_by _ = named_reference
 
+-- 'self', 'mtc' or a reference
 unfoldable pub component : Parser ComponentRef
 component ts = component_by (head_token ts) ts
 
@@ -73,10 +83,12 @@ abbrev pub at_level : Level → Option Operator → Option Operator
 at_level outer None = None
 at_level outer (Some o) = if same_level (level_of o) outer then Some o else None
 
+-- the operator that a token is
 abbrev pub operator_in : Option Token → Option Operator
 operator_in None = None
 operator_in (Some t) = operator_of t
 
+-- the operator that comes next, if it is of the level
 abbrev pub next_operator : Level → List Spanned → Option Operator
 next_operator outer ts = at_level outer (operator_in (head_token ts))
 
@@ -85,6 +97,7 @@ abbrev pub behind_operator : Option Operator → List Spanned → List Spanned
 behind_operator None ts = ts
 behind_operator (Some o) ts = behind ts
 
+-- takes the operator that comes next, if it is of the level
 unfoldable pub eat_operator : Level → Parser (Option Operator)
 eat_operator outer = λ ts. Some (next_operator outer ts, behind_operator (next_operator outer ts) ts)
 
@@ -92,15 +105,18 @@ eat_operator outer = λ ts. Some (next_operator outer ts, behind_operator (next_
 unfoldable pub most_links : Level → List Spanned → ℕ
 most_links outer ts = if same_level outer level.Order then 1 else length ts
 
+-- the operand of this operator and the links behind it, or the end of them
 abbrev pub after_operator : Parser Expr → (List Link → Parser (List Link)) → List Link → Option Operator → Parser (List Link)
 after_operator operand others found None = pure found
 after_operator operand others found (Some o) = operand >>= (λ e. others (found ++ link o e ∷ []))
 
+-- {Operator Operand} of a level, added to those found so far, so many of them at most
 unfoldable pub links_from : Parser Expr → Level → ℕ → List Link → Parser (List Link)
 links_from operand outer zero found = pure found
 links_from operand outer (suc n) found =
     eat_operator outer >>= after_operator operand (links_from operand outer n) found
 
+-- an operand alone, or a chain
 abbrev pub tree_of : Expr → List Link → Expr
 tree_of first [] = first
 tree_of first (l ∷ ls) = expr.Chain first (l ∷ ls)
@@ -120,6 +136,7 @@ bracketed inner = do
   expect mark.RightParen
   pure e
 
+-- 'ispresent' '(' Reference ')'
 unfoldable pub is_present : Parser Expr
 is_present = do
   expect_word word.Ispresent
@@ -132,11 +149,13 @@ is_present = do
 abbrev pub runs : List Spanned → Bool
 runs ts = sees mark.Dot ts && is_word word.Running (second ts)
 
+-- a component that runs, or a reference
 unfoldable pub referred : Parser Expr
 referred = do
   c ← component
   λ ts. if runs ts then Some (expr.Running c, behind (behind ts)) else Some (expr.Reference c, ts)
 
+-- an operand without operators, by its first token
 abbrev pub primary_by : Parser Expr → Option Token → Parser Expr
 primary_by inner (Some (token.Int n)) = λ ts. Some (expr.Int n, behind ts)
 primary_by inner (Some (token.Word word.True)) = λ ts. Some (expr.Bool true, behind ts)
@@ -146,9 +165,11 @@ primary_by inner (Some (token.Word word.Ispresent)) = is_present
 primary_by inner (Some (token.Symbol mark.LeftParen)) = bracketed inner
 primary_by inner _ = referred
 
+-- an operand without operators
 unfoldable pub primary : Parser Expr → Parser Expr
 primary inner ts = primary_by inner (head_token ts) ts
 
+-- a primary with a sign or without
 unfoldable pub signed : Parser Expr → Option Expr → Parser Expr
 signed inner (Some e) = pure e
 signed inner None = do
@@ -157,36 +178,46 @@ signed inner None = do
     minus ← eat mark.Minus
     if minus then (do e ← primary inner; pure (expr.Signed sign.Minus e)) else primary inner)
 
+-- 'not' before an operand, or the operand alone
 unfoldable pub negation : (Option Expr → Parser Expr) → Option Expr → Parser Expr
 negation operand (Some e) = operand (Some e)
 negation operand None = do
   found ← eat_word word.Not
   if found then (do e ← operand None; pure (expr.Not e)) else operand None
 
+-- an operand of '+' and '-'
 abbrev pub at_product : Parser Expr → Option Expr → Parser Expr
 at_product inner = chain level.Product (signed inner)
 
+-- an operand of a comparison by order
 abbrev pub at_sum : Parser Expr → Option Expr → Parser Expr
 at_sum inner = chain level.Sum (at_product inner)
 
+-- an operand of '==' and '!='
 abbrev pub at_order : Parser Expr → Option Expr → Parser Expr
 at_order inner = chain level.Order (at_sum inner)
 
+-- an operand of 'not'
 abbrev pub at_equality : Parser Expr → Option Expr → Parser Expr
 at_equality inner = chain level.Equality (at_order inner)
 
+-- an operand of 'and'
 abbrev pub at_not : Parser Expr → Option Expr → Parser Expr
 at_not inner = negation (at_equality inner)
 
+-- an operand of 'xor'
 abbrev pub at_and : Parser Expr → Option Expr → Parser Expr
 at_and inner = chain level.And (at_not inner)
 
+-- an operand of 'or'
 abbrev pub at_xor : Parser Expr → Option Expr → Parser Expr
 at_xor inner = chain level.Xor (at_and inner)
 
+-- an expression
 abbrev pub at_or : Parser Expr → Option Expr → Parser Expr
 at_or inner = chain level.Or (at_xor inner)
 
+-- what is read at each level
 abbrev pub operand_of : Parser Expr → Level → Option Expr → Parser Expr
 operand_of inner level.Or = at_or inner
 operand_of inner level.Xor = at_xor inner

@@ -16,22 +16,25 @@ use Rattle.ttcn_syntax.specs.declared.tree.statement.LogItem.TheVariants as log_
 use Rattle.ttcn_syntax.specs.declared.tree.statement.PortRef.{PortRef}
 use Rattle.ttcn_syntax.specs.declared.tree.statement.Verdict.{Verdict}
 use Rattle.ttcn_syntax.specs.declared.tree.statement.Verdict.TheVariants as verdict
-use Rattle.parse_reader.specs.Reading.{Parser, pure, refuse, head_token, sees, behind, eat, expect, expect_word, token_by, name, separated, separated_until, ◌>>=◌, ◌>>◌}
-use Rattle.parse_reader.specs.Expressions.{reference, component, expression}
-use Rattle.parse_reader.specs.Values.{a_value, call, calls, a_rhs}
-use Rattle.parse_reader.specs.Templates.{message}
-use Rattle.parse_reader.specs.Declarations.{float}
-use Rattle.parse_reader.specs.Events.{component_behind, bare, with_name, event_behind}
+use Rattle.parse_reader.specs.internal.Reading.{Parser, pure, refuse, head_token, sees, behind, eat, expect, expect_word, token_by, name, separated, separated_until, ◌>>=◌, ◌>>◌}
+use Rattle.parse_reader.specs.internal.Expressions.{reference, component, expression}
+use Rattle.parse_reader.specs.internal.Values.{a_value, call, calls, a_rhs}
+use Rattle.parse_reader.specs.internal.Templates.{message}
+use Rattle.parse_reader.specs.internal.Declarations.{float}
+use Rattle.parse_reader.specs.internal.Events.{component_behind, bare, with_name, event_behind}
 
+-- a part of a log, by its first token
 abbrev pub log_item_by : Option Token → Parser LogItem
 log_item_by (Some token.Text) = λ ts. Some (log_item.Text, behind ts)
 log_item_by _ = do
   e ← expression
   pure (log_item.Expr e)
 
+-- a text or an expression
 unfoldable pub a_log_item : Parser LogItem
 a_log_item ts = log_item_by (head_token ts) ts
 
+-- 'log' '(' [LogItem {',' LogItem}] ')'
 unfoldable pub log : Parser Action
 log = do
   expect_word word.Log
@@ -39,6 +42,7 @@ log = do
   is ← separated_until mark.RightParen a_log_item
   pure (action.Log is)
 
+-- the verdict that a word names
 abbrev pub verdict_of : Option Token → Option Verdict
 verdict_of (Some (token.Word word.None)) = Some verdict.None
 verdict_of (Some (token.Word word.Pass)) = Some verdict.Pass
@@ -47,9 +51,11 @@ verdict_of (Some (token.Word word.Fail)) = Some verdict.Fail
 verdict_of (Some (token.Word word.Error)) = Some verdict.Error
 verdict_of _ = None
 
+-- a verdict
 unfoldable pub a_verdict : Parser Verdict
 a_verdict = token_by verdict_of
 
+-- 'setverdict' '(' Verdict {',' LogItem} ')'
 unfoldable pub setverdict : Parser Action
 setverdict = do
   expect_word word.Setverdict
@@ -65,6 +71,7 @@ setverdict = do
         expect mark.RightParen
         pure (action.Setverdict v []))
 
+-- Component ':' Id
 unfoldable pub port_ref : Parser PortRef
 port_ref = do
   c ← component
@@ -72,6 +79,7 @@ port_ref = do
   bytes ← name
   pure (record { component = c; port = bytes })
 
+-- 'connect' '(' PortRef ',' PortRef ')'
 unfoldable pub connect : Parser Action
 connect = do
   expect_word word.Connect
@@ -82,6 +90,7 @@ connect = do
   expect mark.RightParen
   pure (action.Connect a b)
 
+-- 'deactivate' ['(' Reference ')']
 unfoldable pub deactivate : Parser Action
 deactivate = do
   expect_word word.Deactivate
@@ -97,22 +106,26 @@ deactivate = do
 abbrev pub returns_nothing : List Spanned → Bool
 returns_nothing ts = sees mark.Semicolon ts || sees mark.RightBrace ts
 
+-- 'return' [Value]
 unfoldable pub return_ : Parser Action
 return_ = do
   expect_word word.Return
   λ ts. if returns_nothing ts then Some (action.Return None, ts) else (do v ← a_value; pure (action.Return (Some v))) ts
 
+-- what is assigned to this target
 unfoldable pub assignment_to : Reference → Parser Assignment
 assignment_to r = do
   expect mark.Assign
   v ← a_rhs
   pure (record { target = r; value = v })
 
+-- Reference ':=' Rhs
 unfoldable pub assignment : Parser Assignment
 assignment = do
   r ← reference
   assignment_to r
 
+-- a send behind its port and the dot
 unfoldable pub send : List ℕ → Parser Action
 send port = do
   expect_word word.Send
@@ -141,6 +154,7 @@ start c = do
               pure (action.StartTimer bytes))
             else pure (action.StartTimer bytes)) (bare c) ts
 
+-- an event as a statement
 unfoldable pub act_event : ComponentRef → Parser Action
 act_event c = do
   e ← event_behind c
@@ -153,11 +167,13 @@ member_action_by c (Some (token.Word word.Start)) = start c
 member_action_by c (Some (token.Word word.Stop)) = λ ts. Some (action.StopOf c, behind ts)
 member_action_by c _ = act_event c
 
+-- a statement behind its component, port or timer
 unfoldable pub member_action : ComponentRef → Parser Action
 member_action c = do
   expect mark.Dot
   λ ts. member_action_by c (head_token ts) ts
 
+-- an assignment to what was read as a component
 abbrev pub assigned_to : ComponentRef → Parser Action
 assigned_to (component_ref.Named r) = do
   a ← assignment_to r

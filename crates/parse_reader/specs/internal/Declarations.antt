@@ -9,20 +9,23 @@ use Rattle.ttcn_syntax.specs.declared.tree.statement.Constants.{Constants}
 use Rattle.ttcn_syntax.specs.declared.tree.statement.Timer.{Timer}
 use Rattle.ttcn_syntax.specs.declared.tree.statement.Variable.{Variable}
 use Rattle.ttcn_syntax.specs.declared.tree.statement.Variables.{Variables}
-use Rattle.parse_reader.specs.Reading.{Parser, pure, eat, expect, expect_word, token_by, name, separated, ◌>>=◌, ◌>>◌}
-use Rattle.parse_reader.specs.Values.{a_type, a_value, a_rhs}
+use Rattle.parse_reader.specs.internal.Reading.{Parser, pure, eat, expect, expect_word, token_by, name, separated, ◌>>=◌, ◌>>◌}
+use Rattle.parse_reader.specs.internal.Values.{a_type, a_value, a_rhs}
 
+-- [':=' X]
 unfoldable pub initial : {A : Type 0} → Parser A → Parser (Option A)
 initial p = do
   found ← eat mark.Assign
   if found then (do a ← p; pure (Some a)) else pure None
 
+-- Id [':=' Rhs]
 unfoldable pub variable : Parser Variable
 variable = do
   bytes ← name
   v ← initial a_rhs
   pure (record { name = bytes; value = v })
 
+-- 'var' Type Variable {',' Variable}
 unfoldable pub variables : Parser Variables
 variables = do
   expect_word word.Var
@@ -30,6 +33,7 @@ variables = do
   vs ← separated variable
   pure (record { type_name = n; variables = vs })
 
+-- Id ':=' Value
 unfoldable pub constant : Parser Constant
 constant = do
   bytes ← name
@@ -37,6 +41,7 @@ constant = do
   v ← a_value
   pure (record { name = bytes; value = v })
 
+-- 'const' Type Constant {',' Constant}
 unfoldable pub constants : Parser Constants
 constants = do
   expect_word word.Const
@@ -44,19 +49,23 @@ constants = do
   cs ← separated constant
   pure (record { type_name = n; constants = cs })
 
+-- a float, whose digits have no effect
 abbrev pub float_of : Option Token → Option (Unit {0})
 float_of (Some token.Float) = Some tt
 float_of _ = None
 
+-- a float
 unfoldable pub float : Parser (Unit {0})
 float = token_by float_of
 
+-- Id [':=' Float]
 unfoldable pub timer : Parser Timer
 timer = do
   bytes ← name
   initial float
   pure (record { name = bytes })
 
+-- 'timer' Timer {',' Timer}
 unfoldable pub timers : Parser (List Timer)
 timers = do
   expect_word word.Timer

@@ -14,9 +14,10 @@ use Rattle.ttcn_syntax.specs.declared.tree.value.TypeName.TheVariants as type_na
 use Rattle.ttcn_syntax.specs.declared.tree.value.Value.{Value}
 use Rattle.ttcn_syntax.specs.declared.tree.value.Value.TheVariants as value
 use Rattle.parse_reader.specs.Trees.{field_value}
-use Rattle.parse_reader.specs.Reading.{Parser, pure, refuse, head_token, is_symbol, is_word, sees_word, behind, expect, expect_word, token_by, name, second, separated, separated_until, is_name, ◌>>=◌, ◌>>◌}
-use Rattle.parse_reader.specs.Expressions.{expression}
+use Rattle.parse_reader.specs.internal.Reading.{Parser, pure, refuse, head_token, is_symbol, is_word, sees_word, behind, expect, expect_word, token_by, name, second, separated, separated_until, is_name, ◌>>=◌, ◌>>◌}
+use Rattle.parse_reader.specs.internal.Expressions.{expression}
 
+-- the type that a token names
 abbrev pub type_by : Option Token → Option TypeName
 type_by (Some (token.Word word.Integer)) = Some type_name.Integer
 type_by (Some (token.Word word.Boolean)) = Some type_name.Boolean
@@ -24,6 +25,7 @@ type_by (Some (token.Word word.Default)) = Some type_name.Default
 type_by (Some (token.Id bytes)) = Some (type_name.Named bytes)
 type_by _ = None
 
+-- a type
 unfoldable pub a_type : Parser TypeName
 a_type = token_by type_by
 
@@ -31,6 +33,7 @@ a_type = token_by type_by
 unfoldable pub assigns : List Spanned → Bool
 assigns ts = is_name (head_token ts) && is_symbol mark.Assign (second ts)
 
+-- Id ':=' Value
 unfoldable pub field_value_by : Parser Value → Parser FieldValue
 field_value_by p = do
   bytes ← name
@@ -51,11 +54,13 @@ braced_value inner = do
         vs ← separated_until mark.RightBrace inner
         pure (value.Listed vs)) ts
 
+-- an expression as a value
 unfoldable pub value_expression : Parser Value
 value_expression = do
   e ← expression
   pure (value.Expr e)
 
+-- a value, by its first token
 abbrev pub value_by : Parser Value → Option Token → Parser Value
 value_by inner (Some (token.Word word.Omit)) = λ ts. Some (value.Omit, behind ts)
 value_by inner (Some (token.Symbol mark.LeftBrace)) = braced_value inner
@@ -71,9 +76,11 @@ unfoldable pub value_below : ℕ → Parser Value
 value_below zero = refuse
 value_below (suc depth) = value_in depth
 
+-- a value, whose brackets nest no deeper than there are tokens
 unfoldable pub a_value : Parser Value
 a_value = λ ts. value_in (length ts) ts
 
+-- Id '(' [Value {',' Value}] ')'
 unfoldable pub call : Parser Call
 call = do
   bytes ← name
@@ -98,6 +105,7 @@ activation = do
   expect mark.RightParen
   pure c
 
+-- what stands on the right of ':=': a call, 'create', 'activate' or a value
 unfoldable pub a_rhs : Parser Rhs
 a_rhs = λ ts. if calls ts then (do c ← call; pure (rhs.Call c)) ts
     else if creates ts then (do bytes ← name; expect mark.Dot; expect_word word.Create; pure (rhs.Create bytes)) ts

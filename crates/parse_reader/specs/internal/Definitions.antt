@@ -19,12 +19,13 @@ use Rattle.ttcn_syntax.specs.declared.tree.definition.Member.TheVariants as memb
 use Rattle.ttcn_syntax.specs.declared.tree.definition.MemberVariable.{MemberVariable}
 use Rattle.ttcn_syntax.specs.declared.tree.definition.Parameter.{Parameter}
 use Rattle.ttcn_syntax.specs.declared.tree.definition.PortMessages.{PortMessages}
-use Rattle.parse_reader.specs.Reading.{Parser, pure, refuse, head_token, sees, sees_word, eat, eat_word, expect, expect_word, here, token_by, name, separated, separated_until, items, at_brace, ◌>>=◌, ◌>>◌}
-use Rattle.parse_reader.specs.Values.{a_type, a_value}
-use Rattle.parse_reader.specs.Templates.{a_template}
-use Rattle.parse_reader.specs.Declarations.{initial, constants, timers}
-use Rattle.parse_reader.specs.Statements.{a_block, the_branches}
+use Rattle.parse_reader.specs.internal.Reading.{Parser, pure, refuse, head_token, sees, sees_word, eat, eat_word, expect, expect_word, here, token_by, name, separated, separated_until, items, at_brace, ◌>>=◌, ◌>>◌}
+use Rattle.parse_reader.specs.internal.Values.{a_type, a_value}
+use Rattle.parse_reader.specs.internal.Templates.{a_template}
+use Rattle.parse_reader.specs.internal.Declarations.{initial, constants, timers}
+use Rattle.parse_reader.specs.internal.Statements.{a_block, the_branches}
 
+-- Type Id ['optional']
 unfoldable pub field : Parser Field
 field = do
   n ← a_type
@@ -32,19 +33,23 @@ field = do
   o ← eat_word word.Optional
   pure (record { type_name = n; name = bytes; optional = o })
 
+-- the number that a token is
 abbrev pub int_of : Option Token → Option ℕ
 int_of (Some (token.Int n)) = Some n
 int_of _ = None
 
+-- a number
 unfoldable pub int : Parser ℕ
 int = token_by int_of
 
+-- ['-'] Number
 unfoldable pub a_number : Parser EnumNumber
 a_number = do
   negative ← eat mark.Minus
   n ← int
   pure (record { minus = negative; magnitude = n })
 
+-- Id ['(' Number ')']
 unfoldable pub enumerator : Parser Enumerator
 enumerator = do
   bytes ← name
@@ -56,27 +61,32 @@ enumerator = do
         pure (record { name = bytes; number = Some n }))
       else pure (record { name = bytes; number = None })
 
+-- the direction that a word names
 abbrev pub direction_of : Option Token → Option Direction
 direction_of (Some (token.Word word.In)) = Some direction.In
 direction_of (Some (token.Word word.Out)) = Some direction.Out
 direction_of (Some (token.Word word.Inout)) = Some direction.Inout
 direction_of _ = None
 
+-- 'in', 'out' or 'inout'
 unfoldable pub a_direction : Parser Direction
 a_direction = token_by direction_of
 
+-- Direction Type {',' Type}
 unfoldable pub messages : Parser PortMessages
 messages = do
   d ← a_direction
   ns ← separated a_type
   pure (record { direction = d; types = ns })
 
+-- Id [':=' Value]
 unfoldable pub member_variable : Parser MemberVariable
 member_variable = do
   bytes ← name
   v ← initial a_value
   pure (record { name = bytes; value = v })
 
+-- 'port' Id Id {',' Id}
 unfoldable pub member_ports : Parser Member
 member_ports = do
   expect_word word.Port
@@ -84,6 +94,7 @@ member_ports = do
   names ← separated name
   pure (member.Ports n names)
 
+-- 'var' Type MemberVariable {',' MemberVariable}
 unfoldable pub member_variables : Parser Member
 member_variables = do
   expect_word word.Var
@@ -91,6 +102,7 @@ member_variables = do
   vs ← separated member_variable
   pure (member.Variables n vs)
 
+-- a member of a component type, by its first token
 abbrev pub member_by : Option Token → Parser Member
 member_by (Some (token.Word word.Port)) = member_ports
 member_by (Some (token.Word word.Const)) = do
@@ -102,9 +114,11 @@ member_by (Some (token.Word word.Timer)) = do
   pure (member.Timers all)
 member_by _ = refuse
 
+-- a member of a component type
 unfoldable pub a_member : Parser Member
 a_member ts = member_by (head_token ts) ts
 
+-- ['in'] Type Id
 unfoldable pub parameter : Parser Parameter
 parameter = do
   eat_word word.In
@@ -112,11 +126,13 @@ parameter = do
   bytes ← name
   pure (record { type_name = n; name = bytes })
 
+-- '(' [Parameter {',' Parameter}] ')'
 unfoldable pub parameters : Parser (List Parameter)
 parameters = do
   expect mark.LeftParen
   separated_until mark.RightParen parameter
 
+-- a record type behind 'type'
 unfoldable pub record_type : Parser DefinitionKind
 record_type = do
   expect_word word.Record
@@ -125,6 +141,7 @@ record_type = do
   fs ← separated_until mark.RightBrace field
   pure (kind.Record (record { name = bytes; fields = fs }))
 
+-- an enumerated type behind 'type'
 unfoldable pub enumerated_type : Parser DefinitionKind
 enumerated_type = do
   expect_word word.Enumerated
@@ -134,6 +151,7 @@ enumerated_type = do
   expect mark.RightBrace
   pure (kind.Enumerated (record { name = bytes; enumerators = es }))
 
+-- a port type behind 'type'
 unfoldable pub port_type : Parser DefinitionKind
 port_type = do
   expect_word word.Port
@@ -144,6 +162,7 @@ port_type = do
   expect mark.RightBrace
   pure (kind.Port (record { name = bytes; messages = ms }))
 
+-- a component type behind 'type'
 unfoldable pub component_type : Parser DefinitionKind
 component_type = do
   expect_word word.Component
@@ -153,6 +172,7 @@ component_type = do
   expect mark.RightBrace
   pure (kind.Component (record { name = bytes; members = ms }))
 
+-- a type, by the word behind 'type'
 abbrev pub type_kind_by : Option Token → Parser DefinitionKind
 type_kind_by (Some (token.Word word.Record)) = record_type
 type_kind_by (Some (token.Word word.Enumerated)) = enumerated_type
@@ -160,14 +180,17 @@ type_kind_by (Some (token.Word word.Port)) = port_type
 type_kind_by (Some (token.Word word.Component)) = component_type
 type_kind_by _ = refuse
 
+-- a type
 unfoldable pub type_kind : Parser DefinitionKind
 type_kind = do
   expect_word word.Type
   λ ts. type_kind_by (head_token ts) ts
 
+-- [Parameters]
 unfoldable pub parameters_if_any : Parser (List Parameter)
 parameters_if_any = λ ts. if sees mark.LeftParen ts then parameters ts else Some ([], ts)
 
+-- a template's definition
 unfoldable pub def_template : Parser DefinitionKind
 def_template = do
   expect_word word.Template
@@ -178,15 +201,18 @@ def_template = do
   t ← a_template
   pure (kind.Template (record { type_name = n; name = bytes; parameters = ps; template = t }))
 
+-- 'runs' 'on' Id
 unfoldable pub runs_on : Parser (List ℕ)
 runs_on = do
   expect_word word.Runs
   expect_word word.On
   name
 
+-- ['runs' 'on' Id]
 unfoldable pub runs_on_if_any : Parser (Option (List ℕ))
 runs_on_if_any = λ ts. if sees_word word.Runs ts then (do c ← runs_on; pure (Some c)) ts else Some (None, ts)
 
+-- ['return' Type]
 unfoldable pub result_type : Parser (Option TypeName)
 result_type = do
   found ← eat_word word.Return
@@ -200,6 +226,7 @@ signature w = do
   ps ← parameters
   pure (bytes, ps)
 
+-- a function
 unfoldable pub def_function : Parser DefinitionKind
 def_function = do
   expect_word word.Function
@@ -210,6 +237,7 @@ def_function = do
   ss ← a_block
   pure (kind.Function (record { name = bytes; parameters = ps; runs_on = component; returns = result; body = ss }))
 
+-- an altstep
 unfoldable pub def_altstep : Parser DefinitionKind
 def_altstep = do
   expect_word word.Altstep
@@ -219,6 +247,7 @@ def_altstep = do
   bs ← the_branches
   pure (kind.Altstep (record { name = bytes; parameters = ps; runs_on = component; branches = bs }))
 
+-- ['system' Id]
 unfoldable pub system_type : Parser (Option (List ℕ))
 system_type = do
   found ← eat_word word.System
@@ -233,6 +262,7 @@ testcase_name = do
   expect mark.RightParen
   pure bytes
 
+-- a test case
 unfoldable pub def_testcase : Parser DefinitionKind
 def_testcase = do
   expect_word word.Testcase
@@ -244,6 +274,7 @@ def_testcase = do
   ss ← a_block
   pure (kind.Testcase (record { name = bytes; runs_on = component; system = system; body = ss }))
 
+-- what is defined, by its first token
 abbrev pub kind_by : Option Token → Parser DefinitionKind
 kind_by (Some (token.Word word.Type)) = type_kind
 kind_by (Some (token.Word word.Const)) = do
@@ -255,9 +286,11 @@ kind_by (Some (token.Word word.Altstep)) = def_altstep
 kind_by (Some (token.Word word.Testcase)) = def_testcase
 kind_by _ = refuse
 
+-- what is defined
 unfoldable pub a_kind : Parser DefinitionKind
 a_kind ts = kind_by (head_token ts) ts
 
+-- a definition at its place
 unfoldable pub definition : Parser Definition
 definition = do
   place ← here

@@ -1,3 +1,4 @@
+-- Levels of operators as numbers, for the measure of the recursion.
 use Rattle.std.specs.Prelude.{ℕ}
 use Rattle.ttcn_syntax.specs.declared.operator.Level.{Level}
 use Rattle.ttcn_syntax.specs.declared.operator.Level.TheVariants.{Or, Xor, And, Not, Equality, Order, Sum, Product, Sign}

@@ -1,0 +1,9 @@
+pub mod Actions
+pub mod Declarations
+pub mod Definitions
+pub mod Events
+pub mod Expressions
+pub mod Reading
+pub mod Statements
+pub mod Templates
+pub mod Values
