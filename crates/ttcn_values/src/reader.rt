@@ -1,11 +1,13 @@
 //! Who reads: a frame, or a constant or a template of the module on its behalf.
+mod constants;
 mod expression;
+mod named_constants;
 mod names;
 mod record;
 mod template;
 mod value;
 
-use crate::{Frame, Value};
+use crate::{Fault, Frame, Value};
 use ttcn_syntax::Parameter;
 
 /// The names that are visible, beside those of the module.
@@ -19,12 +21,22 @@ pub(crate) enum Visible<'a> {
     Parameters(&'a [Parameter], &'a [Value]),
 }
 
+/// What a constant of the module gives, by the position of its declaration and its own in it.
+#[derive(Drop)]
+pub(crate) struct ConstantResult {
+    pub(crate) at: usize,
+    pub(crate) item: usize,
+    pub(crate) result: Result<Value, Fault>,
+}
+
 /// A frame, the names that are visible, and how long chains of constants and templates may still be.
 #[derive(Clone, Copy)]
 pub(crate) struct Reader<'a> {
     pub(crate) frame: &'a Frame<'a>,
     pub(crate) visible: Visible<'a>,
     pub(crate) depth: usize,
+    /// What constants give, of those that were evaluated before.
+    pub(crate) constants: &'a [ConstantResult],
 }
 
 /// What a reference is read for.

@@ -3,7 +3,7 @@ ghost use Rattle.std.specs.Prelude.{◌≡◌, None, Some, map};
 ghost use Rattle.std.specs.Option.{option_map};
 ghost use Rattle.ttcn_syntax.specs.declared.tree.expression.Expr.{out-Expr};
 ghost use Rattle.check_expressions.specs.Templates.{bare_name};
-ghost use Rattle.ttcn_values.specs.Frames.{read_by};
+ghost use Rattle.ttcn_values.specs.Frames.{KnowsConstants, read_by};
 ghost use Rattle.ttcn_values.specs.Outcomes.{Gives, GivesBy};
 ghost use Rattle.ttcn_values.specs.Templates as spec;
 
@@ -61,6 +61,7 @@ impl Reader<'_> {
     /// What an end of a range gives.
     #[tactic(auto, using(crate::proofs::Outcomes::outcome_forms))]
     fn bound(&self, alloc: Global, bound: &Bound) -> Result<Option<i64>, Fault>
+        requires { KnowsConstants self.now }
         ensures { Gives (spec.at_bound (read_by self.now) bound.now) result }
     {
         let Bound::Expr(expr) = bound else {
@@ -75,6 +76,7 @@ impl Reader<'_> {
     /// What a range gives.
     #[tactic(auto, using(crate::proofs::Outcomes::outcome_forms))]
     fn range(&self, alloc: Global, low: &Bound, high: &Bound) -> Result<Template, Fault>
+        requires { KnowsConstants self.now }
         ensures { Gives (spec.at_range (read_by self.now) low.now high.now) result }
     {
         let low = self.bound(alloc, low)?;
@@ -85,6 +87,7 @@ impl Reader<'_> {
     /// What an expression gives that names no template.
     #[tactic(auto, using(crate::proofs::Outcomes::outcome_forms))]
     fn pattern(&self, alloc: Global, expr: &Expr) -> Result<Template, Fault>
+        requires { KnowsConstants self.now }
         ensures { Gives (spec.at_name (read_by self.now) expr.now None) result }
     {
         let value = self.evaluate(alloc, expr)?;
@@ -102,6 +105,7 @@ impl Reader<'_> {
         parameters: &[Parameter],
         given: &[WrittenValue],
     ) -> Result<Vec<Value>, Fault>
+        requires { KnowsConstants self.now }
         ensures { GivesBy (λ values. values.items) (spec.arguments (read_by self.now) parameters.now given.now) result }
     {
         if given.len() != parameters.len() {
@@ -118,6 +122,7 @@ impl Reader<'_> {
     /// What a template of the module gives with arguments.
     #[cycle(templates)]
     fn called(&self, alloc: Global, at: usize, given: &[WrittenValue]) -> Result<Template, Fault>
+        requires { KnowsConstants self.now }
         ensures { Gives (spec.template_called (read_by self.now) (Some at) given.now) result }
     {
         let Some(template) = self.frame.definitions.template(at) else {
@@ -132,6 +137,7 @@ impl Reader<'_> {
             frame: self.frame,
             visible: Visible::Parameters(parameters, values.as_slice()),
             depth,
+            constants: &[],
         };
         let wanted = self.frame.definitions.resolved(&template.type_name);
         reader.template(alloc, &template.template, wanted)
@@ -146,6 +152,7 @@ impl Reader<'_> {
         template: &Written,
         wanted: Option<DataType>,
     ) -> Result<Template, Fault>
+        requires { KnowsConstants self.now }
         ensures { Gives (spec.template_wanted template.now (read_by self.now) wanted) result }
     {
         let found = self.body(alloc, &template.body, wanted)?;
@@ -163,6 +170,7 @@ impl Reader<'_> {
         body: &TemplateBody,
         wanted: Option<DataType>,
     ) -> Result<Template, Fault>
+        requires { KnowsConstants self.now }
         ensures { Gives (spec.body_wanted body.now (read_by self.now) wanted) result }
     {
         match body {
@@ -209,6 +217,7 @@ impl Reader<'_> {
         parts: &[Written],
         wanted: Option<DataType>,
     ) -> Result<Seq<Template>, Fault>
+        requires { KnowsConstants self.now }
         ensures { Gives (spec.parts_of (read_by self.now) wanted (map spec.template_wanted parts.now)) result }
     {
         let mut templates = Vec::with_capacity(alloc, parts.len())?;
@@ -226,6 +235,7 @@ impl Reader<'_> {
         fields: &[Field],
         elements: &[Written],
     ) -> Result<Seq<Template>, Fault>
+        requires { KnowsConstants self.now }
         ensures { Gives (spec.in_order (read_by self.now) fields.now (map spec.template_wanted elements.now)) result }
     {
         if elements.len() != fields.len() {
@@ -247,6 +257,7 @@ impl Reader<'_> {
         fields: &[Field],
         elements: &[FieldTemplate],
     ) -> Result<Seq<Template>, Fault>
+        requires { KnowsConstants self.now }
         ensures { Gives (spec.by_name (read_by self.now) fields.now (map spec.field_template elements.now)) result }
     {
         let mut templates = Vec::with_capacity(alloc, fields.len())?;

@@ -57,7 +57,7 @@ called-template-requires-2 t c =
     let is : weight c.args.self.now.depth c.args.self.now.frame.now.definitions.now ≡ t = c.decreases in
     let below = weight_next c.args.self.now.frame.now.definitions.now c.args.at c.in-Some.template.now c.args.self.now.depth c.in-Some-checked_sub.depth
     (sym c.in-Some.ensures) (omega (arith, c.in-Some-checked_sub.ensures)) in
-    (rw is at below, tt)
+    (rw is at below, λ k d within. absurd (omega (arith, within)))
 
 pub called-returns : goal.called-returns
 called-returns t c =
@@ -117,7 +117,7 @@ pub template_by_name-template-requires : goal.template_by_name-template-requires
 template_by_name-template-requires t c =
     let within = found_within the_size (λ e. bytes_eq (out-FieldTemplate e).name c.field-item.result.name) c.args.elements.now c.in-Some.element.now (sym c.in-Some.ensures) in
     let larger = element_larger c.in-Some.element.now in
-    (omega (arith, c.decreases), tt)
+    (omega (arith, c.decreases), c.requires)
 
 pub body-returns-in_err-parts-in-Complement : goal.body-returns-in_err-parts-in-Complement
 body-returns-in_err-parts-in-Complement t c =
