@@ -1,4 +1,5 @@
 //! Who reads: a frame, or a constant or a template of the module on its behalf.
+mod build;
 mod constants;
 mod expression;
 mod named_constants;
@@ -7,8 +8,8 @@ mod record;
 mod template;
 mod value;
 
-use crate::{Fault, Frame, Value};
-use ttcn_syntax::Parameter;
+use crate::{Fault, Frame, Pattern, Value};
+use ttcn_syntax::{Parameter, Seq};
 
 /// The names that are visible, beside those of the module.
 #[derive(Clone, Copy)]
@@ -54,4 +55,20 @@ pub(crate) enum Origin<'a> {
     Constant(usize, usize),
     Made(Option<Value>),
     Kept(Option<&'a Value>),
+}
+
+/// A step in which templates are built, which changes a list of those so far.
+#[derive(Drop)]
+pub(crate) enum Step {
+    /// One more, which names no template.
+    Plain(Pattern),
+    /// One more: what the template of the module at a position gives with these arguments.
+    Call(usize, Seq<Value>),
+    /// The last so many become the parts of one.
+    Complement(usize),
+    List(usize),
+    /// The same, of the record at a position.
+    Record(usize, usize),
+    /// `ifpresent` stands behind the last one.
+    Ifpresent,
 }
