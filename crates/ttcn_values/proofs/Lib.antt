@@ -1,6 +1,7 @@
 pub mod BasicEntriesLemmas
 pub mod BasicEvaluationLemmas
 pub mod Bounds
+pub mod BuildingLemmas
 pub mod Chained
 pub mod ConstantBounds
 pub mod Each
@@ -12,6 +13,7 @@ pub mod Lists
 pub mod LiteralForms
 pub mod MatchForms
 pub mod Outcomes
+pub mod Plans
 pub mod Sending
 pub mod TemplateCalls
 pub mod TemplateEquality

@@ -5,22 +5,19 @@ use Rattle.std.specs.List.{find, zip}
 use Rattle.std.specs.Option.{option_map}
 use Rattle.ttcn_syntax.specs.declared.tree.definition.Field.{Field}
 use Rattle.ttcn_syntax.specs.declared.tree.template.FieldTemplate.{FieldTemplate, fold_out-FieldTemplate, out-FieldTemplate}
-use Rattle.ttcn_syntax.specs.declared.tree.template.Template.{Template}
+use Rattle.ttcn_syntax.specs.declared.tree.template.Template.{Template, fold_out-Template, out-Template}
 use Rattle.ttcn_syntax.specs.declared.tree.template.TemplateBody.{TemplateBody}
 use Rattle.ttcn_syntax.specs.declared.tree.template.TemplateBody.TheFolds.{fold-roll-TemplateBody}
 use Rattle.ttcn_syntax.specs.declared.tree.template.TemplateBody.TheOpen.{TemplateBody-F}
 use Rattle.ttcn_syntax.specs.declared.tree.template.TemplateBody.TheVariants as form
-use Rattle.ttcn_syntax.specs.declared.tree.value.Call.{Call}
-use Rattle.ttcn_syntax.specs.declared.tree.value.Value as written
-use Rattle.check_scope.specs.Names.{fields_at, module_names, resolved}
+use Rattle.check_scope.specs.Names.{module_names, resolved}
 use Rattle.check_scope.specs.declared.types.DataType.{DataType}
 use Rattle.ttcn_values.proofs.Each.{if_as_long}
 use Rattle.ttcn_values.proofs.Lists.{find_among}
 use Rattle.ttcn_values.specs.Frames.{read_by}
-use Rattle.ttcn_values.specs.Literals.{wanted_record}
 use Rattle.ttcn_values.specs.Outcomes.{Outcome, Yields, each, outcome_map, unmet}
 use Rattle.ttcn_values.specs.Readings.{Reading}
-use Rattle.ttcn_values.specs.Templates.{Wanted, body_step, body_wanted, by_name, element, element_named, field_template, field_template_step, in_order, parts_of, plain, record_at, template_called, template_of_name, template_step, template_wanted}
+use Rattle.ttcn_values.specs.Templates.{Wanted, body_step, body_wanted, element, element_named, field_template, field_template_step, in_order, parts_of, plain, template_step, template_wanted, with_ifpresent}
 use Rattle.ttcn_values.specs.declared.reader.Reader.{Reader}
 use Rattle.ttcn_values.specs.declared.template.Pattern.TheVariants as pattern
 use Rattle.ttcn_values.specs.declared.template.Template.{Template as Found}
@@ -28,7 +25,7 @@ use Rattle.ttcn_values.specs.declared.template.Template.{Template as Found}
 abbrev Part : Type 0
 Part = List ℕ × Wanted
 
--- ---- parts and calls
+-- ---- parts
 
 module _ (reading : Reading) (wanted : Option DataType) (body : TemplateBody) where
   pub body_of_complement : (parts slice : List Template) (o : Outcome (List Found)) → body ≡ form.Complement parts → slice ≡ parts
@@ -45,34 +42,22 @@ module _ (reading : Reading) (wanted : Option DataType) (body : TemplateBody) wh
       ∙ ap (λ ps. outcome_map (λ ps. plain (pattern.List ps)) (parts_of reading wanted (map template_wanted ps))) (sym is_slice)
       ∙ ap (outcome_map (λ ps. plain (pattern.List ps))) gives
 
-  pub body_of_call : (call : Call) (at : ℕ) (slice : List written.Value) → body ≡ form.Call call → template_of_name reading (Some call.name) ≡ Some at → slice ≡ call.arguments
-      → body_wanted body reading wanted ≡ template_called reading (Some at) slice
-  body_of_call call at slice is means is_slice =
-      ap (λ (w : Wanted). w reading wanted) (ap body_wanted (is ∙ sym (form.rolls-Call call)) ∙ fold-roll-TemplateBody Wanted Part Wanted body_step field_template_step template_step (TemplateBody-F.Call call))
-      ∙ ap (λ o. template_called reading o call.arguments) means
-      ∙ ap (template_called reading (Some at)) (sym is_slice)
+-- ---- patterns that hold no templates
 
--- ---- records
+module _ (reading : Reading) (wanted : Option DataType) (body : TemplateBody) where
+  pub body_of_any : body ≡ form.Any → body_wanted body reading wanted ≡ Yields (plain pattern.Any)
+  body_of_any is = ap (λ (w : Wanted). w reading wanted) (ap body_wanted (is ∙ sym form.rolls-Any) ∙ fold-roll-TemplateBody Wanted Part Wanted body_step field_template_step template_step TemplateBody-F.Any)
 
-module _ (reader : Reader) (wanted : Option DataType) (at : ℕ) (fields : List Field) (is_wanted : wanted_record wanted ≡ Yields at)
-    (are_fields : fields ≡ fields_at reader.frame.now.definitions.now at) where
-  pub body_of_listed : (body : TemplateBody) (parts slice : List Template) (o : Outcome (List Found)) → body ≡ form.Listed parts → slice ≡ parts
-      → in_order (read_by reader) fields (map template_wanted slice) ≡ o → body_wanted body (read_by reader) wanted ≡ outcome_map (λ ps. plain (pattern.Record at ps)) o
-  body_of_listed body parts slice o is is_slice gives =
-      ap (λ (w : Wanted). w (read_by reader) wanted) (ap body_wanted (is ∙ sym (form.rolls-Listed parts)) ∙ fold-roll-TemplateBody Wanted Part Wanted body_step field_template_step template_step (TemplateBody-F.Listed parts))
-      ∙ ap (λ r. record_at r (λ at. in_order (read_by reader) (fields_at (read_by reader).definitions at) (map template_wanted parts))) is_wanted
-      ∙ ap (λ fs. outcome_map (λ ps. plain (pattern.Record at ps)) (in_order (read_by reader) fs (map template_wanted parts))) (sym are_fields)
-      ∙ ap (λ ps. outcome_map (λ ps. plain (pattern.Record at ps)) (in_order (read_by reader) fields (map template_wanted ps))) (sym is_slice)
-      ∙ ap (outcome_map (λ ps. plain (pattern.Record at ps))) gives
+  pub body_of_any_or_omit : body ≡ form.AnyOrOmit → body_wanted body reading wanted ≡ Yields (plain pattern.AnyOrOmit)
+  body_of_any_or_omit is = ap (λ (w : Wanted). w reading wanted) (ap body_wanted (is ∙ sym form.rolls-AnyOrOmit) ∙ fold-roll-TemplateBody Wanted Part Wanted body_step field_template_step template_step TemplateBody-F.AnyOrOmit)
 
-  pub body_of_assigned : (body : TemplateBody) (parts slice : List FieldTemplate) (o : Outcome (List Found)) → body ≡ form.Assigned parts → slice ≡ parts
-      → by_name (read_by reader) fields (map field_template slice) ≡ o → body_wanted body (read_by reader) wanted ≡ outcome_map (λ ps. plain (pattern.Record at ps)) o
-  body_of_assigned body parts slice o is is_slice gives =
-      ap (λ (w : Wanted). w (read_by reader) wanted) (ap body_wanted (is ∙ sym (form.rolls-Assigned parts)) ∙ fold-roll-TemplateBody Wanted Part Wanted body_step field_template_step template_step (TemplateBody-F.Assigned parts))
-      ∙ ap (λ r. record_at r (λ at. by_name (read_by reader) (fields_at (read_by reader).definitions at) (map field_template parts))) is_wanted
-      ∙ ap (λ fs. outcome_map (λ ps. plain (pattern.Record at ps)) (by_name (read_by reader) fs (map field_template parts))) (sym are_fields)
-      ∙ ap (λ ps. outcome_map (λ ps. plain (pattern.Record at ps)) (by_name (read_by reader) fields (map field_template ps))) (sym is_slice)
-      ∙ ap (outcome_map (λ ps. plain (pattern.Record at ps))) gives
+  pub body_of_omit : body ≡ form.Omit → body_wanted body reading wanted ≡ Yields (plain pattern.Omit)
+  body_of_omit is = ap (λ (w : Wanted). w reading wanted) (ap body_wanted (is ∙ sym form.rolls-Omit) ∙ fold-roll-TemplateBody Wanted Part Wanted body_step field_template_step template_step TemplateBody-F.Omit)
+
+-- ---- `ifpresent`
+
+pub wanted_out : (t : Template) (reading : Reading) (wanted : Option DataType) → template_wanted t reading wanted ≡ outcome_map (with_ifpresent (out-Template t).ifpresent) (body_wanted (out-Template t).body reading wanted)
+wanted_out t reading wanted = ap (λ (w : Wanted). w reading wanted) (fold_out-Template Wanted Part Wanted body_step field_template_step template_step t)
 
 -- ---- elements by the order of the fields
 

@@ -1,9 +1,9 @@
 -- What the operators give (ES 201 873-1, 7.1). Values that an operator doesn't take make a dynamic error, so that each expression has a meaning; a checked module has none of these.
-use Rattle.std.specs.Prelude.{ℤ, ◌+ℤ◌, ◌-ℤ◌, ◌*ℤ◌, neg_ℤ, Bool, false, ◌&&◌, ◌||◌, not, Result, Ok, Err, int_lt, int_div}
+use Rattle.std.specs.Prelude.{ℤ, neg_ℤ, Bool, false, ◌&&◌, ◌||◌, not, Result, Ok, Err, int_lt}
 use Rattle.std.specs.Ordering.{int_eq}
 use mathlib.Core.Bool.{beq}
 use Rattle.ttcn_syntax.specs.declared.operator.Operator.{Operator}
-use Rattle.ttcn_syntax.specs.declared.operator.Operator.TheVariants.{Or, Xor, And, Equal, NotEqual, Less, Greater, LessEqual, GreaterEqual, Add, Subtract, Multiply, Divide, Mod, Rem}
+use Rattle.ttcn_syntax.specs.declared.operator.Operator.TheVariants.{Or, Xor, And, Equal, NotEqual, Less, Greater, LessEqual, GreaterEqual}
 use Rattle.ttcn_syntax.specs.declared.operator.Sign.{Sign}
 use Rattle.ttcn_syntax.specs.declared.operator.Sign.TheVariants.{Plus, Minus}
 use Rattle.ttcn_values.specs.BasicWhole.{fitting}

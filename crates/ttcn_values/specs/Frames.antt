@@ -1,17 +1,18 @@
 -- The readings that frames stand for.
-use Rattle.std.specs.Prelude.{ℕ, Bool, true, false, List, Option, None, bytes_eq}
+use Rattle.std.specs.Prelude.{ℕ, Bool, true, false, All, List, Option, None, bytes_eq}
 use Rattle.std.specs.List.{find, list_any}
 use Rattle.std.specs.Option.{option_map, option_or}
 use Rattle.ttcn_syntax.specs.declared.tree.definition.Definition.{Definition}
 use Rattle.ttcn_syntax.specs.declared.tree.expression.Reference.{Reference}
 pub use Rattle.ttcn_types.specs.Limits.{longest_chain}
 use Rattle.ttcn_values.specs.Chains.{given_to, within_chains}
-use Rattle.ttcn_values.specs.Outcomes.{Outcome, or_error, or_unmet, outcome_and_then, unmet}
+use Rattle.ttcn_values.specs.Outcomes.{Gives, Outcome, or_error, or_unmet, outcome_and_then, unmet}
 use Rattle.ttcn_values.specs.Readings.{Reading, along, named, presence}
 use Rattle.ttcn_values.specs.contracts.path.PathPartialEq.TheImpl as equality
 use Rattle.ttcn_values.specs.declared.frame.Frame.{Frame}
 use Rattle.ttcn_values.specs.declared.frame.TimerState.{TimerState}
 use Rattle.ttcn_values.specs.declared.frame.TimerState.TheVariants as timer
+use Rattle.ttcn_values.specs.declared.reader.ConstantResult.{ConstantResult}
 use Rattle.ttcn_values.specs.declared.reader.Origin.{Origin}
 use Rattle.ttcn_values.specs.declared.reader.Origin.TheVariants as origin
 use Rattle.ttcn_values.specs.declared.reader.Reader.{Reader}
@@ -72,6 +73,14 @@ seen_by seen facts = record {
 -- the reading that a reader has
 abbrev pub read_by : Reader → Reading
 read_by reader = within_chains reader.depth (seen_by reader.visible (facts reader.frame.now))
+
+-- each of these constants gives this in a reading
+abbrev pub AreResults : Reading → List ConstantResult → Type 0
+AreResults reading constants = All (λ constant. Gives (reading.constants constant.at constant.item) constant.result) constants
+
+-- the constants that a reader knows give what it knows of them
+abbrev pub KnowsConstants : Reader → Type 0
+KnowsConstants reader = AreResults (read_by reader) reader.constants.now
 
 -- what a value gives for a use, with fields behind it
 abbrev pub taken_for : Use → List Definition → List (List ℕ) → Outcome Value → Outcome Value

@@ -5,6 +5,7 @@ pub mod BasicPlace
 pub mod BasicSame
 pub mod BasicValues
 pub mod BasicWhole
+pub mod Building
 pub mod Chains
 pub mod Evaluation
 pub mod Frames

@@ -1,7 +1,7 @@
 //! What expressions, values and templates of the text give (ES 201 873-1, sections 7 and 15).
 ghost use Rattle.ttcn_values.specs.Evaluation.{value_of};
 ghost use Rattle.std.specs.Prelude.{◌≡◌};
-ghost use Rattle.ttcn_values.specs.Frames.{read_by, reading};
+ghost use Rattle.ttcn_values.specs.Frames.{KnowsConstants, read_by, reading};
 ghost use Rattle.ttcn_values.specs.Literals.{value_wanted};
 ghost use Rattle.ttcn_values.specs.Outcomes.{Gives};
 ghost use Rattle.ttcn_values.specs.Templates.{template_wanted};
@@ -18,12 +18,14 @@ const LONGEST_CHAIN: usize = 200;
 impl<'a> Reader<'a> {
     /// A frame reads for itself.
     fn of(frame: &'a Frame<'a>) -> Reader<'a>
-        ensures { read_by result ≡ reading frame.now }
+        ensures reads { read_by result ≡ reading frame.now }
+        ensures knows { KnowsConstants result }
     {
         Reader {
             frame,
             visible: Visible::Frame,
             depth: LONGEST_CHAIN,
+            constants: &[],
         }
     }
 }

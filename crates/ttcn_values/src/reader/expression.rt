@@ -1,12 +1,12 @@
 //! What an expression gives (ES 201 873-1, section 7).
 ghost use Rattle.std.specs.Prelude.{◌≡◌, map};
 ghost use Rattle.ttcn_values.specs.Evaluation.{after, joined, link, value_of};
-ghost use Rattle.ttcn_values.specs.Frames.{read_by, wanted_of};
+ghost use Rattle.ttcn_values.specs.Frames.{KnowsConstants, read_by, wanted_of};
 ghost use Rattle.ttcn_values.specs.Outcomes.{Answers, Gives, Yields};
 ghost use Rattle.ttcn_values.specs.Readings.{component_at, component_runs};
 
 use super::record::{kept, made};
-use super::{Origin, Reader, Use, Visible};
+use super::{Origin, Reader, Use};
 use crate::operators::{apply, is_decided, negate, number, sign};
 use crate::{Fault, Value};
 use std::alloc::Global;
@@ -28,6 +28,7 @@ impl Reader<'_> {
     #[cycle(reader)]
     #[tactic(auto, using(crate::proofs::Outcomes::outcome_forms))]
     pub(crate) fn evaluate(&self, alloc: Global, expr: &Expr) -> Result<Value, Fault>
+        requires { KnowsConstants self.now }
         ensures { Gives (value_of expr.now (read_by self.now)) result }
     {
         match expr {
@@ -52,6 +53,7 @@ impl Reader<'_> {
     /// What operators and operands behind a value give.
     #[cycle(reader)]
     fn chain(&self, alloc: Global, first: Value, links: &[Link]) -> Result<Value, Fault>
+        requires { KnowsConstants self.now }
         ensures { Gives (after (read_by self.now) (Yields first) (map link links.now)) result }
     {
         let mut value = first;
@@ -65,6 +67,7 @@ impl Reader<'_> {
     #[cycle(reader)]
     #[tactic(auto, using(crate::proofs::Outcomes::outcome_forms))]
     fn link(&self, alloc: Global, left: Value, next: &Link) -> Result<Value, Fault>
+        requires { KnowsConstants self.now }
         ensures { Gives (joined (read_by self.now) (link next.now) left) result }
     {
         if is_decided(next.operator, &left) {
@@ -77,6 +80,7 @@ impl Reader<'_> {
     /// A component, or what a name stands for.
     #[cycle(reader)]
     fn component(&self, alloc: Global, component: &ComponentRef) -> Result<Value, Fault>
+        requires { KnowsConstants self.now }
         ensures { Gives (component_at (read_by self.now) component.now) result }
     {
         match component {
@@ -90,37 +94,22 @@ impl Reader<'_> {
     #[cycle(reader)]
     #[tactic(auto, using(crate::proofs::Uses::taken_of_failure, crate::proofs::Uses::taken_alike))]
     fn read(&self, alloc: Global, reference: &Reference, wanted: Use) -> Result<Value, Fault>
+        requires { KnowsConstants self.now }
         ensures { Gives (wanted_of wanted (read_by self.now) reference.now) result }
     {
         let definitions = self.frame.definitions;
         let fields = reference.fields.as_slice();
         match self.origin(&reference.name) {
-            Origin::Constant(at, item) => {
-                let value = self.constant(alloc, at, item)?;
-                made(alloc, definitions, wanted, Some(value), fields)
-            }
+            Origin::Constant(at, item) => match self.result_of(at, item) {
+                Some(Ok(value)) => kept(alloc, definitions, wanted, Some(value), fields),
+                Some(Err(fault)) => Err(*fault),
+                None => {
+                    let value = self.constant(alloc, at, item)?;
+                    made(alloc, definitions, wanted, Some(value), fields)
+                }
+            },
             Origin::Made(value) => made(alloc, definitions, wanted, value, fields),
             Origin::Kept(value) => kept(alloc, definitions, wanted, value, fields),
         }
-    }
-
-    /// What a constant of the module gives. It is evaluated anew each time that it is named.
-    #[cycle(reader)]
-    fn constant(&self, alloc: Global, at: usize, item: usize) -> Result<Value, Fault>
-        ensures { Gives ((read_by self.now).constants at item) result }
-    {
-        let definitions = self.frame.definitions;
-        let Some(depth) = self.depth.checked_sub(1) else {
-            return Err(Fault::Dynamic);
-        };
-        let Some(constant) = definitions.constant(at, item) else {
-            return Err(Fault::Dynamic);
-        };
-        let reader = Reader {
-            frame: self.frame,
-            visible: Visible::Nothing,
-            depth,
-        };
-        reader.value(alloc, &constant.value, definitions.constants_type(at))
     }
 }

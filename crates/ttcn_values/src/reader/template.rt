@@ -1,32 +1,28 @@
-//! What stands where a template of a type is wanted (ES 201 873-1, section 15).
+//! What stands where a template of a type is wanted (ES 201 873-1, section 15): the steps in which it is built. Its
+//! expressions are evaluated where the steps are written down, and the templates that it names are built later.
 ghost use Rattle.std.specs.Prelude.{◌≡◌, None, Some, map};
 ghost use Rattle.std.specs.Option.{option_map};
 ghost use Rattle.ttcn_syntax.specs.declared.tree.expression.Expr.{out-Expr};
 ghost use Rattle.check_expressions.specs.Templates.{bare_name};
-ghost use Rattle.ttcn_values.specs.Frames.{read_by};
-ghost use Rattle.ttcn_values.specs.Outcomes.{Gives, GivesBy};
+ghost use Rattle.check_scope.specs.Names.{fields_at};
+ghost use Rattle.ttcn_values.specs.Building.{Plans, alone};
+ghost use Rattle.ttcn_values.specs.Frames.{KnowsConstants, read_by};
+ghost use Rattle.ttcn_values.specs.Literals.{wanted_record};
+ghost use Rattle.ttcn_values.specs.Outcomes.{Gives, GivesBy, Yields, outcome_map};
+ghost use Rattle.ttcn_values.specs.Readings.{Reading};
 ghost use Rattle.ttcn_values.specs.Templates as spec;
+ghost use Rattle.ttcn_values.specs.declared.template.Pattern.TheVariants as pattern;
 
 use super::value::wanted_record;
-use super::{Reader, Visible};
+use super::{Reader, Step};
 use crate::named::first_of;
-use crate::{Fault, Pattern, Template, Value};
+use crate::{Fault, Pattern, Value};
 use std::alloc::Global;
 use ttcn_syntax::{
     Bound, ComponentRef, Expr, Field, FieldTemplate, Name, Parameter, Seq, Template as Written,
     TemplateBody, Value as WrittenValue,
 };
 use ttcn_types::{DataType, Meaning};
-
-/// A pattern without `ifpresent`.
-fn plain(pattern: Pattern) -> Template
-    ensures { result ≡ spec.plain pattern }
-{
-    Template {
-        pattern,
-        ifpresent: false,
-    }
-}
 
 /// The name that an expression is and nothing more.
 fn bare_name(expr: &Expr) -> Option<&Name>
@@ -61,6 +57,7 @@ impl Reader<'_> {
     /// What an end of a range gives.
     #[tactic(auto, using(crate::proofs::Outcomes::outcome_forms))]
     fn bound(&self, alloc: Global, bound: &Bound) -> Result<Option<i64>, Fault>
+        requires { KnowsConstants self.now }
         ensures { Gives (spec.at_bound (read_by self.now) bound.now) result }
     {
         let Bound::Expr(expr) = bound else {
@@ -74,22 +71,24 @@ impl Reader<'_> {
 
     /// What a range gives.
     #[tactic(auto, using(crate::proofs::Outcomes::outcome_forms))]
-    fn range(&self, alloc: Global, low: &Bound, high: &Bound) -> Result<Template, Fault>
-        ensures { Gives (spec.at_range (read_by self.now) low.now high.now) result }
+    fn range(&self, alloc: Global, low: &Bound, high: &Bound) -> Result<Pattern, Fault>
+        requires { KnowsConstants self.now }
+        ensures { GivesBy spec.plain (spec.at_range (read_by self.now) low.now high.now) result }
     {
         let low = self.bound(alloc, low)?;
         let high = self.bound(alloc, high)?;
-        Ok(plain(Pattern::Range(low, high)))
+        Ok(Pattern::Range(low, high))
     }
 
     /// What an expression gives that names no template.
     #[tactic(auto, using(crate::proofs::Outcomes::outcome_forms))]
-    fn pattern(&self, alloc: Global, expr: &Expr) -> Result<Template, Fault>
-        ensures { Gives (spec.at_name (read_by self.now) expr.now None) result }
+    fn pattern(&self, alloc: Global, expr: &Expr) -> Result<Pattern, Fault>
+        requires { KnowsConstants self.now }
+        ensures { GivesBy spec.plain (spec.at_name (read_by self.now) expr.now None) result }
     {
         let value = self.evaluate(alloc, expr)?;
         if value.is_complete() {
-            Ok(plain(Pattern::Value(value)))
+            Ok(Pattern::Value(value))
         } else {
             Err(Fault::Dynamic)
         }
@@ -102,6 +101,7 @@ impl Reader<'_> {
         parameters: &[Parameter],
         given: &[WrittenValue],
     ) -> Result<Vec<Value>, Fault>
+        requires { KnowsConstants self.now }
         ensures { GivesBy (λ values. values.items) (spec.arguments (read_by self.now) parameters.now given.now) result }
     {
         if given.len() != parameters.len() {
@@ -115,148 +115,256 @@ impl Reader<'_> {
         Ok(values)
     }
 
-    /// What a template of the module gives with arguments.
-    #[cycle(templates)]
-    fn called(&self, alloc: Global, at: usize, given: &[WrittenValue]) -> Result<Template, Fault>
-        ensures { Gives (spec.template_called (read_by self.now) (Some at) given.now) result }
+    /// The template at a position, called with arguments.
+    fn plan_call(
+        &self,
+        alloc: Global,
+        at: Option<usize>,
+        given: &[WrittenValue],
+        steps: &mut Vec<Step>,
+    ) -> Result<(), Fault>
+        requires { KnowsConstants self.now }
+        ensures { Plans (read_by self.now) (outcome_map alone (spec.template_called (read_by self.now) at given.now)) steps.old.items steps.new.items result }
     {
+        let Some(at) = at else {
+            return Err(Fault::Dynamic);
+        };
         let Some(template) = self.frame.definitions.template(at) else {
             return Err(Fault::Dynamic);
         };
-        let parameters = template.parameters.as_slice();
-        let values = self.arguments(alloc, parameters, given)?;
-        let Some(depth) = self.depth.checked_sub(1) else {
-            return Err(Fault::Dynamic);
-        };
-        let reader = Reader {
-            frame: self.frame,
-            visible: Visible::Parameters(parameters, values.as_slice()),
-            depth,
-        };
-        let wanted = self.frame.definitions.resolved(&template.type_name);
-        reader.template(alloc, &template.template, wanted)
+        let values = self.arguments(alloc, template.parameters.as_slice(), given)?;
+        steps.push(Step::Call(at, Seq::from_vec(values)))?;
+        Ok(())
+    }
+
+    /// A range.
+    fn plan_range(
+        &self,
+        alloc: Global,
+        low: &Bound,
+        high: &Bound,
+        steps: &mut Vec<Step>,
+    ) -> Result<(), Fault>
+        requires { KnowsConstants self.now }
+        ensures { Plans (read_by self.now) (outcome_map alone (spec.at_range (read_by self.now) low.now high.now)) steps.old.items steps.new.items result }
+    {
+        let range = self.range(alloc, low, high)?;
+        steps.push(Step::Plain(range))?;
+        Ok(())
+    }
+
+    /// An expression, or the name of a template.
+    fn plan_expression(
+        &self,
+        alloc: Global,
+        expr: &Expr,
+        steps: &mut Vec<Step>,
+    ) -> Result<(), Fault>
+        requires { KnowsConstants self.now }
+        ensures { Plans (read_by self.now) (outcome_map alone (spec.at_name (read_by self.now) expr.now (spec.template_named (read_by self.now) expr.now))) steps.old.items steps.new.items result }
+    {
+        let named = self.template_named(expr);
+        if named.is_some() {
+            return self.plan_call(alloc, named, &[], steps);
+        }
+        let pattern = self.pattern(alloc, expr)?;
+        steps.push(Step::Plain(pattern))?;
+        Ok(())
     }
 
     /// The template of what stands where one of a type is wanted.
     #[cycle(templates)]
-    #[tactic(auto, using(crate::proofs::Outcomes::outcome_forms))]
-    pub(crate) fn template(
+    pub(super) fn plan(
         &self,
         alloc: Global,
         template: &Written,
         wanted: Option<DataType>,
-    ) -> Result<Template, Fault>
-        ensures { Gives (spec.template_wanted template.now (read_by self.now) wanted) result }
+        steps: &mut Vec<Step>,
+    ) -> Result<(), Fault>
+        requires { KnowsConstants self.now }
+        ensures { Plans (read_by self.now) (outcome_map alone (spec.template_wanted template.now (read_by self.now) wanted)) steps.old.items steps.new.items result }
     {
-        let found = self.body(alloc, &template.body, wanted)?;
-        Ok(Template {
-            pattern: found.pattern,
-            ifpresent: found.ifpresent || template.ifpresent,
-        })
+        self.plan_body(alloc, &template.body, wanted, steps)?;
+        if template.ifpresent {
+            steps.push(Step::Ifpresent)?;
+        }
+        Ok(())
     }
 
     /// The same, without its `ifpresent`.
     #[cycle(templates)]
-    fn body(
+    fn plan_body(
         &self,
         alloc: Global,
         body: &TemplateBody,
         wanted: Option<DataType>,
-    ) -> Result<Template, Fault>
-        ensures { Gives (spec.body_wanted body.now (read_by self.now) wanted) result }
+        steps: &mut Vec<Step>,
+    ) -> Result<(), Fault>
+        requires { KnowsConstants self.now }
+        ensures { Plans (read_by self.now) (outcome_map alone (spec.body_wanted body.now (read_by self.now) wanted)) steps.old.items steps.new.items result }
     {
         match body {
-            TemplateBody::Any => Ok(plain(Pattern::Any)),
-            TemplateBody::AnyOrOmit => Ok(plain(Pattern::AnyOrOmit)),
-            TemplateBody::Omit => Ok(plain(Pattern::Omit)),
+            TemplateBody::Any => put(Pattern::Any, steps),
+            TemplateBody::AnyOrOmit => put(Pattern::AnyOrOmit, steps),
+            TemplateBody::Omit => put(Pattern::Omit, steps),
             TemplateBody::Complement(parts) => {
-                let parts = self.parts(alloc, parts.as_slice(), wanted)?;
-                Ok(plain(Pattern::Complement(parts)))
+                self.plan_complement(alloc, parts.as_slice(), wanted, steps)
             }
-            TemplateBody::List(parts) => {
-                let parts = self.parts(alloc, parts.as_slice(), wanted)?;
-                Ok(plain(Pattern::List(parts)))
+            TemplateBody::List(parts) => self.plan_list(alloc, parts.as_slice(), wanted, steps),
+            TemplateBody::Range(low, high) => self.plan_range(alloc, low, high, steps),
+            TemplateBody::Call(call) => {
+                let named = self.template_of_name(&call.name);
+                self.plan_call(alloc, named, call.arguments.as_slice(), steps)
             }
-            TemplateBody::Range(low, high) => self.range(alloc, low, high),
-            TemplateBody::Call(call) => match self.template_of_name(&call.name) {
-                Some(at) => self.called(alloc, at, call.arguments.as_slice()),
-                None => Err(Fault::Dynamic),
-            },
-            TemplateBody::Expr(expr) => match self.template_named(expr) {
-                Some(at) => self.called(alloc, at, &[]),
-                None => self.pattern(alloc, expr),
-            },
+            TemplateBody::Expr(expr) => self.plan_expression(alloc, expr, steps),
             TemplateBody::Listed(parts) => {
-                let at = wanted_record(wanted)?;
-                let fields = self.frame.definitions.fields(at);
-                let parts = self.template_in_order(alloc, fields, parts.as_slice())?;
-                Ok(plain(Pattern::Record(at, parts)))
+                self.plan_in_order(alloc, wanted, parts.as_slice(), steps)
             }
             TemplateBody::Assigned(parts) => {
-                let at = wanted_record(wanted)?;
-                let fields = self.frame.definitions.fields(at);
-                let parts = self.template_by_name(alloc, fields, parts.as_slice())?;
-                Ok(plain(Pattern::Record(at, parts)))
+                self.plan_by_name(alloc, wanted, parts.as_slice(), steps)
             }
         }
     }
 
-    /// The templates of parts that stand for the same.
+    /// The values that parts don't match.
     #[cycle(templates)]
-    fn parts(
+    fn plan_complement(
         &self,
         alloc: Global,
         parts: &[Written],
         wanted: Option<DataType>,
-    ) -> Result<Seq<Template>, Fault>
-        ensures { Gives (spec.parts_of (read_by self.now) wanted (map spec.template_wanted parts.now)) result }
+        steps: &mut Vec<Step>,
+    ) -> Result<(), Fault>
+        requires { KnowsConstants self.now }
+        ensures { Plans (read_by self.now) (outcome_map (λ ps. alone (spec.plain (pattern.Complement ps))) (spec.parts_of (read_by self.now) wanted (map spec.template_wanted parts.now))) steps.old.items steps.new.items result }
     {
-        let mut templates = Vec::with_capacity(alloc, parts.len())?;
+        self.plan_parts(alloc, parts, wanted, steps)?;
+        steps.push(Step::Complement(parts.len()))?;
+        Ok(())
+    }
+
+    /// The values that one of the parts matches.
+    #[cycle(templates)]
+    fn plan_list(
+        &self,
+        alloc: Global,
+        parts: &[Written],
+        wanted: Option<DataType>,
+        steps: &mut Vec<Step>,
+    ) -> Result<(), Fault>
+        requires { KnowsConstants self.now }
+        ensures { Plans (read_by self.now) (outcome_map (λ ps. alone (spec.plain (pattern.List ps))) (spec.parts_of (read_by self.now) wanted (map spec.template_wanted parts.now))) steps.old.items steps.new.items result }
+    {
+        self.plan_parts(alloc, parts, wanted, steps)?;
+        steps.push(Step::List(parts.len()))?;
+        Ok(())
+    }
+
+    /// The templates of parts that stand for the same.
+    #[cycle(templates)]
+    fn plan_parts(
+        &self,
+        alloc: Global,
+        parts: &[Written],
+        wanted: Option<DataType>,
+        steps: &mut Vec<Step>,
+    ) -> Result<(), Fault>
+        requires { KnowsConstants self.now }
+        ensures { Plans (read_by self.now) (spec.parts_of (read_by self.now) wanted (map spec.template_wanted parts.now)) steps.old.items steps.new.items result }
+    {
         for part in parts {
-            templates.push(self.template(alloc, part, wanted)?)?;
+            self.plan(alloc, part, wanted, steps)?;
         }
-        Ok(Seq::from_vec(templates))
+        Ok(())
+    }
+
+    /// A record by the order of its fields.
+    #[cycle(templates)]
+    fn plan_in_order(
+        &self,
+        alloc: Global,
+        wanted: Option<DataType>,
+        elements: &[Written],
+        steps: &mut Vec<Step>,
+    ) -> Result<(), Fault>
+        requires { KnowsConstants self.now }
+        ensures { Plans (read_by self.now) (outcome_map alone (spec.record_at (wanted_record wanted) (λ at. spec.in_order (read_by self.now) (fields_at (read_by self.now).definitions at) (map spec.template_wanted elements.now)))) steps.old.items steps.new.items result }
+    {
+        let at = wanted_record(wanted)?;
+        let fields = self.frame.definitions.fields(at);
+        self.plan_elements(alloc, fields, elements, steps)?;
+        steps.push(Step::Record(at, fields.len()))?;
+        Ok(())
     }
 
     /// The elements of a record template by the order of the fields.
     #[cycle(templates)]
-    fn template_in_order(
+    fn plan_elements(
         &self,
         alloc: Global,
         fields: &[Field],
         elements: &[Written],
-    ) -> Result<Seq<Template>, Fault>
-        ensures { Gives (spec.in_order (read_by self.now) fields.now (map spec.template_wanted elements.now)) result }
+        steps: &mut Vec<Step>,
+    ) -> Result<(), Fault>
+        requires { KnowsConstants self.now }
+        ensures { Plans (read_by self.now) (spec.in_order (read_by self.now) fields.now (map spec.template_wanted elements.now)) steps.old.items steps.new.items result }
     {
         if elements.len() != fields.len() {
             return Err(Fault::Dynamic);
         }
-        let mut templates = Vec::with_capacity(alloc, fields.len())?;
         for (at, field) in fields.iter().enumerate() {
             let wanted = self.frame.definitions.resolved(&field.type_name);
-            templates.push(self.template(alloc, &elements[at], wanted)?)?;
+            self.plan(alloc, &elements[at], wanted, steps)?;
         }
-        Ok(Seq::from_vec(templates))
+        Ok(())
+    }
+
+    /// A record by the names of its fields.
+    #[cycle(templates)]
+    fn plan_by_name(
+        &self,
+        alloc: Global,
+        wanted: Option<DataType>,
+        elements: &[FieldTemplate],
+        steps: &mut Vec<Step>,
+    ) -> Result<(), Fault>
+        requires { KnowsConstants self.now }
+        ensures { Plans (read_by self.now) (outcome_map alone (spec.record_at (wanted_record wanted) (λ at. spec.by_name (read_by self.now) (fields_at (read_by self.now).definitions at) (map spec.field_template elements.now)))) steps.old.items steps.new.items result }
+    {
+        let at = wanted_record(wanted)?;
+        let fields = self.frame.definitions.fields(at);
+        self.plan_named(alloc, fields, elements, steps)?;
+        steps.push(Step::Record(at, fields.len()))?;
+        Ok(())
     }
 
     /// The elements of a record template by the names of the fields.
     #[cycle(templates)]
-    fn template_by_name(
+    fn plan_named(
         &self,
         alloc: Global,
         fields: &[Field],
         elements: &[FieldTemplate],
-    ) -> Result<Seq<Template>, Fault>
-        ensures { Gives (spec.by_name (read_by self.now) fields.now (map spec.field_template elements.now)) result }
+        steps: &mut Vec<Step>,
+    ) -> Result<(), Fault>
+        requires { KnowsConstants self.now }
+        ensures { Plans (read_by self.now) (spec.by_name (read_by self.now) fields.now (map spec.field_template elements.now)) steps.old.items steps.new.items result }
     {
-        let mut templates = Vec::with_capacity(alloc, fields.len())?;
         for field in fields {
             let Some(element) = first_of(elements, &field.name) else {
                 return Err(Fault::Dynamic);
             };
             let wanted = self.frame.definitions.resolved(&field.type_name);
-            templates.push(self.template(alloc, &element.template, wanted)?)?;
+            self.plan(alloc, &element.template, wanted, steps)?;
         }
-        Ok(Seq::from_vec(templates))
+        Ok(())
     }
+}
+
+/// A template that names no others.
+fn put(pattern: Pattern, steps: &mut Vec<Step>) -> Result<(), Fault>
+    ensures { (reading : Reading) → Plans reading (Yields (alone (spec.plain pattern))) steps.old.items steps.new.items result }
+{
+    steps.push(Step::Plain(pattern))?;
+    Ok(())
 }

@@ -1,6 +1,6 @@
 //! What stands where a value of a type is wanted (ES 201 873-1, sections 5.4 and 6.2).
 ghost use Rattle.std.specs.Prelude.{◌≡◌, map};
-ghost use Rattle.ttcn_values.specs.Frames.{read_by};
+ghost use Rattle.ttcn_values.specs.Frames.{KnowsConstants, read_by};
 ghost use Rattle.ttcn_values.specs.Literals as spec;
 ghost use Rattle.ttcn_values.specs.Outcomes.{Answers, Gives};
 
@@ -32,6 +32,7 @@ impl Reader<'_> {
         value: &Written,
         wanted: Option<DataType>,
     ) -> Result<Value, Fault>
+        requires { KnowsConstants self.now }
         ensures { Gives (spec.value_wanted value.now (read_by self.now) wanted) result }
     {
         match value {
@@ -60,6 +61,7 @@ impl Reader<'_> {
         fields: &[Field],
         elements: &[Written],
     ) -> Result<Seq<Option<Value>>, Fault>
+        requires { KnowsConstants self.now }
         ensures { Gives (spec.in_order (read_by self.now) fields.now (map spec.value_wanted elements.now)) result }
     {
         if elements.len() != fields.len() {
@@ -81,6 +83,7 @@ impl Reader<'_> {
         fields: &[Field],
         elements: &[FieldValue],
     ) -> Result<Seq<Option<Value>>, Fault>
+        requires { KnowsConstants self.now }
         ensures { Gives (spec.by_name (read_by self.now) fields.now (map spec.field_value elements.now)) result }
     {
         let mut values = Vec::with_capacity(alloc, fields.len())?;
@@ -98,6 +101,7 @@ impl Reader<'_> {
         field: &Field,
         elements: &[FieldValue],
     ) -> Result<Option<Value>, Fault>
+        requires { KnowsConstants self.now }
         ensures { Gives (spec.given_by_name (read_by self.now) (map spec.field_value elements.now) field.now) result }
     {
         let Some(element) = element_of(elements, &field.name) else {

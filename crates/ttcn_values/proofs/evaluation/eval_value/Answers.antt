@@ -4,4 +4,4 @@ use Rattle.ttcn_values.specs.Outcomes.{Gives}
 use Rattle.ttcn_values.proofs.evaluation.eval_value.Goals as goal
 
 pub returns : goal.returns
-returns c = subst (λ r. Gives (value_wanted c.args.value.now r c.args.wanted) c.value.result) c.of.ensures c.value.ensures
+returns c = subst (λ r. Gives (value_wanted c.args.value.now r c.args.wanted) c.value.result) c.of.ensures.reads c.value.ensures

@@ -1,4 +1,4 @@
-use Rattle.std.proofs.Common.{Some, ap, arith, map, sym, ◌∙◌}
+use Rattle.std.proofs.Common.{Some, ap, arith, map, subst, sym, ◌∙◌}
 use Rattle.std.proofs.lemmas.Result.{err_from_is_err_and}
 use Rattle.ttcn_values.proofs.Chained.{chain-fault, chain_of_fault}
 use Rattle.ttcn_values.proofs.ConstantBounds.{constant-below, constants_weight, found_value-below, item-below, level-below, link_weight, value_weight}
@@ -6,14 +6,16 @@ use Rattle.ttcn_values.proofs.Each.{beside-fault, beside-next}
 use Rattle.ttcn_values.proofs.LiteralForms.{assigned_fault, listed_fault, at_field, element_gives, given-none, given-some, order_is}
 use Rattle.ttcn_values.proofs.Outcomes.{passes_on}
 use Rattle.ttcn_values.specs.Evaluation.{value_of}
-use Rattle.ttcn_values.specs.Frames.{read_by}
+use Rattle.ttcn_values.specs.Chains.{within_chains}
+use Rattle.ttcn_values.specs.Frames.{AreResults, facts, read_by, seen_by}
 use Rattle.ttcn_values.specs.Literals as spec
 use Rattle.ttcn_values.specs.Outcomes.{Fails, Yields}
+use Rattle.ttcn_values.specs.declared.reader.Visible.TheVariants as visible
 use Rattle.ttcn_values.proofs.reader.Reader.+reader.Goals as goal
 
 pub chain-link-requires : goal.chain-link-requires
 chain-link-requires t c =
-    (omega (arith, c.decreases, item-below link_weight c.args.links.now c.loop-next.next-index c.next-item.result c.loop-next-test.true c.next-item.is), tt)
+    (omega (arith, c.decreases, item-below link_weight c.args.links.now c.loop-next.next-index c.next-item.result c.loop-next-test.true c.next-item.is), c.requires)
 
 pub chain-returns-in_err-value : goal.chain-returns-in_err-value
 chain-returns-in_err-value t c =
@@ -29,7 +31,7 @@ constant-value-requires t c =
           (omega (arith, taken.0, taken.1))
           (constant-below c.args.self.now.frame.now.definitions.now c.args.at c.args.item c.in-Some-constant.constant.now (sym (rw c.in-Some-constant.is at c.constant.ensures)))
           c.decreases,
-      tt,
+      subst (AreResults (within_chains c.in-Some.depth (seen_by visible.Nothing (facts c.args.self.now.frame.now)))) (sym c.as_slice.ensures.value) c.in_ok-constants.ensures,
     )
 
 pub element_named-returns-in_default : goal.element_named-returns-in_default
@@ -38,7 +40,7 @@ element_named-returns-in_default t c =
 
 pub element_named-value-requires : goal.element_named-value-requires
 element_named-value-requires t c =
-    (omega (arith, c.decreases, found_value-below _ c.args.elements.now c.in-Some.element.now (sym (rw c.in-Some.is at c.element_of.ensures))), tt)
+    (omega (arith, c.decreases, found_value-below _ c.args.elements.now c.in-Some.element.now (sym (rw c.in-Some.is at c.element_of.ensures))), c.requires)
 
 pub element_named-returns-in_err-value : goal.element_named-returns-in_err-value
 element_named-returns-in_err-value t c =
@@ -71,7 +73,7 @@ in_order-value-requires t c = (
     item-below value_weight c.args.elements.now c.loop-at.at c.index-elements-at.result
         (omega (arith, c.loop-at-test.true, c.loop-at.invariant.0)) c.index-elements-at.is,
   ),
-  tt,
+  c.requires,
 )
 
 pub in_order-returns-in_err-value : goal.in_order-returns-in_err-value

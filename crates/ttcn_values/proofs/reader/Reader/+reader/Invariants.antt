@@ -1,7 +1,7 @@
 use Rattle.std.proofs.Common.{◌≡◌, ◌+◌, drop, length, map}
 use Rattle.std.specs.List.{zip}
 use Rattle.ttcn_values.specs.Evaluation.{after, link}
-use Rattle.ttcn_values.specs.Frames.{read_by}
+use Rattle.ttcn_values.specs.Frames.{AreResults, read_by}
 use Rattle.ttcn_values.specs.Literals as spec
 use Rattle.ttcn_values.specs.Outcomes.{Yields, each}
 use Rattle.ttcn_values.proofs.ConstantBounds.{constants_weight, expr_weight, field_value_weight, levels, link_weight, sum, value_weight}
@@ -21,6 +21,9 @@ decreases-component l = levels l.self.now.depth (constants_weight l.self.now.fra
 abbrev pub decreases-constant : goal.decreases-constant
 decreases-constant l = levels l.self.now.depth (constants_weight l.self.now.frame.now.definitions.now)
 
+abbrev pub decreases-results : goal.decreases-results
+decreases-results l = levels l.self.now.depth (constants_weight l.self.now.frame.now.definitions.now) + 1
+
 abbrev pub decreases-evaluate : goal.decreases-evaluate
 decreases-evaluate l = levels l.self.now.depth (constants_weight l.self.now.frame.now.definitions.now) + expr_weight l.expr.now
 
@@ -38,6 +41,10 @@ decreases-element_named l = levels l.self.now.depth (constants_weight l.self.now
 
 abbrev pub decreases-value : goal.decreases-value
 decreases-value l = levels l.self.now.depth (constants_weight l.self.now.frame.now.definitions.now) + value_weight l.value.now
+
+-- the constants so far give what is kept of them
+abbrev pub invariant-results-loop-at : goal.invariant-results-loop-at
+invariant-results-loop-at l = AreResults (read_by l.self) l.constants.items
 
 -- what was given so far and what is left give the whole
 abbrev pub invariant-by_name-loop-field : goal.invariant-by_name-loop-field

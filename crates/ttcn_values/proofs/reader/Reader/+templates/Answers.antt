@@ -1,140 +1,163 @@
-use Rattle.std.proofs.Common.{◌≡◌, Some, Global, Vec, bytes_eq, map, ap, sym, ◌∙◌, arith}
-use Rattle.std.specs.List.{find}
-use Rattle.ttcn_syntax.specs.declared.tree.template.FieldTemplate.{out-FieldTemplate}
+use Rattle.std.proofs.Common.{true, arith, bytes_eq, length, map, refl, ap, sym, ◌∙◌}
+use Rattle.std.proofs.Math.ListN.{length-map}
+use Rattle.std.specs.List.{find, zip}
 use Rattle.ttcn_syntax.proofs.tree.template.FieldTemplate.TheLaws.{the_size}
-use Rattle.ttcn_values.proofs.Bounds.{element_larger, found_within, weight, weight_next}
-use Rattle.ttcn_values.proofs.Each.{beside-fault, beside-next, each-fault, each-first, each-next}
-use Rattle.ttcn_values.proofs.Faults.{given_by, gives_same, handed_on}
-use Rattle.ttcn_values.proofs.TemplateCalls.{called_in_vain, called_nothing, called_with}
-use Rattle.ttcn_values.proofs.TemplateForms.{body_of_assigned, body_of_call, body_of_complement, body_of_list, body_of_listed, element_found, element_missing, in_order_as_long}
+use Rattle.ttcn_syntax.specs.declared.tree.template.FieldTemplate.{out-FieldTemplate}
+use Rattle.check_scope.specs.Names.{fields_at}
+use Rattle.ttcn_values.proofs.Bounds.{element_larger, found_within}
+use Rattle.ttcn_values.proofs.BuildingLemmas.{each-none, loop-last, loop-next, mapped_at, paired_at, paired_length}
+use Rattle.ttcn_values.proofs.Plans.{alone-many, gather_step, in_order-many, map_map, mapped-many, mapped_twice-many, mapped_twice_at, none_of_map, none_planned, plans_fault, plans_same, present_made, record_is, record_none, without_ifpresent}
+use Rattle.ttcn_values.proofs.TemplateForms.{body_of_any, body_of_any_or_omit, body_of_complement, body_of_list, body_of_omit, element_found, element_missing, in_order_as_long, wanted_out}
+use Rattle.ttcn_values.specs.Building.{after_steps, alone, one_after, with_more}
 use Rattle.ttcn_values.specs.Frames.{read_by}
-use Rattle.ttcn_values.specs.Outcomes.{Fails, Yields, value_in}
+use Rattle.ttcn_values.specs.Literals.{wanted_record}
+use Rattle.ttcn_values.specs.Outcomes.{Yields, outcome_map, unmet, value_in}
 use Rattle.ttcn_values.specs.Templates as spec
-use Rattle.ttcn_values.specs.declared.value.Value.{Value}
+use Rattle.ttcn_values.specs.declared.reader.Step.TheVariants as step
+use Rattle.ttcn_values.specs.declared.template.Pattern.TheVariants as pattern
 use Rattle.ttcn_values.proofs.reader.Reader.+templates.Goals as goal
 
-pub body-returns-in_err-parts-in-Listed : goal.body-returns-in_err-parts-in-Listed
-body-returns-in_err-parts-in-Listed t c =
-    handed_on (spec.in_order (read_by c.args.self.now) c.fields-fields.result.now (map spec.template_wanted c.as_slice-in-Listed.result.now)) (spec.body_wanted c.args.body.now (read_by c.args.self.now) c.args.wanted)
-    c.in_err-parts-in-Listed.field-0.0 c.from_residual-in_err-parts-in-Listed.result c.from_residual-in_err-parts-in-Listed.ensures.1 c.in_err-parts-in-Listed.ensures
-    (λ why. body_of_listed c.args.self.now c.args.wanted c.in_ok-at-in-Listed.at c.fields-fields.result.now c.in_ok-at-in-Listed.ensures.gives c.fields-fields.ensures
-    c.args.body.now c.in-Listed.parts c.as_slice-in-Listed.result.now (Fails why) c.in-Listed.is c.as_slice-in-Listed.ensures)
+pub plan-returns-else-template : goal.plan-returns-else-template
+plan-returns-else-template t c =
+    c.in_ok-plan_body.ensures
+    ∙ ap (λ o. one_after (after_steps (read_by c.args.self.now) c.args.steps.now.items) (with_more (outcome_map alone o)))
+    (sym (wanted_out c.args.template.now (read_by c.args.self.now) c.args.wanted
+    ∙ ap (λ b. outcome_map (spec.with_ifpresent b) (spec.body_wanted c.args.template.now.body (read_by c.args.self.now) c.args.wanted)) c.if-template.false
+    ∙ without_ifpresent (spec.body_wanted c.args.template.now.body (read_by c.args.self.now) c.args.wanted)))
 
-pub body-returns-in_ok-parts-in-Listed : goal.body-returns-in_ok-parts-in-Listed
-body-returns-in_ok-parts-in-Listed t c =
-    body_of_listed c.args.self.now c.args.wanted c.in_ok-at-in-Listed.at c.fields-fields.result.now c.in_ok-at-in-Listed.ensures.gives c.fields-fields.ensures
-    c.args.body.now c.in-Listed.parts c.as_slice-in-Listed.result.now (Yields c.in_ok-parts-in-Listed.parts) c.in-Listed.is c.as_slice-in-Listed.ensures
-    c.in_ok-parts-in-Listed.ensures
-    ∙ ap Yields (sym c.plain-in-Listed.ensures)
+pub plan-returns-in_ok-push : goal.plan-returns-in_ok-push
+plan-returns-in_ok-push t c =
+    gather_step (read_by c.args.self.now) c.args.steps.now.items c.push.new.self.items c.plan_body.new.steps.items step.Ifpresent (map (spec.with_ifpresent true)) 1
+    (outcome_map alone (spec.body_wanted c.args.template.now.body (read_by c.args.self.now) c.args.wanted)) (outcome_map alone (spec.template_wanted c.args.template.now (read_by c.args.self.now) c.args.wanted))
+    c.in_ok-plan_body.ensures c.in_ok-push.ensures.items refl (alone-many (spec.body_wanted c.args.template.now.body (read_by c.args.self.now) c.args.wanted))
+    (present_made (spec.body_wanted c.args.template.now.body (read_by c.args.self.now) c.args.wanted) (spec.template_wanted c.args.template.now (read_by c.args.self.now) c.args.wanted)
+    (ap (λ b. outcome_map (spec.with_ifpresent b) (spec.body_wanted c.args.template.now.body (read_by c.args.self.now) c.args.wanted)) (sym c.if-template.true)
+    ∙ sym (wanted_out c.args.template.now (read_by c.args.self.now) c.args.wanted)))
 
-pub body-returns-in_err-parts-in-Assigned : goal.body-returns-in_err-parts-in-Assigned
-body-returns-in_err-parts-in-Assigned t c =
-    handed_on (spec.by_name (read_by c.args.self.now) c.fields-fields-in-Assigned.result.now (map spec.field_template c.as_slice-in-Assigned.result.now)) (spec.body_wanted c.args.body.now (read_by c.args.self.now) c.args.wanted)
-    c.in_err-parts-in-Assigned.field-0.0 c.from_residual-in_err-parts-in-Assigned.result c.from_residual-in_err-parts-in-Assigned.ensures.1 c.in_err-parts-in-Assigned.ensures
-    (λ why. body_of_assigned c.args.self.now c.args.wanted c.in_ok-at-in-Assigned.at c.fields-fields-in-Assigned.result.now c.in_ok-at-in-Assigned.ensures.gives c.fields-fields-in-Assigned.ensures
-    c.args.body.now c.in-Assigned.parts c.as_slice-in-Assigned.result.now (Fails why) c.in-Assigned.is c.as_slice-in-Assigned.ensures)
+pub plan_body-returns-in-Any : goal.plan_body-returns-in-Any
+plan_body-returns-in-Any t c =
+    plans_same (read_by c.args.self.now) c.args.steps.now.items c.put.new.steps.items (outcome_map alone (spec.body_wanted c.args.body.now (read_by c.args.self.now) c.args.wanted)) (Yields (alone (spec.plain pattern.Any))) c.put.result
+    (ap (outcome_map alone) (body_of_any (read_by c.args.self.now) c.args.wanted c.args.body.now c.in-Any.is)) (c.put.ensures (read_by c.args.self.now))
 
-pub body-returns-in_ok-parts-in-Assigned : goal.body-returns-in_ok-parts-in-Assigned
-body-returns-in_ok-parts-in-Assigned t c =
-    body_of_assigned c.args.self.now c.args.wanted c.in_ok-at-in-Assigned.at c.fields-fields-in-Assigned.result.now c.in_ok-at-in-Assigned.ensures.gives c.fields-fields-in-Assigned.ensures
-    c.args.body.now c.in-Assigned.parts c.as_slice-in-Assigned.result.now (Yields c.in_ok-parts-in-Assigned.parts) c.in-Assigned.is c.as_slice-in-Assigned.ensures
-    c.in_ok-parts-in-Assigned.ensures
-    ∙ ap Yields (sym c.plain-in-Assigned.ensures)
+pub plan_body-returns-in-AnyOrOmit : goal.plan_body-returns-in-AnyOrOmit
+plan_body-returns-in-AnyOrOmit t c =
+    plans_same (read_by c.args.self.now) c.args.steps.now.items c.put-in-AnyOrOmit.new.steps.items (outcome_map alone (spec.body_wanted c.args.body.now (read_by c.args.self.now) c.args.wanted)) (Yields (alone (spec.plain pattern.AnyOrOmit))) c.put-in-AnyOrOmit.result
+    (ap (outcome_map alone) (body_of_any_or_omit (read_by c.args.self.now) c.args.wanted c.args.body.now c.in-AnyOrOmit.is)) (c.put-in-AnyOrOmit.ensures (read_by c.args.self.now))
 
-pub called-returns-in_default : goal.called-returns-in_default
-called-returns-in_default t c = called_nothing c.args.self.now c.args.at c.args.given.now (sym c.in_default.ensures)
+pub plan_body-returns-in-Complement : goal.plan_body-returns-in-Complement
+plan_body-returns-in-Complement t c =
+    plans_same (read_by c.args.self.now) c.args.steps.now.items c.plan_complement.new.steps.items (outcome_map alone (spec.body_wanted c.args.body.now (read_by c.args.self.now) c.args.wanted))
+    (outcome_map (λ ps. alone (spec.plain (pattern.Complement ps))) (spec.parts_of (read_by c.args.self.now) c.args.wanted (map spec.template_wanted c.as_slice.result.now))) c.plan_complement.result
+    (ap (outcome_map alone) (body_of_complement (read_by c.args.self.now) c.args.wanted c.args.body.now c.in-Complement.parts c.as_slice.result.now (spec.parts_of (read_by c.args.self.now) c.args.wanted (map spec.template_wanted c.as_slice.result.now)) c.in-Complement.is c.as_slice.ensures refl)
+    ∙ map_map alone (λ ps. spec.plain (pattern.Complement ps)) (spec.parts_of (read_by c.args.self.now) c.args.wanted (map spec.template_wanted c.as_slice.result.now)))
+    c.plan_complement.ensures
 
-pub called-returns-in_err-values : goal.called-returns-in_err-values
-called-returns-in_err-values t c =
-    handed_on (spec.arguments (read_by c.args.self.now) c.as_slice-parameters.result.now c.args.given.now) (spec.template_called (read_by c.args.self.now) (Some c.args.at) c.args.given.now)
-    c.in_err-values.field-0.0 c.from_residual.result c.from_residual.ensures.1
-    (given_by (λ (values : Vec Value Global). values.items) (spec.arguments (read_by c.args.self.now) c.as_slice-parameters.result.now c.args.given.now) c.in_err-values.field-0.0 c.in_err-values.ensures)
-    (λ why none. called_in_vain c.args.self.now c.args.at c.args.given.now c.in-Some.template.now (sym c.in-Some.ensures) why
-    (ap (λ ps. spec.arguments (read_by c.args.self.now) ps c.args.given.now) (sym c.as_slice-parameters.ensures) ∙ none))
+pub plan_body-returns-in-List : goal.plan_body-returns-in-List
+plan_body-returns-in-List t c =
+    plans_same (read_by c.args.self.now) c.args.steps.now.items c.plan_list.new.steps.items (outcome_map alone (spec.body_wanted c.args.body.now (read_by c.args.self.now) c.args.wanted))
+    (outcome_map (λ ps. alone (spec.plain (pattern.List ps))) (spec.parts_of (read_by c.args.self.now) c.args.wanted (map spec.template_wanted c.as_slice-in-List.result.now))) c.plan_list.result
+    (ap (outcome_map alone) (body_of_list (read_by c.args.self.now) c.args.wanted c.args.body.now c.in-List.parts c.as_slice-in-List.result.now (spec.parts_of (read_by c.args.self.now) c.args.wanted (map spec.template_wanted c.as_slice-in-List.result.now)) c.in-List.is c.as_slice-in-List.ensures refl)
+    ∙ map_map alone (λ ps. spec.plain (pattern.List ps)) (spec.parts_of (read_by c.args.self.now) c.args.wanted (map spec.template_wanted c.as_slice-in-List.result.now)))
+    c.plan_list.ensures
 
-pub called-template-requires-2 : goal.called-template-requires-2
-called-template-requires-2 t c =
-    let is : weight c.args.self.now.depth c.args.self.now.frame.now.definitions.now ≡ t = c.decreases in
-    let below = weight_next c.args.self.now.frame.now.definitions.now c.args.at c.in-Some.template.now c.args.self.now.depth c.in-Some-checked_sub.depth
-    (sym c.in-Some.ensures) (omega (arith, c.in-Some-checked_sub.ensures)) in
-    (rw is at below, tt)
+pub plan_body-returns-in-Omit : goal.plan_body-returns-in-Omit
+plan_body-returns-in-Omit t c =
+    plans_same (read_by c.args.self.now) c.args.steps.now.items c.put-in-Omit.new.steps.items (outcome_map alone (spec.body_wanted c.args.body.now (read_by c.args.self.now) c.args.wanted)) (Yields (alone (spec.plain pattern.Omit))) c.put-in-Omit.result
+    (ap (outcome_map alone) (body_of_omit (read_by c.args.self.now) c.args.wanted c.args.body.now c.in-Omit.is)) (c.put-in-Omit.ensures (read_by c.args.self.now))
 
-pub called-returns : goal.called-returns
-called-returns t c =
-    gives_same (spec.template_called (read_by c.args.self.now) (Some c.args.at) c.args.given.now) _ c.template-2.result
-    (called_with c.args.self.now c.args.at c.args.given.now c.in-Some.template.now (sym c.in-Some.ensures)
-    c.as_slice-parameters.result.now c.as_slice.result.now c.in-Some-checked_sub.depth c.resolved-wanted.result c.in_ok-values.values.items
-    c.as_slice-parameters.ensures c.as_slice.ensures.value c.in_ok-values.ensures (omega (arith, c.in-Some-checked_sub.ensures)) c.resolved-wanted.ensures)
-    c.template-2.ensures
+pub plan_by_name-returns : goal.plan_by_name-returns
+plan_by_name-returns t c =
+    gather_step (read_by c.args.self.now) c.args.steps.now.items c.push.new.self.items c.plan_named.new.steps.items (step.Record c.in_ok-at.at (length c.fields-fields.result.now)) (λ ps. alone (spec.plain (pattern.Record c.in_ok-at.at ps))) (length c.fields-fields.result.now)
+    (spec.by_name (read_by c.args.self.now) c.fields-fields.result.now (map spec.field_template c.args.elements.now)) (outcome_map alone (spec.record_at (wanted_record c.args.wanted) (λ at. spec.by_name (read_by c.args.self.now) (fields_at c.args.self.now.frame.now.definitions.now at) (map spec.field_template c.args.elements.now))))
+    c.in_ok-plan_named.ensures c.in_ok-push.ensures.items refl (mapped-many (λ field. spec.element_named (read_by c.args.self.now) field (find (λ e. bytes_eq e.0 field.name) (map spec.field_template c.args.elements.now))) c.fields-fields.result.now)
+    (record_is (wanted_record c.args.wanted) c.in_ok-at.at (λ at. spec.by_name (read_by c.args.self.now) (fields_at c.args.self.now.frame.now.definitions.now at) (map spec.field_template c.args.elements.now)) (spec.by_name (read_by c.args.self.now) c.fields-fields.result.now (map spec.field_template c.args.elements.now)) c.in_ok-at.ensures.gives (ap (λ fs. spec.by_name (read_by c.args.self.now) fs (map spec.field_template c.args.elements.now)) (sym c.fields-fields.ensures)))
 
-pub parts-loop-part-init : goal.parts-loop-part-init
-parts-loop-part-init t c =
-    rw c.in_ok-templates.ensures.items (each-first (λ (part : spec.Wanted). part (read_by c.args.self.now) c.args.wanted) spec.template_wanted c.args.parts.now)
+pub plan_complement-returns : goal.plan_complement-returns
+plan_complement-returns t c =
+    gather_step (read_by c.args.self.now) c.args.steps.now.items c.push.new.self.items c.plan_parts.new.steps.items (step.Complement (length c.args.parts.now)) (λ ps. alone (spec.plain (pattern.Complement ps))) (length c.args.parts.now)
+    (spec.parts_of (read_by c.args.self.now) c.args.wanted (map spec.template_wanted c.args.parts.now)) (outcome_map (λ ps. alone (spec.plain (pattern.Complement ps))) (spec.parts_of (read_by c.args.self.now) c.args.wanted (map spec.template_wanted c.args.parts.now)))
+    c.in_ok-plan_parts.ensures c.in_ok-push.ensures.items refl (mapped_twice-many (λ (part : spec.Wanted). part (read_by c.args.self.now) c.args.wanted) spec.template_wanted c.args.parts.now) refl
 
-pub template_by_name-returns-in_default : goal.template_by_name-returns-in_default
-template_by_name-returns-in_default t c =
-    ap value_in (sym c.loop-field.invariant
-    ∙ each-fault (λ field. spec.element_named (read_by c.args.self.now) field (find (λ e. bytes_eq e.0 field.name) (map spec.field_template c.args.elements.now)))
-    c.args.fields.now c.loop-field.templates.items c.loop-field.field-index c.field-item.result c.loop-field-test.true c.field-item.is
-    (element_missing c.args.self.now c.field-item.result c.args.elements.now (sym c.in_default.ensures)))
+pub plan_elements-loop-at-preserved : goal.plan_elements-loop-at-preserved
+plan_elements-loop-at-preserved t c =
+    loop-next (map (spec.element (read_by c.args.self.now)) (zip c.args.fields.now (map spec.template_wanted c.args.elements.now))) (after_steps (read_by c.args.self.now) c.args.steps.now.items) (after_steps (read_by c.args.self.now) c.loop-at.steps.items) c.loop-at.at c.loop-at.invariant (after_steps (read_by c.args.self.now) c.plan.new.steps.items) (spec.template_wanted c.index-elements-at.result (read_by c.args.self.now) c.resolved-wanted.result) (omega (arith, c.loop-at-test.true, paired_length (spec.element (read_by c.args.self.now)) spec.template_wanted c.args.fields.now c.args.elements.now c.if-elements-fields.false))
+    (paired_at (spec.element (read_by c.args.self.now)) spec.template_wanted c.args.fields.now c.args.elements.now c.loop-at.at c.index-fields-at.result c.index-elements-at.result (spec.template_wanted c.index-elements-at.result (read_by c.args.self.now) c.resolved-wanted.result)
+    c.loop-at-test.true (omega (arith, c.loop-at-test.true, c.if-elements-fields.false)) c.index-fields-at.is c.index-elements-at.is
+    (ap (spec.template_wanted c.index-elements-at.result (read_by c.args.self.now)) (sym c.resolved-wanted.ensures))) c.in_ok-plan.ensures
 
-pub template_by_name-returns-in_err-template : goal.template_by_name-returns-in_err-template
-template_by_name-returns-in_err-template t c =
-    handed_on (spec.template_wanted (out-FieldTemplate c.in-Some.element.now).template (read_by c.args.self.now) c.resolved-wanted.result)
-    (spec.by_name (read_by c.args.self.now) c.args.fields.now (map spec.field_template c.args.elements.now))
-    c.in_err-template.field-0.0 c.from_residual-in_err-template.result c.from_residual-in_err-template.ensures.1 c.in_err-template.ensures
-    (λ why none. sym c.loop-field.invariant
-    ∙ each-fault (λ field. spec.element_named (read_by c.args.self.now) field (find (λ e. bytes_eq e.0 field.name) (map spec.field_template c.args.elements.now)))
-    c.args.fields.now c.loop-field.templates.items c.loop-field.field-index c.field-item.result c.loop-field-test.true c.field-item.is
-    (element_found c.args.self.now c.field-item.result c.args.elements.now c.in-Some.element.now c.resolved-wanted.result (sym c.in-Some.ensures) c.resolved-wanted.ensures ∙ none))
+pub plan_elements-returns : goal.plan_elements-returns
+plan_elements-returns t c =
+    loop-last (map (spec.element (read_by c.args.self.now)) (zip c.args.fields.now (map spec.template_wanted c.args.elements.now))) (after_steps (read_by c.args.self.now) c.args.steps.now.items) (after_steps (read_by c.args.self.now) c.loop-at.steps.items) c.loop-at.at c.loop-at.invariant (omega (arith, c.loop-at-test.false, paired_length (spec.element (read_by c.args.self.now)) spec.template_wanted c.args.fields.now c.args.elements.now c.if-elements-fields.false))
+    ∙ ap (λ m. one_after (after_steps (read_by c.args.self.now) c.args.steps.now.items) (with_more m)) (sym (in_order_as_long (read_by c.args.self.now) c.args.fields.now c.args.elements.now c.if-elements-fields.false))
 
-pub template_by_name-loop-field-preserved : goal.template_by_name-loop-field-preserved
-template_by_name-loop-field-preserved t c =
-    each-next (λ field. spec.element_named (read_by c.args.self.now) field (find (λ e. bytes_eq e.0 field.name) (map spec.field_template c.args.elements.now)))
-    c.args.fields.now c.loop-field.templates.items c.loop-field.field-index c.field-item.result c.in_ok-template.field-0 c.push.new.self.items c.in_ok-push.ensures.items
-    c.loop-field-test.true c.field-item.is
-    (element_found c.args.self.now c.field-item.result c.args.elements.now c.in-Some.element.now c.resolved-wanted.result (sym c.in-Some.ensures) c.resolved-wanted.ensures ∙ c.in_ok-template.ensures)
-    ∙ c.loop-field.invariant
+pub plan_elements-returns-in_err-plan : goal.plan_elements-returns-in_err-plan
+plan_elements-returns-in_err-plan t c =
+    plans_fault (read_by c.args.self.now) c.args.steps.now.items c.plan.new.steps.items (spec.in_order (read_by c.args.self.now) c.args.fields.now (map spec.template_wanted c.args.elements.now)) c.in_err-plan.field-0.0 c.from_residual.result c.from_residual.ensures.1
+    (λ dynamic. ap value_in (in_order_as_long (read_by c.args.self.now) c.args.fields.now c.args.elements.now c.if-elements-fields.false) ∙ each-none (map (spec.element (read_by c.args.self.now)) (zip c.args.fields.now (map spec.template_wanted c.args.elements.now))) c.loop-at.at (spec.template_wanted c.index-elements-at.result (read_by c.args.self.now) c.resolved-wanted.result) (omega (arith, c.loop-at-test.true, paired_length (spec.element (read_by c.args.self.now)) spec.template_wanted c.args.fields.now c.args.elements.now c.if-elements-fields.false)) (paired_at (spec.element (read_by c.args.self.now)) spec.template_wanted c.args.fields.now c.args.elements.now c.loop-at.at c.index-fields-at.result c.index-elements-at.result (spec.template_wanted c.index-elements-at.result (read_by c.args.self.now) c.resolved-wanted.result)
+    c.loop-at-test.true (omega (arith, c.loop-at-test.true, c.if-elements-fields.false)) c.index-fields-at.is c.index-elements-at.is
+    (ap (spec.template_wanted c.index-elements-at.result (read_by c.args.self.now)) (sym c.resolved-wanted.ensures)))
+    (none_of_map alone (spec.template_wanted c.index-elements-at.result (read_by c.args.self.now) c.resolved-wanted.result) (none_planned (read_by c.args.self.now) c.loop-at.steps.items c.plan.new.steps.items (outcome_map alone (spec.template_wanted c.index-elements-at.result (read_by c.args.self.now) c.resolved-wanted.result)) c.in_err-plan.field-0.0 c.in_err-plan.ensures dynamic)))
 
-pub template_in_order-returns-in_err-template : goal.template_in_order-returns-in_err-template
-template_in_order-returns-in_err-template t c =
-    handed_on (spec.template_wanted c.index-elements-at.result (read_by c.args.self.now) c.resolved-wanted.result) (spec.in_order (read_by c.args.self.now) c.args.fields.now (map spec.template_wanted c.args.elements.now))
-    c.in_err-template.field-0.0 c.from_residual-in_err-template.result c.from_residual-in_err-template.ensures.1 c.in_err-template.ensures
-    (λ why none. in_order_as_long (read_by c.args.self.now) c.args.fields.now c.args.elements.now c.if-elements-fields.false ∙ sym c.loop-at.invariant
-    ∙ beside-fault (spec.element (read_by c.args.self.now)) spec.template_wanted c.args.fields.now c.args.elements.now c.loop-at.templates.items c.loop-at.at
-    c.if-elements-fields.false c.index-fields-at.result c.index-elements-at.result c.loop-at-test.true c.index-fields-at.is c.index-elements-at.is
-    (ap (spec.template_wanted c.index-elements-at.result (read_by c.args.self.now)) (sym c.resolved-wanted.ensures) ∙ none))
+pub plan_in_order-returns : goal.plan_in_order-returns
+plan_in_order-returns t c =
+    gather_step (read_by c.args.self.now) c.args.steps.now.items c.push.new.self.items c.plan_elements.new.steps.items (step.Record c.in_ok-at.at (length c.fields-fields.result.now)) (λ ps. alone (spec.plain (pattern.Record c.in_ok-at.at ps))) (length c.fields-fields.result.now)
+    (spec.in_order (read_by c.args.self.now) c.fields-fields.result.now (map spec.template_wanted c.args.elements.now)) (outcome_map alone (spec.record_at (wanted_record c.args.wanted) (λ at. spec.in_order (read_by c.args.self.now) (fields_at c.args.self.now.frame.now.definitions.now at) (map spec.template_wanted c.args.elements.now))))
+    c.in_ok-plan_elements.ensures c.in_ok-push.ensures.items refl (in_order-many (read_by c.args.self.now) c.fields-fields.result.now (map spec.template_wanted c.args.elements.now))
+    (record_is (wanted_record c.args.wanted) c.in_ok-at.at (λ at. spec.in_order (read_by c.args.self.now) (fields_at c.args.self.now.frame.now.definitions.now at) (map spec.template_wanted c.args.elements.now)) (spec.in_order (read_by c.args.self.now) c.fields-fields.result.now (map spec.template_wanted c.args.elements.now)) c.in_ok-at.ensures.gives (ap (λ fs. spec.in_order (read_by c.args.self.now) fs (map spec.template_wanted c.args.elements.now)) (sym c.fields-fields.ensures)))
 
-pub template_in_order-loop-at-preserved : goal.template_in_order-loop-at-preserved
-template_in_order-loop-at-preserved t c =
-    beside-next (spec.element (read_by c.args.self.now)) spec.template_wanted c.args.fields.now c.args.elements.now c.loop-at.templates.items c.loop-at.at
-    c.if-elements-fields.false c.index-fields-at.result c.index-elements-at.result c.in_ok-template.field-0 c.push.new.self.items
-    c.in_ok-push.ensures.items c.loop-at-test.true c.index-fields-at.is c.index-elements-at.is
-    (ap (spec.template_wanted c.index-elements-at.result (read_by c.args.self.now)) (sym c.resolved-wanted.ensures) ∙ c.in_ok-template.ensures)
-    ∙ c.loop-at.invariant
+pub plan_in_order-returns-in_err-plan_elements : goal.plan_in_order-returns-in_err-plan_elements
+plan_in_order-returns-in_err-plan_elements t c =
+    plans_fault (read_by c.args.self.now) c.args.steps.now.items c.plan_elements.new.steps.items (outcome_map alone (spec.record_at (wanted_record c.args.wanted) (λ at. spec.in_order (read_by c.args.self.now) (fields_at c.args.self.now.frame.now.definitions.now at) (map spec.template_wanted c.args.elements.now))))
+    c.in_err-plan_elements.field-0.0 c.from_residual-in_err-plan_elements.result c.from_residual-in_err-plan_elements.ensures.1
+    (λ dynamic. record_none (wanted_record c.args.wanted) c.in_ok-at.at (λ at. spec.in_order (read_by c.args.self.now) (fields_at c.args.self.now.frame.now.definitions.now at) (map spec.template_wanted c.args.elements.now)) (spec.in_order (read_by c.args.self.now) c.fields-fields.result.now (map spec.template_wanted c.args.elements.now)) c.in_ok-at.ensures.gives (ap (λ fs. spec.in_order (read_by c.args.self.now) fs (map spec.template_wanted c.args.elements.now)) (sym c.fields-fields.ensures))
+    (none_planned (read_by c.args.self.now) c.args.steps.now.items c.plan_elements.new.steps.items (spec.in_order (read_by c.args.self.now) c.fields-fields.result.now (map spec.template_wanted c.args.elements.now)) c.in_err-plan_elements.field-0.0 c.in_err-plan_elements.ensures dynamic))
 
-pub template_by_name-template-requires : goal.template_by_name-template-requires
-template_by_name-template-requires t c =
+pub plan_list-returns : goal.plan_list-returns
+plan_list-returns t c =
+    gather_step (read_by c.args.self.now) c.args.steps.now.items c.push.new.self.items c.plan_parts.new.steps.items (step.List (length c.args.parts.now)) (λ ps. alone (spec.plain (pattern.List ps))) (length c.args.parts.now)
+    (spec.parts_of (read_by c.args.self.now) c.args.wanted (map spec.template_wanted c.args.parts.now)) (outcome_map (λ ps. alone (spec.plain (pattern.List ps))) (spec.parts_of (read_by c.args.self.now) c.args.wanted (map spec.template_wanted c.args.parts.now)))
+    c.in_ok-plan_parts.ensures c.in_ok-push.ensures.items refl (mapped_twice-many (λ (part : spec.Wanted). part (read_by c.args.self.now) c.args.wanted) spec.template_wanted c.args.parts.now) refl
+
+pub plan_named-loop-field-preserved : goal.plan_named-loop-field-preserved
+plan_named-loop-field-preserved t c =
+    loop-next (map (λ field. spec.element_named (read_by c.args.self.now) field (find (λ e. bytes_eq e.0 field.name) (map spec.field_template c.args.elements.now))) c.args.fields.now) (after_steps (read_by c.args.self.now) c.args.steps.now.items) (after_steps (read_by c.args.self.now) c.loop-field.steps.items) c.loop-field.field-index c.loop-field.invariant (after_steps (read_by c.args.self.now) c.plan.new.steps.items) (spec.template_wanted (out-FieldTemplate c.in-Some.element.now).template (read_by c.args.self.now) c.resolved-wanted.result) (omega (arith, c.loop-field-test.true, length-map c.args.fields.now (λ field. spec.element_named (read_by c.args.self.now) field (find (λ e. bytes_eq e.0 field.name) (map spec.field_template c.args.elements.now)))))
+    (mapped_at (λ field. spec.element_named (read_by c.args.self.now) field (find (λ e. bytes_eq e.0 field.name) (map spec.field_template c.args.elements.now))) c.args.fields.now c.loop-field.field-index c.field-item.result (spec.template_wanted (out-FieldTemplate c.in-Some.element.now).template (read_by c.args.self.now) c.resolved-wanted.result) c.loop-field-test.true c.field-item.is
+    (element_found c.args.self.now c.field-item.result c.args.elements.now c.in-Some.element.now c.resolved-wanted.result (sym c.in-Some.ensures) c.resolved-wanted.ensures)) c.in_ok-plan.ensures
+
+pub plan_named-plan-requires : goal.plan_named-plan-requires
+plan_named-plan-requires t c =
     let within = found_within the_size (λ e. bytes_eq (out-FieldTemplate e).name c.field-item.result.name) c.args.elements.now c.in-Some.element.now (sym c.in-Some.ensures) in
     let larger = element_larger c.in-Some.element.now in
-    (omega (arith, c.decreases), tt)
+    (omega (arith, c.decreases), c.requires)
 
-pub body-returns-in_err-parts-in-Complement : goal.body-returns-in_err-parts-in-Complement
-body-returns-in_err-parts-in-Complement t c =
-    handed_on (spec.parts_of (read_by c.args.self.now) c.args.wanted (map spec.template_wanted c.as_slice.result.now))
-    (spec.body_wanted c.args.body.now (read_by c.args.self.now) c.args.wanted)
-    c.in_err-parts-in-Complement.field-0.0 c.from_residual.result c.from_residual.ensures.1 c.in_err-parts-in-Complement.ensures
-    (λ why. body_of_complement (read_by c.args.self.now) c.args.wanted c.args.body.now c.in-Complement.parts c.as_slice.result.now (Fails why) c.in-Complement.is c.as_slice.ensures)
+pub plan_named-returns : goal.plan_named-returns
+plan_named-returns t c =
+    loop-last (map (λ field. spec.element_named (read_by c.args.self.now) field (find (λ e. bytes_eq e.0 field.name) (map spec.field_template c.args.elements.now))) c.args.fields.now) (after_steps (read_by c.args.self.now) c.args.steps.now.items) (after_steps (read_by c.args.self.now) c.loop-field.steps.items) c.loop-field.field-index c.loop-field.invariant (omega (arith, c.loop-field-test.false, length-map c.args.fields.now (λ field. spec.element_named (read_by c.args.self.now) field (find (λ e. bytes_eq e.0 field.name) (map spec.field_template c.args.elements.now)))))
 
-pub body-returns-in_err-parts-in-List : goal.body-returns-in_err-parts-in-List
-body-returns-in_err-parts-in-List t c =
-    handed_on (spec.parts_of (read_by c.args.self.now) c.args.wanted (map spec.template_wanted c.as_slice-in-List.result.now))
-    (spec.body_wanted c.args.body.now (read_by c.args.self.now) c.args.wanted)
-    c.in_err-parts-in-List.field-0.0 c.from_residual-in_err-parts-in-List.result c.from_residual-in_err-parts-in-List.ensures.1 c.in_err-parts-in-List.ensures
-    (λ why. body_of_list (read_by c.args.self.now) c.args.wanted c.args.body.now c.in-List.parts c.as_slice-in-List.result.now (Fails why) c.in-List.is c.as_slice-in-List.ensures)
+pub plan_named-returns-in_default : goal.plan_named-returns-in_default
+plan_named-returns-in_default t c =
+    each-none (map (λ field. spec.element_named (read_by c.args.self.now) field (find (λ e. bytes_eq e.0 field.name) (map spec.field_template c.args.elements.now))) c.args.fields.now) c.loop-field.field-index unmet (omega (arith, c.loop-field-test.true, length-map c.args.fields.now (λ field. spec.element_named (read_by c.args.self.now) field (find (λ e. bytes_eq e.0 field.name) (map spec.field_template c.args.elements.now)))))
+    (mapped_at (λ field. spec.element_named (read_by c.args.self.now) field (find (λ e. bytes_eq e.0 field.name) (map spec.field_template c.args.elements.now))) c.args.fields.now c.loop-field.field-index c.field-item.result unmet c.loop-field-test.true c.field-item.is
+    (element_missing c.args.self.now c.field-item.result c.args.elements.now (sym c.in_default.ensures))) refl
 
-pub body-returns-in-Some : goal.body-returns-in-Some
-body-returns-in-Some t c =
-    gives_same (spec.body_wanted c.args.body.now (read_by c.args.self.now) c.args.wanted) (spec.template_called (read_by c.args.self.now) (Some c.in-Some.at) c.as_slice-in-Some.result.now) c.called.result
-    (body_of_call (read_by c.args.self.now) c.args.wanted c.args.body.now c.in-Call.call c.in-Some.at c.as_slice-in-Some.result.now c.in-Call.is (sym c.in-Some.ensures) c.as_slice-in-Some.ensures)
-    c.called.ensures
+pub plan_named-returns-in_err-plan : goal.plan_named-returns-in_err-plan
+plan_named-returns-in_err-plan t c =
+    plans_fault (read_by c.args.self.now) c.args.steps.now.items c.plan.new.steps.items (spec.by_name (read_by c.args.self.now) c.args.fields.now (map spec.field_template c.args.elements.now)) c.in_err-plan.field-0.0 c.from_residual.result c.from_residual.ensures.1
+    (λ dynamic. each-none (map (λ field. spec.element_named (read_by c.args.self.now) field (find (λ e. bytes_eq e.0 field.name) (map spec.field_template c.args.elements.now))) c.args.fields.now) c.loop-field.field-index (spec.template_wanted (out-FieldTemplate c.in-Some.element.now).template (read_by c.args.self.now) c.resolved-wanted.result) (omega (arith, c.loop-field-test.true, length-map c.args.fields.now (λ field. spec.element_named (read_by c.args.self.now) field (find (λ e. bytes_eq e.0 field.name) (map spec.field_template c.args.elements.now))))) (mapped_at (λ field. spec.element_named (read_by c.args.self.now) field (find (λ e. bytes_eq e.0 field.name) (map spec.field_template c.args.elements.now))) c.args.fields.now c.loop-field.field-index c.field-item.result (spec.template_wanted (out-FieldTemplate c.in-Some.element.now).template (read_by c.args.self.now) c.resolved-wanted.result) c.loop-field-test.true c.field-item.is
+    (element_found c.args.self.now c.field-item.result c.args.elements.now c.in-Some.element.now c.resolved-wanted.result (sym c.in-Some.ensures) c.resolved-wanted.ensures))
+    (none_of_map alone (spec.template_wanted (out-FieldTemplate c.in-Some.element.now).template (read_by c.args.self.now) c.resolved-wanted.result) (none_planned (read_by c.args.self.now) c.loop-field.steps.items c.plan.new.steps.items (outcome_map alone (spec.template_wanted (out-FieldTemplate c.in-Some.element.now).template (read_by c.args.self.now) c.resolved-wanted.result)) c.in_err-plan.field-0.0 c.in_err-plan.ensures dynamic)))
+
+pub plan_parts-loop-part-preserved : goal.plan_parts-loop-part-preserved
+plan_parts-loop-part-preserved t c =
+    loop-next (map (λ (part : spec.Wanted). part (read_by c.args.self.now) c.args.wanted) (map spec.template_wanted c.args.parts.now)) (after_steps (read_by c.args.self.now) c.args.steps.now.items) (after_steps (read_by c.args.self.now) c.loop-part.steps.items) c.loop-part.part-index c.loop-part.invariant (after_steps (read_by c.args.self.now) c.plan.new.steps.items) (spec.template_wanted c.part-item.result (read_by c.args.self.now) c.args.wanted) (omega (arith, c.loop-part-test.true, length-map (map spec.template_wanted c.args.parts.now) (λ (part : spec.Wanted). part (read_by c.args.self.now) c.args.wanted), length-map c.args.parts.now spec.template_wanted))
+    (mapped_twice_at (λ (part : spec.Wanted). part (read_by c.args.self.now) c.args.wanted) spec.template_wanted c.args.parts.now c.loop-part.part-index c.part-item.result c.loop-part-test.true c.part-item.is) c.in_ok-plan.ensures
+
+pub plan_parts-returns : goal.plan_parts-returns
+plan_parts-returns t c =
+    loop-last (map (λ (part : spec.Wanted). part (read_by c.args.self.now) c.args.wanted) (map spec.template_wanted c.args.parts.now)) (after_steps (read_by c.args.self.now) c.args.steps.now.items) (after_steps (read_by c.args.self.now) c.loop-part.steps.items) c.loop-part.part-index c.loop-part.invariant (omega (arith, c.loop-part-test.false, length-map (map spec.template_wanted c.args.parts.now) (λ (part : spec.Wanted). part (read_by c.args.self.now) c.args.wanted), length-map c.args.parts.now spec.template_wanted))
+
+pub plan_parts-returns-in_err-plan : goal.plan_parts-returns-in_err-plan
+plan_parts-returns-in_err-plan t c =
+    plans_fault (read_by c.args.self.now) c.args.steps.now.items c.plan.new.steps.items (spec.parts_of (read_by c.args.self.now) c.args.wanted (map spec.template_wanted c.args.parts.now)) c.in_err-plan.field-0.0 c.from_residual.result c.from_residual.ensures.1
+    (λ dynamic. each-none (map (λ (part : spec.Wanted). part (read_by c.args.self.now) c.args.wanted) (map spec.template_wanted c.args.parts.now)) c.loop-part.part-index (spec.template_wanted c.part-item.result (read_by c.args.self.now) c.args.wanted) (omega (arith, c.loop-part-test.true, length-map (map spec.template_wanted c.args.parts.now) (λ (part : spec.Wanted). part (read_by c.args.self.now) c.args.wanted), length-map c.args.parts.now spec.template_wanted)) (mapped_twice_at (λ (part : spec.Wanted). part (read_by c.args.self.now) c.args.wanted) spec.template_wanted c.args.parts.now c.loop-part.part-index c.part-item.result c.loop-part-test.true c.part-item.is)
+    (none_of_map alone (spec.template_wanted c.part-item.result (read_by c.args.self.now) c.args.wanted) (none_planned (read_by c.args.self.now) c.loop-part.steps.items c.plan.new.steps.items (outcome_map alone (spec.template_wanted c.part-item.result (read_by c.args.self.now) c.args.wanted)) c.in_err-plan.field-0.0 c.in_err-plan.ensures dynamic)))
