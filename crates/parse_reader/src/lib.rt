@@ -1,5 +1,5 @@
 //! The parser's place in the tokens of a text, what it takes from there, and lists. What the functions of all layers
-//! of the parser read stands in `specs/`.
+//! of the parser read stands in `specs/internal/`.
 #![tactic(auto)]
 
 mod error;
