@@ -1,5 +1,5 @@
 -- Cells and the lists that they begin.
-use Rattle.std.proofs.Common.{◌≡◌, refl, sym, ap, subst, ◌∙◌, ℕ, zero, suc, ◌+◌, ◌-◌, ◌<◌, ◌≤◌, Bool, true, false, true≢false, ◌&&◌, List, [], ◌∷◌, ◌++◌, length, get_or, slice_get, fold, nat_eq, Option, Some, None, is_some, arith, inl, inr, if◌then◌else◌}
+use Rattle.std.proofs.Common.{◌≡◌, refl, sym, ap, subst, ◌∙◌, ℕ, zero, suc, ◌+◌, ◌-◌, ◌<◌, ◌≤◌, Bool, true, false, true≢false, ◌&&◌, ◌||◌, List, [], ◌∷◌, ◌++◌, length, get_or, slice_get, fold, nat_eq, Option, Some, None, is_some, arith, inl, inr, if◌then◌else◌}
 use Rattle.std.specs.Prelude.{◌⊎◌, Result, Ok, Err, IfOk, OnErr}
 use Rattle.std.specs.List.{IsDistinct, list_any}
 use Rattle.std.proofs.lemmas.List.{append-nil, append_assoc, get_or_append_left, get_or_push, length-append}
@@ -13,6 +13,10 @@ use Rattle.interner.proofs.OneSlot.{one_slot}
 
 some_is : {X : Type 0} {a b : X} → ◌≡◌ {A = Option X} (Some a) (Some b) → a ≡ b
 some_is {a = a} h = ap (λ o. elim o as (λ _. _) [ None ↦ a | Some x ↦ x ]) h
+
+or-true : (b : Bool) → (b || true) ≡ true
+or-true true = refl
+or-true false = refl
 
 module _ {I : Type 0} where
   -- ---- lists
@@ -111,9 +115,30 @@ module _ {I : Type 0} where
         by true = ([], sym (append-nil (lists_of cells)))
         by false = ((c.item ∷ get_or (lists_of cells) c.rest []) ∷ [], fold-append with_cell ([] ∷ []) cells (c ∷ []))
 
-    pub is_put : (cells new : List (Cell I)) (c cell : Cell I) (i : ℕ) → new ≡ insert_key eq cells c → HaveRests new → c.rest < length (lists_of cells)
+    any_at : ((c : Cell I) → eq c c ≡ true) → (cells : List (Cell I)) (c cell : Cell I) (i : ℕ) → slice_get cells i ≡ Some cell → c ≡ cell → list_any (eq c) cells ≡ true
+    any_at itself [] c cell i h same = absurd (true≢false (sym (ap is_some h)))
+    any_at itself (x ∷ xs) c cell zero h same = ap (λ y. eq c y || list_any (eq c) xs) (some_is h ∙ sym same) ∙ ap (λ b. b || list_any (eq c) xs) (itself c)
+    any_at itself (x ∷ xs) c cell (suc i) h same = ap (λ b. eq c x || b) (any_at itself xs c cell i h same) ∙ or-true (eq c x)
+
+    alone : ((c : Cell I) → eq c c ≡ true) → (cells new : List (Cell I)) (c cell : Cell I) (i : ℕ) → new ≡ insert_key eq cells c → slice_get new i ≡ Some cell → c ≡ cell
+        → (p : ℕ) → length (lists_of cells) ≤ p → p < length (lists_of new) → p ≡ i + 1
+    alone itself cells new c cell i is h same p from below = by (list_any (eq c) cells) refl is
+      where
+        by : (b : Bool) → list_any (eq c) cells ≡ b → new ≡ (if b then cells else (cells ++ c ∷ [])) → p ≡ i + 1
+        by true any new_is = let all = ap (λ cs. length (lists_of cs)) new_is in absurd (omega (arith, from, below, all))
+        by false any new_is = elim (at_end cells c i cell (subst (λ cs. slice_get cs i ≡ Some cell) new_is h)) as (λ _. p ≡ i + 1) [
+          | inl there ↦ absurd (true≢false (sym (any_at itself cells c cell i there same) ∙ any))
+          | inr end ↦
+              let at = end.0 in
+              let one = ap length new_is ∙ length-append cells (c ∷ []) in
+              let old = count_lists cells in
+              let more = count_lists new in
+              omega (arith, from, below, at, one, old, more)
+        ]
+
+    pub is_put : ((c : Cell I) → eq c c ≡ true) → (cells new : List (Cell I)) (c cell : Cell I) (i : ℕ) → new ≡ insert_key eq cells c → HaveRests new → c.rest < length (lists_of cells)
         → slice_get new i ≡ Some cell → c ≡ cell → IsPut (lists_of cells) (lists_of new) (i + 1) c.item c.rest
-    is_put cells new c cell i is rests low h same =
+    is_put itself cells new c cell i is rests low h same =
         let more : Extends (lists_of cells) (lists_of new) = subst (λ x. Extends (lists_of cells) (lists_of x)) (sym is) (grown cells c) in
         let inside = slice_get_within new i cell h in
         let all = count_lists new in
@@ -123,6 +148,7 @@ module _ {I : Type 0} where
           extended = more;
           within = omega (arith, inside, all);
           stands = there ∙ ap (λ l. c.item ∷ l) (kept (lists_of cells) (lists_of new) more c.rest low);
+          alone = alone itself cells new c cell i is h same;
         }
 
   -- ---- no list has two positions

@@ -23,8 +23,9 @@ module _ {I : Type 0} where
   abbrev pub Extends : List (List I) → List (List I) → Type 0
   Extends old new = (more : List (List I)) × (new ≡ old ++ more)
 
-  -- a position is that of the list with an item before those of another, and the lists that were there stay
+  -- a position is that of the list with an item before those of another, the lists that were there stay, and no other is added
   pub record IsPut (old new : List (List I)) (at : ℕ) (item : I) (rest : ℕ) : Type 0 where
     pub extended : Extends old new
     pub within : at < length new
     pub stands : get_or new at [] ≡ item ∷ get_or old rest []
+    pub alone : (p : ℕ) → length old ≤ p → p < length new → p ≡ at

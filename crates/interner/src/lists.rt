@@ -38,6 +38,15 @@ impl<I: Exact + Hash + Drop> Lists<I> {
         self.cells.len() + 1
     }
 
+    /// The position of the empty list.
+    pub fn empty(&self) -> usize
+        ensures within { result < length (lists_of self.now.cells.keys) }
+        ensures empty { get_or (lists_of self.now.cells.keys) result [] ≡ [] }
+    {
+        let _ = self.cells.len();
+        0
+    }
+
     /// The position of the list with an item before those of another.
     pub fn put(&mut self, item: I, rest: usize) -> Result<usize, AllocFailed<Cell<I>>>
         requires { rest < length (lists_of self.old.cells.keys) }

@@ -1,0 +1,5 @@
+pub mod Apart
+pub mod Drafted
+pub mod ListsKept
+pub mod Owned
+pub mod Sites

@@ -1,0 +1,9 @@
+use Rattle.std.proofs.Common.{◌∷◌, [], get_or}
+use Rattle.step_rules.specs.Items as rules
+use Rattle.ttcn_graph.proofs.Drafted.{drawn}
+use Rattle.ttcn_graph.proofs.draft.Draft.mark.Goals as goal
+
+pub returns : goal.returns
+returns c =
+    drawn c.args.self.now c.begin_mark.new.self c.finish.new.self c.in_ok-at.at (rules.Mark c.args.self.now.site c.args.statement.now ∷ get_or c.args.self.now.lists c.args.rest [])
+    c.in_ok-at.ensures c.in_ok-finish.ensures

@@ -1,0 +1,3 @@
+pub mod KeptNames
+pub mod OwnNames
+pub mod Within

@@ -1,0 +1,324 @@
+//! Graphs that are being drawn.
+ghost use Rattle.std.specs.Prelude.{◌≡◌, ◌<◌, ◌∷◌, [], length, get_or, is_some, nat_eq, slice_get, IfOk, IfNone, IfSome, OnOk};
+ghost use Rattle.check_expressions.specs.Calls.{altstep_meant};
+ghost use Rattle.check_scope.specs.Names.{module_names, resolved};
+ghost use Rattle.interner.specs.Lists.{AreDifferent};
+ghost use Rattle.step_rules.specs.Items as rules;
+ghost use Rattle.step_rules.specs.Sites as sites;
+ghost use Rattle.ttcn_graph.specs.Drafts.{AreAt, AreDrawn, HasWays, IsBegun, IsDrawn, IsFinished, IsWay, at_site, empty_draft};
+ghost use Rattle.ttcn_graph.specs.Standing.{part_of, target_of};
+ghost use Rattle.ttcn_graph.specs.Ways.{target_in, ways_of, ways_of_assignment, ways_of_right};
+ghost use Rattle.ttcn_graph.specs.internal.OwnNames.{retracted};
+
+use crate::at::At;
+use crate::cells::Cells;
+use crate::declared::Declared;
+use crate::here::Here;
+use crate::item::{Item, Part, Site, Target};
+use check_scope::names::Meaning;
+use check_scope::types::DataType;
+use std::alloc::{AllocError, Global};
+use std::marker::Model;
+use ttcn_syntax::{Assignment, Definition, Name, Reference, Rhs, Seq, Statement, TypeName};
+
+/// A graph that is being drawn. A contract sees it as the definitions say.
+#[derive(Drop)]
+pub struct Draft<'a> {
+    alloc: Global,
+    here: Here<'a>,
+    /// The position of the list of names that are declared here.
+    declared: usize,
+    cells: Cells<'a>,
+    ways: Vec<Seq<usize>>,
+}
+
+impl<'a> Model for Draft<'a> {
+    ghost use Rattle.std.specs.Prelude.{◌≡◌, ◌<◌, [], length, get_or};
+    ghost use Rattle.std.specs.Coded.{codes};
+    ghost use Rattle.ttcn_syntax.specs.contracts.tree.statement.Action as action;
+    ghost use Rattle.ttcn_syntax.specs.contracts.tree.statement.Branch as branch;
+    ghost use Rattle.ttcn_syntax.specs.contracts.tree.statement.Statement as statement;
+    ghost use Rattle.ttcn_syntax.specs.contracts.tree.template.Template as template;
+    ghost use Rattle.ttcn_syntax.specs.contracts.tree.value.Value as value;
+    ghost use Rattle.ttcn_graph.specs.Drafts as drafts;
+
+    ghost Value = { drafts.Draft };
+
+    ghost coded = { Prim.hlevel (codes, action.the_row.coded, branch.the_row.coded, statement.the_row.coded, template.the_row.coded, value.the_row.coded) };
+
+    ghost view = { λ d. record { definitions = d.here.0; site = d.here.1; lists = d.cells.1; ways = d.ways.items } };
+
+    ghost invariant = { λ d. (d.declared < length d.cells.0) × (get_or d.cells.0 d.declared [] ≡ d.here.1.declared) };
+}
+
+/// One of positions.
+fn way_in(ways: &Seq<usize>, place: usize) -> Option<usize>
+    ensures { result ≡ slice_get ways.now place }
+{
+    ways.as_slice().get(place).copied()
+}
+
+impl<'a> Draft<'a> {
+    /// The empty list alone, at the beginning of the behaviour at position 0.
+    pub fn new(alloc: Global, definitions: &'a [Definition]) -> Result<Draft<'a>, AllocError>
+        ensures { IfOk result (λ draft. draft ≡ empty_draft definitions.now) }
+    {
+        let here = Here::new(alloc, definitions)?;
+        let cells = Cells::new(alloc);
+        let declared = cells.no_names();
+        Ok(Draft {
+            alloc,
+            here,
+            declared,
+            cells,
+            ways: Vec::new(alloc),
+        })
+    }
+
+    // ---- sites
+
+    /// Goes to the beginning of the behaviour at a position.
+    pub fn go_to(self, behaviour: usize) -> Result<Draft<'a>, AllocError>
+        ensures { IfOk result (λ draft. draft ≡ at_site (sites.beginning behaviour) self.entry) }
+    {
+        let Draft {
+            alloc,
+            here,
+            declared: _declared,
+            cells,
+            ways,
+        } = self;
+        let here = here.go_to(alloc, behaviour)?;
+        let declared = cells.no_names();
+        Ok(Draft {
+            alloc,
+            here,
+            declared,
+            cells,
+            ways,
+        })
+    }
+
+    /// Goes on behind the declaration of one more name.
+    pub fn declare(&mut self, name: &'a Name, meaning: Meaning) -> Result<(), AllocError>
+        ensures { OnOk result (self.new ≡ at_site (sites.site_with self.old.site (name.now, meaning)) self.old) }
+    {
+        let at = self
+            .cells
+            .declare(Declared::new(name, meaning), self.declared)?;
+        self.here.declare(name, meaning)?;
+        self.declared = at;
+        Ok(())
+    }
+
+    /// Goes back before the name that was declared last.
+    pub fn retract(&mut self)
+        ensures { self.new ≡ at_site (retracted self.old.site) self.old }
+    {
+        self.declared = self.cells.before(self.declared);
+        self.here.retract();
+    }
+
+    /// The type that a declaration names here.
+    pub fn resolved(&self, type_name: &TypeName) -> Option<DataType>
+        ensures { result ≡ resolved (sites.scope_at self.now.definitions self.now.site).names type_name.now }
+    {
+        self.here.resolved(type_name)
+    }
+
+    /// What a reference means here as a target.
+    pub fn target(&self, reference: &'a Reference) -> Target<'a>
+        ensures { target_of result ≡ target_in self.now.definitions self.now.site reference.now }
+    {
+        self.here.target(reference)
+    }
+
+    /// Whether a name is that of an altstep of the module.
+    pub fn is_altstep(&self, name: &Name) -> bool
+        ensures { result ≡ is_some (altstep_meant (module_names self.now.definitions name.now)) }
+    {
+        self.here.is_altstep(name)
+    }
+
+    // ---- positions
+
+    /// How many lists there are.
+    pub fn len(&self) -> usize
+        ensures { result ≡ length self.now.lists }
+    {
+        self.cells.len()
+    }
+
+    /// Whether there are none, which never is: the empty list always has a position.
+    pub fn is_empty(&self) -> bool
+        ensures { result ≡ nat_eq (length self.now.lists) 0 }
+    {
+        self.len() == 0
+    }
+
+    /// The position of one of the lists that may come of the list at a position, where those were said.
+    pub fn way(&self, at: usize, place: usize) -> Option<usize>
+        ensures found { IfSome result (λ way. HasWays self.now at → IsWay self.now at place way) }
+        ensures missing { IfNone result (HasWays self.now at → slice_get (ways_of self.now.definitions (get_or self.now.lists at [])) place ≡ None) }
+    {
+        match self.ways.get(at) {
+            Some(ways) => way_in(ways, place),
+            None => None,
+        }
+    }
+
+    /// The position of the empty list.
+    pub fn nothing(&self) -> usize
+        ensures within { result < length self.now.lists }
+        ensures empty { get_or self.now.lists result [] ≡ [] }
+    {
+        self.cells.nothing()
+    }
+
+    /// The position of a part of a statement in front of a list.
+    pub fn begin(
+        &mut self,
+        statement: &'a Statement,
+        part: Part,
+        rest: usize,
+    ) -> Result<usize, AllocError>
+        requires { rest < length self.old.lists }
+        ensures { IfOk result (λ at. IsBegun self.old self.new at (rules.Doing self.old.site statement.now (part_of part) ∷ get_or self.old.lists rest [])) }
+    {
+        let site = Site {
+            behaviour: self.here.behaviour(),
+            declared: self.declared,
+        };
+        let at = self
+            .cells
+            .put(Item::Doing(site, At::new(statement), part), rest)?;
+        Ok(at)
+    }
+
+    /// The position of the mark of a statement in front of a list.
+    pub fn begin_mark(&mut self, statement: &'a Statement, rest: usize) -> Result<usize, AllocError>
+        requires { rest < length self.old.lists }
+        ensures { IfOk result (λ at. IsBegun self.old self.new at (rules.Mark self.old.site statement.now ∷ get_or self.old.lists rest [])) }
+    {
+        let site = Site {
+            behaviour: self.here.behaviour(),
+            declared: self.declared,
+        };
+        let at = self.cells.put(Item::Mark(site, At::new(statement)), rest)?;
+        Ok(at)
+    }
+
+    /// The position of a target that waits in front of a list.
+    pub fn begin_wait(&mut self, target: Target<'a>, rest: usize) -> Result<usize, AllocError>
+        requires { rest < length self.old.lists }
+        ensures { IfOk result (λ at. IsBegun self.old self.new at (rules.Waiting (target_of target.entry) ∷ get_or self.old.lists rest [])) }
+    {
+        let at = self.cells.put(Item::Waiting(target), rest)?;
+        Ok(at)
+    }
+
+    /// Says where that is which may come of the list at a position.
+    pub fn finish(&mut self, at: usize, ways: Seq<usize>) -> Result<(), AllocError>
+        requires at { at < length self.old.lists }
+        requires ways { AreAt self.old.lists ways (ways_of self.old.definitions (get_or self.old.lists at [])) }
+        ensures { OnOk result (IsFinished self.old self.new at) }
+    {
+        while self.ways.len() <= at {
+            self.ways.push(Seq::new(self.alloc))?;
+        }
+        self.ways[at] = ways;
+        Ok(())
+    }
+
+    /// No list has two positions.
+    pub fn lists_differ(&self)
+        ensures { AreDifferent self.now.lists }
+    {
+        self.cells.lists_differ();
+    }
+
+    // ---- positions with their ways
+
+    /// The position of a part of a statement in front of a list, where it is known what may come of it.
+    pub fn put(
+        &mut self,
+        statement: &'a Statement,
+        part: Part,
+        rest: usize,
+        ways: Seq<usize>,
+    ) -> Result<usize, AllocError>
+        requires rest { rest < length self.old.lists }
+        requires ways { AreAt self.old.lists ways (ways_of self.old.definitions (rules.Doing self.old.site statement.now (part_of part) ∷ get_or self.old.lists rest [])) }
+        ensures { IfOk result (λ at. IsDrawn self.old self.new at (rules.Doing self.old.site statement.now (part_of part) ∷ get_or self.old.lists rest [])) }
+    {
+        let at = self.begin(statement, part, rest)?;
+        self.finish(at, ways)?;
+        Ok(at)
+    }
+
+    /// The position of a target that waits in front of a list.
+    pub fn wait(&mut self, target: Target<'a>, rest: usize) -> Result<usize, AllocError>
+        requires { rest < length self.old.lists }
+        ensures { IfOk result (λ at. IsDrawn self.old self.new at (rules.Waiting (target_of target.entry) ∷ get_or self.old.lists rest [])) }
+    {
+        let at = self.begin_wait(target, rest)?;
+        let ways = Seq::new(self.alloc);
+        self.finish(at, ways)?;
+        Ok(at)
+    }
+
+    /// The position of the mark of an `alt`, or of what stands for one, which itself has a position.
+    pub fn mark(
+        &mut self,
+        statement: &'a Statement,
+        whole: usize,
+        rest: usize,
+    ) -> Result<usize, AllocError>
+        requires rest { rest < length self.old.lists }
+        requires within { whole < length self.old.lists }
+        requires stands { get_or self.old.lists whole [] ≡ rules.Doing self.old.site statement.now rules.Whole ∷ get_or self.old.lists rest [] }
+        ensures { IfOk result (λ at. IsDrawn self.old self.new at (rules.Mark self.old.site statement.now ∷ get_or self.old.lists rest [])) }
+    {
+        let at = self.begin_mark(statement, rest)?;
+        let mut ways = Seq::new(self.alloc);
+        ways.push(whole)?;
+        self.finish(at, ways)?;
+        Ok(at)
+    }
+
+    /// What may come of an assignment: where a function is called, its target waits.
+    pub fn right(
+        &mut self,
+        target: Target<'a>,
+        right: &'a Rhs,
+        rest: usize,
+    ) -> Result<Seq<usize>, AllocError>
+        requires { rest < length self.old.lists }
+        ensures { IfOk result (λ ways. AreDrawn self.old self.new ways (ways_of_right (target_of target.entry) (get_or self.old.lists rest []) right.now)) }
+    {
+        match right {
+            Rhs::Value(_) => Ok(Seq::new(self.alloc)),
+            Rhs::Create(_) => Ok(Seq::new(self.alloc)),
+            Rhs::Call(_) => {
+                let at = self.wait(target, rest)?;
+                let mut ways = Seq::new(self.alloc);
+                ways.push(at)?;
+                Ok(ways)
+            }
+            Rhs::Activate(_) => Ok(Seq::new(self.alloc)),
+        }
+    }
+
+    /// What may come of an assignment in front of a list.
+    pub fn assignment(
+        &mut self,
+        assignment: &'a Assignment,
+        rest: usize,
+    ) -> Result<Seq<usize>, AllocError>
+        requires { rest < length self.old.lists }
+        ensures { IfOk result (λ ways. AreDrawn self.old self.new ways (ways_of_assignment self.old.definitions self.old.site (get_or self.old.lists rest []) assignment.now)) }
+    {
+        let target = self.target(&assignment.target);
+        self.right(target, &assignment.value, rest)
+    }
+}

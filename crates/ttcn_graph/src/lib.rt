@@ -1,0 +1,17 @@
+//! The flow graphs of a module's behaviours: a position for each list of what remains to be done.
+#![tactic(auto)]
+
+mod at;
+mod cells;
+mod declared;
+mod draft;
+mod here;
+mod item;
+mod own;
+mod referred;
+
+pub use at::At;
+pub use declared::Declared;
+pub use draft::Draft;
+pub use item::{Item, Part, Site, Target};
+pub use referred::Referred;
