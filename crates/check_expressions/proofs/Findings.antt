@@ -1,7 +1,7 @@
 -- What is found behind what is broken before it.
 use Rattle.std.proofs.Common.{◌≡◌, List, ap}
-use Rattle.check_scope.specs.internal.Checking.{least}
-use Rattle.check_expressions.specs.internal.Findings.{finding, with_before}
+use Rattle.check_scope.specs.Checking.{least}
+use Rattle.check_expressions.specs.Findings.{finding, with_before}
 use Rattle.check_expressions.specs.Expressions.{Judged, after}
 use Rattle.check_scope.specs.declared.rule.Rule.{Rule}
 pub use Rattle.check_scope.proofs.Leasts.{least_append}

@@ -10,8 +10,8 @@ use Rattle.ttcn_syntax.specs.declared.tree.expression.Expr.TheFolds.{fold-roll-E
 use Rattle.ttcn_syntax.specs.declared.tree.expression.Expr.TheOpen.{Expr-F}
 use Rattle.ttcn_syntax.specs.declared.tree.expression.Link.{Link, fold_out-Link, out-Link}
 use Rattle.ttcn_syntax.specs.declared.tree.expression.Reference.{Reference}
-use Rattle.check_expressions.specs.internal.Findings.{free_before, finding, with_before}
-use Rattle.check_scope.specs.internal.Checking.{least}
+use Rattle.check_expressions.specs.Findings.{free_before, finding, with_before}
+use Rattle.check_scope.specs.Checking.{least}
 use Rattle.check_expressions.specs.Expressions.{Judged, Judgement, after, at_component, at_ispresent, at_running, between, chained, expression, expression_step, fine, joined, link, link_step, of_type, operand}
 use Rattle.check_scope.specs.Names.{Scope}
 use Rattle.check_scope.specs.Typings.{compares}

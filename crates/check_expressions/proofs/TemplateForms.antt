@@ -12,7 +12,7 @@ use Rattle.ttcn_syntax.specs.declared.tree.template.TemplateBody.TheVariants as 
 use Rattle.ttcn_syntax.specs.declared.tree.value.Call.{Call}
 use Rattle.check_scope.proofs.Leasts.{both_assoc, both_nothing, least_append}
 use Rattle.check_scope.proofs.Lookups.{drop-next}
-use Rattle.check_scope.specs.internal.Checking.{both, least}
+use Rattle.check_scope.specs.Checking.{both, least}
 use Rattle.check_scope.specs.Names.{Scope}
 use Rattle.check_expressions.specs.Templates.{at_name, at_range, at_template, body, body_step, each, field_template, field_template_step, has_all, template, template_meant, template_named, template_step}
 use Rattle.check_scope.specs.Typings.{unless}

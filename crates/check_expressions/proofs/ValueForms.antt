@@ -8,7 +8,7 @@ use Rattle.ttcn_syntax.specs.declared.tree.value.Value.TheFolds.{fold-roll-Value
 use Rattle.ttcn_syntax.specs.declared.tree.value.Value.TheOpen.{Value-F}
 use Rattle.ttcn_syntax.specs.declared.tree.value.Value.TheVariants as form
 use Rattle.check_scope.proofs.Leasts.{least_append}
-use Rattle.check_scope.specs.internal.Checking.{both, least}
+use Rattle.check_scope.specs.Checking.{both, least}
 use Rattle.check_scope.specs.Names.{Scope}
 use Rattle.check_scope.specs.Typings.{unless}
 use Rattle.check_expressions.specs.Values.{AtTarget, at_expression, by_name, field_value, field_value_step, in_order, is_full, takes_braces, value, value_step, wanted_fields}

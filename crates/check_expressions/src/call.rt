@@ -2,7 +2,7 @@
 ghost use Rattle.std.specs.Prelude.{◌≡◌, IfOk};
 ghost use Rattle.std.specs.Option.{option_map};
 ghost use Rattle.check_expressions.specs.Calls as spec;
-ghost use Rattle.check_scope.specs.internal.Checking.{least, view};
+ghost use Rattle.check_scope.specs.Checking.{least, view};
 ghost use Rattle.check_scope.specs.Names.{component_meant};
 
 use crate::value::value;

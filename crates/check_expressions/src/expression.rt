@@ -1,8 +1,8 @@
 //! The types of expressions, and the rules that are broken in them (ES 201 873-1, 7).
 ghost use Rattle.std.specs.Prelude.{◌≡◌, map, Some};
 ghost use Rattle.std.specs.Option.{option_map};
-ghost use Rattle.check_expressions.specs.internal.Findings.{free_before, finding, with_before};
-ghost use Rattle.check_scope.specs.internal.Checking.{view};
+ghost use Rattle.check_expressions.specs.Findings.{free_before, finding, with_before};
+ghost use Rattle.check_scope.specs.Checking.{view};
 ghost use Rattle.check_expressions.specs.Expressions as spec;
 
 use crate::finding::Finding;

@@ -1,6 +1,6 @@
 //! What is known of an expression.
 ghost use Rattle.std.specs.Prelude.{◌≡◌};
-ghost use Rattle.check_expressions.specs.internal.Findings.{finding, with_before};
+ghost use Rattle.check_expressions.specs.Findings.{finding, with_before};
 ghost use Rattle.check_expressions.specs.Expressions as spec;
 
 use check_scope::broken::Broken;

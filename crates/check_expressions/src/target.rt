@@ -1,8 +1,8 @@
 //! The rules that declarations, assignments and what they store break (ES 201 873-1, 8 and 19.1).
 ghost use Rattle.std.specs.Prelude.{◌≡◌, IfOk};
 ghost use Rattle.std.specs.Option.{option_map};
-ghost use Rattle.check_scope.specs.internal.Checking.{least, view};
-ghost use Rattle.check_expressions.specs.internal.Findings.{finding};
+ghost use Rattle.check_scope.specs.Checking.{least, view};
+ghost use Rattle.check_expressions.specs.Findings.{finding};
 ghost use Rattle.check_expressions.specs.Targets as spec;
 
 use crate::call::{

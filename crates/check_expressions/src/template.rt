@@ -4,8 +4,8 @@ ghost use Rattle.std.specs.List.{list_all, list_any};
 ghost use Rattle.std.specs.Option.{option_map};
 ghost use Rattle.ttcn_syntax.specs.declared.tree.expression.Expr.{out-Expr};
 ghost use Rattle.ttcn_syntax.specs.declared.tree.template.FieldTemplate.{out-FieldTemplate};
-ghost use Rattle.check_scope.specs.internal.Checking.{least, view};
-ghost use Rattle.check_scope.specs.internal.Tables.{has};
+ghost use Rattle.check_scope.specs.Checking.{least, view};
+ghost use Rattle.check_scope.specs.Tables.{has};
 ghost use Rattle.check_expressions.specs.Templates as spec;
 ghost use Rattle.check_expressions.specs.Values.{by_name, in_order, wanted_fields};
 

@@ -1,7 +1,7 @@
 //! The rules that values break, at what they go to (ES 201 873-1, 5.4, 6.2 and 19.1).
 ghost use Rattle.std.specs.Prelude.{◌≡◌, ◌&&◌, [], map, IfOk};
 ghost use Rattle.std.specs.Option.{option_map};
-ghost use Rattle.check_scope.specs.internal.Checking.{least, view};
+ghost use Rattle.check_scope.specs.Checking.{least, view};
 ghost use Rattle.check_scope.specs.Typings.{unless};
 ghost use Rattle.check_expressions.specs.Values as spec;
 ghost use Rattle.check_scope.specs.declared.rule.Rule.TheVariants as rule;

@@ -5,10 +5,10 @@ use Rattle.std.proofs.lemmas.List.{drop_all}
 use Rattle.std.specs.Option.{option_or}
 use Rattle.ttcn_syntax.specs.declared.tree.definition.Definition.{Definition}
 use Rattle.ttcn_syntax.specs.declared.tree.statement.Constant.{Constant}
-use Rattle.check_scope.specs.internal.Checking.{both, least}
+use Rattle.check_scope.specs.Checking.{both, least}
 use Rattle.check_scope.specs.Scopes.{at_new_entries}
 use Rattle.check_scope.specs.Names.{Entry, Names, behind, constant_entries, entries_at, entries_from, listed}
-use Rattle.check_scope.specs.internal.Tables.{either}
+use Rattle.check_scope.specs.Tables.{either}
 use Rattle.check_scope.specs.Typings.{unless}
 use Rattle.check_scope.specs.declared.broken.Broken.{Broken}
 use Rattle.check_scope.specs.declared.names.Meaning.TheVariants as meaning

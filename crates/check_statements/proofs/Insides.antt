@@ -11,11 +11,11 @@ use Rattle.ttcn_syntax.specs.declared.tree.definition.Field.{Field}
 use Rattle.check_expressions.proofs.Elements.{one-more, regroup}
 use Rattle.check_scope.proofs.Leasts.{both_assoc, both_nothing, least_append}
 use Rattle.check_scope.proofs.Lookups.{drop-next}
-use Rattle.check_scope.specs.internal.Checking.{both, least}
+use Rattle.check_scope.specs.Checking.{both, least}
 use Rattle.check_statements.specs.Definitions.{and_number, check_number, at_part, in_fields, check_numbers, same_number, same_sign}
 use Rattle.check_scope.specs.Names.{Names}
-use Rattle.check_statements.specs.internal.Places.{AreGiven, given, is_negative}
-use Rattle.check_scope.specs.internal.Tables.{has}
+use Rattle.check_statements.specs.Places.{AreGiven, given, is_negative}
+use Rattle.check_scope.specs.Tables.{has}
 use Rattle.check_scope.specs.Typings.{unless}
 use Rattle.check_scope.specs.declared.broken.Broken.{Broken}
 use Rattle.check_scope.specs.declared.name_set.NameSet.{NameSet}

@@ -1,4 +1,5 @@
 pub mod Definitions
 pub mod Messages
+pub mod Ports
+pub mod Places
 pub mod Statements
-pub mod internal

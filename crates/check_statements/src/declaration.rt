@@ -1,6 +1,6 @@
 //! Declarations of variables, constants and timers (ES 201 873-1, 8, 10 to 12).
 ghost use Rattle.std.specs.Prelude.{◌≡◌, [], ◌∷◌, IfOk, OnOk};
-ghost use Rattle.check_scope.specs.internal.Checking.{around, least, view};
+ghost use Rattle.check_scope.specs.Checking.{around, least, view};
 ghost use Rattle.check_scope.specs.Names.{declaring};
 ghost use Rattle.check_expressions.specs.Targets as spec;
 

@@ -3,7 +3,7 @@ ghost use Rattle.std.specs.Prelude.{◌≡◌, ◌++◌, IfOk, OnOk};
 ghost use Rattle.std.specs.Option.{option_map};
 ghost use Rattle.ttcn_syntax.specs.declared.tree.definition.DefinitionKind.TheVariants as kind;
 ghost use Rattle.check_expressions.specs.Calls.{component_named};
-ghost use Rattle.check_scope.specs.internal.Checking.{around, both, least, least_in, view};
+ghost use Rattle.check_scope.specs.Checking.{around, both, least, least_in, view};
 ghost use Rattle.check_scope.specs.Scopes.{scope_on};
 ghost use Rattle.check_statements.specs.Definitions as spec;
 

@@ -3,10 +3,10 @@ ghost use Rattle.std.specs.Prelude.{◌≡◌, ◌++◌, List, [], IfOk, OnOk, f
 ghost use Rattle.std.specs.List.{flat_map};
 ghost use Rattle.std.specs.Option.{option_map};
 ghost use Rattle.ttcn_syntax.specs.declared.tree.definition.EnumNumber.{EnumNumber};
-ghost use Rattle.check_scope.specs.internal.Checking.{least, view};
+ghost use Rattle.check_scope.specs.Checking.{least, view};
 ghost use Rattle.check_statements.specs.Definitions as spec;
 ghost use Rattle.check_scope.specs.Names.{module_names, resolved};
-ghost use Rattle.check_statements.specs.internal.Places.{AreGiven};
+ghost use Rattle.check_statements.specs.Places.{AreGiven};
 ghost use Rattle.check_expressions.specs.Targets.{at_type};
 
 use crate::number_set::NumberSet;

@@ -1,10 +1,10 @@
 //! The names of a module.
 ghost use Rattle.std.specs.Prelude.{◌≡◌, [], ◌∷◌, map, IfOk, OnOk};
-ghost use Rattle.check_scope.specs.internal.Checking.{both, least, least_in};
+ghost use Rattle.check_scope.specs.Checking.{both, least, least_in};
 ghost use Rattle.check_scope.specs.Scopes.{at_module_names, at_new_entries};
 ghost use Rattle.check_scope.specs.Names.{behind, constant_entries, entries_at, module_names};
 ghost use Rattle.check_scope.specs.Names as spec;
-ghost use Rattle.check_scope.specs.internal.Tables.{said};
+ghost use Rattle.check_scope.specs.Tables.{said};
 
 use crate::broken::Broken;
 use crate::least::Least;

@@ -1,6 +1,6 @@
 //! Scopes outside of blocks.
 ghost use Rattle.std.specs.Prelude.{◌≡◌, IfOk, OnOk, Some};
-ghost use Rattle.check_scope.specs.internal.Checking.{both, least, least_in, view};
+ghost use Rattle.check_scope.specs.Checking.{both, least, least_in, view};
 ghost use Rattle.check_scope.specs.Scopes.{at_module_names, component_scope, module_scope, outside, scope_on};
 
 use super::Scope;

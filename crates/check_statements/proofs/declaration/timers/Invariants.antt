@@ -1,5 +1,5 @@
 use Rattle.std.proofs.Common.{◌≡◌, [], drop}
-use Rattle.check_scope.specs.internal.Checking.{around, least, view}
+use Rattle.check_scope.specs.Checking.{around, least, view}
 use Rattle.check_expressions.specs.Targets.{at_timer_name, timer_entry}
 use Rattle.check_statements.proofs.Declared.{Walked}
 use Rattle.check_statements.proofs.declaration.timers.Given as goal

@@ -1,5 +1,5 @@
 use Rattle.std.proofs.Common.{◌∙◌, refl, sym, true}
-use Rattle.check_scope.specs.internal.Checking.{least, view}
+use Rattle.check_scope.specs.Checking.{least, view}
 use Rattle.check_expressions.specs.Declarations.{one_by_one}
 use Rattle.check_expressions.specs.Targets.{at_type, at_variable, variable_entry}
 use Rattle.check_statements.proofs.Declared.{walked-first, walked-next, walked-rules, walked-scope}

@@ -1,6 +1,6 @@
 use Rattle.std.proofs.Common.{◌++◌}
 use Rattle.std.specs.List.{flat_map}
-use Rattle.check_scope.specs.internal.Checking.{least_in}
+use Rattle.check_scope.specs.Checking.{least_in}
 use Rattle.check_expressions.specs.Calls.{component_named}
 use Rattle.check_statements.specs.Definitions.{check_component_name, in_parameters, place_in}
 use Rattle.check_scope.specs.Scopes.{scope_on}

@@ -1,4 +1,4 @@
-use Rattle.check_scope.specs.internal.Checking.{least_in}
+use Rattle.check_scope.specs.Checking.{least_in}
 use Rattle.check_expressions.specs.Calls.{component_named}
 use Rattle.check_statements.specs.Definitions.{check_component_name, check_result, in_parameters, place_in, returns_of}
 use Rattle.check_scope.specs.Scopes.{scope_on}

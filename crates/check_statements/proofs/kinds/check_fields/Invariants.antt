@@ -1,5 +1,5 @@
 use Rattle.std.proofs.Common.{[], drop}
-use Rattle.check_scope.specs.internal.Checking.{least}
+use Rattle.check_scope.specs.Checking.{least}
 use Rattle.check_statements.specs.Definitions.{in_fields}
 use Rattle.check_scope.specs.Names.{module_names}
 use Rattle.check_statements.proofs.Insides.{Fielded}

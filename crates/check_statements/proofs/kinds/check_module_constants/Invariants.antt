@@ -1,5 +1,5 @@
 use Rattle.std.proofs.Common.{◌≡◌, drop}
-use Rattle.check_scope.specs.internal.Checking.{least, view}
+use Rattle.check_scope.specs.Checking.{least, view}
 use Rattle.check_statements.specs.Definitions.{in_module_constants}
 use Rattle.check_scope.specs.Typings.{target_of}
 use Rattle.check_expressions.specs.Values.{value}

@@ -5,7 +5,7 @@ use Rattle.check_expressions.specs.Expressions.{Judged, Judgement}
 use Rattle.check_scope.specs.Typings.{compares}
 use Rattle.check_scope.specs.declared.broken.Broken.{Broken}
 use Rattle.check_expressions.specs.declared.finding.Finding.{Finding}
-use Rattle.check_scope.specs.internal.Checking.{both, least}
+use Rattle.check_scope.specs.Checking.{both, least}
 
 -- what is said of an expression, with the least of the rules that are broken
 abbrev pub finding : Judged → Finding

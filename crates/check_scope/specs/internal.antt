@@ -1,4 +1,0 @@
-pub mod Checking
-pub mod Listings
-pub mod Tables
-pub mod Traffic

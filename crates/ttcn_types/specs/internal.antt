@@ -1,4 +1,0 @@
-pub mod Numbering
-pub mod ProgramFields
-pub mod Surrounding
-pub mod Surveys
