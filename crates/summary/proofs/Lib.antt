@@ -1,1 +1,2 @@
 pub mod NumberSetLemmas
+pub mod Successors

@@ -6,7 +6,7 @@ use std::alloc::Global;
 
 /// What is told of the runs of a system: something of each state that a run ends in, and of each step that a run
 /// ends with, joined over all runs.
-pub trait Summary<Y: System>: Drop {
+pub trait Summary<Y: System>: Send + Sync + Drop {
     /// The summary of nothing, and two summaries made one.
     ghost joins: { Join Self };
 

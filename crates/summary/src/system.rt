@@ -1,6 +1,6 @@
 ghost use Rattle.std.specs.Prelude.{◌≡◌, ℕ, ◌<◌, true, None, Some, IfOk, IfSome, Contains, AllPairs};
 ghost use Rattle.std.specs.declared.cmp.Ordering.TheVariants.{Less};
-ghost use Rattle.summary.specs.Graph.{Graph};
+ghost use Rattle.summary.specs.Graph.{Graph, with_after};
 
 use crate::Memory;
 use std::alloc::Global;
@@ -9,10 +9,10 @@ use std::hash::Hash;
 /// A system that moves from state to state by labels.
 ///
 /// What it means is its `graph`: contracts and theorems speak of that alone.
-pub trait System {
-    type State: Eq + Hash + Drop;
+pub trait System: Sync {
+    type State: Eq + Hash + Send + Sync + Drop;
 
-    type Label: Ord + Drop;
+    type Label: Ord + Send + Sync + Drop;
 
     /// Where runs start, which labels are enabled, where they lead, and which states are marked.
     ghost graph: { Self → Graph Self.State Self.Label };
@@ -39,6 +39,23 @@ pub trait System {
         requires fits { fits self.now state.now }
         requires enabled { Contains ((graph self.now).enabled state.now) label.now }
         ensures { IfOk result (λ after. after ≡ (graph self.now).after state.now label.now) };
+
+    /// The enabled labels, from the least to the greatest, each with the state that it leads to.
+    fn successors(
+        &self,
+        alloc: Global,
+        state: &Self::State,
+    ) -> Result<Vec<(Self::Label, Self::State)>, Memory>
+        requires { fits self.now state.now }
+        ensures { IfOk result (λ pairs. pairs.items ≡ with_after (graph self.now) state.now ((graph self.now).enabled state.now)) }
+    {
+        let mut pairs = Vec::new(alloc);
+        for label in self.labels(alloc, state)? {
+            let after = self.next(alloc, state, &label)?;
+            pairs.push((label, after))?;
+        }
+        Ok(pairs)
+    }
 
     /// An equal label.
     fn copy(&self, alloc: Global, label: &Self::Label) -> Result<Self::Label, Memory>

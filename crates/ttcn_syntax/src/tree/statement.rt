@@ -301,7 +301,7 @@ impl Drop for LogItem {
 }
 
 /// The verdicts, from the best to the worst.
-#[derive(Clone, Copy, Debug, PartialEq, Eq)]
+#[derive(Clone, Copy, Debug, PartialEq, Eq, Hash)]
 pub enum Verdict {
     None,
     Pass,
