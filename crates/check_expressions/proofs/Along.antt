@@ -2,8 +2,8 @@
 use Rattle.std.proofs.Common.{◌≡◌, ◌≤◌, ℕ, ◌+◌, ◌<◌, Bool, List, length, get_or, drop, sym, ap, ◌∙◌}
 use Rattle.std.proofs.lemmas.List.{drop_all}
 use Rattle.ttcn_syntax.specs.declared.tree.definition.Definition.{Definition}
-use Rattle.check_scope.specs.Checking.{least}
-use Rattle.check_expressions.specs.Findings.{finding, with_before}
+use Rattle.check_scope.specs.internal.Checking.{least}
+use Rattle.check_expressions.specs.internal.Findings.{finding, with_before}
 use Rattle.check_expressions.specs.Expressions.{along, within}
 use Rattle.check_expressions.specs.Targets.{last_optional, optional_in}
 use Rattle.check_expressions.specs.declared.finding.Finding.{Finding}

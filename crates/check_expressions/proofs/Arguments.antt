@@ -6,7 +6,7 @@ use Rattle.ttcn_syntax.specs.declared.tree.value.Value.{Value}
 use Rattle.check_scope.proofs.Leasts.{both_assoc, both_nothing, least_append}
 use Rattle.check_scope.proofs.Lookups.{drop-next}
 use Rattle.check_expressions.specs.Calls.{arguments, next_parameters, parameter_target}
-use Rattle.check_scope.specs.Checking.{both, least}
+use Rattle.check_scope.specs.internal.Checking.{both, least}
 use Rattle.check_scope.specs.Names.{Scope}
 use Rattle.check_expressions.specs.Values.{value}
 use Rattle.check_scope.specs.declared.broken.Broken.{Broken}

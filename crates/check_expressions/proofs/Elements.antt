@@ -7,9 +7,9 @@ use Rattle.std.specs.List.{list_all, list_any}
 use Rattle.ttcn_syntax.specs.declared.tree.definition.Field.{Field}
 use Rattle.check_scope.proofs.Leasts.{both_assoc, both_nothing, least_append}
 use Rattle.check_scope.proofs.Lookups.{drop-next}
-use Rattle.check_scope.specs.Checking.{both, least}
+use Rattle.check_scope.specs.internal.Checking.{both, least}
 use Rattle.check_scope.specs.Names.{Scope}
-use Rattle.check_scope.specs.Tables.{has}
+use Rattle.check_scope.specs.internal.Tables.{has}
 use Rattle.check_scope.specs.Typings.{unless}
 use Rattle.check_expressions.specs.Values.{AtTarget, by_name, first_target, in_order, is_field, next_fields, target_named}
 use Rattle.check_scope.specs.declared.broken.Broken.{Broken}

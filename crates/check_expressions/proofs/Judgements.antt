@@ -10,9 +10,9 @@ use Rattle.ttcn_syntax.specs.declared.tree.expression.Expr.TheFolds.{fold-roll-E
 use Rattle.ttcn_syntax.specs.declared.tree.expression.Expr.TheOpen.{Expr-F}
 use Rattle.ttcn_syntax.specs.declared.tree.expression.Link.{Link, fold_out-Link, out-Link}
 use Rattle.ttcn_syntax.specs.declared.tree.expression.Reference.{Reference}
-use Rattle.check_expressions.specs.Findings.{free_before, finding, with_before}
-use Rattle.check_scope.specs.Checking.{least}
-use Rattle.check_expressions.specs.Expressions.{Judged, Judgement, after, at_component, at_ispresent, at_running, between, chained, expression, expression_step, fine, joined, link, link_step, of_type, operand}
+use Rattle.check_expressions.specs.internal.Findings.{free_before, finding, with_before}
+use Rattle.check_scope.specs.internal.Checking.{least}
+use Rattle.check_expressions.specs.Expressions.{Judgement, Judge, after, check_component, check_ispresent, check_running, between, join_links, expression, expression_step, fine, join_link, link, link_step, of_type, operand}
 use Rattle.check_scope.specs.Names.{Scope}
 use Rattle.check_scope.specs.Typings.{compares}
 use Rattle.check_expressions.specs.declared.finding.Finding.{Finding}
@@ -26,57 +26,57 @@ use Rattle.check_scope.proofs.Lookups.{drop-next}
 
 module _ (scope : Scope) (free : Bool) where
   pub expression-Int : (n : ℕ) → expression (form.Int n) scope free ≡ fine (typing.Known type.Integer)
-  expression-Int n = ap (λ (j : Judgement). j scope free) (ap expression (sym (form.rolls-Int n)) ∙ fold-roll-Expr Judgement (Operator × Judgement) expression_step link_step (Expr-F.Int n))
+  expression-Int n = ap (λ (j : Judge). j scope free) (ap expression (sym (form.rolls-Int n)) ∙ fold-roll-Expr Judge (Operator × Judge) expression_step link_step (Expr-F.Int n))
 
   pub expression-Bool : (b : Bool) → expression (form.Bool b) scope free ≡ fine (typing.Known type.Boolean)
-  expression-Bool b = ap (λ (j : Judgement). j scope free) (ap expression (sym (form.rolls-Bool b)) ∙ fold-roll-Expr Judgement (Operator × Judgement) expression_step link_step (Expr-F.Bool b))
+  expression-Bool b = ap (λ (j : Judge). j scope free) (ap expression (sym (form.rolls-Bool b)) ∙ fold-roll-Expr Judge (Operator × Judge) expression_step link_step (Expr-F.Bool b))
 
   pub expression-Null : expression form.Null scope free ≡ fine typing.Null
-  expression-Null = ap (λ (j : Judgement). j scope free) (ap expression (sym form.rolls-Null) ∙ fold-roll-Expr Judgement (Operator × Judgement) expression_step link_step Expr-F.Null)
+  expression-Null = ap (λ (j : Judge). j scope free) (ap expression (sym form.rolls-Null) ∙ fold-roll-Expr Judge (Operator × Judge) expression_step link_step Expr-F.Null)
 
-  pub expression-Reference : (reference : ComponentRef) → expression (form.Reference reference) scope free ≡ at_component scope reference free
-  expression-Reference reference = ap (λ (j : Judgement). j scope free) (ap expression (sym (form.rolls-Reference reference)) ∙ fold-roll-Expr Judgement (Operator × Judgement) expression_step link_step (Expr-F.Reference reference))
+  pub expression-Reference : (reference : ComponentRef) → expression (form.Reference reference) scope free ≡ check_component scope reference free
+  expression-Reference reference = ap (λ (j : Judge). j scope free) (ap expression (sym (form.rolls-Reference reference)) ∙ fold-roll-Expr Judge (Operator × Judge) expression_step link_step (Expr-F.Reference reference))
 
-  pub expression-Running : (reference : ComponentRef) → expression (form.Running reference) scope free ≡ at_running scope reference
-  expression-Running reference = ap (λ (j : Judgement). j scope free) (ap expression (sym (form.rolls-Running reference)) ∙ fold-roll-Expr Judgement (Operator × Judgement) expression_step link_step (Expr-F.Running reference))
+  pub expression-Running : (reference : ComponentRef) → expression (form.Running reference) scope free ≡ check_running scope reference
+  expression-Running reference = ap (λ (j : Judge). j scope free) (ap expression (sym (form.rolls-Running reference)) ∙ fold-roll-Expr Judge (Operator × Judge) expression_step link_step (Expr-F.Running reference))
 
-  pub expression-Ispresent : (reference : Reference) → expression (form.Ispresent reference) scope free ≡ at_ispresent scope reference
-  expression-Ispresent reference = ap (λ (j : Judgement). j scope free) (ap expression (sym (form.rolls-Ispresent reference)) ∙ fold-roll-Expr Judgement (Operator × Judgement) expression_step link_step (Expr-F.Ispresent reference))
+  pub expression-Ispresent : (reference : Reference) → expression (form.Ispresent reference) scope free ≡ check_ispresent scope reference
+  expression-Ispresent reference = ap (λ (j : Judge). j scope free) (ap expression (sym (form.rolls-Ispresent reference)) ∙ fold-roll-Expr Judge (Operator × Judge) expression_step link_step (Expr-F.Ispresent reference))
 
   pub expression-Not : (inner : Expr) → expression (form.Not inner) scope free ≡ operand type.Boolean (expression inner scope false)
-  expression-Not inner = ap (λ (j : Judgement). j scope free) (ap expression (sym (form.rolls-Not inner)) ∙ fold-roll-Expr Judgement (Operator × Judgement) expression_step link_step (Expr-F.Not inner))
+  expression-Not inner = ap (λ (j : Judge). j scope free) (ap expression (sym (form.rolls-Not inner)) ∙ fold-roll-Expr Judge (Operator × Judge) expression_step link_step (Expr-F.Not inner))
 
   pub expression-Signed : (sign : Sign) (inner : Expr) → expression (form.Signed sign inner) scope free ≡ operand type.Integer (expression inner scope false)
-  expression-Signed sign inner = ap (λ (j : Judgement). j scope free) (ap expression (sym (form.rolls-Signed sign inner)) ∙ fold-roll-Expr Judgement (Operator × Judgement) expression_step link_step (Expr-F.Signed sign inner))
+  expression-Signed sign inner = ap (λ (j : Judge). j scope free) (ap expression (sym (form.rolls-Signed sign inner)) ∙ fold-roll-Expr Judge (Operator × Judge) expression_step link_step (Expr-F.Signed sign inner))
 
-pub expression-Chain : (first : Expr) (links : List Link) → expression (form.Chain first links) ≡ chained (expression first) (map link links)
-expression-Chain first links = ap expression (sym (form.rolls-Chain first links)) ∙ fold-roll-Expr Judgement (Operator × Judgement) expression_step link_step (Expr-F.Chain first links)
+pub expression-Chain : (first : Expr) (links : List Link) → expression (form.Chain first links) ≡ join_links (expression first) (map link links)
+expression-Chain first links = ap expression (sym (form.rolls-Chain first links)) ∙ fold-roll-Expr Judge (Operator × Judge) expression_step link_step (Expr-F.Chain first links)
 
 pub link-out : (l : Link) → link l ≡ ((out-Link l).operator, expression (out-Link l).operand)
-link-out l = fold_out-Link Judgement (Operator × Judgement) expression_step link_step l
+link-out l = fold_out-Link Judge (Operator × Judge) expression_step link_step l
 
 -- ---- chains
 
 -- what a link makes of what was found before it
-abbrev pub linked : Scope → Finding → Operator × Judgement → Finding
+abbrev pub linked : Scope → Finding → Operator × Judge → Finding
 linked scope found l = with_before found.broken (with_before (least (l.1 scope (compares l.0)).broken) (finding (between l.0 found.typing (l.1 scope (compares l.0)).typing)))
 
-abbrev pub all_linked : Scope → Finding → List (Operator × Judgement) → Finding
+abbrev pub all_linked : Scope → Finding → List (Operator × Judge) → Finding
 all_linked scope found [] = found
 all_linked scope found (l ∷ links) = all_linked scope (linked scope found l) links
 
-finding-joined : (scope : Scope) (free : Bool) (op : Operator) (left right : Judgement) → finding (joined op left right scope free) ≡ linked scope (finding (left scope (compares op))) (op, right)
-finding-joined scope free op left right =
+finding-join_link : (scope : Scope) (free : Bool) (op : Operator) (left right : Judge) → finding (join_link op left right scope free) ≡ linked scope (finding (left scope (compares op))) (op, right)
+finding-join_link scope free op left right =
     finding_after (left scope (compares op)).broken (after (right scope (compares op)).broken (between op (left scope (compares op)).typing (right scope (compares op)).typing))
     ∙ ap (with_before (least (left scope (compares op)).broken))
     (finding_after (right scope (compares op)).broken (between op (left scope (compares op)).typing (right scope (compares op)).typing))
 
-finding-chained : (scope : Scope) (free : Bool) (first : Judgement) (links : List (Operator × Judgement))
-    → finding (chained first links scope free) ≡ all_linked scope (finding (first scope (free_before links free))) links
-finding-chained scope free first [] = refl
-finding-chained scope free first (l ∷ links) =
-    finding-chained scope free (joined l.0 first l.1) links
-    ∙ ap (λ f. all_linked scope f links) (finding-joined scope (free_before links free) l.0 first l.1)
+finding-join_links : (scope : Scope) (free : Bool) (first : Judge) (links : List (Operator × Judge))
+    → finding (join_links first links scope free) ≡ all_linked scope (finding (first scope (free_before links free))) links
+finding-join_links scope free first [] = refl
+finding-join_links scope free first (l ∷ links) =
+    finding-join_links scope free (join_link l.0 first l.1) links
+    ∙ ap (λ f. all_linked scope f links) (finding-join_link scope (free_before links free) l.0 first l.1)
 
 -- the first operand, with all links
 pub chain-first : (scope : Scope) (free : Bool) (first : Expr) (links : List Link) (found : Finding)
@@ -84,8 +84,8 @@ pub chain-first : (scope : Scope) (free : Bool) (first : Expr) (links : List Lin
     → all_linked scope found (map link (drop 0 links)) ≡ finding (expression (form.Chain first links) scope free)
 chain-first scope free first links found is =
     ap (λ f. all_linked scope f (map link links)) is
-    ∙ sym (finding-chained scope free (expression first) (map link links))
-    ∙ sym (ap (λ (j : Judgement). finding (j scope free)) (expression-Chain first links))
+    ∙ sym (finding-join_links scope free (expression first) (map link links))
+    ∙ sym (ap (λ (j : Judge). finding (j scope free)) (expression-Chain first links))
 
 -- one link less is left behind it
 pub chain-next : (scope : Scope) (links : List Link) (i : ℕ) (l : Link) (found right next : Finding) → i < length links → l ≡ get_or links i l
@@ -105,7 +105,7 @@ chain-end scope links i found past = ap (λ ls. all_linked scope found (map link
 -- ---- operands
 
 -- an operand that must be of a type, by what was found of it
-pub operand-found : (wanted : DataType) (judged whole : Judged) (found of next : Finding) → whole ≡ operand wanted judged → found ≡ finding judged → of ≡ finding (of_type wanted found.typing)
+pub operand-found : (wanted : DataType) (judged whole : Judgement) (found of next : Finding) → whole ≡ operand wanted judged → found ≡ finding judged → of ≡ finding (of_type wanted found.typing)
     → next ≡ with_before found.broken of → next ≡ finding whole
 operand-found wanted judged whole found of next whole_is found_is of_is next_is =
     next_is ∙ ap (with_before found.broken) of_is

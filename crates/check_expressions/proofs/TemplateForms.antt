@@ -12,9 +12,9 @@ use Rattle.ttcn_syntax.specs.declared.tree.template.TemplateBody.TheVariants as 
 use Rattle.ttcn_syntax.specs.declared.tree.value.Call.{Call}
 use Rattle.check_scope.proofs.Leasts.{both_assoc, both_nothing, least_append}
 use Rattle.check_scope.proofs.Lookups.{drop-next}
-use Rattle.check_scope.specs.Checking.{both, least}
+use Rattle.check_scope.specs.internal.Checking.{both, least}
 use Rattle.check_scope.specs.Names.{Scope}
-use Rattle.check_expressions.specs.Templates.{at_name, at_range, at_template, body, body_step, each, field_template, field_template_step, has_all, template, template_meant, template_named, template_step}
+use Rattle.check_expressions.specs.Templates.{check_name, check_range, check_named_template, body, body_step, each, field_template, field_template_step, has_all, template, template_meant, template_named, template_step}
 use Rattle.check_scope.specs.Typings.{unless}
 use Rattle.check_expressions.specs.Values.{AtTarget, by_name, in_order, is_full, takes_braces, wanted_fields}
 use Rattle.check_scope.specs.declared.broken.Broken.{Broken}
@@ -41,13 +41,13 @@ module _ (scope : Scope) (target : Target) where
   pub body_of_list : (parts : List Template) → body (form.List parts) scope target ≡ each (map template parts) scope target
   body_of_list parts = ap (λ (f : AtTarget). f scope target) (ap body (sym (form.rolls-List parts)) ∙ fold-roll-TemplateBody AtTarget Part AtTarget body_step field_template_step template_step (TemplateBody-F.List parts))
 
-  pub body_of_range : (low high : Bound) → body (form.Range low high) scope target ≡ at_range scope target low high
+  pub body_of_range : (low high : Bound) → body (form.Range low high) scope target ≡ check_range scope target low high
   body_of_range low high = ap (λ (f : AtTarget). f scope target) (ap body (sym (form.rolls-Range low high)) ∙ fold-roll-TemplateBody AtTarget Part AtTarget body_step field_template_step template_step (TemplateBody-F.Range low high))
 
-  pub body_of_call : (call : Call) → body (form.Call call) scope target ≡ at_template scope target call.arguments (template_meant (scope.names call.name))
+  pub body_of_call : (call : Call) → body (form.Call call) scope target ≡ check_named_template scope target call.arguments (template_meant (scope.names call.name))
   body_of_call call = ap (λ (f : AtTarget). f scope target) (ap body (sym (form.rolls-Call call)) ∙ fold-roll-TemplateBody AtTarget Part AtTarget body_step field_template_step template_step (TemplateBody-F.Call call))
 
-  pub body_of_expr : (e : Expr) → body (form.Expr e) scope target ≡ at_name scope target e (template_named scope e)
+  pub body_of_expr : (e : Expr) → body (form.Expr e) scope target ≡ check_name scope target e (template_named scope e)
   body_of_expr e = ap (λ (f : AtTarget). f scope target) (ap body (sym (form.rolls-Expr e)) ∙ fold-roll-TemplateBody AtTarget Part AtTarget body_step field_template_step template_step (TemplateBody-F.Expr e))
 
   pub body_of_listed : (parts : List Template) → body (form.Listed parts) scope target

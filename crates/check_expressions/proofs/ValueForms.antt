@@ -8,15 +8,15 @@ use Rattle.ttcn_syntax.specs.declared.tree.value.Value.TheFolds.{fold-roll-Value
 use Rattle.ttcn_syntax.specs.declared.tree.value.Value.TheOpen.{Value-F}
 use Rattle.ttcn_syntax.specs.declared.tree.value.Value.TheVariants as form
 use Rattle.check_scope.proofs.Leasts.{least_append}
-use Rattle.check_scope.specs.Checking.{both, least}
+use Rattle.check_scope.specs.internal.Checking.{both, least}
 use Rattle.check_scope.specs.Names.{Scope}
 use Rattle.check_scope.specs.Typings.{unless}
-use Rattle.check_expressions.specs.Values.{AtTarget, at_expression, by_name, field_value, field_value_step, in_order, is_full, takes_braces, value, value_step, wanted_fields}
+use Rattle.check_expressions.specs.Values.{AtTarget, check_expression, by_name, field_value, field_value_step, in_order, is_full, takes_braces, value, value_step, wanted_fields}
 use Rattle.check_scope.specs.declared.rule.Rule.TheVariants as rule
 use Rattle.check_scope.specs.declared.types.Target.{Target}
 
 module _ (scope : Scope) (target : Target) where
-  pub value_of_expr : (e : Expr) → value (form.Expr e) scope target ≡ at_expression scope target.data_type e
+  pub value_of_expr : (e : Expr) → value (form.Expr e) scope target ≡ check_expression scope target.data_type e
   value_of_expr e = ap (λ (f : AtTarget). f scope target) (ap value (sym (form.rolls-Expr e)) ∙ fold-roll-Value AtTarget (List ℕ × AtTarget) value_step field_value_step (Value-F.Expr e))
 
   pub value_of_omit : value form.Omit scope target ≡ unless target.optional rule.Fields

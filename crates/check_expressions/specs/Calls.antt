@@ -64,8 +64,8 @@ arguments scope parameters (argument ∷ others) =
     value argument scope (parameter_target scope parameters) ++ arguments scope (next_parameters parameters) others
 
 -- as many as the parameters, each of the parameter's type
-abbrev pub at_arguments : Scope → List Parameter → List Value → List Rule
-at_arguments scope parameters given =
+abbrev pub check_arguments : Scope → List Parameter → List Value → List Rule
+check_arguments scope parameters given =
     unless (nat_eq (length given) (length parameters)) rule.Arguments ++ arguments scope parameters given
 
 -- those of a call of something that can't be called
@@ -94,15 +94,15 @@ behaviour_meant _ = None
 
 -- where a behaviour is called: a name of one, with arguments for its parameters, that runs on what its caller runs on,
 -- and is of a kind that may be called here
-abbrev pub at_behaviour : Scope → (Option DefinitionKind → Bool) → Call → Option ℕ → List Rule
-at_behaviour scope callable call None = rule.UnknownName ∷ lone_arguments scope call.arguments
-at_behaviour scope callable call (Some at) =
-    at_arguments scope (parameters_of (kind_at scope.definitions at)) call.arguments ++
+abbrev pub check_behaviour : Scope → (Option DefinitionKind → Bool) → Call → Option ℕ → List Rule
+check_behaviour scope callable call None = rule.UnknownName ∷ lone_arguments scope call.arguments
+check_behaviour scope callable call (Some at) =
+    check_arguments scope (parameters_of (kind_at scope.definitions at)) call.arguments ++
     unless (runs_here (component_named scope.definitions (runs_on_of (kind_at scope.definitions at))) scope.itself) rule.RunsOn ++
     unless (callable (kind_at scope.definitions at)) rule.CallKind
 
-abbrev pub at_call : Scope → (Option DefinitionKind → Bool) → Call → List Rule
-at_call scope callable call = at_behaviour scope callable call (behaviour_meant (scope.names call.name))
+abbrev pub check_call : Scope → (Option DefinitionKind → Bool) → Call → List Rule
+check_call scope callable call = check_behaviour scope callable call (behaviour_meant (scope.names call.name))
 
 -- a call that stands alone: of a function or an altstep
 abbrev pub stands_alone : Option DefinitionKind → Bool
@@ -136,5 +136,5 @@ abbrev pub altstep_meant : Option Meaning → Option ℕ
 altstep_meant (Some (meaning.Altstep at)) = Some at
 altstep_meant _ = None
 
-abbrev pub at_activation : Scope → Call → List Rule
-at_activation scope call = at_behaviour scope is_altstep call (altstep_meant (scope.names call.name))
+abbrev pub check_activation : Scope → Call → List Rule
+check_activation scope call = check_behaviour scope is_altstep call (altstep_meant (scope.names call.name))

@@ -13,9 +13,9 @@ use Rattle.ttcn_syntax.specs.declared.tree.value.Rhs.{Rhs}
 use Rattle.ttcn_syntax.specs.declared.tree.value.Rhs.TheVariants as rhs
 use Rattle.ttcn_syntax.specs.declared.tree.value.TypeName.{TypeName}
 use Rattle.ttcn_syntax.specs.declared.tree.value.TypeName.TheVariants as type_name
-use Rattle.check_expressions.specs.Calls.{at_activation, at_call, behaviour_meant, gives_value, result_type_of, result_typing}
+use Rattle.check_expressions.specs.Calls.{check_activation, check_call, behaviour_meant, gives_value, result_type_of, result_typing}
 use Rattle.check_expressions.specs.Declarations.{behind_all, one_by_one}
-use Rattle.check_expressions.specs.Expressions.{Judged, after, along, at_meaning, within}
+use Rattle.check_expressions.specs.Expressions.{Judgement, after, along, check_meaning, within}
 use Rattle.check_scope.specs.Names.{Entry, Names, Scope, component_meant, field_named, fields_at, kind_at, resolved, type_meant}
 use Rattle.check_scope.specs.Typings.{fits, target_of, typed, unless}
 use Rattle.check_expressions.specs.Values.{value}
@@ -33,15 +33,15 @@ use Rattle.check_scope.specs.Typings.{type_known}
 -- ---- declarations
 
 -- the type of what is declared: `default` for variables and parameters alone
-abbrev pub at_type : Names → Bool → TypeName → List Rule
-at_type names with_default type_name.Integer = []
-at_type names with_default type_name.Boolean = []
-at_type names with_default type_name.Default = unless with_default rule.BadType
-at_type names with_default (type_name.Named name) = unless (is_some (type_meant (names name))) rule.UnknownName
+abbrev pub check_type : Names → Bool → TypeName → List Rule
+check_type names with_default type_name.Integer = []
+check_type names with_default type_name.Boolean = []
+check_type names with_default type_name.Default = unless with_default rule.BadType
+check_type names with_default (type_name.Named name) = unless (is_some (type_meant (names name))) rule.UnknownName
 
 -- a new name: no visible one
-abbrev pub at_new_name : Names → List ℕ → List Rule
-at_new_name names new = unless (is_none (names new)) rule.DuplicateName
+abbrev pub check_new_name : Names → List ℕ → List Rule
+check_new_name names new = unless (is_none (names new)) rule.DuplicateName
 
 -- ---- what stands on the right of `:=`
 
@@ -51,59 +51,59 @@ call_typing scope None = typing.Unknown
 call_typing scope (Some at) = result_typing scope (result_type_of (kind_at scope.definitions at))
 
 -- a new component of the type that a name stands for
-abbrev pub at_created : Option DataType → Option ℕ → List Rule
-at_created wanted None = rule.UnknownName ∷ []
-at_created wanted (Some at) = unless (fits wanted (typing.Known (type.Component at))) rule.ValueType
+abbrev pub check_created : Option DataType → Option ℕ → List Rule
+check_created wanted None = rule.UnknownName ∷ []
+check_created wanted (Some at) = unless (fits wanted (typing.Known (type.Component at))) rule.ValueType
 
-abbrev pub at_rhs : Scope → Target → Rhs → List Rule
-at_rhs scope target (rhs.Value v) = value v scope target
-at_rhs scope target (rhs.Create name) = at_created target.data_type (component_meant (scope.names name))
-at_rhs scope target (rhs.Call call) = at_call scope gives_value call ++
+abbrev pub check_rhs : Scope → Target → Rhs → List Rule
+check_rhs scope target (rhs.Value v) = value v scope target
+check_rhs scope target (rhs.Create name) = check_created target.data_type (component_meant (scope.names name))
+check_rhs scope target (rhs.Call call) = check_call scope gives_value call ++
     unless (fits target.data_type (call_typing scope (behaviour_meant (scope.names call.name)))) rule.ValueType
-at_rhs scope target (rhs.Activate call) = at_activation scope call ++ unless (fits target.data_type (typing.Known type.Default)) rule.ValueType
+check_rhs scope target (rhs.Activate call) = check_activation scope call ++ unless (fits target.data_type (typing.Known type.Default)) rule.ValueType
 
 -- an initial value, if there is one
-abbrev pub at_initial : Scope → Target → Option Rhs → List Rule
-at_initial scope target None = []
-at_initial scope target (Some right) = at_rhs scope target right
+abbrev pub check_initial : Scope → Target → Option Rhs → List Rule
+check_initial scope target None = []
+check_initial scope target (Some right) = check_rhs scope target right
 
 -- ---- variables, constants and timers
 
 -- a variable of a type: visible behind its own part of the declaration
-abbrev pub at_variable : Option DataType → Scope → Variable → List Rule
-at_variable of scope variable = at_new_name scope.names variable.name ++ at_initial scope (target_of of) variable.value
+abbrev pub check_variable : Option DataType → Scope → Variable → List Rule
+check_variable of scope variable = check_new_name scope.names variable.name ++ check_initial scope (target_of of) variable.value
 
 abbrev pub variable_entry : Option DataType → Scope → Variable → Entry
 variable_entry of scope variable = (variable.name, meaning.Variable of)
 
-abbrev pub at_variables : Scope → Variables → List Rule
-at_variables scope vs = at_type scope.names true vs.type_name ++
-    one_by_one (at_variable (resolved scope.names vs.type_name)) (variable_entry (resolved scope.names vs.type_name)) scope vs.variables
+abbrev pub check_variables : Scope → Variables → List Rule
+check_variables scope vs = check_type scope.names true vs.type_name ++
+    one_by_one (check_variable (resolved scope.names vs.type_name)) (variable_entry (resolved scope.names vs.type_name)) scope vs.variables
 
 abbrev pub behind_variables : Scope → Variables → Scope
 behind_variables scope vs = behind_all (variable_entry (resolved scope.names vs.type_name)) scope vs.variables
 
-abbrev pub at_constant : Option DataType → Scope → Constant → List Rule
-at_constant of scope constant = at_new_name scope.names constant.name ++ value constant.value scope (target_of of)
+abbrev pub check_constant : Option DataType → Scope → Constant → List Rule
+check_constant of scope constant = check_new_name scope.names constant.name ++ value constant.value scope (target_of of)
 
 abbrev pub constant_entry : Option DataType → Scope → Constant → Entry
 constant_entry of scope constant = (constant.name, meaning.Constant of)
 
-abbrev pub at_constants : Scope → Constants → List Rule
-at_constants scope cs = at_type scope.names false cs.type_name ++
-    one_by_one (at_constant (resolved scope.names cs.type_name)) (constant_entry (resolved scope.names cs.type_name)) scope cs.constants
+abbrev pub check_constants : Scope → Constants → List Rule
+check_constants scope cs = check_type scope.names false cs.type_name ++
+    one_by_one (check_constant (resolved scope.names cs.type_name)) (constant_entry (resolved scope.names cs.type_name)) scope cs.constants
 
 abbrev pub behind_constants : Scope → Constants → Scope
 behind_constants scope cs = behind_all (constant_entry (resolved scope.names cs.type_name)) scope cs.constants
 
-abbrev pub at_timer_name : Scope → Timer → List Rule
-at_timer_name scope timer = at_new_name scope.names timer.name
+abbrev pub check_timer_name : Scope → Timer → List Rule
+check_timer_name scope timer = check_new_name scope.names timer.name
 
 abbrev pub timer_entry : Scope → Timer → Entry
 timer_entry scope timer = (timer.name, meaning.Timer)
 
-abbrev pub at_timers : Scope → List Timer → List Rule
-at_timers scope timers = one_by_one at_timer_name timer_entry scope timers
+abbrev pub check_timers : Scope → List Timer → List Rule
+check_timers scope timers = one_by_one check_timer_name timer_entry scope timers
 
 abbrev pub behind_timers : Scope → List Timer → Scope
 behind_timers scope timers = behind_all timer_entry scope timers
@@ -111,16 +111,16 @@ behind_timers scope timers = behind_all timer_entry scope timers
 -- ---- what is assigned
 
 -- what a name is as a target: a variable or a parameter, but no constant
-abbrev pub as_target : List Definition → Option Meaning → Judged
+abbrev pub as_target : List Definition → Option Meaning → Judgement
 as_target definitions (Some (meaning.Variable t)) = record { typing = typed t; broken = [] }
 as_target definitions (Some (meaning.Constant t)) = record { typing = typed t; broken = rule.NotAssignable ∷ [] }
 as_target definitions (Some (meaning.ModuleConstant at item)) =
-    record { typing = (at_meaning definitions (Some (meaning.ModuleConstant at item))).typing; broken = rule.NotAssignable ∷ [] }
+    record { typing = (check_meaning definitions (Some (meaning.ModuleConstant at item))).typing; broken = rule.NotAssignable ∷ [] }
 as_target definitions _ = record { typing = typing.Unknown; broken = rule.UnknownName ∷ [] }
 
 -- what is said of a target with its fields
-abbrev pub at_target : Scope → Reference → Judged
-at_target scope reference =
+abbrev pub check_target : Scope → Reference → Judgement
+check_target scope reference =
     let found = as_target scope.definitions (scope.names reference.name) in
     after found.broken (along scope.definitions found.typing reference.fields)
 
@@ -141,10 +141,10 @@ last_optional definitions t optional (name ∷ names) =
 
 abbrev pub target_at : Scope → Reference → Target
 target_at scope reference = record {
-  data_type = type_known (at_target scope reference).typing;
+  data_type = type_known (check_target scope reference).typing;
   optional = last_optional scope.definitions (as_target scope.definitions (scope.names reference.name)).typing false reference.fields;
 }
 
-abbrev pub at_assignment : Scope → Assignment → List Rule
-at_assignment scope assignment =
-    (at_target scope assignment.target).broken ++ at_rhs scope (target_at scope assignment.target) assignment.value
+abbrev pub check_assignment : Scope → Assignment → List Rule
+check_assignment scope assignment =
+    (check_target scope assignment.target).broken ++ check_rhs scope (target_at scope assignment.target) assignment.value

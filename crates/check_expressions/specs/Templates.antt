@@ -13,11 +13,11 @@ use Rattle.ttcn_syntax.specs.declared.tree.template.Template.{Template, fold-Tem
 use Rattle.ttcn_syntax.specs.declared.tree.template.TemplateBody.TheOpen.{FieldTemplate-F, Template-F, TemplateBody-F}
 use Rattle.ttcn_syntax.specs.declared.tree.template.TemplateBody.{TemplateBody, fold-TemplateBody, out-TemplateBody}
 use Rattle.ttcn_syntax.specs.declared.tree.value.Value.{Value}
-use Rattle.check_expressions.specs.Calls.{at_arguments, lone_arguments, parameters_of, template_type}
+use Rattle.check_expressions.specs.Calls.{check_arguments, lone_arguments, parameters_of, template_type}
 use Rattle.check_expressions.specs.Expressions.{expression}
 use Rattle.check_scope.specs.Names.{Scope, kind_at}
 use Rattle.check_scope.specs.Typings.{fits, typed, unless}
-use Rattle.check_expressions.specs.Values.{AtTarget, at_expression, by_name, in_order, is_full, takes_braces, wanted_fields}
+use Rattle.check_expressions.specs.Values.{AtTarget, check_expression, by_name, in_order, is_full, takes_braces, wanted_fields}
 use Rattle.check_scope.specs.declared.names.Meaning.{Meaning}
 use Rattle.check_scope.specs.declared.names.Meaning.TheVariants as meaning
 use Rattle.check_scope.specs.declared.rule.Rule.{Rule}
@@ -56,26 +56,26 @@ abbrev pub type_of_template : Scope → ℕ → Option DataType
 type_of_template scope at = template_type scope.definitions (kind_at scope.definitions at)
 
 -- a template with arguments, where a template of a type is wanted
-abbrev pub at_template : Scope → Target → List Value → Option ℕ → List Rule
-at_template scope target given None = rule.UnknownName ∷ lone_arguments scope given
-at_template scope target given (Some at) =
-    at_arguments scope (parameters_of (kind_at scope.definitions at)) given ++
+abbrev pub check_named_template : Scope → Target → List Value → Option ℕ → List Rule
+check_named_template scope target given None = rule.UnknownName ∷ lone_arguments scope given
+check_named_template scope target given (Some at) =
+    check_arguments scope (parameters_of (kind_at scope.definitions at)) given ++
     unless (fits target.data_type (typed (type_of_template scope at))) rule.ValueType
 
 -- an expression, or the name of a template
-abbrev pub at_name : Scope → Target → Expr → Option ℕ → List Rule
-at_name scope target e None = at_expression scope target.data_type e
-at_name scope target e (Some at) = at_template scope target [] (Some at)
+abbrev pub check_name : Scope → Target → Expr → Option ℕ → List Rule
+check_name scope target e None = check_expression scope target.data_type e
+check_name scope target e (Some at) = check_named_template scope target [] (Some at)
 
 -- ---- ranges
 
-abbrev pub at_bound : Scope → Bound → List Rule
-at_bound scope (bound.Expr e) = at_expression scope (Some type.Integer) e
-at_bound scope bound.Infinity = []
+abbrev pub check_bound : Scope → Bound → List Rule
+check_bound scope (bound.Expr e) = check_expression scope (Some type.Integer) e
+check_bound scope bound.Infinity = []
 
 -- integers are wanted, and the bounds are integers
-abbrev pub at_range : Scope → Target → Bound → Bound → List Rule
-at_range scope target low high = unless (fits target.data_type (typing.Known type.Integer)) rule.ValueType ++ at_bound scope low ++ at_bound scope high
+abbrev pub check_range : Scope → Target → Bound → Bound → List Rule
+check_range scope target low high = unless (fits target.data_type (typing.Known type.Integer)) rule.ValueType ++ check_bound scope low ++ check_bound scope high
 
 -- ---- templates
 
@@ -94,9 +94,9 @@ body_step TemplateBody-F.AnyOrOmit scope target = unless target.optional rule.Fi
 body_step TemplateBody-F.Omit scope target = unless target.optional rule.Fields
 body_step (TemplateBody-F.Complement parts) scope target = each parts scope target
 body_step (TemplateBody-F.List parts) scope target = each parts scope target
-body_step (TemplateBody-F.Range low high) scope target = at_range scope target low high
-body_step (TemplateBody-F.Call call) scope target = at_template scope target call.arguments (template_meant (scope.names call.name))
-body_step (TemplateBody-F.Expr e) scope target = at_name scope target e (template_named scope e)
+body_step (TemplateBody-F.Range low high) scope target = check_range scope target low high
+body_step (TemplateBody-F.Call call) scope target = check_named_template scope target call.arguments (template_meant (scope.names call.name))
+body_step (TemplateBody-F.Expr e) scope target = check_name scope target e (template_named scope e)
 body_step (TemplateBody-F.Listed parts) scope target =
     unless (takes_braces target.data_type) rule.ValueType ++
     unless (is_full (wanted_fields scope.definitions target.data_type) (length parts)) rule.Fields ++

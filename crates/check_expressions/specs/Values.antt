@@ -88,11 +88,11 @@ by_name fields before (element ∷ elements) scope =
     by_name fields (before ++ element.0 ∷ []) elements scope
 
 -- an expression where a value of a type is wanted
-abbrev pub at_expression : Scope → Option DataType → Expr → List Rule
-at_expression scope wanted e = (expression e scope false).broken ++ unless (fits wanted (expression e scope false).typing) rule.ValueType
+abbrev pub check_expression : Scope → Option DataType → Expr → List Rule
+check_expression scope wanted e = (expression e scope false).broken ++ unless (fits wanted (expression e scope false).typing) rule.ValueType
 
 abbrev pub value_step : Value-F AtTarget (List ℕ × AtTarget) → AtTarget
-value_step (Value-F.Expr e) scope target = at_expression scope target.data_type e
+value_step (Value-F.Expr e) scope target = check_expression scope target.data_type e
 value_step Value-F.Omit scope target = unless target.optional rule.Fields
 value_step (Value-F.Listed elements) scope target =
     unless (takes_braces target.data_type) rule.ValueType ++

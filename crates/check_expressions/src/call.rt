@@ -2,7 +2,7 @@
 ghost use Rattle.std.specs.Prelude.{◌≡◌, IfOk};
 ghost use Rattle.std.specs.Option.{option_map};
 ghost use Rattle.check_expressions.specs.Calls as spec;
-ghost use Rattle.check_scope.specs.Checking.{least, view};
+ghost use Rattle.check_scope.specs.internal.Checking.{least, view};
 ghost use Rattle.check_scope.specs.Names.{component_meant};
 
 use crate::value::value;
@@ -131,7 +131,7 @@ pub fn check_arguments(
     parameters: &[Parameter],
     given: &[Value],
 ) -> Result<Broken, AllocError>
-    ensures { IfOk result (λ broken. broken ≡ least (spec.at_arguments (view scope.now) parameters.now given.now)) }
+    ensures { IfOk result (λ broken. broken ≡ least (spec.check_arguments (view scope.now) parameters.now given.now)) }
 {
     let number = Broken::unless(given.len() == parameters.len(), Rule::Arguments);
     let each = arguments(alloc, scope, parameters, given)?;
@@ -197,7 +197,7 @@ fn check_behaviour(
     call: &Call,
     at: Option<usize>,
 ) -> Result<Broken, AllocError>
-    ensures { IfOk result (λ broken. broken ≡ least (spec.at_behaviour (view scope.now) (spec.callable place) call.now at)) }
+    ensures { IfOk result (λ broken. broken ≡ least (spec.check_behaviour (view scope.now) (spec.callable place) call.now at)) }
 {
     let given = call.arguments.as_slice();
     let Some(at) = at else {
@@ -217,7 +217,7 @@ pub fn check_call(
     place: CallPlace,
     call: &Call,
 ) -> Result<Broken, AllocError>
-    ensures { IfOk result (λ broken. broken ≡ least (spec.at_call (view scope.now) (spec.callable place) call.now)) }
+    ensures { IfOk result (λ broken. broken ≡ least (spec.check_call (view scope.now) (spec.callable place) call.now)) }
 {
     let meant = behaviour_meant(scope.get(call.name.as_bytes()));
     check_behaviour(alloc, scope, place, call, meant)
@@ -245,7 +245,7 @@ fn altstep_meant(meaning: Option<Meaning>) -> Option<usize>
 
 /// An altstep that is activated, and runs on what its activator runs on.
 pub fn check_activation(alloc: Global, scope: &Scope<'_>, call: &Call) -> Result<Broken, AllocError>
-    ensures { IfOk result (λ broken. broken ≡ least (spec.at_activation (view scope.now) call.now)) }
+    ensures { IfOk result (λ broken. broken ≡ least (spec.check_activation (view scope.now) call.now)) }
 {
     let meant = altstep_meant(scope.get(call.name.as_bytes()));
     check_behaviour(alloc, scope, CallPlace::Branch, call, meant)

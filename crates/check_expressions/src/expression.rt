@@ -1,8 +1,8 @@
 //! The types of expressions, and the rules that are broken in them (ES 201 873-1, 7).
 ghost use Rattle.std.specs.Prelude.{◌≡◌, map, Some};
 ghost use Rattle.std.specs.Option.{option_map};
-ghost use Rattle.check_expressions.specs.Findings.{free_before, finding, with_before};
-ghost use Rattle.check_scope.specs.Checking.{view};
+ghost use Rattle.check_expressions.specs.internal.Findings.{free_before, finding, with_before};
+ghost use Rattle.check_scope.specs.internal.Checking.{view};
 ghost use Rattle.check_expressions.specs.Expressions as spec;
 
 use crate::finding::Finding;
@@ -16,7 +16,7 @@ use ttcn_syntax::{ComponentRef, Expr, Link, Name, Operator, Reference};
 
 /// What a name stands for as a value.
 pub(crate) fn check_meaning(scope: &Scope<'_>, meaning: Option<Meaning>) -> Finding
-    ensures { result ≡ finding (spec.at_meaning (view scope.now).definitions meaning) }
+    ensures { result ≡ finding (spec.check_meaning (view scope.now).definitions meaning) }
 {
     match meaning {
         Some(Meaning::Variable(data_type) | Meaning::Constant(data_type)) => {
@@ -56,7 +56,7 @@ pub(crate) fn along(scope: &Scope<'_>, typing: Typing, names: &[Name]) -> Findin
 
 #[tactic(auto, using(crate::proofs::Findings::least_append, crate::proofs::Findings::finding_after))]
 pub fn check_reference(scope: &Scope<'_>, reference: &Reference) -> Finding
-    ensures { result ≡ finding (spec.at_reference (view scope.now) reference.now) }
+    ensures { result ≡ finding (spec.check_reference (view scope.now) reference.now) }
 {
     let found = check_meaning(scope, scope.get(reference.name.as_bytes()));
     along(scope, found.typing, reference.fields.as_slice()).after(found.broken)
@@ -73,7 +73,7 @@ fn any_component(free: bool) -> Finding
 }
 
 pub fn check_component(scope: &Scope<'_>, component: &ComponentRef, free: bool) -> Finding
-    ensures { result ≡ finding (spec.at_component (view scope.now) component.now free) }
+    ensures { result ≡ finding (spec.check_component (view scope.now) component.now free) }
 {
     match component {
         ComponentRef::Itself => match scope.itself() {
@@ -88,7 +88,7 @@ pub fn check_component(scope: &Scope<'_>, component: &ComponentRef, free: bool) 
 /// A place where a component is wanted, `mtc` among them.
 #[tactic(auto, using(crate::proofs::Findings::least_append, crate::proofs::Findings::finding_after))]
 pub fn check_wanted_component(scope: &Scope<'_>, component: &ComponentRef) -> Finding
-    ensures { result ≡ finding (spec.at_wanted_component (view scope.now) component.now) }
+    ensures { result ≡ finding (spec.check_wanted_component (view scope.now) component.now) }
 {
     let found = check_component(scope, component, true);
     let is_component = found.typing.refers_to_component();
@@ -116,7 +116,7 @@ pub fn names_timer(scope: &Scope<'_>, component: &ComponentRef) -> bool
 /// `.running`, of a timer or a component.
 #[tactic(auto, using(crate::proofs::Findings::least_append, crate::proofs::Findings::finding_after))]
 fn check_running(scope: &Scope<'_>, component: &ComponentRef) -> Finding
-    ensures { result ≡ finding (spec.at_running (view scope.now) component.now) }
+    ensures { result ≡ finding (spec.check_running (view scope.now) component.now) }
 {
     if names_timer(scope, component) {
         return Finding::fine(Typing::Known(DataType::Boolean));
@@ -129,7 +129,7 @@ fn check_running(scope: &Scope<'_>, component: &ComponentRef) -> Finding
 fn runs(typing: Typing) -> Finding
     ensures { result ≡ finding (spec.runs typing) }
 {
-    Finding::demanding(
+    Finding::demand(
         typing.refers_to_component(),
         Rule::UnknownName,
         DataType::Boolean,
@@ -139,11 +139,11 @@ fn runs(typing: Typing) -> Finding
 /// `ispresent`, of a field.
 #[tactic(auto, using(crate::proofs::Findings::least_append, crate::proofs::Findings::finding_after))]
 fn check_ispresent(scope: &Scope<'_>, reference: &Reference) -> Finding
-    ensures { result ≡ finding (spec.at_ispresent (view scope.now) reference.now) }
+    ensures { result ≡ finding (spec.check_ispresent (view scope.now) reference.now) }
 {
     let found = check_reference(scope, reference);
     let is_field = names_field(reference.fields.as_slice());
-    Finding::demanding(is_field, Rule::Fields, DataType::Boolean).after(found.broken)
+    Finding::demand(is_field, Rule::Fields, DataType::Boolean).after(found.broken)
 }
 
 /// Whether a reference names a field.
@@ -157,7 +157,7 @@ fn names_field(fields: &[Name]) -> bool
 fn of_type(wanted: DataType, typing: Typing) -> Finding
     ensures { result ≡ finding (spec.of_type wanted typing) }
 {
-    Finding::demanding(typing.is_of(wanted), Rule::OperandType, wanted)
+    Finding::demand(typing.is_of(wanted), Rule::OperandType, wanted)
 }
 
 /// An operator between two operands.
@@ -169,7 +169,7 @@ fn between(operator: Operator, left: Typing, right: Typing) -> Finding
     } else {
         left.is_of(operands_of(operator)) && right.is_of(operands_of(operator))
     };
-    Finding::demanding(takes, Rule::OperandType, result_of(operator))
+    Finding::demand(takes, Rule::OperandType, result_of(operator))
 }
 
 /// What is known of an expression's type, and the least rule that is broken in it. `mtc` may be the whole of it where it

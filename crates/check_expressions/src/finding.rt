@@ -1,6 +1,6 @@
 //! What is known of an expression.
 ghost use Rattle.std.specs.Prelude.{◌≡◌};
-ghost use Rattle.check_expressions.specs.Findings.{finding, with_before};
+ghost use Rattle.check_expressions.specs.internal.Findings.{finding, with_before};
 ghost use Rattle.check_expressions.specs.Expressions as spec;
 
 use check_scope::broken::Broken;
@@ -34,8 +34,8 @@ impl Finding {
     }
 
     /// Of the type, whether the demand is kept or not.
-    pub(crate) fn demanding(kept: bool, rule: Rule, data_type: DataType) -> Finding
-        ensures { result ≡ finding (spec.demanding kept rule data_type) }
+    pub(crate) fn demand(kept: bool, rule: Rule, data_type: DataType) -> Finding
+        ensures { result ≡ finding (spec.demand kept rule data_type) }
     {
         Finding {
             typing: Typing::Known(data_type),

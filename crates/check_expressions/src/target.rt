@@ -1,8 +1,8 @@
 //! The rules that declarations, assignments and what they store break (ES 201 873-1, 8 and 19.1).
 ghost use Rattle.std.specs.Prelude.{◌≡◌, IfOk};
 ghost use Rattle.std.specs.Option.{option_map};
-ghost use Rattle.check_scope.specs.Checking.{least, view};
-ghost use Rattle.check_expressions.specs.Findings.{finding};
+ghost use Rattle.check_scope.specs.internal.Checking.{least, view};
+ghost use Rattle.check_expressions.specs.internal.Findings.{finding};
 ghost use Rattle.check_expressions.specs.Targets as spec;
 
 use crate::call::{
@@ -24,7 +24,7 @@ use ttcn_syntax::{Assignment, Name, Reference, Rhs, TypeName};
 
 /// The type of what is declared.
 pub fn check_type(scope: &Scope<'_>, with_default: bool, type_name: &TypeName) -> Broken
-    ensures { result ≡ least (spec.at_type (view scope.now).names with_default type_name.now) }
+    ensures { result ≡ least (spec.check_type (view scope.now).names with_default type_name.now) }
 {
     match type_name {
         TypeName::Integer | TypeName::Boolean => Broken::nothing(),
@@ -37,7 +37,7 @@ pub fn check_type(scope: &Scope<'_>, with_default: bool, type_name: &TypeName) -
 
 /// A new name is no visible one.
 pub fn check_new_name(scope: &Scope<'_>, name: &Name) -> Broken
-    ensures { result ≡ least (spec.at_new_name (view scope.now).names name.now) }
+    ensures { result ≡ least (spec.check_new_name (view scope.now).names name.now) }
 {
     let visible = scope.get(name.as_bytes());
     Broken::unless(visible.is_none(), Rule::DuplicateName)
@@ -57,7 +57,7 @@ fn call_typing(scope: &Scope<'_>, at: Option<usize>) -> Typing
 
 /// A new component of the type at a position.
 fn check_created(wanted: Option<DataType>, at: Option<usize>) -> Broken
-    ensures { result ≡ least (spec.at_created wanted at) }
+    ensures { result ≡ least (spec.check_created wanted at) }
 {
     match at {
         Some(at) => {
@@ -75,7 +75,7 @@ pub(crate) fn check_rhs(
     target: Target,
     right: &Rhs,
 ) -> Result<Broken, AllocError>
-    ensures { IfOk result (λ broken. broken ≡ least (spec.at_rhs (view scope.now) target right.now)) }
+    ensures { IfOk result (λ broken. broken ≡ least (spec.check_rhs (view scope.now) target right.now)) }
 {
     match right {
         Rhs::Value(right) => value(alloc, scope, right, target),
@@ -104,7 +104,7 @@ pub fn check_initial(
     target: Target,
     right: Option<&Rhs>,
 ) -> Result<Broken, AllocError>
-    ensures { IfOk result (λ broken. broken ≡ least (spec.at_initial (view scope.now) target (option_map (λ right. right.now) right.entry))) }
+    ensures { IfOk result (λ broken. broken ≡ least (spec.check_initial (view scope.now) target (option_map (λ right. right.now) right.entry))) }
 {
     match right {
         Some(right) => check_rhs(alloc, scope, target, right),
@@ -137,7 +137,7 @@ fn as_target(scope: &Scope<'_>, meaning: Option<Meaning>) -> Finding
 /// What is said of a target with its fields.
 #[tactic(auto, using(crate::proofs::Findings::least_append, crate::proofs::Findings::finding_after))]
 pub fn check_target(scope: &Scope<'_>, reference: &Reference) -> Finding
-    ensures { result ≡ finding (spec.at_target (view scope.now) reference.now) }
+    ensures { result ≡ finding (spec.check_target (view scope.now) reference.now) }
 {
     let found = as_target(scope, scope.get(reference.name.as_bytes()));
     along(scope, found.typing, reference.fields.as_slice()).after(found.broken)
@@ -187,7 +187,7 @@ pub fn check_assignment(
     scope: &Scope<'_>,
     assignment: &Assignment,
 ) -> Result<Broken, AllocError>
-    ensures { IfOk result (λ broken. broken ≡ least (spec.at_assignment (view scope.now) assignment.now)) }
+    ensures { IfOk result (λ broken. broken ≡ least (spec.check_assignment (view scope.now) assignment.now)) }
 {
     let found = check_target(scope, &assignment.target);
     let target = target_at(scope, &assignment.target);

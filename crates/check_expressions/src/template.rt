@@ -4,8 +4,8 @@ ghost use Rattle.std.specs.List.{list_all, list_any};
 ghost use Rattle.std.specs.Option.{option_map};
 ghost use Rattle.ttcn_syntax.specs.declared.tree.expression.Expr.{out-Expr};
 ghost use Rattle.ttcn_syntax.specs.declared.tree.template.FieldTemplate.{out-FieldTemplate};
-ghost use Rattle.check_scope.specs.Checking.{least, view};
-ghost use Rattle.check_scope.specs.Tables.{has};
+ghost use Rattle.check_scope.specs.internal.Checking.{least, view};
+ghost use Rattle.check_scope.specs.internal.Tables.{has};
 ghost use Rattle.check_expressions.specs.Templates as spec;
 ghost use Rattle.check_expressions.specs.Values.{by_name, in_order, wanted_fields};
 
@@ -79,7 +79,7 @@ fn check_template(
     given: &[Value],
     at: Option<usize>,
 ) -> Result<Broken, AllocError>
-    ensures { IfOk result (λ broken. broken ≡ least (spec.at_template (view scope.now) target given.now at)) }
+    ensures { IfOk result (λ broken. broken ≡ least (spec.check_named_template (view scope.now) target given.now at)) }
 {
     let Some(at) = at else {
         let given = lone_arguments(alloc, scope, given)?;
@@ -99,7 +99,7 @@ fn check_name(
     expr: &Expr,
     at: Option<usize>,
 ) -> Result<Broken, AllocError>
-    ensures { IfOk result (λ broken. broken ≡ least (spec.at_name (view scope.now) target expr.now at)) }
+    ensures { IfOk result (λ broken. broken ≡ least (spec.check_name (view scope.now) target expr.now at)) }
 {
     match at {
         Some(_) => check_template(alloc, scope, target, &[], at),
@@ -110,7 +110,7 @@ fn check_name(
 // ---- ranges
 
 fn check_bound(scope: &Scope<'_>, bound: &Bound) -> Broken
-    ensures { result ≡ least (spec.at_bound (view scope.now) bound.now) }
+    ensures { result ≡ least (spec.check_bound (view scope.now) bound.now) }
 {
     match bound {
         Bound::Expr(expr) => check_expression(scope, Some(DataType::Integer), expr),
@@ -121,7 +121,7 @@ fn check_bound(scope: &Scope<'_>, bound: &Bound) -> Broken
 /// A range, where integers are wanted.
 #[tactic(auto, using(crate::proofs::Findings::least_append))]
 fn check_range(scope: &Scope<'_>, target: Target, low: &Bound, high: &Bound) -> Broken
-    ensures { result ≡ least (spec.at_range (view scope.now) target low.now high.now) }
+    ensures { result ≡ least (spec.check_range (view scope.now) target low.now high.now) }
 {
     let fits = Typing::Known(DataType::Integer).fits(target.data_type);
     let range = Broken::unless(fits, Rule::ValueType);

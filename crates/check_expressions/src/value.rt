@@ -1,7 +1,7 @@
 //! The rules that values break, at what they go to (ES 201 873-1, 5.4, 6.2 and 19.1).
 ghost use Rattle.std.specs.Prelude.{◌≡◌, ◌&&◌, [], map, IfOk};
 ghost use Rattle.std.specs.Option.{option_map};
-ghost use Rattle.check_scope.specs.Checking.{least, view};
+ghost use Rattle.check_scope.specs.internal.Checking.{least, view};
 ghost use Rattle.check_scope.specs.Typings.{unless};
 ghost use Rattle.check_expressions.specs.Values as spec;
 ghost use Rattle.check_scope.specs.declared.rule.Rule.TheVariants as rule;
@@ -124,7 +124,7 @@ pub(crate) fn next_fields(fields: Option<&[Field]>) -> Option<&[Field]>
 /// An expression where a value of a type is wanted.
 #[tactic(auto, using(crate::proofs::Findings::least_append))]
 pub(crate) fn check_expression(scope: &Scope<'_>, wanted: Option<DataType>, expr: &Expr) -> Broken
-    ensures { result ≡ least (spec.at_expression (view scope.now) wanted expr.now) }
+    ensures { result ≡ least (spec.check_expression (view scope.now) wanted expr.now) }
 {
     let found = expression(scope, expr, false);
     let fits = found.typing.fits(wanted);

@@ -5,10 +5,10 @@ use Rattle.std.proofs.lemmas.List.{drop_all}
 use Rattle.std.specs.Option.{option_or}
 use Rattle.ttcn_syntax.specs.declared.tree.definition.Definition.{Definition}
 use Rattle.ttcn_syntax.specs.declared.tree.statement.Constant.{Constant}
-use Rattle.check_scope.specs.Checking.{both, least}
-use Rattle.check_scope.specs.Scopes.{at_new_entries}
+use Rattle.check_scope.specs.internal.Checking.{both, least}
+use Rattle.check_scope.specs.Scopes.{check_new_entries}
 use Rattle.check_scope.specs.Names.{Entry, Names, behind, constant_entries, entries_at, entries_from, listed}
-use Rattle.check_scope.specs.Tables.{either}
+use Rattle.check_scope.specs.internal.Tables.{either}
 use Rattle.check_scope.specs.Typings.{unless}
 use Rattle.check_scope.specs.declared.broken.Broken.{Broken}
 use Rattle.check_scope.specs.declared.names.Meaning.TheVariants as meaning
@@ -19,7 +19,7 @@ use Rattle.check_scope.proofs.Lookups.{drop-next, or-None, or-assoc}
 
 -- what was broken and declared so far, with the names that are left, are those of the beginning
 pub record Left (broken : Broken) (names : Names) (entries : List Entry) (start : Broken) (first : Names) (all : List Entry) : Type 0 where
-  pub rules : both broken (least (at_new_entries names entries)) ≡ both start (least (at_new_entries first all))
+  pub rules : both broken (least (check_new_entries names entries)) ≡ both start (least (check_new_entries first all))
   pub declared : behind names entries ≡ behind first all
 
 pub left-first : (start : Broken) (names : Names) (entries : List Entry) → Left start names entries start names entries
@@ -31,24 +31,24 @@ one_first true rules = refl
 one_first false rules = refl
 
 new-split : (names : Names) (entry : Entry) (entries : List Entry)
-    → least (at_new_entries names (entry ∷ entries)) ≡ both (least (at_new_entries names (entry ∷ []))) (least (at_new_entries (behind names (entry ∷ [])) entries))
+    → least (check_new_entries names (entry ∷ entries)) ≡ both (least (check_new_entries names (entry ∷ []))) (least (check_new_entries (behind names (entry ∷ [])) entries))
 new-split names entry entries =
-    ap least (one_first (is_none (names entry.0)) (at_new_entries (behind names (entry ∷ [])) entries))
-    ∙ least_append (at_new_entries names (entry ∷ [])) (at_new_entries (behind names (entry ∷ [])) entries)
+    ap least (one_first (is_none (names entry.0)) (check_new_entries (behind names (entry ∷ [])) entries))
+    ∙ least_append (check_new_entries names (entry ∷ [])) (check_new_entries (behind names (entry ∷ [])) entries)
 
 behind-split : (names : Names) (entry : Entry) (entries : List Entry) → behind names (entry ∷ entries) ≡ behind (behind names (entry ∷ [])) entries
 behind-split names entry entries = fun_ext (λ name. or-assoc (listed entries name) (listed (entry ∷ []) name) (names name))
 
 -- several names, and those behind them
 pub news-split : (names : Names) (entries more : List Entry)
-    → least (at_new_entries names (entries ++ more)) ≡ both (least (at_new_entries names entries)) (least (at_new_entries (behind names entries) more))
+    → least (check_new_entries names (entries ++ more)) ≡ both (least (check_new_entries names entries)) (least (check_new_entries (behind names entries) more))
 news-split names [] more = refl
 news-split names (entry ∷ entries) more =
     new-split names entry (entries ++ more)
-    ∙ ap (both (least (at_new_entries names (entry ∷ [])))) (news-split (behind names (entry ∷ [])) entries more)
-    ∙ sym (both_assoc (least (at_new_entries names (entry ∷ []))) (least (at_new_entries (behind names (entry ∷ [])) entries)) (least (at_new_entries (behind (behind names (entry ∷ [])) entries) more)))
-    ∙ ap (λ b. both b (least (at_new_entries (behind (behind names (entry ∷ [])) entries) more))) (sym (new-split names entry entries))
-    ∙ ap (λ n. both (least (at_new_entries names (entry ∷ entries))) (least (at_new_entries n more))) (sym (behind-split names entry entries))
+    ∙ ap (both (least (check_new_entries names (entry ∷ [])))) (news-split (behind names (entry ∷ [])) entries more)
+    ∙ sym (both_assoc (least (check_new_entries names (entry ∷ []))) (least (check_new_entries (behind names (entry ∷ [])) entries)) (least (check_new_entries (behind (behind names (entry ∷ [])) entries) more)))
+    ∙ ap (λ b. both b (least (check_new_entries (behind (behind names (entry ∷ [])) entries) more))) (sym (new-split names entry entries))
+    ∙ ap (λ n. both (least (check_new_entries names (entry ∷ entries))) (least (check_new_entries n more))) (sym (behind-split names entry entries))
 
 listed-append : (entries more : List Entry) (name : List ℕ) → listed (entries ++ more) name ≡ option_or (listed more name) (listed entries name)
 listed-append [] more name = sym (or-None (listed more name))
@@ -61,12 +61,12 @@ behinds-split names entries more = fun_ext (λ name.
 
 -- some of the names that are left are declared
 pub left-more : (broken more next start : Broken) (names next_names first : Names) (entries others all : List Entry) → Left broken names (entries ++ others) start first all
-    → more ≡ least (at_new_entries names entries) → next_names ≡ behind names entries → next ≡ both broken more → Left next next_names others start first all
+    → more ≡ least (check_new_entries names entries) → next_names ≡ behind names entries → next ≡ both broken more → Left next next_names others start first all
 left-more broken more next start names next_names first entries others all left more_is names_is next_is = record {
   rules =
-      ap (λ n. both next (least (at_new_entries n others))) names_is
-      ∙ ap (λ b. both b (least (at_new_entries (behind names entries) others))) (next_is ∙ ap (both broken) more_is)
-      ∙ both_assoc broken (least (at_new_entries names entries)) (least (at_new_entries (behind names entries) others))
+      ap (λ n. both next (least (check_new_entries n others))) names_is
+      ∙ ap (λ b. both b (least (check_new_entries (behind names entries) others))) (next_is ∙ ap (both broken) more_is)
+      ∙ both_assoc broken (least (check_new_entries names entries)) (least (check_new_entries (behind names entries) others))
       ∙ ap (both broken) (sym (news-split names entries others))
       ∙ left.rules;
   declared = ap (λ n. behind n others) names_is ∙ sym (behinds-split names entries others) ∙ left.declared;
@@ -74,20 +74,20 @@ left-more broken more next start names next_names first entries others all left 
 
 -- one of them
 pub left-next : (broken more next start : Broken) (names next_names first : Names) (entry : Entry) (entries all : List Entry) → Left broken names (entry ∷ entries) start first all
-    → more ≡ least (at_new_entries names (entry ∷ [])) → next_names ≡ behind names (entry ∷ []) → next ≡ both broken more → Left next next_names entries start first all
+    → more ≡ least (check_new_entries names (entry ∷ [])) → next_names ≡ behind names (entry ∷ []) → next ≡ both broken more → Left next next_names entries start first all
 left-next broken more next start names next_names first entry entries all = left-more broken more next start names next_names first (entry ∷ []) entries all
 
-pub rules-end : (broken start : Broken) (names first : Names) (all : List Entry) → Left broken names [] start first all → broken ≡ both start (least (at_new_entries first all))
+pub rules-end : (broken start : Broken) (names first : Names) (all : List Entry) → Left broken names [] start first all → broken ≡ both start (least (check_new_entries first all))
 rules-end broken start names first all left = sym (both_nothing broken) ∙ left.rules
 
 pub declared-end : (broken start : Broken) (names first : Names) (all : List Entry) → Left broken names [] start first all → names ≡ behind first all
 declared-end broken start names first all left = left.declared
 
 -- a name, and those behind it
-pub new-rules : (one more : Broken) (names next : Names) (entry : Entry) (entries : List Entry) → one ≡ least (at_new_entries names (entry ∷ [])) → next ≡ behind names (entry ∷ [])
-    → more ≡ least (at_new_entries next entries) → both one more ≡ least (at_new_entries names (entry ∷ entries))
+pub new-rules : (one more : Broken) (names next : Names) (entry : Entry) (entries : List Entry) → one ≡ least (check_new_entries names (entry ∷ [])) → next ≡ behind names (entry ∷ [])
+    → more ≡ least (check_new_entries next entries) → both one more ≡ least (check_new_entries names (entry ∷ entries))
 new-rules one more names next entry entries one_is next_is more_is =
-    ap (both one) (more_is ∙ ap (λ n. least (at_new_entries n entries)) next_is) ∙ ap (λ b. both b (least (at_new_entries (behind names (entry ∷ [])) entries))) one_is
+    ap (both one) (more_is ∙ ap (λ n. least (check_new_entries n entries)) next_is) ∙ ap (λ b. both b (least (check_new_entries (behind names (entry ∷ [])) entries))) one_is
     ∙ sym (new-split names entry entries)
 
 pub new-names : (names next last : Names) (entry : Entry) (entries : List Entry) → next ≡ behind names (entry ∷ []) → last ≡ behind next entries → last ≡ behind names (entry ∷ entries)

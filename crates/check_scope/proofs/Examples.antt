@@ -2,7 +2,7 @@
 use Rattle.std.proofs.Common.{◌≡◌, refl, ℕ, true, false, List, [], ◌∷◌, Some, None}
 use Rattle.check_scope.specs.Names.{Names, behind, listed, type_meant}
 use Rattle.check_scope.specs.Numbers.{lesser}
-use Rattle.check_scope.specs.Scopes.{at_new_entries}
+use Rattle.check_scope.specs.Scopes.{check_new_entries}
 use Rattle.check_scope.specs.Typings.{comparable, fits, goes_to, is_of}
 use Rattle.check_scope.specs.declared.names.Meaning.TheVariants as meaning
 use Rattle.check_scope.specs.declared.rule.Rule.TheVariants as rule
@@ -31,7 +31,7 @@ outer_name = refl
 last_declaration : listed ((x, meaning.Record 0) ∷ (x, meaning.Record 1) ∷ []) x ≡ Some (meaning.Record 1)
 last_declaration = refl
 
-name_declared_twice : at_new_entries (λ name. None) ((x, meaning.Record 0) ∷ (x, meaning.Record 1) ∷ []) ≡ rule.DuplicateName ∷ []
+name_declared_twice : check_new_entries (λ name. None) ((x, meaning.Record 0) ∷ (x, meaning.Record 1) ∷ []) ≡ rule.DuplicateName ∷ []
 name_declared_twice = refl
 
 -- a timer is no type

@@ -7,7 +7,7 @@ use Rattle.std.specs.Option.{option_map, option_or}
 use Rattle.ttcn_syntax.specs.declared.tree.definition.Definition.{Definition}
 use Rattle.ttcn_syntax.specs.declared.tree.definition.Field.{Field}
 use Rattle.check_scope.specs.Names.{field_named, fields_of}
-use Rattle.check_scope.specs.Tables.{field_by}
+use Rattle.check_scope.specs.internal.Tables.{field_by}
 use Rattle.check_scope.specs.declared.field_table.FieldTable.{FieldTable}
 use Rattle.check_scope.proofs.Alongside.{Alongside}
 use Rattle.check_scope.proofs.Lookups.{drop-next, or-None, or-assoc, put}

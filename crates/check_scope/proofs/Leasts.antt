@@ -1,7 +1,7 @@
 -- The least of rules, part by part.
 use Rattle.std.proofs.Common.{◌≡◌, ℕ, nat_lt, if◌then◌else◌, List, [], ◌∷◌, ◌++◌, Option, Some, None, refl, sym, ap, ◌∙◌, arith}
 use Rattle.std.proofs.lemmas.Bool.Decides.{nat_tests}
-use Rattle.check_scope.specs.Checking.{both, least, lesser_of}
+use Rattle.check_scope.specs.internal.Checking.{both, least, lesser_of}
 use Rattle.check_scope.specs.Numbers.{lesser, number_of}
 use Rattle.check_scope.specs.declared.broken.Broken.{Broken}
 use Rattle.check_scope.specs.declared.rule.Rule.{Rule}

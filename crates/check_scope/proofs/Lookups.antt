@@ -3,9 +3,9 @@ use Rattle.std.proofs.Common.{◌≡◌, ◌≤◌, ℕ, ◌+◌, ◌<◌, List,
 use Rattle.std.proofs.lemmas.List.{drop_all}
 use Rattle.std.specs.Option.{option_or}
 use mathlib.Core.Path.{fun_ext}
-use Rattle.check_scope.specs.Checking.{Around, inside, view_in}
+use Rattle.check_scope.specs.internal.Checking.{Around, inside, view_in}
 use Rattle.check_scope.specs.Names.{Entry, Names, behind, declaring, listed}
-use Rattle.check_scope.specs.Tables.{member, said, said_in}
+use Rattle.check_scope.specs.internal.Tables.{member, said, said_in}
 use Rattle.check_scope.specs.declared.names.Meaning.{Meaning}
 use Rattle.check_scope.specs.declared.table.Table.{Table}
 

@@ -4,9 +4,9 @@ use Rattle.std.proofs.lemmas.List.{drop_all, length-take-le, take_all, take_more
 use Rattle.ttcn_syntax.specs.declared.tree.definition.Definition.{Definition}
 use Rattle.ttcn_syntax.specs.declared.tree.definition.Member.{Member}
 use Rattle.check_scope.specs.Names.{Names, behind, behind_members, kind_at, member_entries, members_of, module_names, names_on}
-use Rattle.check_scope.specs.Checking.{view_in, visible_in}
+use Rattle.check_scope.specs.internal.Checking.{view_in, visible_in}
 use Rattle.check_scope.specs.Scopes.{outer_names, outside}
-use Rattle.check_scope.specs.Tables.{either, member, said}
+use Rattle.check_scope.specs.internal.Tables.{either, member, said}
 use Rattle.check_scope.specs.declared.table.Table.{Table}
 use Rattle.check_scope.proofs.Lookups.{drop-next}
 

@@ -8,7 +8,7 @@ use Rattle.std.specs.List.{list_any}
 use Rattle.check_scope.specs.contracts.types.DataTypePartialEq.TheImpl as derived
 use Rattle.std.specs.Option.{option_map}
 use Rattle.ttcn_syntax.specs.declared.tree.definition.Definition.{Definition}
-use Rattle.check_scope.specs.Traffic.{types_at}
+use Rattle.check_scope.specs.internal.Traffic.{types_at}
 use Rattle.check_scope.specs.PortTypes.{agrees, types_of_port}
 use Rattle.check_scope.specs.Names.{Names}
 use Rattle.check_scope.specs.declared.traffic.Traffic.{Traffic}

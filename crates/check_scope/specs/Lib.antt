@@ -1,9 +1,6 @@
-pub mod Checking
-pub mod Listings
 pub mod Names
 pub mod Numbers
 pub mod PortTypes
 pub mod Scopes
-pub mod Tables
-pub mod Traffic
 pub mod Typings
+pub mod internal

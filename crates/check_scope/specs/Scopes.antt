@@ -7,13 +7,13 @@ use Rattle.check_scope.specs.declared.rule.Rule.{Rule}
 use Rattle.check_scope.specs.declared.rule.Rule.TheVariants as rule
 
 -- names are new where those before them are visible
-abbrev pub at_new_entries : Names → List Entry → List Rule
-at_new_entries names [] = []
-at_new_entries names (entry ∷ entries) = unless (is_none (names entry.0)) rule.DuplicateName ++ at_new_entries (behind names (entry ∷ [])) entries
+abbrev pub check_new_entries : Names → List Entry → List Rule
+check_new_entries names [] = []
+check_new_entries names (entry ∷ entries) = unless (is_none (names entry.0)) rule.DuplicateName ++ check_new_entries (behind names (entry ∷ [])) entries
 
 -- each name of the module is defined once
-abbrev pub at_module_names : List Definition → List Rule
-at_module_names definitions = at_new_entries (λ name. None) (entries_from 0 definitions)
+abbrev pub check_module_names : List Definition → List Rule
+check_module_names definitions = check_new_entries (λ name. None) (entries_from 0 definitions)
 
 -- the names that are visible outside of all blocks, with the members of a component type or without
 abbrev pub outer_names : List Definition → Option ℕ → Names

@@ -1,6 +1,6 @@
 //! The least rule that is broken.
 ghost use Rattle.std.specs.Prelude.{◌≡◌, [], ◌∷◌, Some};
-ghost use Rattle.check_scope.specs.Checking.{both, least};
+ghost use Rattle.check_scope.specs.internal.Checking.{both, least};
 ghost use Rattle.check_scope.specs.Typings.{unless};
 
 use crate::rule::Rule;

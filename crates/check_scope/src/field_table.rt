@@ -2,7 +2,7 @@
 ghost use Rattle.std.specs.Prelude.{◌≡◌, IfOk, OnOk, Some, None, bytes_eq, if◌then◌else◌};
 ghost use Rattle.std.specs.Option.{option_map, option_or};
 ghost use Rattle.check_scope.specs.Names.{field_named};
-ghost use Rattle.check_scope.specs.Tables.{field_in};
+ghost use Rattle.check_scope.specs.internal.Tables.{field_in};
 
 use std::alloc::{AllocError, Global};
 use std::collections::HashMap;

@@ -1,6 +1,6 @@
 //! The least broken rule with a place that breaks it.
 ghost use Rattle.std.specs.Prelude.{◌≡◌};
-ghost use Rattle.check_scope.specs.Checking.{both, least_in};
+ghost use Rattle.check_scope.specs.internal.Checking.{both, least_in};
 
 use crate::broken::Broken;
 use crate::rule::Rule;

@@ -1,6 +1,6 @@
 //! Names that were met.
 ghost use Rattle.std.specs.Prelude.{◌≡◌, ℕ, List, IfOk, OnOk, false, true, not, bytes_eq, if◌then◌else◌};
-ghost use Rattle.check_scope.specs.Tables.{has};
+ghost use Rattle.check_scope.specs.internal.Tables.{has};
 
 use std::alloc::{AllocError, Global};
 use std::collections::HashSet;

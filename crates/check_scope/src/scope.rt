@@ -3,8 +3,8 @@ ghost use Rattle.std.specs.Prelude.{◌≡◌, ℕ, Some};
 ghost use Rattle.std.specs.List.{slice_get};
 ghost use Rattle.check_scope.specs.PortTypes.{types_of_port};
 ghost use Rattle.check_scope.specs.Names.{field_named, fields_at, kind_at, module_names, names_on};
-ghost use Rattle.check_scope.specs.Tables.{either, field_by, member, said};
-ghost use Rattle.check_scope.specs.Traffic.{types_at};
+ghost use Rattle.check_scope.specs.internal.Tables.{either, field_by, member, said};
+ghost use Rattle.check_scope.specs.internal.Traffic.{types_at};
 
 mod block;
 mod define;

@@ -1,7 +1,7 @@
 //! What names stand for.
 ghost use Rattle.std.specs.Prelude.{◌≡◌, [], ◌∷◌, OnOk, None};
 ghost use Rattle.check_scope.specs.Names.{behind};
-ghost use Rattle.check_scope.specs.Tables.{said};
+ghost use Rattle.check_scope.specs.internal.Tables.{said};
 
 use crate::names::Meaning;
 use std::alloc::{AllocError, Global};

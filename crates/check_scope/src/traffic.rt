@@ -1,6 +1,6 @@
 //! What passes at ports of a type (ES 201 873-1, 6.2.9).
 ghost use Rattle.std.specs.Prelude.{◌≡◌, Some};
-ghost use Rattle.check_scope.specs.Traffic.{types_through};
+ghost use Rattle.check_scope.specs.internal.Traffic.{types_through};
 
 use crate::type_listing::Listing;
 

@@ -1,7 +1,7 @@
 //! The types that ports list for a direction.
 ghost use Rattle.std.specs.Prelude.{◌≡◌, ◌||◌, IfOk, OnOk, false};
 ghost use Rattle.std.specs.List.{list_all, list_any};
-ghost use Rattle.check_scope.specs.Listings.{lets_pass};
+ghost use Rattle.check_scope.specs.internal.Listings.{lets_pass};
 ghost use Rattle.check_scope.specs.PortTypes as spec;
 
 use crate::types::DataType;

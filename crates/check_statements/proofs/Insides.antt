@@ -11,11 +11,11 @@ use Rattle.ttcn_syntax.specs.declared.tree.definition.Field.{Field}
 use Rattle.check_expressions.proofs.Elements.{one-more, regroup}
 use Rattle.check_scope.proofs.Leasts.{both_assoc, both_nothing, least_append}
 use Rattle.check_scope.proofs.Lookups.{drop-next}
-use Rattle.check_scope.specs.Checking.{both, least}
-use Rattle.check_statements.specs.Definitions.{and_number, check_number, at_part, in_fields, check_numbers, same_number, same_sign}
+use Rattle.check_scope.specs.internal.Checking.{both, least}
+use Rattle.check_statements.specs.Definitions.{and_number, check_number, check_part, check_fields, check_numbers, same_number, same_sign}
 use Rattle.check_scope.specs.Names.{Names}
-use Rattle.check_statements.specs.Places.{AreGiven, given, is_negative}
-use Rattle.check_scope.specs.Tables.{has}
+use Rattle.check_statements.specs.internal.Places.{AreGiven, given, is_negative}
+use Rattle.check_scope.specs.internal.Tables.{has}
 use Rattle.check_scope.specs.Typings.{unless}
 use Rattle.check_scope.specs.declared.broken.Broken.{Broken}
 use Rattle.check_scope.specs.declared.name_set.NameSet.{NameSet}
@@ -47,41 +47,41 @@ module _ {A : Type 0} (rules : A → List Rule) (parts : List A) (i : ℕ) where
 pub record Fielded (names : Names) (set : NameSet) (fields : List Field) (found whole : Broken) : Type 0 where
   pub before : List (List ℕ)
   pub same : (name : List ℕ) → has set name ≡ list_any (bytes_eq name) before
-  pub sum : both found (least (in_fields names before fields)) ≡ whole
+  pub sum : both found (least (check_fields names before fields)) ≡ whole
 
 pub fielded-first : (names : Names) (set : NameSet) (fields : List Field) (found : Broken) → ((name : List ℕ) → has set name ≡ false) → found ≡ least []
-    → Fielded names set fields found (least (in_fields names [] fields))
+    → Fielded names set fields found (least (check_fields names [] fields))
 fielded-first names set fields found none found_is = record {
   before = [];
   same = none;
-  sum = ap (λ b. both b (least (in_fields names [] fields))) found_is;
+  sum = ap (λ b. both b (least (check_fields names [] fields))) found_is;
 }
 
 pub fielded-next : (names : Names) (set next_set : NameSet) (fields : List Field) (i : ℕ) (field : Field) (is_new : Bool) (found named part next whole : Broken)
     → i < length fields → field ≡ get_or fields i field → is_new ≡ not (has set field.name)
     → ((other : List ℕ) → has next_set other ≡ (if bytes_eq field.name other then true else has set other))
-    → named ≡ least (unless is_new rule.DuplicateName) → part ≡ least (at_part names field.type_name) → next ≡ both (both found named) part
+    → named ≡ least (unless is_new rule.DuplicateName) → part ≡ least (check_part names field.type_name) → next ≡ both (both found named) part
     → Fielded names set (drop i fields) found whole → Fielded names next_set (drop (i + 1) fields) next whole
 fielded-next names set next_set fields i field is_new found named part next whole inside is new_is behind named_is part_is next_is so_far =
     let rules : List Rule = unless (not (list_any (bytes_eq field.name) so_far.before)) rule.DuplicateName in
     let named_now : named ≡ least rules = named_is ∙ ap (λ b. least (unless b rule.DuplicateName)) (new_is ∙ ap not (so_far.same field.name)) in
-    let rest : List Rule = in_fields names (so_far.before ++ field.name ∷ []) (drop (i + 1) fields) in
+    let rest : List Rule = check_fields names (so_far.before ++ field.name ∷ []) (drop (i + 1) fields) in
     record {
       before = so_far.before ++ field.name ∷ [];
       same = λ other. behind other ∙ one-more field.name other (has set other) ∙ ap (λ b. b || (bytes_eq other field.name || false)) (so_far.same other)
           ∙ sym (list_any-append (bytes_eq other) so_far.before (field.name ∷ []));
       sum = ap (λ b. both b (least rest)) (next_is ∙ ap (λ b. both (both found b) part) named_now ∙ ap (both (both found (least rules))) part_is)
-          ∙ sym (regroup found (least rules) (least (at_part names field.type_name)) (least rest))
-          ∙ ap (λ b. both found (both b (least rest))) (sym (least_append rules (at_part names field.type_name)))
-          ∙ ap (both found) (sym (least_append (rules ++ at_part names field.type_name) rest))
-          ∙ ap (λ fs. both found (least (in_fields names so_far.before fs))) (sym (drop-next fields i field inside is))
+          ∙ sym (regroup found (least rules) (least (check_part names field.type_name)) (least rest))
+          ∙ ap (λ b. both found (both b (least rest))) (sym (least_append rules (check_part names field.type_name)))
+          ∙ ap (both found) (sym (least_append (rules ++ check_part names field.type_name) rest))
+          ∙ ap (λ fs. both found (least (check_fields names so_far.before fs))) (sym (drop-next fields i field inside is))
           ∙ so_far.sum;
     }
 
 pub fielded-end : (names : Names) (set : NameSet) (fields : List Field) (i : ℕ) (found whole : Broken) → length fields ≤ i → Fielded names set (drop i fields) found whole
     → found ≡ whole
 fielded-end names set fields i found whole past so_far =
-    sym (both_nothing found) ∙ ap (λ fs. both found (least (in_fields names so_far.before fs))) (sym (drop_all i fields past)) ∙ so_far.sum
+    sym (both_nothing found) ∙ ap (λ fs. both found (least (check_fields names so_far.before fs))) (sym (drop_all i fields past)) ∙ so_far.sum
 
 -- ---- numbers
 

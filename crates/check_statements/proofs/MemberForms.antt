@@ -7,7 +7,7 @@ use Rattle.ttcn_syntax.specs.declared.tree.definition.MemberVariable.{MemberVari
 use Rattle.ttcn_syntax.specs.declared.tree.statement.Constant.{Constant}
 use Rattle.ttcn_syntax.specs.declared.tree.statement.Constants.{Constants}
 use Rattle.ttcn_syntax.specs.declared.tree.statement.Timer.{Timer}
-use Rattle.check_scope.specs.Checking.{both, least}
+use Rattle.check_scope.specs.internal.Checking.{both, least}
 use Rattle.check_expressions.specs.Declarations.{behind_all}
 use Rattle.check_statements.specs.Definitions.{check_member, check_members, member_variable_entry, port_entry}
 use Rattle.check_scope.specs.Names.{Entry, Names, Scope, declaring, member_entries, resolved}

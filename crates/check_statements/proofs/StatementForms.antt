@@ -26,7 +26,7 @@ use Rattle.ttcn_syntax.specs.declared.tree.statement.Verdict.{Verdict}
 use Rattle.ttcn_syntax.specs.declared.tree.value.Call.{Call}
 use Rattle.ttcn_syntax.specs.declared.tree.value.Value.{Value}
 use Rattle.check_scope.proofs.Leasts.{both_assoc, both_nothing, least_append}
-use Rattle.check_scope.specs.Checking.{both, least}
+use Rattle.check_scope.specs.internal.Checking.{both, least}
 use Rattle.check_statements.specs.Statements.{Check, Place, StatementRules, action, action_step, alternative, alternative_step, check_condition, check_for_head, check_guarded_call, check_guarded_event, behind_for_start, branch, branch_step, conditional, conditional_step, inside_branch, leaf, statement, statement_step, statements, with_scope}
 
 -- ---- statements without blocks

@@ -21,7 +21,7 @@ use Rattle.check_expressions.specs.Calls.{component_named}
 use Rattle.check_expressions.specs.Declarations.{behind_all, one_by_one}
 use Rattle.check_scope.specs.Names.{Entry, Names, Scope, component_meant, declaring, member_entries, module_names, port_type_meant, resolved}
 use Rattle.check_statements.specs.Statements.{Place, branch, statements}
-use Rattle.check_expressions.specs.Targets.{at_constants, at_new_name, at_timers, at_type}
+use Rattle.check_expressions.specs.Targets.{check_constants, check_new_name, check_timers, check_type}
 use Rattle.check_expressions.specs.Templates.{template}
 use Rattle.check_scope.specs.Typings.{target_of, unless}
 use Rattle.check_expressions.specs.Values.{value}
@@ -33,7 +33,7 @@ use Rattle.check_scope.specs.declared.rule.Rule.{Rule}
 use Rattle.check_scope.specs.declared.rule.Rule.TheVariants as rule
 use Rattle.check_scope.specs.declared.types.DataType.{DataType}
 use Rattle.check_scope.specs.declared.types.Target.{Target}
-use Rattle.check_scope.specs.Scopes.{at_module_names, component_scope, module_scope, scope_on}
+use Rattle.check_scope.specs.Scopes.{check_module_names, component_scope, module_scope, scope_on}
 
 -- ---- names
 
@@ -47,18 +47,18 @@ as_part (Some (meaning.Component at)) = rule.BadType ∷ []
 as_part (Some (meaning.PortType at)) = rule.BadType ∷ []
 as_part _ = rule.UnknownName ∷ []
 
-abbrev pub at_part : Names → TypeName → List Rule
-at_part names type_name.Integer = []
-at_part names type_name.Boolean = []
-at_part names type_name.Default = rule.BadType ∷ []
-at_part names (type_name.Named name) = as_part (names name)
+abbrev pub check_part : Names → TypeName → List Rule
+check_part names type_name.Integer = []
+check_part names type_name.Boolean = []
+check_part names type_name.Default = rule.BadType ∷ []
+check_part names (type_name.Named name) = as_part (names name)
 
 -- fields behind others with these names
-abbrev pub in_fields : Names → List (List ℕ) → List Field → List Rule
-in_fields names before [] = []
-in_fields names before (field ∷ fields) =
-    unless (not (list_any (bytes_eq field.name) before)) rule.DuplicateName ++ at_part names field.type_name ++
-    in_fields names (before ++ field.name ∷ []) fields
+abbrev pub check_fields : Names → List (List ℕ) → List Field → List Rule
+check_fields names before [] = []
+check_fields names before (field ∷ fields) =
+    unless (not (list_any (bytes_eq field.name) before)) rule.DuplicateName ++ check_part names field.type_name ++
+    check_fields names (before ++ field.name ∷ []) fields
 
 abbrev pub same_sign : Bool → Bool → Bool
 same_sign true minus = minus
@@ -83,12 +83,12 @@ check_numbers before [] = []
 check_numbers before (enumerator ∷ enumerators) = check_number before enumerator.number ++ check_numbers (and_number before enumerator.number) enumerators
 
 abbrev pub check_messages : Names → PortMessages → List Rule
-check_messages names messages = flat_map (at_part names) messages.types
+check_messages names messages = flat_map (check_part names) messages.types
 
 -- ---- component types
 
 abbrev pub check_port_name : Scope → List ℕ → List Rule
-check_port_name scope name = at_new_name scope.names name
+check_port_name scope name = check_new_name scope.names name
 
 abbrev pub port_entry : Option ℕ → Scope → List ℕ → Entry
 port_entry of scope name = (name, meaning.Port of)
@@ -98,7 +98,7 @@ check_initial_value scope target None = []
 check_initial_value scope target (Some v) = value v scope target
 
 abbrev pub check_member_variable : Option DataType → Scope → MemberVariable → List Rule
-check_member_variable of scope variable = at_new_name scope.names variable.name ++ check_initial_value scope (target_of of) variable.value
+check_member_variable of scope variable = check_new_name scope.names variable.name ++ check_initial_value scope (target_of of) variable.value
 
 abbrev pub member_variable_entry : Option DataType → Scope → MemberVariable → Entry
 member_variable_entry of scope variable = (variable.name, meaning.Variable of)
@@ -107,10 +107,10 @@ abbrev pub check_member : Scope → Member → List Rule
 check_member scope (member.Ports port_type ports) =
     unless (is_some (port_type_meant (scope.names port_type))) rule.UnknownName ++
     one_by_one check_port_name (port_entry (port_type_meant (scope.names port_type))) scope ports
-check_member scope (member.Constants cs) = at_constants scope cs
-check_member scope (member.Variables of variables) = at_type scope.names true of ++
+check_member scope (member.Constants cs) = check_constants scope cs
+check_member scope (member.Variables of variables) = check_type scope.names true of ++
     one_by_one (check_member_variable (resolved scope.names of)) (member_variable_entry (resolved scope.names of)) scope variables
-check_member scope (member.Timers timers) = at_timers scope timers
+check_member scope (member.Timers timers) = check_timers scope timers
 
 abbrev pub check_members : Scope → List Member → List Rule
 check_members scope [] = []
@@ -119,18 +119,18 @@ check_members scope (member ∷ members) = check_member scope member ++ check_me
 -- ---- constants and templates
 
 -- the values of constants of the module; their names are judged with those of the module
-abbrev pub in_module_constants : Scope → Option DataType → List Constant → List Rule
-in_module_constants scope of constants = flat_map (λ constant. value constant.value scope (target_of of)) constants
+abbrev pub check_module_constants : Scope → Option DataType → List Constant → List Rule
+check_module_constants scope of constants = flat_map (λ constant. value constant.value scope (target_of of)) constants
 
 -- a parameter: it is visible in those behind it too
-abbrev pub at_parameter : Scope → Parameter → List Rule
-at_parameter scope parameter = at_new_name scope.names parameter.name ++ at_type scope.names true parameter.type_name
+abbrev pub check_parameter : Scope → Parameter → List Rule
+check_parameter scope parameter = check_new_name scope.names parameter.name ++ check_type scope.names true parameter.type_name
 
 abbrev pub parameter_entry : Scope → Parameter → Entry
 parameter_entry scope parameter = (parameter.name, meaning.Variable (resolved scope.names parameter.type_name))
 
-abbrev pub in_parameters : Scope → List Parameter → List Rule
-in_parameters scope parameters = one_by_one at_parameter parameter_entry scope parameters
+abbrev pub check_parameters : Scope → List Parameter → List Rule
+check_parameters scope parameters = one_by_one check_parameter parameter_entry scope parameters
 
 -- the scope that has the parameters
 abbrev pub with_parameters : Scope → List Parameter → Scope
@@ -138,7 +138,7 @@ with_parameters scope parameters = behind_all parameter_entry scope parameters
 
 abbrev pub check_template : Scope → TemplateDefinition → List Rule
 check_template scope t =
-    at_type scope.names false t.type_name ++ in_parameters scope t.parameters ++
+    check_type scope.names false t.type_name ++ check_parameters scope t.parameters ++
     template t.template (with_parameters scope t.parameters) (target_of (resolved scope.names t.type_name))
 
 -- ---- behaviours
@@ -150,7 +150,7 @@ check_component_name definitions (Some name) = unless (is_some (component_meant 
 
 abbrev pub check_result : List Definition → Option TypeName → List Rule
 check_result definitions None = []
-check_result definitions (Some name) = at_type (module_names definitions) false name
+check_result definitions (Some name) = check_type (module_names definitions) false name
 
 -- what a function may return
 abbrev pub returns_of : List Definition → Option TypeName → Returns
@@ -164,21 +164,21 @@ place_in scope parameters returns = record { scope = with_parameters scope param
 
 -- the rules that the definition at a position breaks inside
 abbrev pub check_definition : List Definition → ℕ → DefinitionKind → List Rule
-check_definition definitions at (kind.Record r) = in_fields (module_names definitions) [] r.fields
+check_definition definitions at (kind.Record r) = check_fields (module_names definitions) [] r.fields
 check_definition definitions at (kind.Enumerated e) = check_numbers [] e.enumerators
 check_definition definitions at (kind.Port p) = flat_map (check_messages (module_names definitions)) p.messages
 check_definition definitions at (kind.Component c) =
     check_members (component_scope definitions at) c.members
 check_definition definitions at (kind.Constants cs) =
-    at_type (module_names definitions) false cs.type_name ++
-    in_module_constants (module_scope definitions) (resolved (module_names definitions) cs.type_name) cs.constants
+    check_type (module_names definitions) false cs.type_name ++
+    check_module_constants (module_scope definitions) (resolved (module_names definitions) cs.type_name) cs.constants
 check_definition definitions at (kind.Template t) = check_template (module_scope definitions) t
 check_definition definitions at (kind.Function f) =
-    check_component_name definitions f.runs_on ++ in_parameters (scope_on definitions (component_named definitions f.runs_on)) f.parameters ++
+    check_component_name definitions f.runs_on ++ check_parameters (scope_on definitions (component_named definitions f.runs_on)) f.parameters ++
     check_result definitions f.returns ++
     statements f.body (place_in (scope_on definitions (component_named definitions f.runs_on)) f.parameters (returns_of definitions f.returns))
 check_definition definitions at (kind.Altstep a) =
-    check_component_name definitions a.runs_on ++ in_parameters (scope_on definitions (component_named definitions a.runs_on)) a.parameters ++
+    check_component_name definitions a.runs_on ++ check_parameters (scope_on definitions (component_named definitions a.runs_on)) a.parameters ++
     flat_map (λ b. branch b (place_in (scope_on definitions (component_named definitions a.runs_on)) a.parameters returns.Nowhere)) a.branches
 check_definition definitions at (kind.Testcase t) =
     check_component_name definitions (Some t.runs_on) ++ check_component_name definitions t.system ++
@@ -190,4 +190,4 @@ check_definitions all at (definition ∷ definitions) = check_definition all at 
 
 -- the rules that the sites of a module break, each as often as there are sites that break it
 abbrev pub check_sites : List Definition → List Rule
-check_sites definitions = at_module_names definitions ++ check_definitions definitions 0 definitions
+check_sites definitions = check_module_names definitions ++ check_definitions definitions 0 definitions

@@ -1,5 +1,4 @@
 pub mod Definitions
 pub mod Messages
-pub mod Ports
-pub mod Places
 pub mod Statements
+pub mod internal

@@ -13,9 +13,9 @@ use Rattle.ttcn_syntax.specs.declared.tree.statement.Send.{Send}
 use Rattle.ttcn_syntax.specs.declared.tree.template.MessageTemplate.{MessageTemplate}
 use Rattle.ttcn_syntax.specs.declared.tree.template.Template.{Template}
 use Rattle.ttcn_syntax.specs.declared.tree.value.TypeName.{TypeName}
-use Rattle.check_expressions.specs.Expressions.{Judged, at_wanted_component}
+use Rattle.check_expressions.specs.Expressions.{Judgement, check_wanted_component}
 use Rattle.check_scope.specs.Names.{Scope, kind_at, module_names, resolved}
-use Rattle.check_expressions.specs.Targets.{at_target, at_type}
+use Rattle.check_expressions.specs.Targets.{check_target, check_type}
 use Rattle.check_scope.specs.Typings.{is_component, same_type, target_of, type_known, typed, unless}
 use Rattle.check_expressions.specs.Templates.{template, typing_of_template}
 use Rattle.check_scope.specs.declared.names.Meaning.{Meaning}
@@ -50,20 +50,20 @@ lists None t = true
 lists (Some types) t = list_any (agrees t) types
 
 -- the typing of a message, and whether the port lets it pass
-abbrev pub unknown_type : List Rule → Judged
+abbrev pub unknown_type : List Rule → Judgement
 unknown_type broken = record { typing = typing.Unknown; broken = broken }
 
 -- a message that says nothing of its type by itself: it is of the only one that passes
-abbrev pub of_only : Option DataType → Judged
+abbrev pub of_only : Option DataType → Judgement
 of_only None = unknown_type (rule.PortType ∷ [])
 of_only (Some t) = record { typing = typing.Known t; broken = [] }
 
-abbrev pub type_by_port : Passing → Judged
+abbrev pub type_by_port : Passing → Judgement
 type_by_port None = unknown_type []
 type_by_port (Some types) = of_only (only_type types)
 
 -- a message whose type is known by itself: it is one of those that pass. Components are not, and `null` has no type
-abbrev pub type_by_itself : Passing → Typing → Judged
+abbrev pub type_by_itself : Passing → Typing → Judgement
 type_by_itself passing (typing.Known t) = record { typing = typing.Known t; broken = unless (lists passing t) rule.PortType }
 type_by_itself passing typing.Null = unknown_type (rule.ValueType ∷ [])
 type_by_itself passing typing.AnyComponent = unknown_type (unless (is_none passing) rule.PortType)
@@ -71,27 +71,27 @@ type_by_itself passing typing.NoValue = unknown_type (rule.PortType ∷ [])
 type_by_itself passing typing.Unknown = unknown_type []
 
 -- at `any port` the type has to be known by itself
-abbrev pub type_anywhere : Judged
+abbrev pub type_anywhere : Judgement
 type_anywhere = unknown_type (rule.PortType ∷ [])
 
-abbrev pub by_template : Passing → Judged → Option Typing → Judged
+abbrev pub by_template : Passing → Judgement → Option Typing → Judgement
 by_template passing otherwise None = otherwise
 by_template passing otherwise (Some t) = type_by_itself passing t
 
-abbrev pub by_type_name : Scope → Passing → Judged → Template → Option TypeName → Judged
+abbrev pub by_type_name : Scope → Passing → Judgement → Template → Option TypeName → Judgement
 by_type_name scope passing otherwise t None = by_template passing otherwise (typing_of_template scope t)
 by_type_name scope passing otherwise t (Some name) = type_by_itself passing (typed (resolved scope.names name))
 
 -- what says of which type a message is: the type before it, else itself, else the port
-abbrev pub type_of_message : Scope → Passing → Judged → MessageTemplate → Judged
+abbrev pub type_of_message : Scope → Passing → Judgement → MessageTemplate → Judgement
 type_of_message scope passing otherwise message = by_type_name scope passing otherwise message.template message.type_name
 
 abbrev pub check_type_name : Scope → Option TypeName → List Rule
 check_type_name scope None = []
-check_type_name scope (Some name) = at_type scope.names false name
+check_type_name scope (Some name) = check_type scope.names false name
 
 -- a message where messages of some types pass
-abbrev pub check_message : Scope → Passing → Judged → MessageTemplate → List Rule
+abbrev pub check_message : Scope → Passing → Judgement → MessageTemplate → List Rule
 check_message scope passing otherwise message =
     check_type_name scope message.type_name ++ (type_of_message scope passing otherwise message).broken ++
     template message.template scope (target_of (type_known (type_of_message scope passing otherwise message).typing))
@@ -100,7 +100,7 @@ check_message scope passing otherwise message =
 
 -- what is known where a message passes: the types that pass, and the type of a message that says nothing of it
 abbrev pub Passage : Type 0
-Passage = Passing × Judged
+Passage = Passing × Judgement
 
 -- at a port whose type stands at a position, if that is known
 abbrev pub passage_at : List Definition → Bool → Option ℕ → Passage
@@ -108,7 +108,7 @@ passage_at definitions incoming port = (passing_at definitions incoming port, ty
 
 abbrev pub check_to : Scope → Option ComponentRef → List Rule
 check_to scope None = []
-check_to scope (Some reference) = (at_wanted_component scope reference).broken
+check_to scope (Some reference) = (check_wanted_component scope reference).broken
 
 abbrev pub check_sent : Scope → Option (Option ℕ) → MessageTemplate → List Rule
 check_sent scope None message = rule.UnknownName ∷ check_message scope None (type_by_port None) message
@@ -163,12 +163,12 @@ stores_sender typing.Unknown = true
 abbrev pub check_value_redirect : Scope → Bool → Option DataType → Option Reference → List Rule
 check_value_redirect scope finding of None = []
 check_value_redirect scope finding of (Some reference) =
-    (at_target scope reference).broken ++ unless finding rule.Redirect ++ unless (stores of (at_target scope reference).typing) rule.Redirect
+    (check_target scope reference).broken ++ unless finding rule.Redirect ++ unless (stores of (check_target scope reference).typing) rule.Redirect
 
 abbrev pub check_sender_redirect : Scope → Option Reference → List Rule
 check_sender_redirect scope None = []
 check_sender_redirect scope (Some reference) =
-    (at_target scope reference).broken ++ unless (stores_sender (at_target scope reference).typing) rule.Redirect
+    (check_target scope reference).broken ++ unless (stores_sender (check_target scope reference).typing) rule.Redirect
 
 -- ---- events
 
@@ -188,5 +188,5 @@ check_timer scope name = unless (is_timer_name (scope.names name)) rule.UnknownN
 abbrev pub check_event : Scope → Event → List Rule
 check_event scope (event.Receive receive) = check_receive scope receive
 check_event scope (event.Timeout timer) = check_timer scope timer
-check_event scope (event.Done reference) = (at_wanted_component scope reference).broken
+check_event scope (event.Done reference) = (check_wanted_component scope reference).broken
 check_event scope event.AllDone = []

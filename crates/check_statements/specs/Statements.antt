@@ -22,11 +22,11 @@ use Rattle.ttcn_syntax.specs.declared.tree.statement.Verdict.{Verdict}
 use Rattle.ttcn_syntax.specs.declared.tree.statement.Verdict.TheVariants as verdict
 use Rattle.ttcn_syntax.specs.declared.tree.value.Call.{Call}
 use Rattle.ttcn_syntax.specs.declared.tree.value.Value.{Value}
-use Rattle.check_expressions.specs.Calls.{at_activation, at_arguments, at_call, behaviour_meant, component_named, is_altstep, lone_arguments, parameters_of, runs_on_of, stands_alone}
-use Rattle.check_expressions.specs.Expressions.{at_component, at_reference, at_wanted_component, expression, names_timer}
+use Rattle.check_expressions.specs.Calls.{check_activation, check_arguments, check_call, behaviour_meant, component_named, is_altstep, lone_arguments, parameters_of, runs_on_of, stands_alone}
+use Rattle.check_expressions.specs.Expressions.{check_component, check_reference, check_wanted_component, expression, names_timer}
 use Rattle.check_statements.specs.Messages.{check_event, check_send, check_timer}
 use Rattle.check_scope.specs.Names.{Scope, kind_at}
-use Rattle.check_expressions.specs.Targets.{at_assignment, at_constants, at_timers, at_variables, behind_constants, behind_timers, behind_variables}
+use Rattle.check_expressions.specs.Targets.{check_assignment, check_constants, check_timers, check_variables, behind_constants, behind_timers, behind_variables}
 use Rattle.check_scope.specs.Typings.{is_default, refers_to_component, same_type, target_of, unless}
 use Rattle.check_expressions.specs.Values.{value}
 use Rattle.check_statements.specs.declared.place.Returns.{Returns}
@@ -95,8 +95,8 @@ check_guard scope (Some e) = check_condition scope e
 -- ---- parts of statements
 
 abbrev pub check_for_start : Scope → ForStart → List Rule
-check_for_start scope (for_start.Variables vs) = at_variables scope vs
-check_for_start scope (for_start.Assign assignment) = at_assignment scope assignment
+check_for_start scope (for_start.Variables vs) = check_variables scope vs
+check_for_start scope (for_start.Assign assignment) = check_assignment scope assignment
 
 abbrev pub behind_for_start : Scope → ForStart → Scope
 behind_for_start scope (for_start.Variables vs) = behind_variables scope vs
@@ -105,14 +105,14 @@ behind_for_start scope (for_start.Assign assignment) = scope
 -- what stands in front of the block of a `for`
 abbrev pub check_for_head : Scope → ForStart → Expr → Assignment → List Rule
 check_for_head scope start condition step =
-    check_for_start scope start ++ check_condition (behind_for_start scope start) condition ++ at_assignment (behind_for_start scope start) step
+    check_for_start scope start ++ check_condition (behind_for_start scope start) condition ++ check_assignment (behind_for_start scope start) step
 
 -- what stands in front of the block of a branch
 abbrev pub check_guarded_event : Scope → Option Expr → Event → List Rule
 check_guarded_event scope guard event = check_guard scope guard ++ check_event scope event
 
 abbrev pub check_guarded_call : Scope → Option Expr → Call → List Rule
-check_guarded_call scope guard call = check_guard scope guard ++ at_call scope is_altstep call
+check_guarded_call scope guard call = check_guard scope guard ++ check_call scope is_altstep call
 
 -- what is logged: `mtc` may stand there
 abbrev pub check_log_item : Scope → LogItem → List Rule
@@ -147,14 +147,14 @@ refers_to_default _ = false
 abbrev pub check_deactivate : Scope → Option Reference → List Rule
 check_deactivate scope None = []
 check_deactivate scope (Some reference) =
-    (at_reference scope reference).broken ++ unless (refers_to_default (at_reference scope reference).typing) rule.UnknownName
+    (check_reference scope reference).broken ++ unless (refers_to_default (check_reference scope reference).typing) rule.UnknownName
 
 abbrev pub check_stop : Scope → ComponentRef → List Rule
-check_stop scope reference = if names_timer scope reference then [] else (at_wanted_component scope reference).broken
+check_stop scope reference = if names_timer scope reference then [] else (check_wanted_component scope reference).broken
 
 -- both ends of a connection; the names of their ports are not judged
 abbrev pub check_ends : Scope → ComponentRef → ComponentRef → List Rule
-check_ends scope one other = (at_wanted_component scope one).broken ++ (at_wanted_component scope other).broken
+check_ends scope one other = (check_wanted_component scope one).broken ++ (check_wanted_component scope other).broken
 
 -- ---- starts of components
 
@@ -175,23 +175,23 @@ is_function _ = false
 abbrev pub check_started : Scope → Typing → Call → Option ℕ → List Rule
 check_started scope started call None = rule.UnknownName ∷ lone_arguments scope call.arguments
 check_started scope started call (Some at) =
-    at_arguments scope (parameters_of (kind_at scope.definitions at)) call.arguments ++
+    check_arguments scope (parameters_of (kind_at scope.definitions at)) call.arguments ++
     unless (says_component (kind_at scope.definitions at)) rule.RunsOn ++
     unless (runs_there started (component_named scope.definitions (runs_on_of (kind_at scope.definitions at)))) rule.RunsOn ++
     unless (is_function (kind_at scope.definitions at)) rule.CallKind
 
 abbrev pub check_start : Scope → ComponentRef → Call → List Rule
 check_start scope reference call =
-    (at_component scope reference false).broken ++
-    unless (refers_to_component (at_component scope reference false).typing) rule.UnknownName ++
-    check_started scope (at_component scope reference false).typing call (behaviour_meant (scope.names call.name))
+    (check_component scope reference false).broken ++
+    unless (refers_to_component (check_component scope reference false).typing) rule.UnknownName ++
+    check_started scope (check_component scope reference false).typing call (behaviour_meant (scope.names call.name))
 
 -- ---- statements
 
 -- the rules that a statement breaks which has no block and declares nothing: declarations and blocks are judged below
 abbrev pub leaf_rules : {A B C D E : Type 0} → Action-F A B C D E → Check
-leaf_rules (Action-F.Assign assignment) place = at_assignment place.scope assignment
-leaf_rules (Action-F.«Action::Call» call) place = at_call place.scope stands_alone call
+leaf_rules (Action-F.Assign assignment) place = check_assignment place.scope assignment
+leaf_rules (Action-F.«Action::Call» call) place = check_call place.scope stands_alone call
 leaf_rules (Action-F.«Action::Event» event) place = check_event place.scope event
 leaf_rules Action-F.Repeat place = unless place.in_branch rule.RepeatPlace
 leaf_rules (Action-F.Return v) place = check_return place.scope place.returns v
@@ -203,7 +203,7 @@ leaf_rules (Action-F.Send send) place = check_send place.scope send
 leaf_rules (Action-F.StartComponent reference call) place = check_start place.scope reference call
 leaf_rules (Action-F.StartTimer timer) place = check_timer place.scope timer
 leaf_rules (Action-F.StopOf reference) place = check_stop place.scope reference
-leaf_rules (Action-F.Activate call) place = at_activation place.scope call
+leaf_rules (Action-F.Activate call) place = check_activation place.scope call
 leaf_rules (Action-F.Deactivate reference) place = check_deactivate place.scope reference
 leaf_rules (Action-F.Variables vs) place = []
 leaf_rules (Action-F.Constants cs) place = []
@@ -216,9 +216,9 @@ leaf_rules (Action-F.For start condition step block) place = []
 
 -- what is said of a statement without blocks
 abbrev pub leaf : {A B C D E : Type 0} → Action-F A B C D E → StatementRules
-leaf (Action-F.Variables vs) = record { broken = λ place. at_variables place.scope vs; scope_behind = λ scope. behind_variables scope vs }
-leaf (Action-F.Constants cs) = record { broken = λ place. at_constants place.scope cs; scope_behind = λ scope. behind_constants scope cs }
-leaf (Action-F.Timers timers) = record { broken = λ place. at_timers place.scope timers; scope_behind = λ scope. behind_timers scope timers }
+leaf (Action-F.Variables vs) = record { broken = λ place. check_variables place.scope vs; scope_behind = λ scope. behind_variables scope vs }
+leaf (Action-F.Constants cs) = record { broken = λ place. check_constants place.scope cs; scope_behind = λ scope. behind_constants scope cs }
+leaf (Action-F.Timers timers) = record { broken = λ place. check_timers place.scope timers; scope_behind = λ scope. behind_timers scope timers }
 leaf action = without_declaration (leaf_rules action)
 
 abbrev pub action_step : Action-F StatementRules Check Check Check StatementRules → StatementRules

@@ -2,8 +2,8 @@
 ghost use Rattle.std.specs.Prelude.{◌≡◌, IfOk, OnOk};
 ghost use Rattle.std.specs.Option.{option_map};
 ghost use Rattle.ttcn_syntax.specs.declared.tree.statement.Action.{out-Action};
-ghost use Rattle.check_scope.specs.Checking.{around, least, view};
-ghost use Rattle.check_statements.specs.Places.{place_with};
+ghost use Rattle.check_scope.specs.internal.Checking.{around, least, view};
+ghost use Rattle.check_statements.specs.internal.Places.{place_with};
 ghost use Rattle.check_statements.specs.Statements as spec;
 
 use crate::declaration::{constants, timers, variables};

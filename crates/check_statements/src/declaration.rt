@@ -1,6 +1,6 @@
 //! Declarations of variables, constants and timers (ES 201 873-1, 8, 10 to 12).
 ghost use Rattle.std.specs.Prelude.{◌≡◌, [], ◌∷◌, IfOk, OnOk};
-ghost use Rattle.check_scope.specs.Checking.{around, least, view};
+ghost use Rattle.check_scope.specs.internal.Checking.{around, least, view};
 ghost use Rattle.check_scope.specs.Names.{declaring};
 ghost use Rattle.check_expressions.specs.Targets as spec;
 
@@ -19,7 +19,7 @@ pub(crate) fn declare<'a>(
     name: &'a Name,
     meaning: Meaning,
 ) -> Result<Broken, AllocError>
-    ensures broken { IfOk result (λ broken. broken ≡ least (spec.at_new_name (view scope.old).names name.now)) }
+    ensures broken { IfOk result (λ broken. broken ≡ least (spec.check_new_name (view scope.old).names name.now)) }
     ensures view { OnOk result (view scope.new ≡ declaring (view scope.old) ((name.now, meaning) ∷ [])) }
     ensures around { OnOk result (around scope.new ≡ around scope.old) }
 {
@@ -36,7 +36,7 @@ fn variable<'a>(
     of: Option<DataType>,
     variable: &'a Variable,
 ) -> Result<Broken, AllocError>
-    ensures broken { IfOk result (λ broken. broken ≡ least (spec.at_variable of (view scope.old) variable.now)) }
+    ensures broken { IfOk result (λ broken. broken ≡ least (spec.check_variable of (view scope.old) variable.now)) }
     ensures view { OnOk result (view scope.new ≡ declaring (view scope.old) (spec.variable_entry of (view scope.old) variable.now ∷ [])) }
     ensures around { OnOk result (around scope.new ≡ around scope.old) }
 {
@@ -50,7 +50,7 @@ pub(crate) fn variables<'a>(
     scope: &mut Scope<'a>,
     variables: &'a Variables,
 ) -> Result<Broken, AllocError>
-    ensures broken { IfOk result (λ broken. broken ≡ least (spec.at_variables (view scope.old) variables.now)) }
+    ensures broken { IfOk result (λ broken. broken ≡ least (spec.check_variables (view scope.old) variables.now)) }
     ensures view { OnOk result (view scope.new ≡ spec.behind_variables (view scope.old) variables.now) }
     ensures around { OnOk result (around scope.new ≡ around scope.old) }
 {
@@ -71,7 +71,7 @@ fn constant<'a>(
     of: Option<DataType>,
     constant: &'a Constant,
 ) -> Result<Broken, AllocError>
-    ensures broken { IfOk result (λ broken. broken ≡ least (spec.at_constant of (view scope.old) constant.now)) }
+    ensures broken { IfOk result (λ broken. broken ≡ least (spec.check_constant of (view scope.old) constant.now)) }
     ensures view { OnOk result (view scope.new ≡ declaring (view scope.old) (spec.constant_entry of (view scope.old) constant.now ∷ [])) }
     ensures around { OnOk result (around scope.new ≡ around scope.old) }
 {
@@ -85,7 +85,7 @@ pub(crate) fn constants<'a>(
     scope: &mut Scope<'a>,
     constants: &'a Constants,
 ) -> Result<Broken, AllocError>
-    ensures broken { IfOk result (λ broken. broken ≡ least (spec.at_constants (view scope.old) constants.now)) }
+    ensures broken { IfOk result (λ broken. broken ≡ least (spec.check_constants (view scope.old) constants.now)) }
     ensures view { OnOk result (view scope.new ≡ spec.behind_constants (view scope.old) constants.now) }
     ensures around { OnOk result (around scope.new ≡ around scope.old) }
 {
@@ -99,7 +99,7 @@ pub(crate) fn constants<'a>(
 }
 
 pub(crate) fn timers<'a>(scope: &mut Scope<'a>, timers: &'a [Timer]) -> Result<Broken, AllocError>
-    ensures broken { IfOk result (λ broken. broken ≡ least (spec.at_timers (view scope.old) timers.now)) }
+    ensures broken { IfOk result (λ broken. broken ≡ least (spec.check_timers (view scope.old) timers.now)) }
     ensures view { OnOk result (view scope.new ≡ spec.behind_timers (view scope.old) timers.now) }
     ensures around { OnOk result (around scope.new ≡ around scope.old) }
 {

@@ -3,7 +3,7 @@ ghost use Rattle.std.specs.Prelude.{◌≡◌, ◌++◌, IfOk, OnOk};
 ghost use Rattle.std.specs.Option.{option_map};
 ghost use Rattle.ttcn_syntax.specs.declared.tree.definition.DefinitionKind.TheVariants as kind;
 ghost use Rattle.check_expressions.specs.Calls.{component_named};
-ghost use Rattle.check_scope.specs.Checking.{around, both, least, least_in, view};
+ghost use Rattle.check_scope.specs.internal.Checking.{around, both, least, least_in, view};
 ghost use Rattle.check_scope.specs.Scopes.{scope_on};
 ghost use Rattle.check_statements.specs.Definitions as spec;
 
@@ -59,7 +59,7 @@ fn go_into_behaviour<'a>(
 ) -> Result<Broken, AllocError>
     ensures broken { let runs_on = option_map (λ name. name.now) runs_on.entry in
         let definitions = (view scope.old).definitions in
-        IfOk result (λ broken. broken ≡ least (spec.check_component_name definitions runs_on ++ spec.in_parameters (scope_on definitions (component_named definitions runs_on)) parameters.now)) }
+        IfOk result (λ broken. broken ≡ least (spec.check_component_name definitions runs_on ++ spec.check_parameters (scope_on definitions (component_named definitions runs_on)) parameters.now)) }
     ensures view { let runs_on = option_map (λ name. name.now) runs_on.entry in
         let definitions = (view scope.old).definitions in
         OnOk result (view scope.new ≡ spec.with_parameters (scope_on definitions (component_named definitions runs_on)) parameters.now) }

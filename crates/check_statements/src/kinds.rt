@@ -3,11 +3,11 @@ ghost use Rattle.std.specs.Prelude.{◌≡◌, ◌++◌, List, [], IfOk, OnOk, f
 ghost use Rattle.std.specs.List.{flat_map};
 ghost use Rattle.std.specs.Option.{option_map};
 ghost use Rattle.ttcn_syntax.specs.declared.tree.definition.EnumNumber.{EnumNumber};
-ghost use Rattle.check_scope.specs.Checking.{least, view};
+ghost use Rattle.check_scope.specs.internal.Checking.{least, view};
 ghost use Rattle.check_statements.specs.Definitions as spec;
 ghost use Rattle.check_scope.specs.Names.{module_names, resolved};
-ghost use Rattle.check_statements.specs.Places.{AreGiven};
-ghost use Rattle.check_expressions.specs.Targets.{at_type};
+ghost use Rattle.check_statements.specs.internal.Places.{AreGiven};
+ghost use Rattle.check_expressions.specs.Targets.{check_type};
 
 use crate::number_set::NumberSet;
 use crate::place::Returns;
@@ -40,7 +40,7 @@ fn as_part(meaning: Option<Meaning>) -> Broken
 
 /// A type that records and messages hold.
 fn check_part(scope: &Scope<'_>, type_name: &TypeName) -> Broken
-    ensures { result ≡ least (spec.at_part (module_names (view scope.now).definitions) type_name.now) }
+    ensures { result ≡ least (spec.check_part (module_names (view scope.now).definitions) type_name.now) }
 {
     match type_name {
         TypeName::Integer | TypeName::Boolean => Broken::nothing(),
@@ -55,7 +55,7 @@ pub(crate) fn check_fields(
     scope: &Scope<'_>,
     fields: &[Field],
 ) -> Result<Broken, AllocError>
-    ensures { IfOk result (λ broken. broken ≡ least (spec.in_fields (module_names (view scope.now).definitions) [] fields.now)) }
+    ensures { IfOk result (λ broken. broken ≡ least (spec.check_fields (module_names (view scope.now).definitions) [] fields.now)) }
 {
     let mut broken = Broken::nothing();
     let mut names = NameSet::new(alloc);
@@ -130,7 +130,7 @@ fn check_module_constants(
     data_type: Option<DataType>,
     constants: &[Constant],
 ) -> Result<Broken, AllocError>
-    ensures { IfOk result (λ broken. broken ≡ least (spec.in_module_constants (view scope.now) data_type constants.now)) }
+    ensures { IfOk result (λ broken. broken ≡ least (spec.check_module_constants (view scope.now) data_type constants.now)) }
 {
     let mut broken = Broken::nothing();
     for constant in constants {
@@ -147,7 +147,7 @@ pub(crate) fn check_constants(
     scope: &Scope<'_>,
     constants: &Constants,
 ) -> Result<Broken, AllocError>
-    ensures { IfOk result (λ broken. broken ≡ least (at_type (view scope.now).names false constants.now.type_name ++ spec.in_module_constants (view scope.now) (resolved (view scope.now).names constants.now.type_name) constants.now.constants)) }
+    ensures { IfOk result (λ broken. broken ≡ least (check_type (view scope.now).names false constants.now.type_name ++ spec.check_module_constants (view scope.now) (resolved (view scope.now).names constants.now.type_name) constants.now.constants)) }
 {
     let typed = check_type(scope, false, &constants.type_name);
     let data_type = scope.resolved(&constants.type_name);

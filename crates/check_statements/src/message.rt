@@ -2,10 +2,10 @@
 ghost use Rattle.std.specs.Prelude.{◌≡◌, is_some, IfOk};
 ghost use Rattle.std.specs.List.{list_any};
 ghost use Rattle.std.specs.Option.{option_map};
-ghost use Rattle.check_scope.specs.Checking.{least, view};
-ghost use Rattle.check_expressions.specs.Findings.{finding};
+ghost use Rattle.check_scope.specs.internal.Checking.{least, view};
+ghost use Rattle.check_expressions.specs.internal.Findings.{finding};
 ghost use Rattle.check_statements.specs.Messages as spec;
-ghost use Rattle.check_statements.specs.Ports.{known, otherwise, passing};
+ghost use Rattle.check_statements.specs.internal.Ports.{known, otherwise, passing};
 ghost use Rattle.check_scope.specs.declared.types.Typing.TheVariants as typing;
 
 use check_expressions::expression::check_wanted_component;

@@ -1,6 +1,6 @@
 //! Formal parameters (ES 201 873-1, 5.4.1).
 ghost use Rattle.std.specs.Prelude.{◌≡◌, [], ◌∷◌, IfOk, OnOk};
-ghost use Rattle.check_scope.specs.Checking.{around, least, view};
+ghost use Rattle.check_scope.specs.internal.Checking.{around, least, view};
 ghost use Rattle.check_statements.specs.Definitions as spec;
 ghost use Rattle.check_scope.specs.Names.{declaring};
 
@@ -15,7 +15,7 @@ use ttcn_syntax::Parameter;
 /// A parameter, which is visible in those behind it too.
 #[tactic(auto, using(crate::proofs::Leasts::least_append))]
 fn parameter<'a>(scope: &mut Scope<'a>, parameter: &'a Parameter) -> Result<Broken, AllocError>
-    ensures broken { IfOk result (λ broken. broken ≡ least (spec.at_parameter (view scope.old) parameter.now)) }
+    ensures broken { IfOk result (λ broken. broken ≡ least (spec.check_parameter (view scope.old) parameter.now)) }
     ensures view { OnOk result (view scope.new ≡ declaring (view scope.old) (spec.parameter_entry (view scope.old) parameter.now ∷ [])) }
     ensures around { OnOk result (around scope.new ≡ around scope.old) }
 {
@@ -30,7 +30,7 @@ pub(crate) fn check_parameters<'a>(
     scope: &mut Scope<'a>,
     parameters: &'a [Parameter],
 ) -> Result<Broken, AllocError>
-    ensures broken { IfOk result (λ broken. broken ≡ least (spec.in_parameters (view scope.old) parameters.now)) }
+    ensures broken { IfOk result (λ broken. broken ≡ least (spec.check_parameters (view scope.old) parameters.now)) }
     ensures view { OnOk result (view scope.new ≡ spec.with_parameters (view scope.old) parameters.now) }
     ensures around { OnOk result (around scope.new ≡ around scope.old) }
 {

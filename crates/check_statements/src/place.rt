@@ -1,6 +1,6 @@
 //! Where a statement stands in a behaviour.
 ghost use Rattle.std.specs.Prelude.{◌≡◌};
-ghost use Rattle.check_statements.specs.Places.{place_with};
+ghost use Rattle.check_statements.specs.internal.Places.{place_with};
 ghost use Rattle.check_scope.specs.Names.{Scope};
 ghost use Rattle.check_statements.specs.Statements.{inside_branch};
 

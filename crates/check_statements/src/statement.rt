@@ -2,8 +2,8 @@
 ghost use Rattle.std.specs.Prelude.{◌≡◌, IfOk, OnOk};
 ghost use Rattle.std.specs.List.{flat_map};
 ghost use Rattle.std.specs.Option.{option_map};
-ghost use Rattle.check_scope.specs.Checking.{around, both, least, least_in, view};
-ghost use Rattle.check_statements.specs.Places.{place_with};
+ghost use Rattle.check_scope.specs.internal.Checking.{around, both, least, least_in, view};
+ghost use Rattle.check_statements.specs.internal.Places.{place_with};
 ghost use Rattle.check_statements.specs.Statements as spec;
 
 use crate::action::{check_condition, check_guard, check_leaf};

@@ -15,14 +15,14 @@ use Rattle.checker_laws.proofs.Nothing.{kept, nothing-first, nothing-rest}
 use Rattle.check_statements.proofs.StatementForms.{statement_out}
 use Rattle.checker_laws.proofs.Typed.{expression_typed}
 use Rattle.checker_laws.proofs.Whole.{constants_whole, timers_whole, variables_whole}
-use Rattle.check_expressions.specs.Calls.{at_arguments, parameters_of}
-use Rattle.check_expressions.specs.Expressions.{along, at_meaning, at_reference, expression}
+use Rattle.check_expressions.specs.Calls.{check_arguments, parameters_of}
+use Rattle.check_expressions.specs.Expressions.{along, check_meaning, check_reference, expression}
 use Rattle.checker_laws.specs.Laws.{AreArguments, IsKnown, IsWhole}
 use Rattle.check_scope.specs.Names.{Scope, kind_at}
 use Rattle.check_statements.specs.Statements.{Check, Place, StatementRules, action, action_step, alternative, alternative_step, branch, branch_step, conditional, conditional_step, statement, statement_step, statements, with_scope}
-use Rattle.check_expressions.specs.Templates.{at_template, type_of_template}
+use Rattle.check_expressions.specs.Templates.{check_named_template, type_of_template}
 use Rattle.check_scope.specs.Typings.{fits, goes_to, same_type, typed, unless}
-use Rattle.check_expressions.specs.Values.{at_expression}
+use Rattle.check_expressions.specs.Values.{check_expression}
 use Rattle.check_scope.specs.declared.names.Meaning.{Meaning}
 use Rattle.check_scope.specs.declared.names.Meaning.TheVariants as meaning
 use Rattle.check_scope.specs.declared.rule.Rule.{Rule}
@@ -34,25 +34,25 @@ use Rattle.check_scope.specs.declared.types.Typing.TheVariants as typing
 
 -- ---- names
 
-meaning-resolves : (scope : Scope) (m : Option Meaning) → (at_meaning scope.definitions m).broken ≡ [] → is_some m ≡ true
+meaning-resolves : (scope : Scope) (m : Option Meaning) → (check_meaning scope.definitions m).broken ≡ [] → is_some m ≡ true
 meaning-resolves scope (Some m) nothing = refl
 meaning-resolves scope None nothing = absurd (let e = nothing in cc)
 
-pub name_resolves : (scope : Scope) (reference : Reference) → (at_reference scope reference).broken ≡ [] → is_some (scope.names reference.name) ≡ true
+pub name_resolves : (scope : Scope) (reference : Reference) → (check_reference scope reference).broken ≡ [] → is_some (scope.names reference.name) ≡ true
 name_resolves scope reference nothing =
     meaning-resolves scope (scope.names reference.name)
-    (nothing-first (at_meaning scope.definitions (scope.names reference.name)).broken
-    (along scope.definitions (at_meaning scope.definitions (scope.names reference.name)).typing reference.fields).broken nothing)
+    (nothing-first (check_meaning scope.definitions (scope.names reference.name)).broken
+    (along scope.definitions (check_meaning scope.definitions (scope.names reference.name)).typing reference.fields).broken nothing)
 
 -- ---- values
 
 -- an expression where a value of a type is wanted has a typing that goes there
-pub expression_fits : (scope : Scope) (t : DataType) (e : Expr) → at_expression scope (Some t) e ≡ [] → goes_to t (expression e scope false).typing ≡ true
+pub expression_fits : (scope : Scope) (t : DataType) (e : Expr) → check_expression scope (Some t) e ≡ [] → goes_to t (expression e scope false).typing ≡ true
 expression_fits scope t e nothing =
     kept (goes_to t (expression e scope false).typing) rule.ValueType
     (nothing-rest (expression e scope false).broken (unless (goes_to t (expression e scope false).typing) rule.ValueType) nothing)
 
-pub wanted_expression_typed : (scope : Scope) → IsWhole scope → (t : DataType) (e : Expr) → at_expression scope (Some t) e ≡ [] → (expression e scope false).typing ≢ typing.Unknown
+pub wanted_expression_typed : (scope : Scope) → IsWhole scope → (t : DataType) (e : Expr) → check_expression scope (Some t) e ≡ [] → (expression e scope false).typing ≢ typing.Unknown
 wanted_expression_typed scope whole t e nothing =
     expression_typed e scope false whole
     (nothing-first (expression e scope false).broken (unless (goes_to t (expression e scope false).typing) rule.ValueType) nothing)
@@ -103,9 +103,9 @@ type-fits None t known fit = absurd (let e = known in cc)
 
 -- a named template where one of a type is wanted is of this type
 pub template_fits : (scope : Scope) → IsWhole scope → (name : List ℕ) (at : ℕ) → scope.names name ≡ Some (meaning.Template at)
-    → (target : Target) (t : DataType) (given : List Value) → target.data_type ≡ Some t → at_template scope target given (Some at) ≡ [] → type_of_template scope at ≡ Some t
+    → (target : Target) (t : DataType) (given : List Value) → target.data_type ≡ Some t → check_named_template scope target given (Some at) ≡ [] → type_of_template scope at ≡ Some t
 template_fits scope whole name at means target t given wanted nothing =
-    let arguments : List Rule = at_arguments scope (parameters_of (kind_at scope.definitions at)) given in
+    let arguments : List Rule = check_arguments scope (parameters_of (kind_at scope.definitions at)) given in
     let known : IfSome (Some (meaning.Template at)) (IsKnown scope.definitions) = subst (λ m. IfSome m (IsKnown scope.definitions)) means (whole.names name) in
     let fit : fits target.data_type (typed (type_of_template scope at)) ≡ true =
     kept (fits target.data_type (typed (type_of_template scope at))) rule.ValueType
@@ -113,10 +113,10 @@ template_fits scope whole name at means target t given wanted nothing =
     type-fits (type_of_template scope at) t known (subst (λ of. fits of (typed (type_of_template scope at)) ≡ true) wanted fit)
 
 -- and has as many arguments as parameters
-pub template_arguments_fit : (scope : Scope) (at : ℕ) (target : Target) (given : List Value) → at_template scope target given (Some at) ≡ []
+pub template_arguments_fit : (scope : Scope) (at : ℕ) (target : Target) (given : List Value) → check_named_template scope target given (Some at) ≡ []
     → AreArguments scope (parameters_of (kind_at scope.definitions at)) given
 template_arguments_fit scope at target given nothing =
-    let arguments : List Rule = at_arguments scope (parameters_of (kind_at scope.definitions at)) given in
+    let arguments : List Rule = check_arguments scope (parameters_of (kind_at scope.definitions at)) given in
     arguments_fit scope (parameters_of (kind_at scope.definitions at)) given
     (nothing-first arguments (unless (fits target.data_type (typed (type_of_template scope at))) rule.ValueType) nothing)
 

@@ -15,7 +15,7 @@ use Rattle.ttcn_syntax.specs.declared.tree.value.Value.TheVariants as value_form
 use Rattle.checker_laws.proofs.Nothing.{kept, nothing-first, nothing-rest}
 use Rattle.check_expressions.proofs.TemplateForms.{body_of_assigned, body_of_listed}
 use Rattle.check_expressions.proofs.ValueForms.{value_of_assigned, value_of_listed}
-use Rattle.check_expressions.specs.Calls.{arguments, at_arguments, at_behaviour, at_call, behaviour_meant, component_named, parameters_of, runs_here, runs_on_of}
+use Rattle.check_expressions.specs.Calls.{arguments, check_arguments, check_behaviour, check_call, behaviour_meant, component_named, parameters_of, runs_here, runs_on_of}
 use Rattle.checker_laws.specs.Laws.{AreArguments, AreElements, AreNamedElements, GoesToField, Resolves}
 use Rattle.check_scope.specs.Names.{Scope, field_named, fields_at, kind_at}
 use Rattle.check_expressions.specs.Templates.{body, field_template, has_all, template}
@@ -52,7 +52,7 @@ module _ (scope : Scope) where
   are-arguments (p ∷ ps) (v ∷ vs) same nothing =
       (nothing-first _ (arguments scope ps vs) nothing, are-arguments ps vs (omega (arith, same)) (nothing-rest _ (arguments scope ps vs) nothing))
 
-  pub arguments_fit : (ps : List Parameter) (vs : List Value) → at_arguments scope ps vs ≡ [] → AreArguments scope ps vs
+  pub arguments_fit : (ps : List Parameter) (vs : List Value) → check_arguments scope ps vs ≡ [] → AreArguments scope ps vs
   arguments_fit ps vs nothing =
       let number : List Rule = unless (nat_eq (length vs) (length ps)) rule.Arguments in
       are-arguments ps vs
@@ -60,11 +60,11 @@ module _ (scope : Scope) where
       (nothing-rest number (arguments scope ps vs) nothing)
 
   resolves-to : (callable : Option DefinitionKind → Bool) (call : Call) (meant : Option ℕ) → behaviour_meant (scope.names call.name) ≡ meant
-      → at_behaviour scope callable call meant ≡ [] → Resolves scope callable call
+      → check_behaviour scope callable call meant ≡ [] → Resolves scope callable call
   resolves-to callable call None is nothing = absurd (let e = nothing in cc)
   resolves-to callable call (Some at) is nothing =
       let k : Option DefinitionKind = kind_at scope.definitions at in
-      let given : List Rule = at_arguments scope (parameters_of k) call.arguments in
+      let given : List Rule = check_arguments scope (parameters_of k) call.arguments in
       let on : List Rule = unless (runs_here (component_named scope.definitions (runs_on_of k)) scope.itself) rule.RunsOn in
       let called : List Rule = unless (callable k) rule.CallKind in
       let front : given ++ on ≡ [] = nothing-first (given ++ on) called nothing in
@@ -77,7 +77,7 @@ module _ (scope : Scope) where
       }
 
   -- a call that breaks no rule resolves
-  pub call_resolves : (callable : Option DefinitionKind → Bool) (call : Call) → at_call scope callable call ≡ [] → Resolves scope callable call
+  pub call_resolves : (callable : Option DefinitionKind → Bool) (call : Call) → check_call scope callable call ≡ [] → Resolves scope callable call
   call_resolves callable call nothing = resolves-to callable call (behaviour_meant (scope.names call.name)) refl nothing
 
   -- ---- elements

@@ -15,7 +15,7 @@ use Rattle.ttcn_syntax.specs.declared.tree.expression.Link.{Link, out-Link}
 use Rattle.ttcn_syntax.specs.declared.tree.expression.Reference.{Reference}
 use Rattle.check_expressions.proofs.Judgements.{expression-Chain, expression-Ispresent, expression-Not, expression-Running, expression-Signed, link-out}
 use Rattle.checker_laws.proofs.Nothing.{nothing-first, nothing-rest}
-use Rattle.check_expressions.specs.Expressions.{Judged, Judgement, after, along, any_component, at_component, at_field, at_meaning, at_reference, at_running, at_self, chained, demanding, expression, expression_step, fine, joined, link, link_step, names_field, names_timer, runs, within, wrong}
+use Rattle.check_expressions.specs.Expressions.{Judgement, Judge, after, along, any_component, check_component, check_field, check_meaning, check_reference, check_running, check_self, join_links, demand, expression, expression_step, fine, join_link, link, link_step, names_field, names_timer, runs, within, wrong}
 use Rattle.checker_laws.specs.Laws.{HasFieldType, IsKnown, IsTyped, IsWhole}
 use Rattle.check_scope.specs.Names.{Scope, constants_type, fields_at, kind_at, module_names, resolved}
 use Rattle.check_scope.specs.Typings.{is_of, refers_to_component, result_of, typed}
@@ -54,13 +54,13 @@ any-fine : (free : Bool) → IsTyped (any_component free)
 any-fine free nothing is = cc
 
 -- an operation has its type, whatever is broken in it
-operation-typed : (before : List Rule) (b : Bool) (r : Rule) (t : DataType) → IsTyped (after before (demanding b r t))
+operation-typed : (before : List Rule) (b : Bool) (r : Rule) (t : DataType) → IsTyped (after before (demand b r t))
 operation-typed before b r t nothing is = cc
 
 -- ---- references
 
 module _ (scope : Scope) (whole : IsWhole scope) where
-  meaning-typed : (m : Option Meaning) → IfSome m (IsKnown scope.definitions) → IsTyped (at_meaning scope.definitions m)
+  meaning-typed : (m : Option Meaning) → IfSome m (IsKnown scope.definitions) → IsTyped (check_meaning scope.definitions m)
   meaning-typed (Some (meaning.Variable of)) known = typed-fine of known
   meaning-typed (Some (meaning.Constant of)) known = typed-fine of known
   meaning-typed (Some (meaning.ModuleConstant at item)) known =
@@ -78,15 +78,15 @@ module _ (scope : Scope) (whole : IsWhole scope) where
   meaning-typed (Some (meaning.Testcase at)) known = wrong-typed rule.UnknownName
   meaning-typed None known = wrong-typed rule.UnknownName
 
-  name-typed : (name : List ℕ) → IsTyped (at_meaning scope.definitions (scope.names name))
+  name-typed : (name : List ℕ) → IsTyped (check_meaning scope.definitions (scope.names name))
   name-typed name = meaning-typed (scope.names name) (whole.names name)
 
-  first-typed : (b : Bool) (field : Field) (others : Option Field) → HasFieldType scope.definitions field → IsTyped (at_field scope.definitions others)
-      → IsTyped (at_field scope.definitions (if b then Some field else others))
+  first-typed : (b : Bool) (field : Field) (others : Option Field) → HasFieldType scope.definitions field → IsTyped (check_field scope.definitions others)
+      → IsTyped (check_field scope.definitions (if b then Some field else others))
   first-typed true field others known rest = typed-fine (resolved (module_names scope.definitions) field.type_name) known
   first-typed false field others known rest = rest
 
-  found-typed : (test : Field → Bool) (fields : List Field) → All (HasFieldType scope.definitions) fields → IsTyped (at_field scope.definitions (find test fields))
+  found-typed : (test : Field → Bool) (fields : List Field) → All (HasFieldType scope.definitions) fields → IsTyped (check_field scope.definitions (find test fields))
   found-typed test [] each = wrong-typed rule.Fields
   found-typed test (field ∷ fields) each =
       first-typed (test field) field (find test fields) (All-head (HasFieldType scope.definitions) field fields each)
@@ -111,38 +111,38 @@ module _ (scope : Scope) (whole : IsWhole scope) where
       (within-typed t name known (nothing-first (within scope.definitions t name).broken (along scope.definitions (within scope.definitions t name).typing names).broken nothing))
       (nothing-rest (within scope.definitions t name).broken (along scope.definitions (within scope.definitions t name).typing names).broken nothing)
 
-  pub reference-typed : (reference : Reference) → IsTyped (at_reference scope reference)
+  pub reference-typed : (reference : Reference) → IsTyped (check_reference scope reference)
   reference-typed reference nothing =
-      along-typed reference.fields (at_meaning scope.definitions (scope.names reference.name)).typing
-      (name-typed reference.name (nothing-first (at_meaning scope.definitions (scope.names reference.name)).broken
-      (along scope.definitions (at_meaning scope.definitions (scope.names reference.name)).typing reference.fields).broken nothing))
-      (nothing-rest (at_meaning scope.definitions (scope.names reference.name)).broken
-      (along scope.definitions (at_meaning scope.definitions (scope.names reference.name)).typing reference.fields).broken nothing)
+      along-typed reference.fields (check_meaning scope.definitions (scope.names reference.name)).typing
+      (name-typed reference.name (nothing-first (check_meaning scope.definitions (scope.names reference.name)).broken
+      (along scope.definitions (check_meaning scope.definitions (scope.names reference.name)).typing reference.fields).broken nothing))
+      (nothing-rest (check_meaning scope.definitions (scope.names reference.name)).broken
+      (along scope.definitions (check_meaning scope.definitions (scope.names reference.name)).typing reference.fields).broken nothing)
 
-  self-typed : (itself : Option ℕ) (free : Bool) → IsTyped (at_self itself free)
+  self-typed : (itself : Option ℕ) (free : Bool) → IsTyped (check_self itself free)
   self-typed (Some at) free = known-fine (type.Component at)
   self-typed None free = any-fine free
 
-  pub component-typed : (c : ComponentRef) (free : Bool) → IsTyped (at_component scope c free)
+  pub component-typed : (c : ComponentRef) (free : Bool) → IsTyped (check_component scope c free)
   component-typed component.Itself free = self-typed scope.itself free
   component-typed component.Mtc free = any-fine free
   component-typed (component.Named reference) free = reference-typed reference
 
-  running-typed : (c : ComponentRef) → IsTyped (at_running scope c)
+  running-typed : (c : ComponentRef) → IsTyped (check_running scope c)
   running-typed c = go (names_timer scope c)
     where
-      go : (b : Bool) → IsTyped (if b then fine (typing.Known type.Boolean) else after (at_component scope c true).broken (runs (at_component scope c true).typing))
+      go : (b : Bool) → IsTyped (if b then fine (typing.Known type.Boolean) else after (check_component scope c true).broken (runs (check_component scope c true).typing))
       go true = known-fine type.Boolean
-      go false = operation-typed (at_component scope c true).broken (refers_to_component (at_component scope c true).typing) rule.UnknownName type.Boolean
+      go false = operation-typed (check_component scope c true).broken (refers_to_component (check_component scope c true).typing) rule.UnknownName type.Boolean
 
 -- ---- expressions
 
 -- a judgement that gives a type in every whole scope
-abbrev Gives : Judgement → Type 0
+abbrev Gives : Judge → Type 0
 Gives judgement = (scope : Scope) (free : Bool) → IsWhole scope → IsTyped (judgement scope free)
 
-joined-gives : (op : Operator) (left right : Judgement) → Gives (joined op left right)
-joined-gives op left right scope free whole nothing is = cc
+join_link-gives : (op : Operator) (left right : Judge) → Gives (join_link op left right)
+join_link-gives op left right scope free whole nothing is = cc
 
 abbrev HeldExpr : Type 0
 HeldExpr = (e : Expr) × Gives (expression e)
@@ -150,57 +150,57 @@ HeldExpr = (e : Expr) × Gives (expression e)
 abbrev HeldLink : Type 0
 HeldLink = (l : Link) × Unit {0}
 
-chained-gives : (first : Judgement) (links : List (Operator × Judgement)) → Gives first → Gives (chained first links)
-chained-gives first [] gives = gives
-chained-gives first (l ∷ links) gives = chained-gives (joined l.0 first l.1) links (joined-gives l.0 first l.1)
+join_links-gives : (first : Judge) (links : List (Operator × Judge)) → Gives first → Gives (join_links first links)
+join_links-gives first [] gives = gives
+join_links-gives first (l ∷ links) gives = join_links-gives (join_link l.0 first l.1) links (join_link-gives l.0 first l.1)
 
 expr-held : (y : Expr-F HeldExpr HeldLink)
-    → Gives (expression_step (map-Expr Expr Link Judgement (Operator × Judgement) expression link (map-Expr HeldExpr HeldLink Expr Link (λ e. e.0) (λ l. l.0) y)))
+    → Gives (expression_step (map-Expr Expr Link Judge (Operator × Judge) expression link (map-Expr HeldExpr HeldLink Expr Link (λ e. e.0) (λ l. l.0) y)))
 expr-held (Expr-F.Int n) = λ scope free whole. known-fine type.Integer
 expr-held (Expr-F.Bool b) = λ scope free whole. known-fine type.Boolean
 expr-held Expr-F.Null = λ scope free whole. null-fine
 expr-held (Expr-F.Reference reference) = λ scope free whole. component-typed scope whole reference free
 expr-held (Expr-F.Running reference) = λ scope free whole. running-typed scope whole reference
-expr-held (Expr-F.Ispresent reference) = λ scope free whole. operation-typed (at_reference scope reference).broken (names_field reference.fields) rule.Fields type.Boolean
+expr-held (Expr-F.Ispresent reference) = λ scope free whole. operation-typed (check_reference scope reference).broken (names_field reference.fields) rule.Fields type.Boolean
 expr-held (Expr-F.Not e) = λ scope free whole.
     operation-typed (expression e.0 scope false).broken (is_of type.Boolean (expression e.0 scope false).typing) rule.OperandType type.Boolean
 expr-held (Expr-F.Signed sign e) = λ scope free whole.
     operation-typed (expression e.0 scope false).broken (is_of type.Integer (expression e.0 scope false).typing) rule.OperandType type.Integer
-expr-held (Expr-F.Chain first links) = chained-gives (expression first.0) (map link (map (λ l. l.0) links)) first.1
+expr-held (Expr-F.Chain first links) = join_links-gives (expression first.0) (map link (map (λ l. l.0) links)) first.1
 
 -- an expression that breaks no rule has its type
 pub expression_typed : (e : Expr) → Gives (expression e)
 expression_typed = ind-Expr (λ e. Gives (expression e)) (λ l. Unit {0}) (λ x y is.
-    subst Gives (sym (fold-roll-Expr Judgement (Operator × Judgement) expression_step link_step x))
-    (subst (λ z. Gives (expression_step (map-Expr Expr Link Judgement (Operator × Judgement) expression link z))) is (expr-held y))) (λ x y is. tt)
+    subst Gives (sym (fold-roll-Expr Judge (Operator × Judge) expression_step link_step x))
+    (subst (λ z. Gives (expression_step (map-Expr Expr Link Judge (Operator × Judge) expression link z))) is (expr-held y))) (λ x y is. tt)
 
 -- ---- operations
 
 -- the type of an operation, whatever is broken in it
 pub negation_typed : (e : Expr) (scope : Scope) (free : Bool) → (expression (form.Not e) scope free).typing ≡ typing.Known type.Boolean
-negation_typed e scope free = ap (λ (j : Judged). j.typing) (expression-Not scope free e)
+negation_typed e scope free = ap (λ (j : Judgement). j.typing) (expression-Not scope free e)
 
 pub signed_typed : (sign : Sign) (e : Expr) (scope : Scope) (free : Bool) → (expression (form.Signed sign e) scope free).typing ≡ typing.Known type.Integer
-signed_typed sign e scope free = ap (λ (j : Judged). j.typing) (expression-Signed scope free sign e)
+signed_typed sign e scope free = ap (λ (j : Judgement). j.typing) (expression-Signed scope free sign e)
 
 pub presence_typed : (reference : Reference) (scope : Scope) (free : Bool) → (expression (form.Ispresent reference) scope free).typing ≡ typing.Known type.Boolean
-presence_typed reference scope free = ap (λ (j : Judged). j.typing) (expression-Ispresent scope free reference)
+presence_typed reference scope free = ap (λ (j : Judgement). j.typing) (expression-Ispresent scope free reference)
 
 pub running_typed : (c : ComponentRef) (scope : Scope) (free : Bool) → (expression (form.Running c) scope free).typing ≡ typing.Known type.Boolean
-running_typed c scope free = ap (λ (j : Judged). j.typing) (expression-Running scope free c) ∙ go (names_timer scope c)
+running_typed c scope free = ap (λ (j : Judgement). j.typing) (expression-Running scope free c) ∙ go (names_timer scope c)
   where
-    go : (b : Bool) → (if b then fine (typing.Known type.Boolean) else after (at_component scope c true).broken (runs (at_component scope c true).typing)).typing ≡ typing.Known type.Boolean
+    go : (b : Bool) → (if b then fine (typing.Known type.Boolean) else after (check_component scope c true).broken (runs (check_component scope c true).typing)).typing ≡ typing.Known type.Boolean
     go true = refl
     go false = refl
 
-chain-last : (first : Judgement) (links : List Link) (last : Link) (scope : Scope) (free : Bool)
-    → (chained first (map link (links ++ last ∷ [])) scope free).typing ≡ typing.Known (result_of (link last).0)
+chain-last : (first : Judge) (links : List Link) (last : Link) (scope : Scope) (free : Bool)
+    → (join_links first (map link (links ++ last ∷ [])) scope free).typing ≡ typing.Known (result_of (link last).0)
 chain-last first [] last scope free = refl
-chain-last first (l ∷ links) last scope free = chain-last (joined (link l).0 first (link l).1) links last scope free
+chain-last first (l ∷ links) last scope free = chain-last (join_link (link l).0 first (link l).1) links last scope free
 
 pub chain_typed : (first : Expr) (links : List Link) (last : Link) (scope : Scope) (free : Bool)
     → (expression (form.Chain first (links ++ last ∷ [])) scope free).typing ≡ typing.Known (result_of (out-Link last).operator)
 chain_typed first links last scope free =
-    ap (λ (j : Judgement). (j scope free).typing) (expression-Chain first (links ++ last ∷ []))
+    ap (λ (j : Judge). (j scope free).typing) (expression-Chain first (links ++ last ∷ []))
     ∙ chain-last (expression first) links last scope free
-    ∙ ap (λ (l : Operator × Judgement). typing.Known (result_of l.0)) (link-out last)
+    ∙ ap (λ (l : Operator × Judge). typing.Known (result_of l.0)) (link-out last)

@@ -23,15 +23,15 @@ use Rattle.ttcn_syntax.specs.declared.tree.value.TypeName.TheVariants as type_na
 use Rattle.ttcn_types.proofs.Meanings.{EachMeans, means-append}
 use Rattle.checker_laws.proofs.Nothing.{kept, nothing-first, nothing-rest}
 use Rattle.check_expressions.specs.Declarations.{behind_all, one_by_one}
-use Rattle.check_statements.specs.Definitions.{as_part, check_component_name, check_result, place_in, returns_of, check_member_variable, at_parameter, at_part, check_port_name, check_sites, check_definition, check_definitions, in_fields, check_member, check_members, in_module_constants, in_parameters, member_variable_entry, parameter_entry, port_entry, with_parameters}
-use Rattle.check_scope.specs.Scopes.{at_module_names, component_scope, module_scope, scope_on}
+use Rattle.check_statements.specs.Definitions.{as_part, check_component_name, check_result, place_in, returns_of, check_member_variable, check_parameter, check_part, check_port_name, check_sites, check_definition, check_definitions, check_fields, check_member, check_members, check_module_constants, check_parameters, member_variable_entry, parameter_entry, port_entry, with_parameters}
+use Rattle.check_scope.specs.Scopes.{check_module_names, component_scope, module_scope, scope_on}
 use Rattle.check_expressions.specs.Calls.{component_named, result_type_of, template_type}
 use Rattle.checker_laws.specs.Laws.{HasFieldType, IsKnown, IsWhole}
 use Rattle.check_scope.specs.Names.{Entry, Names, Scope, behind_members, fields_of, constant_entries, constants_type, declaring, entries_at, entries_from, kind_at, listed, member_entries, members_of, module_names, port_type_meant, resolved, type_meant}
 use Rattle.ttcn_types.specs.Rules.{AreWellTyped}
 use Rattle.ttcn_types.specs.Rules.Breaks.{site}
 use Rattle.check_statements.specs.Statements.{statements}
-use Rattle.check_expressions.specs.Targets.{at_constant, at_constants, at_new_name, at_timer_name, at_timers, at_type, at_variable, at_variables, behind_constants, behind_timers, behind_variables, constant_entry, timer_entry, variable_entry}
+use Rattle.check_expressions.specs.Targets.{check_constant, check_constants, check_new_name, check_timer_name, check_timers, check_type, check_variable, check_variables, behind_constants, behind_timers, behind_variables, constant_entry, timer_entry, variable_entry}
 use Rattle.check_expressions.specs.Templates.{template}
 use Rattle.check_scope.specs.Typings.{target_of, unless}
 use Rattle.check_scope.specs.declared.names.Meaning.{Meaning}
@@ -49,7 +49,7 @@ pub nothing_at_sites : (definitions : List Definition) → AreWellTyped definiti
 nothing_at_sites definitions well = none-listed (check_sites definitions) (λ r contains. well r (site contains))
 
 nothing-in : (definitions : List Definition) → AreWellTyped definitions → check_definitions definitions 0 definitions ≡ []
-nothing-in definitions well = nothing-rest (at_module_names definitions) (check_definitions definitions 0 definitions) (nothing_at_sites definitions well)
+nothing-in definitions well = nothing-rest (check_module_names definitions) (check_definitions definitions 0 definitions) (nothing_at_sites definitions well)
 
 some-is : (k other : DefinitionKind) → Some k ≡ Some other → k ≡ other
 some-is k other is = cc
@@ -72,7 +72,7 @@ definition_is_fine definitions well at k is =
 
 -- ---- types
 
-type-known : (names : Names) (with_default : Bool) (t : TypeName) → at_type names with_default t ≡ [] → is_some (resolved names t) ≡ true
+type-known : (names : Names) (with_default : Bool) (t : TypeName) → check_type names with_default t ≡ [] → is_some (resolved names t) ≡ true
 type-known names with_default type_name.Integer nothing = refl
 type-known names with_default type_name.Boolean nothing = refl
 type-known names with_default type_name.Default nothing = refl
@@ -95,22 +95,22 @@ meant-known (Some (meaning.Port of)) nothing = absurd (let e = nothing in cc)
 meant-known (Some meaning.Timer) nothing = absurd (let e = nothing in cc)
 meant-known None nothing = absurd (let e = nothing in cc)
 
-part-known : (names : Names) (t : TypeName) → at_part names t ≡ [] → is_some (resolved names t) ≡ true
+part-known : (names : Names) (t : TypeName) → check_part names t ≡ [] → is_some (resolved names t) ≡ true
 part-known names type_name.Integer nothing = refl
 part-known names type_name.Boolean nothing = refl
 part-known names type_name.Default nothing = refl
 part-known names (type_name.Named name) nothing = meant-known (names name) nothing
 
-fields-known : (definitions : List Definition) (before : List (List ℕ)) (fields : List Field) → in_fields (module_names definitions) before fields ≡ []
+fields-known : (definitions : List Definition) (before : List (List ℕ)) (fields : List Field) → check_fields (module_names definitions) before fields ≡ []
     → All (HasFieldType definitions) fields
 fields-known definitions before [] nothing = All-nil (HasFieldType definitions)
 fields-known definitions before (field ∷ fields) nothing =
     let names = module_names definitions in
     let new : List Rule = unless (not (list_any (bytes_eq field.name) before)) rule.DuplicateName in
-    let others : List Rule = in_fields names (before ++ field.name ∷ []) fields in
-    let here : new ++ at_part names field.type_name ≡ [] = nothing-first (new ++ at_part names field.type_name) others nothing in
-    All-cons (HasFieldType definitions) field fields (part-known names field.type_name (nothing-rest new (at_part names field.type_name) here))
-    (fields-known definitions (before ++ field.name ∷ []) fields (nothing-rest (new ++ at_part names field.type_name) others nothing))
+    let others : List Rule = check_fields names (before ++ field.name ∷ []) fields in
+    let here : new ++ check_part names field.type_name ≡ [] = nothing-first (new ++ check_part names field.type_name) others nothing in
+    All-cons (HasFieldType definitions) field fields (part-known names field.type_name (nothing-rest new (check_part names field.type_name) here))
+    (fields-known definitions (before ++ field.name ∷ []) fields (nothing-rest (new ++ check_part names field.type_name) others nothing))
 
 -- ---- names
 
@@ -148,27 +148,27 @@ all-declared rules entry known scope (x ∷ items) nothing whole =
 
 -- ---- declarations
 
-pub variables_whole : (scope : Scope) (vs : Variables) → at_variables scope vs ≡ [] → IsWhole scope → IsWhole (behind_variables scope vs)
+pub variables_whole : (scope : Scope) (vs : Variables) → check_variables scope vs ≡ [] → IsWhole scope → IsWhole (behind_variables scope vs)
 variables_whole scope vs nothing whole =
     let of = resolved scope.names vs.type_name in
-    let items : List Rule = one_by_one (at_variable of) (variable_entry of) scope vs.variables in
-    all-declared (at_variable of) (variable_entry of) (λ s x fine. type-known scope.names true vs.type_name (nothing-first (at_type scope.names true vs.type_name) items nothing))
-    scope vs.variables (nothing-rest (at_type scope.names true vs.type_name) items nothing) whole
+    let items : List Rule = one_by_one (check_variable of) (variable_entry of) scope vs.variables in
+    all-declared (check_variable of) (variable_entry of) (λ s x fine. type-known scope.names true vs.type_name (nothing-first (check_type scope.names true vs.type_name) items nothing))
+    scope vs.variables (nothing-rest (check_type scope.names true vs.type_name) items nothing) whole
 
-pub constants_whole : (scope : Scope) (cs : Constants) → at_constants scope cs ≡ [] → IsWhole scope → IsWhole (behind_constants scope cs)
+pub constants_whole : (scope : Scope) (cs : Constants) → check_constants scope cs ≡ [] → IsWhole scope → IsWhole (behind_constants scope cs)
 constants_whole scope cs nothing whole =
     let of = resolved scope.names cs.type_name in
-    let items : List Rule = one_by_one (at_constant of) (constant_entry of) scope cs.constants in
-    all-declared (at_constant of) (constant_entry of) (λ s x fine. type-known scope.names false cs.type_name (nothing-first (at_type scope.names false cs.type_name) items nothing))
-    scope cs.constants (nothing-rest (at_type scope.names false cs.type_name) items nothing) whole
+    let items : List Rule = one_by_one (check_constant of) (constant_entry of) scope cs.constants in
+    all-declared (check_constant of) (constant_entry of) (λ s x fine. type-known scope.names false cs.type_name (nothing-first (check_type scope.names false cs.type_name) items nothing))
+    scope cs.constants (nothing-rest (check_type scope.names false cs.type_name) items nothing) whole
 
-pub timers_whole : (scope : Scope) (timers : List Timer) → at_timers scope timers ≡ [] → IsWhole scope → IsWhole (behind_timers scope timers)
-timers_whole scope timers nothing whole = all-declared at_timer_name timer_entry (λ s x fine. tt) scope timers nothing whole
+pub timers_whole : (scope : Scope) (timers : List Timer) → check_timers scope timers ≡ [] → IsWhole scope → IsWhole (behind_timers scope timers)
+timers_whole scope timers nothing whole = all-declared check_timer_name timer_entry (λ s x fine. tt) scope timers nothing whole
 
-pub parameters_whole : (scope : Scope) (parameters : List Parameter) → in_parameters scope parameters ≡ [] → IsWhole scope → IsWhole (with_parameters scope parameters)
+pub parameters_whole : (scope : Scope) (parameters : List Parameter) → check_parameters scope parameters ≡ [] → IsWhole scope → IsWhole (with_parameters scope parameters)
 parameters_whole scope parameters nothing whole =
-    all-declared at_parameter parameter_entry
-    (λ s p fine. type-known s.names true p.type_name (nothing-rest (at_new_name s.names p.name) (at_type s.names true p.type_name) fine))
+    all-declared check_parameter parameter_entry
+    (λ s p fine. type-known s.names true p.type_name (nothing-rest (check_new_name s.names p.name) (check_type s.names true p.type_name) fine))
     scope parameters nothing whole
 
 -- ---- members
@@ -185,11 +185,11 @@ member-known scope (member.Ports port_type ports) nothing =
 member-known scope (member.Constants cs) nothing =
     let of = resolved scope.names cs.type_name in
     each-mapped (IsKnown scope.definitions) (λ (c : Constant). (c.name, meaning.Constant of)) cs.constants
-    (λ c. type-known scope.names false cs.type_name (nothing-first (at_type scope.names false cs.type_name) (one_by_one (at_constant of) (constant_entry of) scope cs.constants) nothing))
+    (λ c. type-known scope.names false cs.type_name (nothing-first (check_type scope.names false cs.type_name) (one_by_one (check_constant of) (constant_entry of) scope cs.constants) nothing))
 member-known scope (member.Variables t variables) nothing =
     let of = resolved scope.names t in
     each-mapped (IsKnown scope.definitions) (λ (v : MemberVariable). (v.name, meaning.Variable of)) variables
-    (λ v. type-known scope.names true t (nothing-first (at_type scope.names true t) (one_by_one (check_member_variable of) (member_variable_entry of) scope variables) nothing))
+    (λ v. type-known scope.names true t (nothing-first (check_type scope.names true t) (one_by_one (check_member_variable of) (member_variable_entry of) scope variables) nothing))
 member-known scope (member.Timers timers) nothing = each-mapped (IsKnown scope.definitions) (λ (t : Timer). (t.name, meaning.Timer)) timers (λ t. tt)
 
 -- a scope with other names
@@ -213,15 +213,15 @@ module _ (definitions : List Definition) (well : AreWellTyped definitions) where
       let names = module_names definitions in
       let fine : check_definition definitions at (kind.Constants cs) ≡ [] = definition_is_fine definitions well at (kind.Constants cs) is in (
         subst (λ k. is_some (constants_type names k) ≡ true) (sym is)
-            (type-known names false cs.type_name (nothing-first (at_type names false cs.type_name) (in_module_constants (module_scope definitions) (resolved names cs.type_name) cs.constants) fine)),
+            (type-known names false cs.type_name (nothing-first (check_type names false cs.type_name) (check_module_constants (module_scope definitions) (resolved names cs.type_name) cs.constants) fine)),
         constants-known at (item + 1) cs constants is,
       )
 
   template-known : (at : ℕ) (t : TemplateDefinition) → kind_at definitions at ≡ Some (kind.Template t) → is_some (template_type definitions (kind_at definitions at)) ≡ true
   template-known at t is =
       let scope : Scope = module_scope definitions in
-      let typed : List Rule = at_type scope.names false t.type_name in
-      let parameters : List Rule = in_parameters scope t.parameters in
+      let typed : List Rule = check_type scope.names false t.type_name in
+      let parameters : List Rule = check_parameters scope t.parameters in
       let body : List Rule = template t.template (with_parameters scope t.parameters) (target_of (resolved scope.names t.type_name)) in
       subst (λ k. is_some (template_type definitions k) ≡ true) (sym is)
       (type-known scope.names false t.type_name (nothing-first typed parameters (nothing-first (typed ++ parameters) body (definition_is_fine definitions well at (kind.Template t) is))))
@@ -235,7 +235,7 @@ module _ (definitions : List Definition) (well : AreWellTyped definitions) where
   function-known at f is =
       let scope : Scope = scope_on definitions (component_named definitions f.runs_on) in
       let named : List Rule = check_component_name definitions f.runs_on in
-      let parameters : List Rule = in_parameters scope f.parameters in
+      let parameters : List Rule = check_parameters scope f.parameters in
       let result : List Rule = check_result definitions f.returns in
       let body : List Rule = statements f.body (place_in scope f.parameters (returns_of definitions f.returns)) in
       subst (λ k. IfSome (result_type_of k) (λ of. is_some (resolved (module_names definitions) of) ≡ true)) (sym is)

@@ -8,7 +8,7 @@ use Rattle.ttcn_syntax.specs.declared.tree.definition.Parameter.{Parameter}
 use Rattle.ttcn_syntax.specs.declared.tree.value.Call.{Call}
 use Rattle.ttcn_syntax.specs.declared.tree.value.Value.{Value}
 use Rattle.check_expressions.specs.Calls.{behaviour_meant, component_named, parameters_of, result_type_of, runs_here, runs_on_of, template_type}
-use Rattle.check_expressions.specs.Expressions.{Judged}
+use Rattle.check_expressions.specs.Expressions.{Judgement}
 use Rattle.check_scope.specs.Names.{Scope, constants_type, field_named, fields_at, kind_at, module_names, resolved}
 use Rattle.check_expressions.specs.Values.{AtTarget, field_target, value}
 use Rattle.check_scope.specs.Typings.{target_of}
@@ -40,7 +40,7 @@ pub record IsWhole (scope : Scope) : Type 0 where
 -- ---- types
 
 -- where it breaks no rule, its type is known
-abbrev pub IsTyped : Judged → Type 0
+abbrev pub IsTyped : Judgement → Type 0
 IsTyped judged = judged.broken ≡ [] → judged.typing ≢ typing.Unknown
 
 -- ---- arguments and elements

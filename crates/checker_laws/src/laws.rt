@@ -16,16 +16,16 @@ ghost use Rattle.ttcn_syntax.specs.declared.tree.value.Call.{Call};
 ghost use Rattle.ttcn_syntax.specs.declared.tree.value.FieldValue.{FieldValue};
 ghost use Rattle.ttcn_syntax.specs.declared.tree.value.Value.{Value};
 ghost use Rattle.ttcn_syntax.specs.declared.tree.value.Value.TheVariants as form;
-ghost use Rattle.check_expressions.specs.Calls.{at_call, parameters_of};
+ghost use Rattle.check_expressions.specs.Calls.{check_call, parameters_of};
 ghost use Rattle.check_scope.specs.Scopes.{component_scope, module_scope, scope_on};
-ghost use Rattle.check_statements.specs.Definitions.{check_definition, in_parameters, with_parameters};
-ghost use Rattle.check_expressions.specs.Expressions.{at_reference, expression};
+ghost use Rattle.check_statements.specs.Definitions.{check_definition, check_parameters, with_parameters};
+ghost use Rattle.check_expressions.specs.Expressions.{check_reference, expression};
 ghost use Rattle.checker_laws.specs.Laws.{AreArguments, AreElements, AreNamedElements, IsTyped, IsWhole, Resolves};
 ghost use Rattle.check_scope.specs.Names.{Scope, fields_at, kind_at};
 ghost use Rattle.check_statements.specs.Statements.{Place, statement, statements, with_scope};
-ghost use Rattle.check_expressions.specs.Templates.{at_template, body, field_template, has_all, template, type_of_template};
+ghost use Rattle.check_expressions.specs.Templates.{check_named_template, body, field_template, has_all, template, type_of_template};
 ghost use Rattle.check_scope.specs.Typings.{goes_to, result_of};
-ghost use Rattle.check_expressions.specs.Values.{at_expression, field_value, value};
+ghost use Rattle.check_expressions.specs.Values.{check_expression, field_value, value};
 ghost use Rattle.check_scope.specs.declared.names.Meaning.TheVariants as meaning;
 ghost use Rattle.check_scope.specs.declared.types.DataType.{DataType};
 ghost use Rattle.check_scope.specs.declared.types.DataType.TheVariants as type;
@@ -71,7 +71,7 @@ pub fn operations_have_types()
 /// A call that breaks no rule resolves, with as many arguments as parameters, each of its parameter's type.
 #[tactic(auto, using(crate::proofs::Fitting::call_resolves))]
 pub fn calls_resolve()
-    ensures { (scope : Scope) (callable : Option DefinitionKind → Bool) (call : Call) → at_call scope callable call ≡ [] → Resolves scope callable call }
+    ensures { (scope : Scope) (callable : Option DefinitionKind → Bool) (call : Call) → check_call scope callable call ≡ [] → Resolves scope callable call }
 {}
 
 /// A record literal that breaks no rule has elements for fields of the record.
@@ -92,29 +92,29 @@ pub fn record_templates_fit()
 /// A reference that breaks no rule begins with a name that is visible.
 #[tactic(auto, using(crate::proofs::Descent::name_resolves))]
 pub fn names_resolve()
-    ensures { (scope : Scope) (reference : Reference) → (at_reference scope reference).broken ≡ [] → is_some (scope.names reference.name) ≡ true }
+    ensures { (scope : Scope) (reference : Reference) → (check_reference scope reference).broken ≡ [] → is_some (scope.names reference.name) ≡ true }
 {}
 
 /// An expression that breaks no rule where a value of a type is wanted has a known typing, which goes there.
 #[tactic(auto, using(crate::proofs::Descent::expression_fits, crate::proofs::Descent::wanted_expression_typed))]
 pub fn expressions_fit()
-    ensures goes { (scope : Scope) (t : DataType) (e : Expr) → at_expression scope (Some t) e ≡ [] → goes_to t (expression e scope false).typing ≡ true }
-    ensures known { (scope : Scope) → IsWhole scope → (t : DataType) (e : Expr) → at_expression scope (Some t) e ≡ [] → (expression e scope false).typing ≢ typing.Unknown }
+    ensures goes { (scope : Scope) (t : DataType) (e : Expr) → check_expression scope (Some t) e ≡ [] → goes_to t (expression e scope false).typing ≡ true }
+    ensures known { (scope : Scope) → IsWhole scope → (t : DataType) (e : Expr) → check_expression scope (Some t) e ≡ [] → (expression e scope false).typing ≢ typing.Unknown }
 {}
 
 /// A named template that breaks no rule is of the type that is wanted, and has as many arguments as parameters, each of
 /// its parameter's type.
 #[tactic(auto, using(crate::proofs::Descent::template_fits, crate::proofs::Descent::template_arguments_fit))]
 pub fn named_templates_fit()
-    ensures of_type { (scope : Scope) → IsWhole scope → (name : List ℕ) (at : ℕ) → scope.names name ≡ Some (meaning.Template at) → (target : Target) (t : DataType) (given : List Value) → target.data_type ≡ Some t → at_template scope target given (Some at) ≡ [] → type_of_template scope at ≡ Some t }
-    ensures arguments { (scope : Scope) (at : ℕ) (target : Target) (given : List Value) → at_template scope target given (Some at) ≡ [] → AreArguments scope (parameters_of (kind_at scope.definitions at)) given }
+    ensures of_type { (scope : Scope) → IsWhole scope → (name : List ℕ) (at : ℕ) → scope.names name ≡ Some (meaning.Template at) → (target : Target) (t : DataType) (given : List Value) → target.data_type ≡ Some t → check_named_template scope target given (Some at) ≡ [] → type_of_template scope at ≡ Some t }
+    ensures arguments { (scope : Scope) (at : ℕ) (target : Target) (given : List Value) → check_named_template scope target given (Some at) ≡ [] → AreArguments scope (parameters_of (kind_at scope.definitions at)) given }
 {}
 
 /// Parameters that break no rule leave a whole scope whole, and so does a statement. In a block that breaks no rule the
 /// first statement breaks none, and those behind it break none in the scope that it leaves.
 #[tactic(auto, using(crate::proofs::Whole::parameters_whole, crate::proofs::Descent::statement_whole, crate::proofs::Descent::first_fine, crate::proofs::Descent::others_fine))]
 pub fn blocks_are_fine()
-    ensures parameters { (scope : Scope) (parameters : List Parameter) → in_parameters scope parameters ≡ [] → IsWhole scope → IsWhole (with_parameters scope parameters) }
+    ensures parameters { (scope : Scope) (parameters : List Parameter) → check_parameters scope parameters ≡ [] → IsWhole scope → IsWhole (with_parameters scope parameters) }
     ensures statements { (s : Statement) (place : Place) → IsWhole place.scope → (statement s).broken place ≡ [] → IsWhole ((statement s).scope_behind place.scope) }
     ensures first { (s : Statement) (others : List Statement) (place : Place) → statements (s ∷ others) place ≡ [] → (statement s).broken place ≡ [] }
     ensures others { (s : Statement) (others : List Statement) (place : Place) → statements (s ∷ others) place ≡ [] → statements others (with_scope place ((statement s).scope_behind place.scope)) ≡ [] }

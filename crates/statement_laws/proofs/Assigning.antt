@@ -5,8 +5,8 @@ use Rattle.std.proofs.lemmas.List.Elements.{All-head, All-tail}
 use Rattle.ttcn_syntax.specs.declared.tree.definition.Field.{Field}
 use Rattle.ttcn_syntax.specs.declared.tree.expression.Reference.{Reference}
 use Rattle.ttcn_syntax.specs.declared.tree.statement.Assignment.{Assignment}
-use Rattle.check_expressions.specs.Expressions.{along, at_field, within}
-use Rattle.check_expressions.specs.Targets.{as_target, at_assignment, at_rhs, at_target, target_at}
+use Rattle.check_expressions.specs.Expressions.{along, check_field, within}
+use Rattle.check_expressions.specs.Targets.{as_target, check_assignment, check_rhs, check_target, target_at}
 use Rattle.check_scope.specs.Names.{Scope, fields_at, module_names, resolved}
 use Rattle.check_scope.specs.Typings.{type_known, typed}
 use Rattle.check_scope.specs.declared.names.Meaning.{Meaning}
@@ -46,13 +46,13 @@ module _ (scope : Scope) (whole : IsWhole scope) where
   target-typed None known nothing = absurd (let e = nothing in cc)
 
   first-typed : (b : Bool) (field : Field) (others : Option Field) → HasFieldType scope.definitions field
-      → ((at_field scope.definitions others).broken ≡ [] → IsType (at_field scope.definitions others).typing)
-      → (at_field scope.definitions (if b then Some field else others)).broken ≡ [] → IsType (at_field scope.definitions (if b then Some field else others)).typing
+      → ((check_field scope.definitions others).broken ≡ [] → IsType (check_field scope.definitions others).typing)
+      → (check_field scope.definitions (if b then Some field else others)).broken ≡ [] → IsType (check_field scope.definitions (if b then Some field else others)).typing
   first-typed true field others known rest nothing = typed-is (resolved (module_names scope.definitions) field.type_name) known
   first-typed false field others known rest nothing = rest nothing
 
   found-typed : (test : Field → Bool) (fields : List Field) → All (HasFieldType scope.definitions) fields
-      → (at_field scope.definitions (find test fields)).broken ≡ [] → IsType (at_field scope.definitions (find test fields)).typing
+      → (check_field scope.definitions (find test fields)).broken ≡ [] → IsType (check_field scope.definitions (find test fields)).typing
   found-typed test [] each nothing = absurd (let e = nothing in cc)
   found-typed test (field ∷ fields) each nothing =
       first-typed (test field) field (find test fields) (All-head (HasFieldType scope.definitions) field fields each)
@@ -75,7 +75,7 @@ module _ (scope : Scope) (whole : IsWhole scope) where
       (within-typed of name (subst (λ u. (within scope.definitions u name).broken ≡ []) is first)))
       (nothing-rest (within scope.definitions t name).broken (along scope.definitions (within scope.definitions t name).typing names).broken nothing)
 
-  reference-typed : (reference : Reference) → (at_target scope reference).broken ≡ [] → IsType (at_target scope reference).typing
+  reference-typed : (reference : Reference) → (check_target scope reference).broken ≡ [] → IsType (check_target scope reference).typing
   reference-typed reference nothing =
       let found = as_target scope.definitions (scope.names reference.name) in
       let rest = along scope.definitions found.typing reference.fields in
@@ -83,9 +83,9 @@ module _ (scope : Scope) (whole : IsWhole scope) where
       (target-typed (scope.names reference.name) (whole.names reference.name) (nothing-first found.broken rest.broken nothing))
       (nothing-rest found.broken rest.broken nothing)
 
-pub assignment_typed : (scope : Scope) → IsWhole scope → (assignment : Assignment) → at_assignment scope assignment ≡ [] → HasTarget scope assignment
+pub assignment_typed : (scope : Scope) → IsWhole scope → (assignment : Assignment) → check_assignment scope assignment ≡ [] → HasTarget scope assignment
 assignment_typed scope whole assignment nothing =
-    let target = at_target scope assignment.target in
-    let right = at_rhs scope (target_at scope assignment.target) assignment.value in
+    let target = check_target scope assignment.target in
+    let right = check_rhs scope (target_at scope assignment.target) assignment.value in
     let is = reference-typed scope whole assignment.target (nothing-first target.broken right nothing) in
     record { data_type = is.0; known = ap type_known is.1; value = nothing-rest target.broken right nothing }

@@ -12,9 +12,9 @@ use Rattle.ttcn_syntax.specs.declared.tree.statement.Conditional.{Conditional, f
 use Rattle.ttcn_syntax.specs.declared.tree.statement.ForStart.{ForStart}
 use Rattle.ttcn_syntax.specs.declared.tree.statement.ForStart.TheVariants as for_start
 use Rattle.ttcn_syntax.specs.declared.tree.statement.Statement.{Statement, out-Statement}
-use Rattle.check_expressions.specs.Calls.{at_call, is_altstep}
+use Rattle.check_expressions.specs.Calls.{check_call, is_altstep}
 use Rattle.check_expressions.specs.Expressions.{expression}
-use Rattle.check_expressions.specs.Targets.{at_assignment}
+use Rattle.check_expressions.specs.Targets.{check_assignment}
 use Rattle.check_scope.specs.Names.{Scope}
 use Rattle.check_scope.specs.Typings.{same_type, unless}
 use Rattle.check_scope.specs.declared.rule.Rule.{Rule}
@@ -105,8 +105,8 @@ form_fine : (place : Place) → IsWhole place.scope → (x : Alternative-F Actio
     → HasFineAlternative place x
 form_fine place whole (Alternative-F.«Alternative::Event» guard event None) nothing = guarded_fine place whole guard (check_event place.scope event) None nothing
 form_fine place whole (Alternative-F.«Alternative::Event» guard event (Some block)) nothing = guarded_fine place whole guard (check_event place.scope event) (Some block) nothing
-form_fine place whole (Alternative-F.«Alternative::Call» guard call None) nothing = guarded_fine place whole guard (at_call place.scope is_altstep call) None nothing
-form_fine place whole (Alternative-F.«Alternative::Call» guard call (Some block)) nothing = guarded_fine place whole guard (at_call place.scope is_altstep call) (Some block) nothing
+form_fine place whole (Alternative-F.«Alternative::Call» guard call None) nothing = guarded_fine place whole guard (check_call place.scope is_altstep call) None nothing
+form_fine place whole (Alternative-F.«Alternative::Call» guard call (Some block)) nothing = guarded_fine place whole guard (check_call place.scope is_altstep call) (Some block) nothing
 form_fine place whole (Alternative-F.Else block) nothing = nothing
 
 pub branch_fine : (b : Branch) (place : Place) → IsWhole place.scope → branch b place ≡ [] → IsFineBranch place b
@@ -161,7 +161,7 @@ parts_fine place whole (Action-F.For start condition step block) nothing =
     let inside = with_scope place behind in
     let first = check_for_start place.scope start in
     let tests = check_condition behind condition in
-    let steps = at_assignment behind step in
+    let steps = check_assignment behind step in
     let head = nothing-first (first ++ tests ++ steps) (statements block inside) nothing in
     let begins = nothing-first first tests (nothing-first (first ++ tests) steps head) in (
       begins,

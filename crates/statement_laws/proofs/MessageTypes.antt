@@ -10,9 +10,9 @@ use Rattle.ttcn_syntax.specs.declared.tree.template.TemplateBody.TheOpen.{Templa
 use Rattle.ttcn_syntax.specs.declared.tree.value.TypeName.{TypeName}
 use Rattle.ttcn_syntax.specs.declared.tree.value.TypeName.TheVariants as type_name
 use Rattle.ttcn_syntax.specs.declared.tree.value.Value.{Value}
-use Rattle.check_expressions.specs.Expressions.{Judged, expression}
-use Rattle.check_expressions.specs.Targets.{at_type}
-use Rattle.check_expressions.specs.Templates.{at_name, at_template, bare_name, body, body_step, field_template, field_template_step, template, template_by_name, template_meant, template_named, template_step, type_of_template, typing_at_name, typing_by_position, typing_of_body, typing_of_template}
+use Rattle.check_expressions.specs.Expressions.{Judgement, expression}
+use Rattle.check_expressions.specs.Targets.{check_type}
+use Rattle.check_expressions.specs.Templates.{check_name, check_named_template, bare_name, body, body_step, field_template, field_template_step, template, template_by_name, template_meant, template_named, template_step, type_of_template, typing_at_name, typing_by_position, typing_of_body, typing_of_template}
 use Rattle.check_expressions.specs.Values.{AtTarget}
 use Rattle.check_scope.specs.Names.{Scope, kind_at, module_names, resolved, type_meant}
 use Rattle.check_scope.specs.PortTypes.{only_type, types_of_port}
@@ -60,14 +60,14 @@ module _ (scope : Scope) (whole : IsWhole scope) where
   named-typed name (Some (meaning.Component a)) is at means = absurd (let e = means in cc)
   named-typed name (Some (meaning.PortType a)) is at means = absurd (let e = means in cc)
 
-  name-typed : (target : Target) (e : Expr) (name : Option (List ℕ)) (found : Option ℕ) → template_by_name scope name ≡ found → at_name scope target e found ≡ []
+  name-typed : (target : Target) (e : Expr) (name : Option (List ℕ)) (found : Option ℕ) → template_by_name scope name ≡ found → check_name scope target e found ≡ []
       → typing_at_name scope e found ≢ typing.Unknown
   name-typed target e name None is nothing =
       expression_typed e scope false whole (nothing-first (expression e scope false).broken (unless (fits target.data_type (expression e scope false).typing) rule.ValueType) nothing)
   name-typed target e None (Some at) is nothing = absurd (let e = is in cc)
   name-typed target e (Some name) (Some at) is nothing = named-typed name (scope.names name) refl at is
 
-  call-typed : (target : Target) (name : List ℕ) (given : List Value) (found : Option ℕ) → template_meant (scope.names name) ≡ found → at_template scope target given found ≡ []
+  call-typed : (target : Target) (name : List ℕ) (given : List Value) (found : Option ℕ) → template_meant (scope.names name) ≡ found → check_named_template scope target given found ≡ []
       → typing_by_position scope found ≢ typing.Unknown
   call-typed target name given None is nothing = absurd (let e = nothing in cc)
   call-typed target name given (Some at) is nothing = named-typed name (scope.names name) refl at is
@@ -100,7 +100,7 @@ module _ (scope : Scope) (whole : IsWhole scope) where
 
   -- ---- messages
 
-  abbrev HasKnown : Judged → Type 0
+  abbrev HasKnown : Judgement → Type 0
   HasKnown judged = (t : DataType) × (judged.typing ≡ typing.Known t)
 
   by-itself : (types : List (Option DataType)) (t : Typing) → t ≢ typing.Unknown → (type_by_itself (Some types) t).broken ≡ [] → HasKnown (type_by_itself (Some types) t)
@@ -119,7 +119,7 @@ module _ (scope : Scope) (whole : IsWhole scope) where
   by-template types None known nothing = of-only (only_type types) nothing
   by-template types (Some t) known nothing = by-itself types t known nothing
 
-  type-resolved : (name : TypeName) → at_type scope.names false name ≡ [] → is_some (resolved scope.names name) ≡ true
+  type-resolved : (name : TypeName) → check_type scope.names false name ≡ [] → is_some (resolved scope.names name) ≡ true
   type-resolved type_name.Integer nothing = refl
   type-resolved type_name.Boolean nothing = refl
   type-resolved type_name.Default nothing = absurd (let e = nothing in cc)
@@ -135,7 +135,7 @@ module _ (scope : Scope) (whole : IsWhole scope) where
   message-typed : (types : List (Option DataType)) (message : MessageTemplate) → check_message scope (Some types) (type_by_port (Some types)) message ≡ []
       → HasType scope (Some types, type_by_port (Some types)) message
   message-typed types message nothing =
-      let judged : Judged = type_of_message scope (Some types) (type_by_port (Some types)) message in
+      let judged : Judgement = type_of_message scope (Some types) (type_by_port (Some types)) message in
       let target : Target = target_of (type_known judged.typing) in
       let front = nothing-first (check_type_name scope message.type_name ++ judged.broken) (template message.template scope target) nothing in
       let known = by-name types message.template target message.type_name

@@ -8,9 +8,9 @@ use Rattle.ttcn_syntax.specs.declared.tree.statement.Alternative.{Alternative, o
 use Rattle.ttcn_syntax.specs.declared.tree.statement.Branch.{Branch, out-Branch}
 use Rattle.ttcn_syntax.specs.declared.tree.statement.Conditional.{Conditional, out-Conditional}
 use Rattle.ttcn_syntax.specs.declared.tree.statement.Statement.{Statement}
-use Rattle.check_expressions.specs.Calls.{at_activation, at_call, is_altstep, stands_alone}
+use Rattle.check_expressions.specs.Calls.{check_activation, check_call, is_altstep, stands_alone}
 use Rattle.check_expressions.specs.Expressions.{expression}
-use Rattle.check_expressions.specs.Targets.{at_assignment, at_constants, at_timers, at_variables}
+use Rattle.check_expressions.specs.Targets.{check_assignment, check_constants, check_timers, check_variables}
 use Rattle.check_scope.specs.Names.{Scope}
 use Rattle.check_scope.specs.declared.types.DataType.TheVariants as type
 use Rattle.check_scope.specs.declared.types.Typing.TheVariants as typing
@@ -46,7 +46,7 @@ abbrev pub HasFineAlternative : Place → Alternative-F Action Alternative Branc
 HasFineAlternative place (Alternative-F.«Alternative::Event» guard event block) =
     IsGuard place.scope guard × (check_event place.scope event ≡ []) × IsFineIfAny (inside_branch place) block
 HasFineAlternative place (Alternative-F.«Alternative::Call» guard call block) =
-    IsGuard place.scope guard × (at_call place.scope is_altstep call ≡ []) × IsFineIfAny (inside_branch place) block
+    IsGuard place.scope guard × (check_call place.scope is_altstep call ≡ []) × IsFineIfAny (inside_branch place) block
 HasFineAlternative place (Alternative-F.Else block) = IsFine (inside_branch place) block
 
 -- a branch
@@ -55,9 +55,9 @@ IsFineBranch place b = HasFineAlternative place (out-Alternative (out-Branch b).
 
 -- the parts of a statement, in the scopes in which they stand
 abbrev pub HasFineParts : Place → Action-F Action Alternative Branch Conditional Statement → Type 0
-HasFineParts place (Action-F.Variables vs) = at_variables place.scope vs ≡ []
-HasFineParts place (Action-F.Constants cs) = at_constants place.scope cs ≡ []
-HasFineParts place (Action-F.Timers timers) = at_timers place.scope timers ≡ []
+HasFineParts place (Action-F.Variables vs) = check_variables place.scope vs ≡ []
+HasFineParts place (Action-F.Constants cs) = check_constants place.scope cs ≡ []
+HasFineParts place (Action-F.Timers timers) = check_timers place.scope timers ≡ []
 HasFineParts place (Action-F.Alt branches) = All (IsFineBranch place) branches
 HasFineParts place (Action-F.If conditionals last) = All (IsFineConditional place) conditionals × IsFineIfAny place last
 HasFineParts place (Action-F.While condition block) = IsCondition place.scope condition × IsFine place block
@@ -65,10 +65,10 @@ HasFineParts place (Action-F.DoWhile block condition) = IsFine place block × Is
 HasFineParts place (Action-F.For start condition step block) =
     (check_for_start place.scope start ≡ []) ×
     IsCondition (behind_for_start place.scope start) condition ×
-    (at_assignment (behind_for_start place.scope start) step ≡ []) ×
+    (check_assignment (behind_for_start place.scope start) step ≡ []) ×
     IsFine (with_scope place (behind_for_start place.scope start)) block
-HasFineParts place (Action-F.Assign assignment) = at_assignment place.scope assignment ≡ []
-HasFineParts place (Action-F.«Action::Call» call) = at_call place.scope stands_alone call ≡ []
+HasFineParts place (Action-F.Assign assignment) = check_assignment place.scope assignment ≡ []
+HasFineParts place (Action-F.«Action::Call» call) = check_call place.scope stands_alone call ≡ []
 HasFineParts place (Action-F.«Action::Event» event) = check_event place.scope event ≡ []
 HasFineParts place Action-F.Repeat = IsTrue place.in_branch
 HasFineParts place (Action-F.Return v) = check_return place.scope place.returns v ≡ []
@@ -80,5 +80,5 @@ HasFineParts place (Action-F.Send send) = check_send place.scope send ≡ []
 HasFineParts place (Action-F.StartComponent reference call) = check_start place.scope reference call ≡ []
 HasFineParts place (Action-F.StartTimer timer) = check_timer place.scope timer ≡ []
 HasFineParts place (Action-F.StopOf reference) = check_stop place.scope reference ≡ []
-HasFineParts place (Action-F.Activate call) = at_activation place.scope call ≡ []
+HasFineParts place (Action-F.Activate call) = check_activation place.scope call ≡ []
 HasFineParts place (Action-F.Deactivate reference) = check_deactivate place.scope reference ≡ []

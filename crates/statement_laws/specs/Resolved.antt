@@ -3,7 +3,7 @@ use Rattle.std.specs.Prelude.{◌≡◌, ℕ, true, false, [], Some}
 use Rattle.ttcn_syntax.specs.declared.tree.expression.ComponentRef.{ComponentRef}
 use Rattle.ttcn_syntax.specs.declared.tree.value.Call.{Call}
 use Rattle.check_expressions.specs.Calls.{altstep_meant, behaviour_meant, component_named, is_altstep, parameters_of, runs_here, runs_on_of}
-use Rattle.check_expressions.specs.Expressions.{at_component}
+use Rattle.check_expressions.specs.Expressions.{check_component}
 use Rattle.check_scope.specs.Names.{Scope, kind_at}
 use Rattle.check_scope.specs.Typings.{refers_to_component}
 use Rattle.check_statements.specs.Statements.{is_function, runs_there, says_component}
@@ -19,11 +19,11 @@ pub record Activates (scope : Scope) (call : Call) : Type 0 where
 
 -- a start: a component is started with a function that says on what it runs, with these arguments
 pub record Starts (scope : Scope) (reference : ComponentRef) (call : Call) : Type 0 where
-  pub fine : (at_component scope reference false).broken ≡ []
-  pub component : refers_to_component (at_component scope reference false).typing ≡ true
+  pub fine : (check_component scope reference false).broken ≡ []
+  pub component : refers_to_component (check_component scope reference false).typing ≡ true
   pub at : ℕ
   pub meant : behaviour_meant (scope.names call.name) ≡ Some at
   pub arguments : AreArguments scope (parameters_of (kind_at scope.definitions at)) call.arguments
   pub says : says_component (kind_at scope.definitions at) ≡ true
-  pub runs : runs_there (at_component scope reference false).typing (component_named scope.definitions (runs_on_of (kind_at scope.definitions at))) ≡ true
+  pub runs : runs_there (check_component scope reference false).typing (component_named scope.definitions (runs_on_of (kind_at scope.definitions at))) ≡ true
   pub function : is_function (kind_at scope.definitions at) ≡ true

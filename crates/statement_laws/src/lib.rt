@@ -11,8 +11,8 @@ ghost use Rattle.ttcn_syntax.specs.declared.tree.statement.Branch.{Branch};
 ghost use Rattle.ttcn_syntax.specs.declared.tree.statement.Statement.{Statement, out-Statement};
 ghost use Rattle.ttcn_syntax.specs.declared.tree.template.MessageTemplate.{MessageTemplate};
 ghost use Rattle.ttcn_syntax.specs.declared.tree.value.Call.{Call};
-ghost use Rattle.check_expressions.specs.Calls.{at_activation};
-ghost use Rattle.check_expressions.specs.Targets.{at_assignment};
+ghost use Rattle.check_expressions.specs.Calls.{check_activation};
+ghost use Rattle.check_expressions.specs.Targets.{check_assignment};
 ghost use Rattle.check_scope.specs.Names.{Scope, module_names};
 ghost use Rattle.check_scope.specs.declared.names.Meaning.{Meaning};
 ghost use Rattle.check_statements.specs.Messages.{check_message, passage_at};
@@ -52,7 +52,7 @@ pub fn branches_are_fine()
 /// parameter.
 #[tactic(auto, using(crate::proofs::Resolving::activation_resolves))]
 pub fn activations_resolve()
-    ensures { (scope : Scope) (call : Call) → at_activation scope call ≡ [] → Activates scope call }
+    ensures { (scope : Scope) (call : Call) → check_activation scope call ≡ [] → Activates scope call }
 {}
 
 /// A start that breaks no rule is that of a component with a function that runs on its type, with an argument of its type
@@ -76,7 +76,7 @@ pub fn names_are_defined()
 /// The type of the target of an assignment that breaks no rule is known, and what is assigned goes there.
 #[tactic(auto, using(crate::proofs::Assigning::assignment_typed))]
 pub fn targets_are_known()
-    ensures { (scope : Scope) → IsWhole scope → (assignment : Assignment) → at_assignment scope assignment ≡ [] → HasTarget scope assignment }
+    ensures { (scope : Scope) → IsWhole scope → (assignment : Assignment) → check_assignment scope assignment ≡ [] → HasTarget scope assignment }
 {}
 
 /// Altsteps that are branches of one another make chains of at most 200.

@@ -4,15 +4,15 @@ use Rattle.std.proofs.lemmas.Bool.Decides.{nat_tests}
 use Rattle.std.proofs.lemmas.List.Elements.{Contains-append_cases, Contains-append_left, Contains-append_right}
 use Rattle.std.specs.List.{Contains}
 use Rattle.ttcn_syntax.specs.declared.tree.definition.Definition.{Definition}
-use Rattle.check_scope.specs.Checking.{both, least, lesser_of}
-use Rattle.check_scope.specs.Scopes.{at_module_names, module_scope}
+use Rattle.check_scope.specs.internal.Checking.{both, least, lesser_of}
+use Rattle.check_scope.specs.Scopes.{check_module_names, module_scope}
 use Rattle.check_statements.specs.Definitions.{check_definitions}
 use Rattle.check_scope.specs.Names.{Scope}
 use Rattle.check_scope.specs.Numbers.{lesser, number_of}
 use Rattle.ttcn_types.specs.Rules.{Breaks}
 use Rattle.ttcn_types.specs.Rules.Breaks.{site, in_itself, circle, altstep_circle, record_size, size, altstep_size}
-use Rattle.ttcn_types.specs.Surveys.{BreaksBySurvey, BreaksInAltsteps, BreaksInRecords, BreaksWritten, IsLeastWhere}
-use Rattle.ttcn_types.specs.Surveys.BreaksAmong.{in_circle, too_large}
+use Rattle.ttcn_types.specs.internal.Surveys.{BreaksBySurvey, BreaksInAltsteps, BreaksInRecords, BreaksWritten, IsLeastWhere}
+use Rattle.ttcn_types.specs.internal.Surveys.BreaksAmong.{in_circle, too_large}
 use Rattle.check_scope.specs.declared.broken.Broken.{Broken}
 use Rattle.check_scope.specs.declared.rule.Rule.{Rule}
 
@@ -77,22 +77,22 @@ module _ (definitions : List Definition) where
   altstep-breaks _ (in_circle has) = altstep_circle has
   altstep-breaks _ (too_large large) = altstep_size large
 
-  abbrev Judged : Rule → Type 0
-  Judged r = (Contains (at_module_names definitions) r ⊎ BreaksBySurvey definitions r) ⊎ Contains (check_definitions definitions 0 definitions) r
+  abbrev Judgement : Rule → Type 0
+  Judgement r = (Contains (check_module_names definitions) r ⊎ BreaksBySurvey definitions r) ⊎ Contains (check_definitions definitions 0 definitions) r
 
-  breaks-judged : (r : Rule) → Judged r → Breaks definitions r
-  breaks-judged r (inl (inl contains)) = site (Contains-append_left (at_module_names definitions) (check_definitions definitions 0 definitions) r contains)
+  breaks-judged : (r : Rule) → Judgement r → Breaks definitions r
+  breaks-judged r (inl (inl contains)) = site (Contains-append_left (check_module_names definitions) (check_definitions definitions 0 definitions) r contains)
   breaks-judged r (inl (inr (inl (inl breaks)))) = record-breaks r breaks
   breaks-judged r (inl (inr (inl (inr breaks)))) = written-breaks r breaks
   breaks-judged r (inl (inr (inr breaks))) = altstep-breaks r breaks
-  breaks-judged r (inr contains) = site (Contains-append_right (at_module_names definitions) (check_definitions definitions 0 definitions) r contains)
+  breaks-judged r (inr contains) = site (Contains-append_right (check_module_names definitions) (check_definitions definitions 0 definitions) r contains)
 
-  at-site : (r : Rule) → Contains (at_module_names definitions) r ⊎ Contains (check_definitions definitions 0 definitions) r → Judged r
+  at-site : (r : Rule) → Contains (check_module_names definitions) r ⊎ Contains (check_definitions definitions 0 definitions) r → Judgement r
   at-site r (inl contains) = inl (inl contains)
   at-site r (inr contains) = inr contains
 
-  judged-breaks : (r : Rule) → Breaks definitions r → Judged r
-  judged-breaks r (site contains) = at-site r (Contains-append_cases (at_module_names definitions) (check_definitions definitions 0 definitions) r contains)
+  judged-breaks : (r : Rule) → Breaks definitions r → Judgement r
+  judged-breaks r (site contains) = at-site r (Contains-append_cases (check_module_names definitions) (check_definitions definitions 0 definitions) r contains)
   judged-breaks _ (in_itself has) = inl (inr (inl (inl (in_circle has))))
   judged-breaks _ (circle has) = inl (inr (inl (inr (in_circle has))))
   judged-breaks _ (altstep_circle has) = inl (inr (inr (in_circle has)))
@@ -102,21 +102,21 @@ module _ (definitions : List Definition) where
 
   -- the least of the names, of what is surveyed, and of what is inside the definitions
   pub least_broken : (surveyed : Broken) → IsLeastWhere (BreaksBySurvey definitions) surveyed.least
-      → IsLeastWhere (Breaks definitions) (both (both (least (at_module_names definitions)) surveyed) (least (check_definitions definitions 0 definitions))).least
+      → IsLeastWhere (Breaks definitions) (both (both (least (check_module_names definitions)) surveyed) (least (check_definitions definitions 0 definitions))).least
   least_broken surveyed found =
-      let names = least (at_module_names definitions) in
+      let names = least (check_module_names definitions) in
       let inner = least (check_definitions definitions 0 definitions) in
-      where_same Judged (Breaks definitions) (both (both names surveyed) inner).least breaks-judged judged-breaks
-      (where_either (λ r. Contains (at_module_names definitions) r ⊎ BreaksBySurvey definitions r) (Contains (check_definitions definitions 0 definitions)) (both names surveyed).least inner.least
-      (where_either (Contains (at_module_names definitions)) (BreaksBySurvey definitions) names.least surveyed.least (where_listed (at_module_names definitions)) found) (where_listed (check_definitions definitions 0 definitions)))
+      where_same Judgement (Breaks definitions) (both (both names surveyed) inner).least breaks-judged judged-breaks
+      (where_either (λ r. Contains (check_module_names definitions) r ⊎ BreaksBySurvey definitions r) (Contains (check_definitions definitions 0 definitions)) (both names surveyed).least inner.least
+      (where_either (Contains (check_module_names definitions)) (BreaksBySurvey definitions) names.least surveyed.least (where_listed (check_module_names definitions)) found) (where_listed (check_definitions definitions 0 definitions)))
 
   -- the same, as it is found step by step
-  pub found_broken : (scope : Scope) (surveyed first next last : Broken) → scope ≡ module_scope definitions → first ≡ both (least []) (least (at_module_names definitions))
+  pub found_broken : (scope : Scope) (surveyed first next last : Broken) → scope ≡ module_scope definitions → first ≡ both (least []) (least (check_module_names definitions))
       → IsLeastWhere (BreaksBySurvey scope.definitions) surveyed.least → next ≡ both first surveyed
       → last ≡ both next (least (check_definitions scope.definitions 0 definitions)) → IsLeastWhere (Breaks definitions) last.least
   found_broken scope surveyed first next last scope_is first_is found next_is last_is =
       let same : scope.definitions ≡ definitions = ap (λ (s : Scope). s.definitions) scope_is in
-      let last_now : last ≡ both (both (least (at_module_names definitions)) surveyed) (least (check_definitions definitions 0 definitions)) =
+      let last_now : last ≡ both (both (least (check_module_names definitions)) surveyed) (least (check_definitions definitions 0 definitions)) =
       last_is ∙ ap (λ ds. both next (least (check_definitions ds 0 definitions))) same
       ∙ ap (λ b. both b (least (check_definitions definitions 0 definitions))) (next_is ∙ ap (λ b. both b surveyed) first_is) in
       subst (λ (b : Broken). IsLeastWhere (Breaks definitions) b.least) (sym last_now)

@@ -6,11 +6,11 @@ use Rattle.check_scope.specs.declared.names.Meaning.TheVariants as meaning
 use Rattle.check_scope.specs.declared.types.DataType.{DataType}
 use Rattle.ttcn_types.proofs.Meanings.{IfMeans}
 use Rattle.ttcn_types.proofs.Numbered.{HasNumber, names-numbered}
-use Rattle.ttcn_types.specs.Numbering.{IsNumbered, NoConstants}
+use Rattle.ttcn_types.specs.internal.Numbering.{IsNumbered, NoConstants}
 use Rattle.ttcn_syntax.specs.declared.tree.definition.Definition.{Definition}
 use Rattle.check_scope.specs.Scopes.{module_scope}
 use Rattle.check_scope.specs.Names.{Entry, Names, Scope, behind, declaring, module_names}
-use Rattle.check_scope.specs.Tables.{either, said}
+use Rattle.check_scope.specs.internal.Tables.{either, said}
 use Rattle.check_scope.proofs.Entries.{either_behind}
 use Rattle.check_scope.specs.declared.table.Table.{Table}
 

@@ -10,8 +10,8 @@ use Rattle.survey.proofs.Chains.{chain_head, weigh_within}
 use Rattle.check_scope.specs.Numbers.{number_of}
 use Rattle.ttcn_types.specs.Limits.{longest_chain}
 use Rattle.ttcn_types.specs.Rules.{AreTooLarge}
-use Rattle.ttcn_types.specs.Surveys.{BreaksAmong, IsLeastWhere}
-use Rattle.ttcn_types.specs.Surveys.BreaksAmong.{in_circle, too_large}
+use Rattle.ttcn_types.specs.internal.Surveys.{BreaksAmong, IsLeastWhere}
+use Rattle.ttcn_types.specs.internal.Surveys.BreaksAmong.{in_circle, too_large}
 use Rattle.check_scope.specs.declared.rule.Rule.{Rule}
 use Rattle.check_scope.specs.declared.rule.Rule.TheVariants as rule
 

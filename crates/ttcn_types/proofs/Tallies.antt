@@ -11,8 +11,8 @@ use Rattle.survey.specs.declared.thing.Thing.{Thing}
 use Rattle.ttcn_types.proofs.Complete.{Below}
 use Rattle.ttcn_types.proofs.LeastWhere.{where_same}
 use Rattle.ttcn_types.specs.Limits.{longest_chain}
-use Rattle.ttcn_types.specs.Surveys.{BreaksAmong, IsLeastWhere}
-use Rattle.ttcn_types.specs.Surveys.BreaksAmong.{in_circle, too_large}
+use Rattle.ttcn_types.specs.internal.Surveys.{BreaksAmong, IsLeastWhere}
+use Rattle.ttcn_types.specs.internal.Surveys.BreaksAmong.{in_circle, too_large}
 
 -- what is referred to stays among them
 pub tally_complete : (things : List Thing) → AreComplete things → AreComplete (map tally things)

@@ -1,10 +1,10 @@
 //! Which modules are well typed.
 ghost use Rattle.std.specs.Prelude.{◌≡◌, ◌<◌, ◌≤◌, length, IfErr, IfOk, IfSome, OnOk};
 ghost use Rattle.survey.specs.Graphs.{AreComplete};
-ghost use Rattle.check_scope.specs.Checking.{least_in};
+ghost use Rattle.check_scope.specs.internal.Checking.{least_in};
 ghost use Rattle.check_scope.specs.Numbers.{number_of};
 ghost use Rattle.ttcn_types.specs.Rules.{AreWellTyped, Breaks, IsRefusal};
-ghost use Rattle.ttcn_types.specs.Surveys.{BreaksAmong, BreaksBySurvey, BreaksInAltsteps, BreaksInRecords, BreaksWritten, IsLeastWhere, rule_of};
+ghost use Rattle.ttcn_types.specs.internal.Surveys.{BreaksAmong, BreaksBySurvey, BreaksInAltsteps, BreaksInRecords, BreaksWritten, IsLeastWhere, rule_of};
 
 use crate::error::CheckError;
 use crate::parts::{altsteps, records, written_out};

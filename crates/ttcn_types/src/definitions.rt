@@ -29,7 +29,7 @@ impl<'a> Model for Definitions<'a> {
     ghost use Rattle.ttcn_syntax.specs.contracts.tree.value.Value as value;
     ghost use Rattle.ttcn_syntax.specs.declared.tree.definition.Definition.{Definition};
     ghost use Rattle.check_scope.specs.Names.{module_names};
-    ghost use Rattle.check_scope.specs.Tables.{said};
+    ghost use Rattle.check_scope.specs.internal.Tables.{said};
 
     ghost Value = { List Definition };
 

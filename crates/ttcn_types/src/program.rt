@@ -55,7 +55,7 @@ impl Model for Program {
 
     ghost view = { λ program. program.module };
 
-    ghost use Rattle.ttcn_types.specs.ProgramFields.{IsProgram};
+    ghost use Rattle.ttcn_types.specs.internal.ProgramFields.{IsProgram};
 
     ghost invariant = { IsProgram };
 }

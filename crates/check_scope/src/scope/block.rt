@@ -1,6 +1,6 @@
 //! Blocks, and what is declared in them.
 ghost use Rattle.std.specs.Prelude.{◌≡◌, [], ◌∷◌, OnOk};
-ghost use Rattle.check_scope.specs.Checking.{Around, around, inside, view};
+ghost use Rattle.check_scope.specs.internal.Checking.{Around, around, inside, view};
 ghost use Rattle.check_scope.specs.Names.{declaring};
 ghost use Rattle.check_scope.specs.declared.table.Table.{Table};
 

@@ -1,10 +1,10 @@
 //! The names of a module.
 ghost use Rattle.std.specs.Prelude.{◌≡◌, [], ◌∷◌, map, IfOk, OnOk};
-ghost use Rattle.check_scope.specs.Checking.{both, least, least_in};
-ghost use Rattle.check_scope.specs.Scopes.{at_module_names, at_new_entries};
+ghost use Rattle.check_scope.specs.internal.Checking.{both, least, least_in};
+ghost use Rattle.check_scope.specs.Scopes.{check_module_names, check_new_entries};
 ghost use Rattle.check_scope.specs.Names.{behind, constant_entries, entries_at, module_names};
 ghost use Rattle.check_scope.specs.Names as spec;
-ghost use Rattle.check_scope.specs.Tables.{said};
+ghost use Rattle.check_scope.specs.internal.Tables.{said};
 
 use crate::broken::Broken;
 use crate::least::Least;
@@ -16,7 +16,7 @@ use ttcn_syntax::{Constant, Definition, DefinitionKind, Enumerator, Name};
 
 /// Adds a name. It is new, or a rule is broken.
 fn add<'a>(table: &mut Table<'a>, name: &'a Name, meaning: Meaning) -> Result<Broken, AllocError>
-    ensures broken { IfOk result (λ broken. broken ≡ least (at_new_entries (said table.old) ((name.now, meaning) ∷ []))) }
+    ensures broken { IfOk result (λ broken. broken ≡ least (check_new_entries (said table.old) ((name.now, meaning) ∷ []))) }
     ensures said { OnOk result (said table.new ≡ behind (said table.old) ((name.now, meaning) ∷ [])) }
 {
     let is_new = table.get(name.as_bytes()).is_none();
@@ -29,7 +29,7 @@ fn add_constants<'a>(
     at: usize,
     constants: &'a [Constant],
 ) -> Result<Broken, AllocError>
-    ensures broken { IfOk result (λ broken. broken ≡ least (at_new_entries (said table.old) (constant_entries at 0 constants.now))) }
+    ensures broken { IfOk result (λ broken. broken ≡ least (check_new_entries (said table.old) (constant_entries at 0 constants.now))) }
     ensures said { OnOk result (said table.new ≡ behind (said table.old) (constant_entries at 0 constants.now)) }
 {
     let mut broken = Broken::nothing();
@@ -45,7 +45,7 @@ fn add_enumerators<'a>(
     at: usize,
     enumerators: &'a [Enumerator],
 ) -> Result<Broken, AllocError>
-    ensures broken { IfOk result (λ broken. broken ≡ least (at_new_entries (said table.old) (map (λ n. (n.name, Meaning.Enumerator at)) enumerators.now))) }
+    ensures broken { IfOk result (λ broken. broken ≡ least (check_new_entries (said table.old) (map (λ n. (n.name, Meaning.Enumerator at)) enumerators.now))) }
     ensures said { OnOk result (said table.new ≡ behind (said table.old) (map (λ n. (n.name, Meaning.Enumerator at)) enumerators.now)) }
 {
     let mut broken = Broken::nothing();
@@ -62,7 +62,7 @@ fn define<'a>(
     at: usize,
     kind: &'a DefinitionKind,
 ) -> Result<Broken, AllocError>
-    ensures broken { IfOk result (λ broken. broken ≡ least (at_new_entries (said table.old) (entries_at at kind.now))) }
+    ensures broken { IfOk result (λ broken. broken ≡ least (check_new_entries (said table.old) (entries_at at kind.now))) }
     ensures said { OnOk result (said table.new ≡ behind (said table.old) (entries_at at kind.now)) }
 {
     match kind {
@@ -93,7 +93,7 @@ pub fn define_all<'a>(
     found: &mut Least,
 ) -> Result<Table<'a>, AllocError>
     ensures names { IfOk result (λ table. said table ≡ module_names definitions.now) }
-    ensures least { OnOk result (least_in found.new ≡ both (least_in found.old) (least (at_module_names definitions.now))) }
+    ensures least { OnOk result (least_in found.new ≡ both (least_in found.old) (least (check_module_names definitions.now))) }
 {
     let mut table = Table::new(alloc);
     for (at, definition) in definitions.iter().enumerate() {

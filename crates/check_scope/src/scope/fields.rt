@@ -3,7 +3,7 @@ ghost use Rattle.std.specs.Prelude.{◌≡◌, ℕ, IfOk, Some};
 ghost use Rattle.std.specs.List.{slice_get};
 ghost use Rattle.std.specs.Option.{option_map};
 ghost use Rattle.check_scope.specs.Names.{field_named, fields_at, fields_of};
-ghost use Rattle.check_scope.specs.Tables.{field_by};
+ghost use Rattle.check_scope.specs.internal.Tables.{field_by};
 
 use crate::field_table::FieldTable;
 use std::alloc::{AllocError, Global};

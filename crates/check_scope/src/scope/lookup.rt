@@ -1,11 +1,11 @@
 //! What names stand for at a place.
 ghost use Rattle.std.specs.Prelude.{◌≡◌, None};
 ghost use Rattle.std.specs.Option.{option_map};
-ghost use Rattle.check_scope.specs.Checking.{view};
+ghost use Rattle.check_scope.specs.internal.Checking.{view};
 ghost use Rattle.check_scope.specs.PortTypes.{types_of_port};
 ghost use Rattle.check_scope.specs.Names.{constants_type, field_named, fields_at, kind_at, module_names, port_type_meant, resolved, type_meant};
-ghost use Rattle.check_scope.specs.Tables.{member, said, said_in};
-ghost use Rattle.check_scope.specs.Traffic.{types_through};
+ghost use Rattle.check_scope.specs.internal.Tables.{member, said, said_in};
+ghost use Rattle.check_scope.specs.internal.Traffic.{types_through};
 
 use super::Scope;
 use super::fields::{field_at, fields_of};

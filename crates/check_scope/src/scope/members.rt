@@ -1,7 +1,7 @@
 //! The names that component types declare.
 ghost use Rattle.std.specs.Prelude.{◌≡◌, ℕ, map, IfOk, OnOk, Some};
 ghost use Rattle.check_scope.specs.Names.{behind, behind_members, kind_at, member_entries, members_of, resolved};
-ghost use Rattle.check_scope.specs.Tables.{either, member, said};
+ghost use Rattle.check_scope.specs.internal.Tables.{either, member, said};
 
 use super::lookup::{built_in, port_type_meant, type_meant};
 use crate::names::Meaning;

@@ -4,8 +4,8 @@ ghost use Rattle.std.specs.List.{flat_map, slice_get};
 ghost use Rattle.std.specs.Option.{option_map};
 ghost use Rattle.check_scope.specs.PortTypes as spec;
 ghost use Rattle.check_scope.specs.Names.{kind_at, resolved};
-ghost use Rattle.check_scope.specs.Tables.{said};
-ghost use Rattle.check_scope.specs.Traffic.{types_at, types_through};
+ghost use Rattle.check_scope.specs.internal.Tables.{said};
+ghost use Rattle.check_scope.specs.internal.Traffic.{types_at, types_through};
 
 use super::lookup::resolved_in;
 use crate::table::Table;

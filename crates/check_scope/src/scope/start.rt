@@ -1,7 +1,7 @@
 //! Scopes outside of blocks.
 ghost use Rattle.std.specs.Prelude.{◌≡◌, IfOk, OnOk, Some};
-ghost use Rattle.check_scope.specs.Checking.{both, least, least_in, view};
-ghost use Rattle.check_scope.specs.Scopes.{at_module_names, component_scope, module_scope, outside, scope_on};
+ghost use Rattle.check_scope.specs.internal.Checking.{both, least, least_in, view};
+ghost use Rattle.check_scope.specs.Scopes.{check_module_names, component_scope, module_scope, outside, scope_on};
 
 use super::Scope;
 use super::define::define_all;
@@ -21,7 +21,7 @@ impl<'a> Scope<'a> {
         found: &mut Least,
     ) -> Result<Scope<'a>, AllocError>
         ensures view { IfOk result (λ scope. view scope ≡ module_scope definitions.now) }
-        ensures rules { OnOk result (least_in found.new ≡ both (least_in found.old) (least (at_module_names definitions.now))) }
+        ensures rules { OnOk result (least_in found.new ≡ both (least_in found.old) (least (check_module_names definitions.now))) }
     {
         let defined = define_all(alloc, definitions, found)?;
         let members = tables_of(alloc, &defined, definitions)?;

@@ -1,7 +1,7 @@
 //! The numbers of constants and templates.
 ghost use Rattle.std.specs.Prelude.{◌≡◌, ◌+◌, ◌<◌, length, IfOk, OnOk};
 ghost use Rattle.ttcn_types.specs.Parts.{how_many};
-ghost use Rattle.ttcn_types.specs.Numbering.{AreNumbers, count_before};
+ghost use Rattle.ttcn_types.specs.internal.Numbering.{AreNumbers, count_before};
 
 use std::alloc::{AllocError, Global};
 use ttcn_syntax::{Definition, DefinitionKind, Span};

@@ -1,8 +1,8 @@
 //! What stands in constants and templates.
 ghost use Rattle.std.specs.Prelude.{◌≡◌, IfOk, OnOk, map};
-ghost use Rattle.check_scope.specs.Tables.{said};
+ghost use Rattle.check_scope.specs.internal.Tables.{said};
 ghost use Rattle.survey.specs.Things.{add, tally};
-ghost use Rattle.ttcn_types.specs.Numbering.{AreNumbers, IsNumbered, NoConstants};
+ghost use Rattle.ttcn_types.specs.internal.Numbering.{AreNumbers, IsNumbered, NoConstants};
 
 use super::numbers::Numbers;
 use check_scope::names::Meaning;
@@ -23,7 +23,7 @@ pub(super) struct Surroundings<'p, 'a> {
 }
 
 impl Surroundings<'_, '_> {
-    ghost use Rattle.ttcn_types.specs.Surrounding.{scope_of};
+    ghost use Rattle.ttcn_types.specs.internal.Surrounding.{scope_of};
     ghost use Rattle.ttcn_types.specs.Parts as spec;
 
     /// What a name stands for.

@@ -9,7 +9,7 @@ use survey::Thing;
 use ttcn_syntax::{Bound, Call, ComponentRef, Expr, FieldTemplate, Template, TemplateBody};
 
 impl Surroundings<'_, '_> {
-    ghost use Rattle.ttcn_types.specs.Surrounding.{scope_of};
+    ghost use Rattle.ttcn_types.specs.internal.Surrounding.{scope_of};
     ghost use Rattle.ttcn_types.specs.Parts as spec;
     ghost use Rattle.check_expressions.specs.Templates as named;
 

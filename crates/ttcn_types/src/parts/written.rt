@@ -1,12 +1,12 @@
 //! The constants and templates of a module.
 ghost use Rattle.std.specs.Prelude.{◌≡◌, [], ◌∷◌, ◌++◌, length, IfOk, OnOk, map};
 ghost use Rattle.survey.specs.Things.{tally};
-ghost use Rattle.ttcn_types.specs.Surrounding.{scope_of};
+ghost use Rattle.ttcn_types.specs.internal.Surrounding.{scope_of};
 ghost use Rattle.check_scope.specs.Scopes.{module_scope};
 ghost use Rattle.check_statements.specs.Definitions.{with_parameters};
 ghost use Rattle.check_scope.specs.Names.{declaring, resolved};
 ghost use Rattle.ttcn_types.specs.Parts as spec;
-ghost use Rattle.ttcn_types.specs.Numbering.{AreNumbers};
+ghost use Rattle.ttcn_types.specs.internal.Numbering.{AreNumbers};
 
 use super::numbers::Numbers;
 use super::surroundings::Surroundings;

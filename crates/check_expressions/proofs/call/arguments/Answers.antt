@@ -1,5 +1,5 @@
 use Rattle.std.proofs.Common.{sym, ap, ◌∙◌}
-use Rattle.check_scope.specs.Checking.{view}
+use Rattle.check_scope.specs.internal.Checking.{view}
 use Rattle.check_expressions.proofs.Arguments.{arguments-end, arguments-next, rest_of_arguments}
 use Rattle.check_expressions.proofs.call.arguments.Goals as goal
 

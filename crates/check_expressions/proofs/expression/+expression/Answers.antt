@@ -1,5 +1,5 @@
 use Rattle.std.proofs.Common.{sym, ◌∙◌}
-use Rattle.check_scope.specs.Checking.{view}
+use Rattle.check_scope.specs.internal.Checking.{view}
 use Rattle.check_scope.specs.declared.types.DataType.TheVariants as type
 use Rattle.check_expressions.proofs.Judgements.{chain-end, chain-first, chain-next, expression-Not, expression-Signed, operand-found}
 use Rattle.check_expressions.proofs.expression.+expression.Goals as goal

@@ -1,6 +1,6 @@
 use Rattle.std.proofs.Common.{◌≡◌, map, drop}
-use Rattle.check_scope.specs.Checking.{view}
-use Rattle.check_expressions.specs.Findings.{finding}
+use Rattle.check_scope.specs.internal.Checking.{view}
+use Rattle.check_expressions.specs.internal.Findings.{finding}
 use Rattle.check_expressions.specs.Expressions as spec
 use Rattle.check_expressions.proofs.Judgements.{all_linked}
 use Rattle.check_expressions.proofs.expression.+expression.Given as goal

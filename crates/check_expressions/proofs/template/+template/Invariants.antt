@@ -1,6 +1,6 @@
 use Rattle.std.proofs.Common.{◌≡◌, [], map, drop}
 use Rattle.std.specs.Option.{option_map}
-use Rattle.check_scope.specs.Checking.{least, view}
+use Rattle.check_scope.specs.internal.Checking.{least, view}
 use Rattle.check_expressions.specs.Templates as spec
 use Rattle.check_expressions.specs.Values.{by_name, in_order, wanted_fields}
 use Rattle.check_expressions.proofs.Elements.{Named, rest_in_order}

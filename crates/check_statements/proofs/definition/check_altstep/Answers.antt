@@ -1,8 +1,8 @@
 use Rattle.std.proofs.Common.{◌++◌}
 use Rattle.std.specs.List.{flat_map}
-use Rattle.check_scope.specs.Checking.{least_in}
+use Rattle.check_scope.specs.internal.Checking.{least_in}
 use Rattle.check_expressions.specs.Calls.{component_named}
-use Rattle.check_statements.specs.Definitions.{check_component_name, in_parameters, place_in}
+use Rattle.check_statements.specs.Definitions.{check_component_name, check_parameters, place_in}
 use Rattle.check_scope.specs.Scopes.{scope_on}
 use Rattle.check_statements.specs.Statements.{branch}
 use Rattle.check_statements.specs.declared.place.Returns.TheVariants as returns
@@ -17,6 +17,6 @@ returns-clause-found c =
     let head = rw (c.as_slice.ensures, c.as_ref-runs_on.ensures.value) at c.in_ok-head.ensures.broken in
     let inside = rw (c.as_slice.ensures, c.as_ref-runs_on.ensures.value) at c.in_ok-head.ensures.view in
     rw (noted_before (least_in c.args.found.now) c.in_ok-head.head (least_in c.note.new.self)
-    (check_component_name definitions altstep.runs_on ++ in_parameters scope altstep.parameters)
+    (check_component_name definitions altstep.runs_on ++ check_parameters scope altstep.parameters)
     (flat_map (λ b. branch b (place_in scope altstep.parameters returns.Nowhere)) altstep.branches) head c.note.ensures)
     at (rw (c.as_slice-2.ensures, inside) at c.branches.ensures.found)

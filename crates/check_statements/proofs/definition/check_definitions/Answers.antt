@@ -1,5 +1,5 @@
 use Rattle.std.proofs.Common.{◌∙◌, refl, sym}
-use Rattle.check_scope.specs.Checking.{least_in, view}
+use Rattle.check_scope.specs.internal.Checking.{least_in, view}
 use Rattle.check_statements.proofs.DefinitionForms.{check_definitions-end, check_definitions-next}
 use Rattle.check_statements.proofs.definition.check_definitions.Goals as goal
 

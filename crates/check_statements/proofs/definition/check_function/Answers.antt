@@ -1,6 +1,6 @@
-use Rattle.check_scope.specs.Checking.{least_in}
+use Rattle.check_scope.specs.internal.Checking.{least_in}
 use Rattle.check_expressions.specs.Calls.{component_named}
-use Rattle.check_statements.specs.Definitions.{check_component_name, check_result, in_parameters, place_in, returns_of}
+use Rattle.check_statements.specs.Definitions.{check_component_name, check_result, check_parameters, place_in, returns_of}
 use Rattle.check_scope.specs.Scopes.{scope_on}
 use Rattle.check_statements.specs.Statements.{statements}
 use Rattle.check_statements.proofs.DefinitionForms.{function_noted}
@@ -16,7 +16,7 @@ returns-clause-found c =
     let result = rw c.as_ref.ensures.value at c.check_result-result.ensures in
     let returns = rw c.as_ref-2.ensures.value at c.returns_of-returns.ensures in
     rw (function_noted (least_in c.args.found.now) c.in_ok-head.head c.check_result-result.result c.and.result (least_in c.note.new.self)
-    (check_component_name definitions function.runs_on) (in_parameters scope function.parameters) (check_result definitions function.returns)
+    (check_component_name definitions function.runs_on) (check_parameters scope function.parameters) (check_result definitions function.returns)
     (statements function.body (place_in scope function.parameters (returns_of definitions function.returns)))
     head result c.and.ensures c.note.ensures)
     at (rw (c.as_slice-2.ensures, inside, returns) at c.block.ensures.found)

@@ -1,5 +1,5 @@
 use Rattle.std.proofs.Common.{[], Some}
-use Rattle.check_scope.specs.Checking.{least_in}
+use Rattle.check_scope.specs.internal.Checking.{least_in}
 use Rattle.check_expressions.specs.Calls.{component_named}
 use Rattle.check_statements.specs.Definitions.{check_component_name, place_in}
 use Rattle.check_scope.specs.Scopes.{scope_on}

@@ -1,6 +1,6 @@
 use Rattle.std.proofs.Common.{◌≡◌, drop}
 use Rattle.std.specs.List.{flat_map}
-use Rattle.check_scope.specs.Checking.{least}
+use Rattle.check_scope.specs.internal.Checking.{least}
 use Rattle.check_statements.specs.Definitions.{check_messages}
 use Rattle.check_scope.specs.Names.{module_names}
 use Rattle.check_statements.proofs.Insides.{rest_of_parts}

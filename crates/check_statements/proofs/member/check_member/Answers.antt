@@ -1,4 +1,4 @@
-use Rattle.check_scope.specs.Checking.{view}
+use Rattle.check_scope.specs.internal.Checking.{view}
 use Rattle.check_statements.proofs.MemberForms.{behind_member_constants, behind_member_timers}
 use Rattle.check_statements.proofs.member.check_member.Goals as goal
 

@@ -1,5 +1,5 @@
 use Rattle.std.proofs.Common.{◌∙◌, ap, refl, sym}
-use Rattle.check_scope.specs.Checking.{view}
+use Rattle.check_scope.specs.internal.Checking.{view}
 use Rattle.check_statements.proofs.MemberForms.{check_members-end, check_members-next, rest_of_members}
 use Rattle.check_statements.proofs.member.check_members.Goals as goal
 

@@ -1,5 +1,5 @@
 use Rattle.std.proofs.Common.{◌∙◌, sym}
-use Rattle.check_scope.specs.Checking.{view}
+use Rattle.check_scope.specs.internal.Checking.{view}
 use Rattle.check_statements.proofs.MemberForms.{behind_ports}
 use Rattle.check_statements.proofs.member.check_ports.Goals as goal
 

@@ -1,5 +1,5 @@
 use Rattle.std.proofs.Common.{◌≡◌, [], drop}
-use Rattle.check_scope.specs.Checking.{around, least, view}
+use Rattle.check_scope.specs.internal.Checking.{around, least, view}
 use Rattle.check_statements.specs.Definitions.{check_member_variable, member_variable_entry}
 use Rattle.check_statements.proofs.Declared.{Walked}
 use Rattle.check_statements.proofs.member.member_variables.Given as goal

@@ -1,5 +1,5 @@
 use Rattle.std.proofs.Common.{◌∙◌, [], refl}
-use Rattle.check_scope.specs.Checking.{least, view}
+use Rattle.check_scope.specs.internal.Checking.{least, view}
 use Rattle.check_statements.specs.Definitions.{check_port_name, port_entry}
 use Rattle.check_statements.proofs.Declared.{walked-first, walked-next, walked-rules, walked-scope}
 use Rattle.check_statements.proofs.member.named_ports.Goals as goal

@@ -1,4 +1,4 @@
-use Rattle.check_scope.specs.Checking.{least_in, view}
+use Rattle.check_scope.specs.internal.Checking.{least_in, view}
 use Rattle.ttcn_types.proofs.LeastWhere.{found_broken}
 use Rattle.ttcn_types.proofs.checker.least_broken.Goals as goal
 

@@ -2,7 +2,7 @@ use Rattle.std.proofs.Common.{ap, bytes_eq, is_some, sym, ◌∙◌, Bor}
 use Rattle.std.specs.HashMap.{get_by}
 use Rattle.std.specs.Option.{option_map}
 use Rattle.ttcn_syntax.specs.declared.tree.definition.Field.{Field}
-use Rattle.check_scope.specs.Tables.{field_in}
+use Rattle.check_scope.specs.internal.Tables.{field_in}
 use Rattle.check_scope.proofs.FieldTables.{field_is_new, map-if, some-map}
 use Rattle.check_scope.proofs.field_table.FieldTable.add.Goals as goal
 

@@ -1,5 +1,5 @@
 use Rattle.std.proofs.Common.{◌∙◌, ap, sym}
-use Rattle.check_scope.specs.Tables.{field_in}
+use Rattle.check_scope.specs.internal.Tables.{field_in}
 use Rattle.check_scope.proofs.FieldTables.{Fields, fields-end, fields-next, fields_after}
 use Rattle.check_scope.proofs.field_table.FieldTable.of.Goals as goal
 

@@ -1,6 +1,6 @@
 use Rattle.std.proofs.Common.{◌≡◌, drop}
 use Rattle.check_scope.specs.Names.{field_named}
-use Rattle.check_scope.specs.Tables.{field_in}
+use Rattle.check_scope.specs.internal.Tables.{field_in}
 use Rattle.check_scope.proofs.FieldTables.{fields_after}
 use Rattle.check_scope.proofs.field_table.FieldTable.of.Given as goal
 

@@ -1,5 +1,5 @@
 use Rattle.std.proofs.Common.{[], ◌∷◌}
-use Rattle.check_scope.specs.Checking.{around}
+use Rattle.check_scope.specs.internal.Checking.{around}
 use Rattle.check_scope.proofs.Lookups.{view-declaring}
 use Rattle.check_scope.proofs.scope.Scope.declare.Goals as goal
 

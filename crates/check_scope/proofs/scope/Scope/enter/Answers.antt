@@ -1,4 +1,4 @@
-use Rattle.check_scope.specs.Checking.{around}
+use Rattle.check_scope.specs.internal.Checking.{around}
 use Rattle.check_scope.proofs.Lookups.{view-inside}
 use Rattle.check_scope.proofs.scope.Scope.enter.Goals as goal
 

@@ -1,6 +1,6 @@
 use Rattle.std.proofs.Common.{◌≡◌, drop}
 use Rattle.std.specs.Option.{option_or}
-use Rattle.check_scope.specs.Tables.{said_in}
+use Rattle.check_scope.specs.internal.Tables.{said_in}
 use Rattle.check_scope.proofs.scope.Scope.in_blocks.Given as goal
 
 -- what the blocks that are left say, or what was found so far, is what all of them say

@@ -1,7 +1,7 @@
 use Rattle.std.proofs.Common.{[]}
-use Rattle.check_scope.specs.Checking.{least}
+use Rattle.check_scope.specs.internal.Checking.{least}
 use Rattle.check_scope.specs.Names.{constant_entries}
-use Rattle.check_scope.specs.Tables.{said}
+use Rattle.check_scope.specs.internal.Tables.{said}
 use Rattle.check_scope.proofs.Entries.{constants-end, constants-next, declared-end, left-first, left-next, rules-end}
 use Rattle.check_scope.proofs.scope.define.add_constants.Goals as goal
 

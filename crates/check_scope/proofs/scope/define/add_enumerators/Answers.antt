@@ -1,8 +1,8 @@
 use Rattle.std.proofs.Common.{[], map}
-use Rattle.check_scope.specs.Checking.{least}
+use Rattle.check_scope.specs.internal.Checking.{least}
 use Rattle.ttcn_syntax.specs.declared.tree.definition.Enumerator.{Enumerator}
 use Rattle.check_scope.specs.declared.names.Meaning.TheVariants as meaning
-use Rattle.check_scope.specs.Tables.{said}
+use Rattle.check_scope.specs.internal.Tables.{said}
 use Rattle.check_scope.proofs.Entries.{names-end, names-next, declared-end, left-first, left-next, rules-end}
 use Rattle.check_scope.proofs.scope.define.add_enumerators.Goals as goal
 

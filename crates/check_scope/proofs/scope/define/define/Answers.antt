@@ -1,6 +1,6 @@
 use Rattle.std.proofs.Common.{map}
 use Rattle.ttcn_syntax.specs.declared.tree.definition.Enumerator.{Enumerator}
-use Rattle.check_scope.specs.Tables.{said}
+use Rattle.check_scope.specs.internal.Tables.{said}
 use Rattle.check_scope.specs.declared.names.Meaning.TheVariants as meaning
 use Rattle.check_scope.proofs.Entries.{new-names, new-rules}
 use Rattle.check_scope.proofs.scope.define.define.Goals as goal

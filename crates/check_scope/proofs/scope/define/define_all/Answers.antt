@@ -1,7 +1,7 @@
 use Rattle.std.proofs.Common.{None, ◌∙◌}
-use Rattle.check_scope.specs.Checking.{least_in}
+use Rattle.check_scope.specs.internal.Checking.{least_in}
 use Rattle.check_scope.specs.Names.{entries_at, entries_from}
-use Rattle.check_scope.specs.Tables.{said}
+use Rattle.check_scope.specs.internal.Tables.{said}
 use Rattle.check_scope.proofs.Entries.{behind-nothing, declared-end, definitions-end, definitions-next, left-more, rules-end}
 use Rattle.check_scope.proofs.scope.define.define_all.Goals as goal
 

@@ -1,7 +1,7 @@
 use Rattle.std.proofs.Common.{drop, None}
-use Rattle.check_scope.specs.Checking.{least_in}
+use Rattle.check_scope.specs.internal.Checking.{least_in}
 use Rattle.check_scope.specs.Names.{entries_from}
-use Rattle.check_scope.specs.Tables.{said}
+use Rattle.check_scope.specs.internal.Tables.{said}
 use Rattle.check_scope.proofs.Entries.{Left}
 use Rattle.check_scope.proofs.scope.define.define_all.Given as goal
 

@@ -1,5 +1,5 @@
 use Rattle.std.proofs.Common.{ap, arith, length, refl}
-use Rattle.check_scope.specs.Tables.{field_by}
+use Rattle.check_scope.specs.internal.Tables.{field_by}
 use Rattle.check_scope.proofs.Alongside.{alongside-end, alongside-next, alongside-none}
 use Rattle.check_scope.proofs.FieldTables.{fields_named}
 use Rattle.check_scope.proofs.scope.fields.fields_by_name.Goals as goal

@@ -1,5 +1,5 @@
 use Rattle.std.proofs.Common.{◌+◌, drop, map}
-use Rattle.check_scope.specs.Tables.{said}
+use Rattle.check_scope.specs.internal.Tables.{said}
 use Rattle.check_scope.proofs.Entries.{behind-next, names-end, names-next}
 use Rattle.check_scope.proofs.scope.members.add_all.Goals as goal
 

@@ -1,6 +1,6 @@
 use Rattle.std.proofs.Common.{◌≡◌, drop, map}
 use Rattle.check_scope.specs.Names.{behind}
-use Rattle.check_scope.specs.Tables.{said}
+use Rattle.check_scope.specs.internal.Tables.{said}
 use Rattle.check_scope.proofs.scope.members.add_all.Given as goal
 
 -- what is said behind the names that are left is what is said behind all

@@ -3,7 +3,7 @@ use Rattle.ttcn_syntax.specs.declared.tree.definition.MemberVariable.{MemberVari
 use Rattle.ttcn_syntax.specs.declared.tree.statement.Constant.{Constant}
 use Rattle.ttcn_syntax.specs.declared.tree.statement.Timer.{Timer}
 use Rattle.check_scope.specs.Names.{port_type_meant, resolved}
-use Rattle.check_scope.specs.Tables.{either, said}
+use Rattle.check_scope.specs.internal.Tables.{either, said}
 use Rattle.check_scope.specs.declared.names.Meaning.TheVariants as meaning
 use Rattle.check_scope.proofs.Entries.{either_behind}
 use Rattle.check_scope.proofs.scope.members.add_member.Goals as goal

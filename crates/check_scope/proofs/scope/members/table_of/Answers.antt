@@ -1,6 +1,6 @@
 use Rattle.std.proofs.Common.{◌∙◌, ap, sym}
 use Rattle.check_scope.specs.Names.{Names, behind_members}
-use Rattle.check_scope.specs.Tables.{either, said}
+use Rattle.check_scope.specs.internal.Tables.{either, said}
 use Rattle.check_scope.proofs.Members.{members-end, members-next}
 use Rattle.check_scope.proofs.scope.members.table_of.Goals as goal
 

@@ -1,6 +1,6 @@
 use Rattle.std.proofs.Common.{◌≡◌, drop}
 use Rattle.check_scope.specs.Names.{behind_members}
-use Rattle.check_scope.specs.Tables.{either, said}
+use Rattle.check_scope.specs.internal.Tables.{either, said}
 use Rattle.check_scope.proofs.scope.members.table_of.Given as goal
 
 -- the names so far, behind the declarations that are left, are those behind all

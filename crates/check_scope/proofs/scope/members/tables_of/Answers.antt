@@ -1,5 +1,5 @@
 use Rattle.std.proofs.Common.{ap, arith, length}
-use Rattle.check_scope.specs.Tables.{said}
+use Rattle.check_scope.specs.internal.Tables.{said}
 use Rattle.check_scope.proofs.Members.{none-yet, tables-end, tables-next}
 use Rattle.check_scope.proofs.scope.members.tables_of.Goals as goal
 

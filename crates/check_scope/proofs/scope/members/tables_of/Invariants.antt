@@ -1,5 +1,5 @@
 use Rattle.std.proofs.Common.{◌≡◌, length, take}
-use Rattle.check_scope.specs.Tables.{said}
+use Rattle.check_scope.specs.internal.Tables.{said}
 use Rattle.check_scope.proofs.Members.{HaveMembers}
 use Rattle.check_scope.proofs.scope.members.tables_of.Given as goal
 

@@ -1,6 +1,6 @@
 use Rattle.std.proofs.Common.{◌∙◌}
 use Rattle.check_scope.specs.Names.{resolved}
-use Rattle.check_scope.specs.Tables.{said}
+use Rattle.check_scope.specs.internal.Tables.{said}
 use Rattle.check_scope.proofs.Added.{mapped-end, mapped-next}
 use Rattle.check_scope.proofs.scope.ports.add_types.Goals as goal
 

@@ -1,6 +1,6 @@
 use Rattle.std.proofs.Common.{ap, arith, length, refl}
-use Rattle.check_scope.specs.Traffic.{types_at}
-use Rattle.check_scope.specs.Tables.{said}
+use Rattle.check_scope.specs.internal.Traffic.{types_at}
+use Rattle.check_scope.specs.internal.Tables.{said}
 use Rattle.check_scope.proofs.Alongside.{alongside-end, alongside-next, alongside-none}
 use Rattle.check_scope.proofs.PortTypes.{passing_by}
 use Rattle.check_scope.proofs.scope.ports.ports_of.Goals as goal

@@ -1,5 +1,5 @@
 use Rattle.std.proofs.Common.{◌≡◌, length, take}
-use Rattle.check_scope.specs.Tables.{said}
+use Rattle.check_scope.specs.internal.Tables.{said}
 use Rattle.check_scope.proofs.PortTypes.{HaveTraffic}
 use Rattle.check_scope.proofs.scope.ports.ports_of.Given as goal
 

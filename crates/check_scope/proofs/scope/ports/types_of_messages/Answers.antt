@@ -1,6 +1,6 @@
 use Rattle.std.proofs.Common.{◌∙◌}
 use Rattle.check_scope.specs.PortTypes as spec
-use Rattle.check_scope.specs.Tables.{said}
+use Rattle.check_scope.specs.internal.Tables.{said}
 use Rattle.check_scope.proofs.Added.{joined-end, joined-next}
 use Rattle.check_scope.proofs.scope.ports.types_of_messages.Goals as goal
 

@@ -1,6 +1,6 @@
 use mathlib.Core.Path.{fun_ext}
 use Rattle.std.proofs.Common.{◌∙◌, bytes_eq}
-use Rattle.check_scope.specs.Tables.{said}
+use Rattle.check_scope.specs.internal.Tables.{said}
 use Rattle.check_scope.proofs.Lookups.{put}
 use Rattle.check_scope.proofs.table.Table.insert.Goals as goal
 

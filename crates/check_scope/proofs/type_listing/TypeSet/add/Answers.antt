@@ -1,7 +1,7 @@
 use mathlib.Core.Path.{fun_ext}
 use Rattle.std.proofs.Common.{Bool, ◌||◌, ap, ◌∙◌}
 use Rattle.std.specs.HashSet.{contains_by}
-use Rattle.check_scope.specs.Listings.{lets_pass}
+use Rattle.check_scope.specs.internal.Listings.{lets_pass}
 use Rattle.check_scope.specs.Typings.{same_type}
 use Rattle.check_scope.proofs.PortTypes.{put_among, put_type, same_either_way}
 use Rattle.check_scope.proofs.type_listing.TypeSet.add.Goals as goal

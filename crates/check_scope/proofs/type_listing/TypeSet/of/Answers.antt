@@ -1,5 +1,5 @@
 use Rattle.std.proofs.Common.{◌∙◌, ap, sym}
-use Rattle.check_scope.specs.Listings.{lets_pass}
+use Rattle.check_scope.specs.internal.Listings.{lets_pass}
 use Rattle.check_scope.proofs.PortTypes.{Lists, types-end, types-next, types_after}
 use Rattle.check_scope.proofs.type_listing.TypeSet.of.Goals as goal
 

@@ -1,6 +1,6 @@
 use Rattle.std.proofs.Common.{◌≡◌, drop}
 use Rattle.std.specs.List.{list_any}
-use Rattle.check_scope.specs.Listings.{lets_pass}
+use Rattle.check_scope.specs.internal.Listings.{lets_pass}
 use Rattle.check_scope.specs.PortTypes as spec
 use Rattle.check_scope.proofs.PortTypes.{types_after}
 use Rattle.check_scope.proofs.type_listing.TypeSet.of.Given as goal

@@ -1,5 +1,5 @@
 use Rattle.std.proofs.Common.{Bool, true, if◌then◌else◌, ap, ◌∙◌}
-use Rattle.check_statements.specs.Places.{given, is_negative}
+use Rattle.check_statements.specs.internal.Places.{given, is_negative}
 use Rattle.check_statements.proofs.Insides.{same_key}
 use Rattle.check_statements.proofs.number_set.NumberSet.insert.Goals as goal
 

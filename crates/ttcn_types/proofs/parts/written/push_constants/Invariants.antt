@@ -1,5 +1,5 @@
 use Rattle.std.proofs.Common.{◌≡◌, ◌++◌, map}
-use Rattle.ttcn_types.specs.Surrounding.{scope_of}
+use Rattle.ttcn_types.specs.internal.Surrounding.{scope_of}
 use Rattle.survey.specs.Things.{tally}
 use Rattle.ttcn_types.specs.Parts.{constant_parts}
 use Rattle.ttcn_types.proofs.Listing.{listing}

@@ -1,5 +1,5 @@
 use Rattle.std.proofs.Common.{◌≡◌}
-use Rattle.ttcn_types.specs.Surrounding.{scope_of}
+use Rattle.ttcn_types.specs.internal.Surrounding.{scope_of}
 use Rattle.survey.specs.Things.{add}
 use Rattle.ttcn_types.specs.Parts.{expression_parts, link_parts}
 use Rattle.ttcn_types.proofs.Beside.{collecting}

@@ -1,4 +1,4 @@
-use Rattle.check_scope.specs.Tables.{said}
+use Rattle.check_scope.specs.internal.Tables.{said}
 use Rattle.ttcn_types.proofs.Surrounded.{module_by_table, none_constant}
 use Rattle.ttcn_types.proofs.parts.surroundings.Surroundings.of_module.Goals as goal
 

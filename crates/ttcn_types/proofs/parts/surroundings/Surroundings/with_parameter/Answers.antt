@@ -1,5 +1,5 @@
 use Rattle.std.proofs.Common.{[], ◌∷◌}
-use Rattle.check_scope.specs.Tables.{said}
+use Rattle.check_scope.specs.internal.Tables.{said}
 use Rattle.ttcn_types.proofs.Surrounded.{declared_in_table, declared_no_constant}
 use Rattle.ttcn_types.proofs.parts.surroundings.Surroundings.with_parameter.Goals as goal
 

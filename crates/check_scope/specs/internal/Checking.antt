@@ -10,10 +10,11 @@ use Rattle.check_scope.specs.declared.broken.Broken.{Broken}
 use Rattle.check_scope.specs.declared.least.Least.{Least}
 use Rattle.check_scope.specs.declared.rule.Rule.{Rule}
 use Rattle.check_scope.specs.declared.scope.Scope.{Scope}
-use Rattle.check_scope.specs.Tables.{member, said, said_in}
+use Rattle.check_scope.specs.internal.Tables.{member, said, said_in}
 
 -- ---- broken rules
 
+-- the lesser of two rules, where there are rules
 abbrev pub lesser_of : Option Rule → Option Rule → Option Rule
 lesser_of None other = other
 lesser_of (Some r) None = Some r
@@ -43,6 +44,7 @@ pub record Around : Type 0 where
   pub itself : Option ℕ
   pub blocks : List Table
 
+-- what is round the innermost block of a scope
 abbrev pub around : Scope → Around
 around scope = record {
   definitions = scope.definitions.now;
@@ -72,5 +74,6 @@ visible_in a block name = option_or (said block name) (option_or (said_in a.bloc
 abbrev pub view_in : Around → Table → spec.Scope
 view_in a block = record { definitions = a.definitions; names = visible_in a block; itself = a.itself }
 
+-- a scope of the code, as the rules speak of it
 abbrev pub view : Scope → spec.Scope
 view scope = view_in (around scope) scope.locals

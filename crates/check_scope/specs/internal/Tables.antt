@@ -19,6 +19,7 @@ abbrev pub said_in : List Table → Names
 said_in [] name = None
 said_in (table ∷ tables) name = option_or (said_in tables name) (said table name)
 
+-- what a table says of a name, where there is one
 abbrev pub said_by : Option Table → Names
 said_by None name = None
 said_by (Some table) name = said table name
@@ -36,6 +37,7 @@ either inner outer name = option_or (inner name) (outer name)
 abbrev pub field_in : FieldTable → List ℕ → Option Field
 field_in table name = option_map (λ field. field.now) (get_by (λ key. bytes_eq name key.now) table.fields)
 
+-- the field that a table has under a name, where there is a table
 abbrev pub field_by : Option FieldTable → List ℕ → Option Field
 field_by None name = None
 field_by (Some table) name = field_in table name

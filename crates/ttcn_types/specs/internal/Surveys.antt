@@ -24,12 +24,15 @@ pub data BreaksAmong (things : List Thing) (heaviest : ℕ) (circle : Rule) : Ru
   in_circle : HasCircle things → BreaksAmong things heaviest circle circle
   too_large : AreTooLarge things longest_chain heaviest → BreaksAmong things heaviest circle rule.Size
 
+-- what the records of a module break
 abbrev pub BreaksInRecords : List Definition → Rule → Type 0
 BreaksInRecords definitions = BreaksAmong (records definitions) most_fields rule.BadType
 
+-- what its constants and templates break
 abbrev pub BreaksWritten : List Definition → Rule → Type 0
 BreaksWritten definitions = BreaksAmong (written_out definitions) most_parts rule.Cycle
 
+-- what its altsteps break
 abbrev pub BreaksInAltsteps : List Definition → Rule → Type 0
 BreaksInAltsteps definitions = BreaksAmong (altsteps definitions) most_parts rule.Cycle
 

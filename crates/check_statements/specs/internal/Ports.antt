@@ -1,6 +1,6 @@
 -- What is known where messages pass, in the words of the private contracts.
 use Rattle.std.specs.Prelude.{[], Some, None}
-use Rattle.check_expressions.specs.Expressions.{Judged}
+use Rattle.check_expressions.specs.Expressions.{Judgement}
 use Rattle.check_statements.specs.Messages as spec
 use Rattle.check_statements.specs.declared.message.Passing.{Passing}
 use Rattle.check_statements.specs.declared.message.Passing.TheVariants as at
@@ -13,7 +13,7 @@ passing at.Unknown = None
 passing at.Anywhere = None
 
 -- what is known of a message that says nothing of its type by itself
-abbrev pub otherwise : Passing → Judged
+abbrev pub otherwise : Passing → Judgement
 otherwise (at.Types listing) = spec.type_by_port (Some listing.now.types.items)
 otherwise at.Nothing = spec.type_by_port (Some [])
 otherwise at.Unknown = spec.type_by_port None

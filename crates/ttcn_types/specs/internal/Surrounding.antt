@@ -4,7 +4,7 @@ use Rattle.std.specs.Option.{option_or}
 use Rattle.check_scope.specs.Names.{module_names}
 use Rattle.check_scope.specs.Names as spec
 use Rattle.ttcn_types.specs.declared.parts.surroundings.Surroundings.{Surroundings}
-use Rattle.check_scope.specs.Tables.{said}
+use Rattle.check_scope.specs.internal.Tables.{said}
 
 -- the scope of a constant or a template of the module: the parameters first, and the module
 abbrev pub scope_of : Surroundings → spec.Scope

@@ -1,0 +1,4 @@
+pub mod Checking
+pub mod Listings
+pub mod Tables
+pub mod Traffic

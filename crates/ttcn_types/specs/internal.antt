@@ -1,0 +1,4 @@
+pub mod Numbering
+pub mod ProgramFields
+pub mod Surrounding
+pub mod Surveys
