@@ -10,14 +10,14 @@ use Rattle.std.proofs.lemmas.Bool.Decides.{Decides-eqb}
 use Rattle.step_rules.proofs.LabelOrder.{IsAbove, IsBelow, IsExpiry, calls-above, calls-below, expiries-of, names-alike}
 use Rattle.step_rules.proofs.Pairs.{All-both, All-flat, pairs-head, pairs-tail}
 use Rattle.step_rules.specs.Configurations.{Component, Data, Frame, Goes, Going, component_at, is_running_state, path_of, same_path}
-use Rattle.step_rules.specs.Entries.{Entries, entry_of, name_cmp}
+use Rattle.step_rules.specs.Entries.{Entries, name_cmp}
 use Rattle.step_rules.specs.Labels.{call_expiries, expiries, frame_expiries, labels, labels_of_component, statement_labels}
 use Rattle.step_rules.specs.Order.{HasTimersInOrder, IsOrdered, IsOrderedWithin}
 use Rattle.step_rules.specs.Snapshots.{Test, snapshot_of}
 use Rattle.step_rules.specs.Statements.{act}
 use Rattle.step_rules.specs.Storing.{with_calls, with_members, with_timers}
 use Rattle.step_rules.specs.Steps.{Expiry, Label, Statement, apply, exchanged, expire_in, touch, expired, expired_call, expired_frame, expiry_step, statement_step, step, step_in}
-use Rattle.ttcn_values.specs.Frames.{is_running}
+use Rattle.ttcn_values.specs.Frames.{entry, is_running}
 use Rattle.ttcn_values.specs.Outcomes.{Yields}
 use Rattle.ttcn_values.specs.declared.frame.TimerState.{TimerState}
 use Rattle.ttcn_values.specs.declared.frame.TimerState.TheVariants as timer
@@ -104,7 +104,7 @@ running-is timer.Inactive e = absurd (let found = e in cc)
 running-is timer.Expired e = absurd (let found = e in cc)
 
 -- a timer that runs may expire
-frame-expires : (frame : Frame) (name : List ℕ) → entry_of frame.timers name ≡ Some timer.Running → is_some (expired_frame name frame) ≡ true
+frame-expires : (frame : Frame) (name : List ℕ) → entry frame.timers name ≡ Some timer.Running → is_some (expired_frame name frame) ≡ true
 frame-expires frame name e = ap (λ o. is_some (option_map (λ timers. with_timers timers frame) (expire_in frame.timers name o))) e
 
 -- and one that may expire runs
@@ -114,8 +114,8 @@ state-runs frame name (Some timer.Running) e = refl
 state-runs frame name (Some timer.Inactive) e = absurd (let found = e in cc)
 state-runs frame name (Some timer.Expired) e = absurd (let found = e in cc)
 
-frame-runs : (frame : Frame) (name : List ℕ) → is_some (expired_frame name frame) ≡ true → entry_of frame.timers name ≡ Some timer.Running
-frame-runs frame name e = state-runs frame name (entry_of frame.timers name) e
+frame-runs : (frame : Frame) (name : List ℕ) → is_some (expired_frame name frame) ≡ true → entry frame.timers name ≡ Some timer.Running
+frame-runs frame name e = state-runs frame name (entry frame.timers name) e
 
 found-entry : (entries : Entries TimerState) (name : List ℕ) (o : Option (List ℕ × TimerState)) → find (λ e. bytes_eq e.0 name) entries ≡ o → option_map (λ e. e.1) o ≡ Some timer.Running
     → Contains (filter (λ e. is_running e.1) entries) (name, timer.Running)

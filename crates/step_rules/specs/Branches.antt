@@ -24,11 +24,10 @@ use Rattle.step_rules.specs.Items.{Does, Item, items, items_if_any}
 use Rattle.step_rules.specs.Sites.{Site, beginning}
 use Rattle.step_rules.specs.Snapshots.{Snapshot, Test, View, reading_in, view_of_arguments}
 use Rattle.ttcn_types.specs.Limits.{longest_chain}
-use Rattle.ttcn_values.specs.Evaluation.{value_of}
-use Rattle.ttcn_values.specs.Outcomes.{Failure, Outcome, Fails, Unmet, Yields, or_unmet, outcome_and_then}
+use Rattle.ttcn_values.specs.Evaluation.{condition_of}
+use Rattle.ttcn_values.specs.Outcomes.{Failure, Outcome, Fails, Unmet, Yields}
 use Rattle.ttcn_values.specs.Readings.{Reading}
 use Rattle.ttcn_values.specs.Templates.{arguments}
-use Rattle.ttcn_values.specs.Values.{boolean}
 use Rattle.ttcn_values.specs.declared.value.Value.{Value}
 
 -- what is done when a branch is taken: the block that comes to stand where the branch was judged, and the frames of the altsteps that lead to the branch, the innermost first
@@ -107,7 +106,7 @@ behind_guard (Fails why) written = Fault why ∷ []
 -- what a guard gives: one that isn't there is true
 abbrev pub guard_holds : Reading → Option Expr → Outcome Bool
 guard_holds reading None = Yields true
-guard_holds reading (Some e) = outcome_and_then (λ v. or_unmet (boolean v)) (value_of e reading)
+guard_holds reading (Some e) = condition_of e reading
 
 -- ---- branches
 

@@ -1,7 +1,6 @@
 -- What names have: entries in the order of the names' bytes, one for a name.
-use Rattle.std.specs.Prelude.{ℕ, List, [], ◌∷◌, not, Option, bytes_eq}
-use Rattle.std.specs.List.{filter, find}
-use Rattle.std.specs.Option.{option_map}
+use Rattle.std.specs.Prelude.{ℕ, List, [], ◌∷◌, not, bytes_eq}
+use Rattle.std.specs.List.{filter}
 use Rattle.std.specs.Ordering.{nat_cmp, match_ordering}
 use Rattle.std.specs.declared.cmp.Ordering.{Ordering}
 use Rattle.std.specs.Cmp.Lexicographic.{slice_cmp}
@@ -13,10 +12,6 @@ Entries A = List (List ℕ × A)
 -- the order of names, and of other lists of numbers: number by number, a beginning before what is longer
 abbrev pub name_cmp : List ℕ → List ℕ → Ordering
 name_cmp = slice_cmp nat_cmp
-
--- what a name has
-abbrev pub entry_of : {A : Type 0} → Entries A → List ℕ → Option A
-entry_of entries name = option_map (λ e. e.1) (find (λ e. bytes_eq e.0 name) entries)
 
 -- with this for this name
 abbrev pub put : {A : Type 0} → List ℕ → A → Entries A → Entries A

@@ -1,7 +1,6 @@
 -- Whether an event has happened in a snapshot, and what taking its branch does (ES 201 873-1, 20.2, 21.3, 22.2 and 23).
 use Rattle.std.specs.Prelude.{ℕ, Bool, true, false, not, List, [], ◌∷◌, ◌++◌, Option, Some, None, bytes_eq, if◌then◌else◌}
 use Rattle.std.specs.List.{find}
-use Rattle.std.specs.Option.{option_or}
 use Rattle.ttcn_syntax.specs.declared.tree.expression.ComponentRef.{ComponentRef}
 use Rattle.ttcn_syntax.specs.declared.tree.expression.Reference.{Reference}
 use Rattle.ttcn_syntax.specs.declared.tree.statement.Event.{Event}
@@ -18,14 +17,13 @@ use Rattle.check_scope.specs.declared.types.DataType.TheVariants as type
 use Rattle.check_statements.specs.Messages.{incoming, received_type}
 use Rattle.step_rules.specs.Branches.{Chance, Judge, Written, Fault, Open, read_by}
 use Rattle.step_rules.specs.Configurations.{Data, Message, same_path}
-use Rattle.step_rules.specs.Entries.{entry_of}
 use Rattle.step_rules.specs.Sites.{Site, scope_at}
 use Rattle.step_rules.specs.Snapshots.{Snapshot, Test, is_terminated_in, members_in, mtc_of, others_run, seen_members}
+use Rattle.ttcn_values.specs.Frames.{seen_entry}
 use Rattle.ttcn_values.specs.Matching.{is_match}
 use Rattle.ttcn_values.specs.Outcomes.{DynamicError, Fails, Failure, Outcome, Unmet, Yields, dynamic_error, outcome_and_then, outcome_map, unmet}
-use Rattle.ttcn_values.specs.Readings.{Reading, component_at}
+use Rattle.ttcn_values.specs.Readings.{Reading, component_at, component_referred}
 use Rattle.ttcn_values.specs.Templates.{template_wanted}
-use Rattle.ttcn_values.specs.Values as values
 use Rattle.ttcn_values.specs.declared.frame.TimerState.{TimerState}
 use Rattle.ttcn_values.specs.declared.frame.TimerState.TheVariants as timer
 use Rattle.ttcn_values.specs.declared.value.ComponentId.{ComponentId}
@@ -71,7 +69,7 @@ tried try (Fails why) = Faulty why
 -- the state of a timer
 abbrev pub timer_seen : Test → Snapshot → Data → Judge → List ℕ → Option TimerState
 timer_seen test snapshot own judge name =
-    option_or (entry_of judge.view.timers name) (entry_of (seen_members test judge.site (members_in snapshot own)).timers name)
+    seen_entry judge.view.timers (seen_members test judge.site (members_in snapshot own)).timers name
 
 -- `t.timeout`
 abbrev pub try_timeout : List ℕ → Option TimerState → Trial
@@ -83,7 +81,7 @@ try_timeout name (Some timer.Inactive) = Passed
 -- `c.done`: `null` is a dynamic error
 abbrev pub try_done : Snapshot → Reading → ComponentRef → Trial
 try_done snapshot reading reference =
-    tried (λ c. happened_if (is_terminated_in snapshot c.path)) (outcome_and_then values.component (component_at reading reference))
+    tried (λ c. happened_if (is_terminated_in snapshot c.path)) (component_referred reading reference)
 
 -- `all component.done`: a dynamic error elsewhere than on the MTC
 abbrev pub try_all_done : Test → Snapshot → Reading → Trial

@@ -1,15 +1,15 @@
 -- Snapshots, and what is read at a site (ES 201 873-1, 20.2 and 21.3).
 use Rattle.std.specs.Prelude.{ℕ, Bool, false, ◌&&◌, not, List, [], ◌∷◌, map, Option, Some, None, if◌then◌else◌}
 use Rattle.std.specs.List.{find, list_any}
-use Rattle.std.specs.Option.{option_map, option_or}
+use Rattle.std.specs.Option.{option_map}
 use Rattle.ttcn_syntax.specs.declared.tree.definition.Definition.{Definition}
 use Rattle.step_rules.specs.Configurations.{Component, Data, Frame, Going, Message, Queue, State, is_running_state, is_terminated_state, path_of, same_path}
-use Rattle.step_rules.specs.Entries.{Entries, entry_of}
+use Rattle.step_rules.specs.Entries.{Entries}
 use Rattle.step_rules.specs.Sites.{Site, runs_on}
 use Rattle.std.specs.Prelude.{is_some}
 use Rattle.ttcn_types.specs.Limits.{longest_chain}
 use Rattle.ttcn_values.specs.Chains.{within_chains}
-use Rattle.ttcn_values.specs.Frames.{is_running}
+use Rattle.ttcn_values.specs.Frames.{is_running, seen_entry}
 use Rattle.ttcn_values.specs.Outcomes.{or_error, unmet}
 use Rattle.ttcn_values.specs.Readings.{Reading}
 use Rattle.ttcn_values.specs.declared.frame.TimerState.{TimerState}
@@ -101,8 +101,8 @@ seen_members test site members = if is_some (runs_on test.definitions site.behav
 abbrev pub facts_of : Test → ComponentId → Snapshot → View → View → Reading
 facts_of test itself snapshot inner outer = record {
   definitions = test.definitions;
-  names = λ name. or_error (option_or (entry_of inner.values name) (entry_of outer.values name));
-  timers = λ name. option_map is_running (option_or (entry_of inner.timers name) (entry_of outer.timers name));
+  names = λ name. or_error (seen_entry inner.values outer.values name);
+  timers = λ name. option_map is_running (seen_entry inner.timers outer.timers name);
   running = runs_in snapshot;
   itself = itself;
   mtc = mtc_of test;

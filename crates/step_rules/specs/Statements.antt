@@ -31,7 +31,7 @@ use Rattle.check_scope.specs.PortTypes.{agrees, types_of_port}
 use Rattle.check_scope.specs.Typings.{type_known}
 use Rattle.check_scope.specs.declared.types.DataType.{DataType}
 use Rattle.check_statements.specs.Messages.{passage_at, port_meant, type_of_message}
-use Rattle.step_rules.specs.Branches.{Judge, Written, frame_with, guard_holds, written_alt, written_defaults}
+use Rattle.step_rules.specs.Branches.{Judge, Written, frame_with, written_alt, written_defaults}
 use Rattle.step_rules.specs.Configurations.{ActiveDefault, Component, Data, End, Frame, same_path}
 use Rattle.step_rules.specs.Creating.{child_of, new_component, new_members}
 use Rattle.step_rules.specs.Events.{Choice, Nothing, Refused, Taken, first_choice}
@@ -40,12 +40,12 @@ use Rattle.step_rules.specs.Sites.{Site, beginning, scope_at}
 use Rattle.step_rules.specs.Snapshots.{Snapshot, Test, last_view, reading_in}
 use Rattle.step_rules.specs.Storing.{declare, declare_timer, forget, going_on, in_last, set_timer, store, target_meant, with_calls}
 use Rattle.step_rules.specs.Taking.{port_taken, repeat_alt, taken}
+use Rattle.ttcn_values.specs.Evaluation.{condition_of}
 use Rattle.ttcn_values.specs.Literals.{value_wanted}
 use Rattle.ttcn_values.specs.Matching.{specific_value}
 use Rattle.ttcn_values.specs.Outcomes.{DynamicError, Failure, Fails, Outcome, Unmet, Yields, dynamic_error, outcome_and_then, outcome_map, unmet}
-use Rattle.ttcn_values.specs.Readings.{Reading, component_at, referred, timer_at}
+use Rattle.ttcn_values.specs.Readings.{Reading, component_referred, referred, timer_at}
 use Rattle.ttcn_values.specs.Templates.{arguments, template_wanted}
-use Rattle.ttcn_values.specs.Values as values
 use Rattle.ttcn_values.specs.declared.frame.TimerState.TheVariants as timer
 use Rattle.ttcn_values.specs.declared.path.Path.{Path}
 use Rattle.ttcn_values.specs.declared.value.ComponentId.{ComponentId}
@@ -245,7 +245,7 @@ go_either stand held failed false = go_on stand failed
 
 -- a condition is tested
 abbrev pub act_test : Stand → Site → Expr → List Item → List Item → Act
-act_test stand site e held failed = acting (go_either stand held failed) (guard_holds (reads stand site) (Some e))
+act_test stand site e held failed = acting (go_either stand held failed) (condition_of e (reads stand site))
 
 -- what follows a false condition of an `if`: the rest of the chain, or the block of its `else`
 abbrev pub otherwise : Stand → Site → Statement → ℕ → List Conditional → Option (List Statement) → List Item
@@ -304,7 +304,7 @@ act_return stand site (Some v) = acting (λ found. leave stand stand.below (Some
 
 -- the component that a reference means: `null` is a dynamic error
 abbrev pub component_meant_at : Stand → Site → ComponentRef → Outcome ComponentId
-component_meant_at stand site reference = outcome_and_then values.component (component_at (reads stand site) reference)
+component_meant_at stand site reference = component_referred (reads stand site) reference
 
 -- the type of a port of a component type, if it has such a port
 abbrev pub port_type : List Definition → ComponentId → List ℕ → Option (Option ℕ)

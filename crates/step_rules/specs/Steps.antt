@@ -7,12 +7,13 @@ use Rattle.std.specs.declared.cmp.Ordering.{Ordering}
 use Rattle.std.specs.declared.cmp.Ordering.TheVariants.{Less, Greater}
 use Rattle.ttcn_syntax.specs.declared.tree.statement.Verdict.{Verdict}
 use Rattle.ttcn_syntax.specs.declared.tree.statement.Verdict.TheVariants as verdict
-use Rattle.step_rules.specs.Configurations.{Component, Configuration, Connection, Created, Data, End, Ended, Frame, Goes, Going, Message, Running, State, Terminated, component_at, end_cmp, is_running_state, is_terminated_state, overall, path_cmp, path_of, same_path, with_component, worse}
-use Rattle.step_rules.specs.Entries.{Entries, entry_of, put}
+use Rattle.step_rules.specs.Configurations.{Component, Configuration, Connection, Created, Data, End, Ended, Frame, Goes, Going, Message, Queue, Running, State, Terminated, component_at, end_cmp, is_running_state, is_terminated_state, overall, path_cmp, path_of, same_path, with_component, worse}
+use Rattle.step_rules.specs.Entries.{Entries, put}
 use Rattle.step_rules.specs.Snapshots.{Test, mtc_of, snapshot_of}
 use Rattle.step_rules.specs.Statements.{Act, Connects, Continues, Creates, Errs, Removes, Sends, Starts, Stops, Waits, Worsens, act, same_end}
 use Rattle.step_rules.specs.Storing.{with_calls, with_members, with_timers}
 use Rattle.step_rules.specs.Taking.{uncovered}
+use Rattle.ttcn_values.specs.Frames.{entry}
 use Rattle.ttcn_values.specs.Outcomes.{Fails, Outcome, Yields, dynamic_error, outcome_map, unmet}
 use Rattle.ttcn_values.specs.declared.frame.TimerState.{TimerState}
 use Rattle.ttcn_values.specs.declared.frame.TimerState.TheVariants as timer
@@ -32,6 +33,11 @@ with_state state component = record { itself = component.itself; own = component
 abbrev pub with_verdict : Verdict → Component → Component
 with_verdict v component = record { itself = component.itself; own = component.own; state = component.state; verdict = worse component.verdict v; queues = component.queues }
 
+-- the queue of a port with other messages: a component has one queue for a port
+abbrev pub change_queue : List ℕ → (List Message → List Message) → List Queue → List Queue
+change_queue port change [] = []
+change_queue port change (queue ∷ queues) = if bytes_eq queue.0 port then (queue.0, change queue.1) ∷ queues else queue ∷ change_queue port change queues
+
 -- a change of the messages at a port
 abbrev pub at_queue : List ℕ → (List Message → List Message) → Component → Component
 at_queue port change component = record {
@@ -39,7 +45,7 @@ at_queue port change component = record {
   own = component.own;
   state = component.state;
   verdict = component.verdict;
-  queues = map (λ queue. if bytes_eq queue.0 port then (queue.0, change queue.1) else queue) component.queues;
+  queues = change_queue port change component.queues;
 }
 
 abbrev pub without_first : List Message → List Message
@@ -180,7 +186,7 @@ expire_in timers name (Some timer.Running) = Some (put name timer.Expired timers
 expire_in timers name _ = None
 
 abbrev pub expired_frame : List ℕ → Frame → Option Frame
-expired_frame name frame = option_map (λ timers. with_timers timers frame) (expire_in frame.timers name (entry_of frame.timers name))
+expired_frame name frame = option_map (λ timers. with_timers timers frame) (expire_in frame.timers name (entry frame.timers name))
 
 -- the frame of a number expires a timer: frames are counted from 1, the last one first in the list
 abbrev pub expired_call : ℕ → List ℕ → List Frame → Option (List Frame)

@@ -2,15 +2,16 @@
 use Rattle.std.specs.Prelude.{ℕ, Bool, true, false, List, [], ◌∷◌, Option, None}
 use Rattle.ttcn_syntax.specs.declared.tree.expression.Reference.{Reference}
 use Rattle.assignment.specs.Assignment.{assigned}
-use Rattle.check_expressions.specs.Expressions.{at_meaning}
+use Rattle.check_expressions.specs.Expressions.{check_meaning}
 use Rattle.check_scope.specs.Names.{Scope}
 use Rattle.check_scope.specs.Typings.{type_known}
 use Rattle.check_scope.specs.declared.types.DataType.{DataType}
 use Rattle.step_rules.specs.Configurations.{Data, Frame}
-use Rattle.step_rules.specs.Entries.{Entries, entry_of, put, without}
+use Rattle.step_rules.specs.Entries.{Entries, put, without}
 use Rattle.step_rules.specs.Items.{Item, Target}
 use Rattle.step_rules.specs.Sites.{Site, is_own, scope_at}
 use Rattle.step_rules.specs.Snapshots.{Test}
+use Rattle.ttcn_values.specs.Frames.{entry}
 use Rattle.ttcn_values.specs.Outcomes.{Outcome, outcome_map}
 use Rattle.ttcn_values.specs.declared.frame.TimerState.{TimerState}
 use Rattle.ttcn_values.specs.declared.frame.TimerState.TheVariants as timer
@@ -76,11 +77,11 @@ values_in false own = own.members.values
 -- a value goes to a target
 abbrev pub store : Test → Target → Value → Data → Outcome Data
 store test target v own = outcome_map (λ new. in_frame target.own (λ frame. with_values (put target.reference.name new frame.values) frame) own)
-    (assigned test.definitions target.data_type (entry_of (values_in target.own own) target.reference.name) target.reference.fields v)
+    (assigned test.definitions target.data_type (entry (values_in target.own own) target.reference.name) target.reference.fields v)
 
 -- the type of what a name stands for
 abbrev pub type_of_name : Scope → List ℕ → Option DataType
-type_of_name scope name = type_known (at_meaning scope.definitions (scope.names name)).typing
+type_of_name scope name = type_known (check_meaning scope.definitions (scope.names name)).typing
 
 -- the type that matters: that of a name with fields behind it
 abbrev pub type_for : List (List ℕ) → Option DataType → Option DataType
