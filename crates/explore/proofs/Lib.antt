@@ -1,11 +1,15 @@
 pub mod Conclusions
 pub mod Covering
+pub mod Expanding
 pub mod FirstPlaces
+pub mod Known
+pub mod LayerSteps
 pub mod Lists
 pub mod Outcome
 pub mod RunLabels
 pub mod RunOrder
 pub mod SearchSteps
+pub mod StepSums
 pub mod Sums
 pub mod Taken
 pub mod Ties

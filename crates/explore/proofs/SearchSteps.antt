@@ -2,24 +2,16 @@
 use Rattle.std.proofs.Common.{◌≡◌, ℕ, zero, suc, ◌+◌, ◌-◌, ◌<◌, ◌≤◌, Bool, true, false, cond, List, [], ◌∷◌, ◌++◌, length, drop, sym, refl, ap, subst, ◌∙◌, arith, append_assoc, add-one, add-zero, add-suc}
 use Rattle.std.specs.Prelude.{Option, All, Contains}
 use Rattle.std.specs.List.{list_any}
-use Rattle.std.proofs.lemmas.List.{map-append}
 use Rattle.std.proofs.lemmas.List.Elements.{All-nil, All-cons, All-head, All-tail, All-append, All-push, Contains-append_left, Contains-push}
 use Rattle.indexmap.specs.IndexSet.{insert_key}
 use Rattle.summary.specs.Graph.{Graph}
 use Rattle.summary.specs.Reading.{Join, Reading}
 use Rattle.explore.specs.declared.visited.Step.{Step}
 use Rattle.explore.specs.declared.visited.Candidate.{Candidate}
-use Rattle.explore.specs.Search.{Found, candidate_of, candidates_of, layer_candidates, with_labels, with_layer, place, place_all, advanced, next, found_after}
+use Rattle.explore.specs.Search.{Found, candidate_of, candidates_of, layer_candidates, with_layer, place, place_all, advanced, next, found_after}
 use Rattle.explore.specs.Tied.{as_found, Places}
 
 module _ {C L : Type 0} (g : Graph C L) where
-  -- a candidate more for one label more
-  pub candidates_more : (cs : List (Candidate C L)) (n : ℕ) (state : C) (labels : List L) (label : L) (after : C) → after ≡ g.after state label
-      → (cs ++ candidates_of g n state labels) ++ record { before = n; label = label; state = after } ∷ [] ≡ cs ++ candidates_of g n state (labels ++ label ∷ [])
-  candidates_more cs n state labels label after is =
-      ap (λ s. (cs ++ candidates_of g n state labels) ++ record { before = n; label = label; state = s } ∷ []) is
-      ∙ append_assoc cs _ _ ∙ ap (λ more. cs ++ more) (sym (map-append (candidate_of g n state) labels (label ∷ [])))
-
   module _ (F : C → Type 0) (goes : (s : C) (l : L) → F s → Contains (g.enabled s) l → F (g.after s l)) where
     -- what a front of the enabled labels leads to fits
     candidates_fit : (n : ℕ) (state : C) (front labels : List L) → front ++ labels ≡ g.enabled state → F state → All (λ c. F c.state) (candidates_of g n state labels)
@@ -37,10 +29,6 @@ module _ {C L : Type 0} (g : Graph C L) where
         (candidates_fit n s [] (g.enabled s) refl (All-head F s states f)) (layer_fits (n + 1) states (All-tail F s states f))
 
 module _ {C L S : Type 0} (j : Join S) (r : Reading C L S) where
-  pub with_labels_more : (state : C) (summary : S) (labels : List L) (label : L) → with_labels j r state summary (labels ++ label ∷ []) ≡ j.join (with_labels j r state summary labels) (r.by state label)
-  with_labels_more state summary [] label = refl
-  with_labels_more state summary (l ∷ ls) label = with_labels_more state (j.join summary (r.by state l)) ls label
-
   module _ (eq : C → C → Bool) where
     chosen : (b : Bool) (from : ℕ) (xs ys : List C) (ps qs : List (Option (Step L))) (s t : S)
         → as_found (cond b xs ys) (cond b ps qs) from (cond b s t) ≡ cond b (as_found xs ps from s) (as_found ys qs from t)

@@ -1,4 +1,5 @@
 pub mod Best
+pub mod Expansion
 pub mod Limits
 pub mod Ring
 pub mod Search

@@ -1,6 +1,6 @@
 -- The search layer by layer, as a function: what the code computes. No public contract cites it; the theory shows
 -- that it finds what is said of all runs.
-use Rattle.std.specs.Prelude.{ℕ, ◌+◌, zero, suc, Bool, List, [], ◌∷◌, ◌++◌, map, length, drop, Option, None, Some, if◌then◌else◌}
+use Rattle.std.specs.Prelude.{ℕ, ◌+◌, zero, suc, Bool, List, [], ◌∷◌, ◌++◌, map, length, drop, slice_index_or, Option, None, Some, if◌then◌else◌}
 use Rattle.std.specs.List.{list_any}
 use Rattle.summary.specs.Graph.{Graph}
 use Rattle.summary.specs.Reading.{Join, Reading}
@@ -37,6 +37,11 @@ module _ {C L S : Type 0} (j : Join S) (r : Reading C L S) where
   abbrev pub with_layer : Graph C L → S → List C → S
   with_layer g summary [] = summary
   with_layer g summary (state ∷ states) = with_layer g (with_labels state summary (g.enabled state)) states
+
+  -- a summary, and what the steps of these candidates show, each from its state before
+  abbrev pub with_steps : Graph C L → List C → S → List (Candidate C L) → S
+  with_steps g states summary [] = summary
+  with_steps g states summary (c ∷ cs) = with_steps g states (j.join summary (r.by (slice_index_or states c.before g.first) c.label)) cs
 
   module _ (eq : C → C → Bool) where
     -- a candidate is new if no state found so far is equal to its own

@@ -32,7 +32,7 @@ pub struct Answer<U, L> {
 /// `BadPlan` is answered before any memory is asked for, `TooMany` where more states than the plan's limit are
 /// reached, and `Memory` only where a request for memory was refused.
 pub fn explore<Y: System, U: Summary<Y>, G: Gate, R: Threads + Sync>(
-    _rt: &R,
+    rt: &R,
     alloc: Global,
     system: &Y,
     plan: &Plan,
@@ -57,7 +57,7 @@ pub fn explore<Y: System, U: Summary<Y>, G: Gate, R: Threads + Sync>(
     if !plan.is_within_limits() {
         return Err(ExploreError::BadPlan);
     }
-    let explored = search::<Y, U, G>(alloc, system, plan, gate)?;
+    let explored = search::<Y, U, G, R>(rt, alloc, system, plan, gate)?;
     let states = explored.visited.states.as_slice();
     let complete = is_quiet(alloc, system, &states[explored.from..])?;
     let best = best_runs(alloc, system, &explored.visited)?;

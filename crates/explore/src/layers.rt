@@ -1,61 +1,37 @@
 ghost use Rattle.std.specs.Prelude.{◌≡◌, ◌≢◌, ◌+◌, ◌^◌, ◌<◌, ◌≤◌, ℕ, [], ◌∷◌, ◌++◌, length, None, All, IfOk, OnOk, IsErrOf};
 ghost use Rattle.explore.specs.Limits.{IsWithinLimits};
-ghost use Rattle.explore.specs.Search.{candidates_of, layer_candidates, with_labels, with_layer, place_all, found_after};
+ghost use Rattle.explore.specs.Expansion.{IsStep};
+ghost use Rattle.explore.specs.Search.{with_steps, place_all, found_after};
 ghost use Rattle.explore.specs.Tied.{as_found, Places};
 ghost use Rattle.indexmap.specs.IndexSet.{insert_key};
 
+use crate::expand::expand_layer;
 use crate::plan::{ExploreError, Gate, Plan};
 use crate::visited::{Candidate, Step, Visited};
 use indexmap::IndexSet;
 use std::alloc::{AllocError, Global};
 use std::hash::Hash;
+use std::thread::Threads;
 use summary::{Summary, System};
 
-/// Adds a candidate for each enabled label of a state, and joins what each of these steps shows.
-fn expand_state<Y: System, U: Summary<Y>>(
+/// Joins what the steps of candidates show.
+fn join_steps<Y: System, U: Summary<Y>>(
     alloc: Global,
     system: &Y,
-    place: usize,
-    state: &Y::State,
-    candidates: &mut Vec<Candidate<Y::State, Y::Label>>,
+    states: &[Y::State],
+    candidates: &[Candidate<Y::State, Y::Label>],
     summary: U,
 ) -> Result<U, AllocError>
-    requires { Y.fits system.now state.now }
-    ensures candidates { OnOk result (candidates.new.items ≡ candidates.old.items ++ candidates_of (Y.graph system.now) place state.now ((Y.graph system.now).enabled state.now)) }
-    ensures summary { IfOk result (λ s. s ≡ with_labels U.joins (U.reading system.now) state.now summary ((Y.graph system.now).enabled state.now)) }
+    requires fits { All (Y.fits system.now) states.now }
+    requires steps { All (IsStep (Y.graph system.now) states.now) candidates.now }
+    ensures { IfOk result (λ s. s ≡ with_steps U.joins (U.reading system.now) (Y.graph system.now) states.now summary candidates.now) }
 {
     let mut summary = summary;
-    for label in system.labels(alloc, state)? {
-        summary = summary.join(alloc, U::by(alloc, system, state, &label)?)?;
-        let after = system.next(alloc, state, &label)?;
-        candidates.push(Candidate {
-            before: place,
-            label,
-            state: after,
-        })?;
+    for candidate in candidates {
+        let before = &states[candidate.before];
+        summary = summary.join(alloc, U::by(alloc, system, before, &candidate.label)?)?;
     }
     Ok(summary)
-}
-
-/// The candidates of a layer, whose first state is at place `from`, and the summary with what their steps show.
-fn expand_layer<Y: System, U: Summary<Y>>(
-    alloc: Global,
-    system: &Y,
-    from: usize,
-    layer: &[Y::State],
-    summary: U,
-) -> Result<(Vec<Candidate<Y::State, Y::Label>>, U), AllocError>
-    requires fits { All (Y.fits system.now) layer.now }
-    requires places { from + length layer.now < 2 ^ 64 }
-    ensures candidates { IfOk result (λ r. r.0.items ≡ layer_candidates (Y.graph system.now) from layer.now) }
-    ensures summary { IfOk result (λ r. r.1 ≡ with_layer U.joins (U.reading system.now) (Y.graph system.now) summary layer.now) }
-{
-    let mut candidates = Vec::new(alloc);
-    let mut summary = summary;
-    for (at, state) in layer.iter().enumerate() {
-        summary = expand_state(alloc, system, from + at, state, &mut candidates, summary)?;
-    }
-    Ok((candidates, summary))
 }
 
 /// Keeps the candidate's state unless it was found before, and then joins what it shows.
@@ -133,7 +109,8 @@ pub struct Explored<S: Eq + Hash, L, U> {
 }
 
 /// Searches layer by layer, up to the plan's steps.
-pub fn search<Y: System, U: Summary<Y>, G: Gate>(
+pub fn search<Y: System, U: Summary<Y>, G: Gate, R: Threads + Sync>(
+    rt: &R,
     alloc: Global,
     system: &Y,
     plan: &Plan,
@@ -152,13 +129,9 @@ pub fn search<Y: System, U: Summary<Y>, G: Gate>(
     let (mut visited, mut summary) = begin_search(alloc, system)?;
     let mut from = 0;
     for layer in 0..plan.steps {
-        let (candidates, shown) = expand_layer(
-            alloc,
-            system,
-            from,
-            &visited.states.as_slice()[from..],
-            summary,
-        )?;
+        let states = visited.states.as_slice();
+        let candidates = expand_layer(rt, alloc, system, from, &states[from..])?;
+        let shown = join_steps(alloc, system, states, &candidates, summary)?;
         from = visited.states.len();
         summary = place_layer(
             alloc,

@@ -3,6 +3,7 @@
 
 mod answer;
 pub mod example;
+mod expand;
 mod layers;
 mod plan;
 mod runs;

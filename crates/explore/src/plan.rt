@@ -33,7 +33,7 @@ impl Plan {
 }
 
 /// Hears where a worker begins a piece of a layer's candidates. It has no effect on the answer.
-pub trait Gate {
+pub trait Gate: Sync {
     fn enter(&self, worker: u64, layer: u64, piece: u64, pieces: u64);
 }
 

@@ -3,27 +3,29 @@ use super::rings::{PLAN, ring};
 use explore::example::Ring;
 use explore::{Gate, Plan, explore};
 use std::alloc::Global;
-use std::cell::RefCell;
 use std::process::Abort;
+use std::sync::{Mutex, Wait};
 use std::test::Fail;
 use std::thread::Threads;
 use summary::Verdicts;
 
 /// A gate that notes the calls that it hears: worker, layer, piece and pieces.
 #[derive(Drop)]
-struct Notes {
-    calls: RefCell<Vec<[u64; 4]>>,
+struct Notes<'a, R: Wait + Sync> {
+    rt: &'a R,
+    calls: Mutex<Vec<[u64; 4]>>,
 }
 
-impl Gate for Notes {
+impl<'a, R: Wait + Sync> Gate for Notes<'a, R> {
     fn enter(&self, worker: u64, layer: u64, piece: u64, pieces: u64) {
-        if let Ok(mut calls) = self.calls.try_borrow_mut() {
-            let _ = calls.push([worker, layer, piece, pieces]);
-        }
+        let _ = self
+            .calls
+            .lock(self.rt)
+            .push([worker, layer, piece, pieces]);
     }
 }
 
-fn check_gate<R: Threads + Sync + Abort>(
+fn check_gate<R: Threads + Wait + Sync + Abort>(
     rt: &R,
     alloc: Global,
     steps: u64,
@@ -36,9 +38,10 @@ fn check_gate<R: Threads + Sync + Abort>(
         ..PLAN
     };
     let notes = Notes {
-        calls: RefCell::new(Vec::new(alloc)),
+        rt,
+        calls: Mutex::new(Vec::new(alloc)),
     };
-    explore::<Ring, Verdicts, Notes, R>(rt, alloc, &ring(rt, 10), &plan, &notes)?;
+    explore::<Ring, Verdicts, Notes<R>, R>(rt, alloc, &ring(rt, 10), &plan, &notes)?;
     let heard = notes.calls.into_inner();
     assert!(rt;
         heard.as_slice() == calls,

@@ -1,4 +1,4 @@
-use Rattle.std.proofs.Common.{◌≡◌, ◌≤◌, ℕ, ap, sym, subst, ◌∙◌, [], length, drop, arith}
+use Rattle.std.proofs.Common.{List, ◌≡◌, ◌≤◌, ℕ, ap, sym, subst, ◌∙◌, [], length, drop, arith}
 use Rattle.std.specs.Prelude.{All}
 use Rattle.std.proofs.lemmas.List.{take_rest}
 use Rattle.std.proofs.lemmas.List.Elements.{All-nil, All-cons, All-drop}
@@ -6,6 +6,7 @@ use Rattle.std.proofs.lemmas.Result.{err_from_is_err_and}
 use Rattle.explore.specs.Search.{Found, found_after, layer_candidates, with_layer}
 use Rattle.explore.specs.Tied.{as_found}
 use Rattle.explore.proofs.SearchSteps.{layer_fits, place_all_fits, placed_grows, layer_done, layer_too_many}
+use Rattle.explore.proofs.LayerSteps.{are_steps, steps_shown}
 use Rattle.explore.proofs.layers.search.Goals as goal
 
 pub loop-layer-init : goal.loop-layer-init
@@ -17,24 +18,36 @@ loop-layer-init g c =
     let count : length c.in_ok-visited.visited.states.keys ≡ 1 = ap length e.states in
     record {
       found = λ i. as_found (e.states i) (e.steps i) 0 (e.summary i);
-      fits = subst (All fits) (sym e.states) (All-cons fits first [] (g.met.Y.System.first_fits c.args.system.now) (All-nil fits));
+      fits = subst (All fits) (sym e.states) (All-cons fits first [] ((g.met.Y.System g.world.𝓛 g.world.𝓜 g.world.𝓡 ((λ s x. x), (λ x. x), (λ x. x), λ x. x)).first_fits c.args.system.now) (All-nil fits));
       within = omega arith;
       from = omega arith;
     }
 
 pub expand_layer-requires-clause-fits : goal.expand_layer-requires-clause-fits
-expand_layer-requires-clause-fits g c =
+expand_layer-requires-clause-fits g c κs within =
     let fits = g.Y.System.fits c.args.system.now in
-    let layer = take_rest c.as_slice.result.now c.loop-layer.from ∙ ap (drop c.loop-layer.from) c.as_slice.ensures.keys in
+    let layer = take_rest c.as_slice-states.result.now c.loop-layer.from ∙ ap (drop c.loop-layer.from) c.as_slice-states.ensures.keys in
     subst (All fits) (sym layer) (All-drop fits c.loop-layer.from c.loop-layer.visited.states.keys c.loop-layer.invariant.fits)
 
+pub join_steps-requires-clause-fits : goal.join_steps-requires-clause-fits
+join_steps-requires-clause-fits g c κs within =
+    subst (All (g.Y.System.fits c.args.system.now)) (sym c.as_slice-states.ensures.keys) c.loop-layer.invariant.fits
+
+pub join_steps-requires-clause-steps : goal.join_steps-requires-clause-steps
+join_steps-requires-clause-steps g c κs within =
+    let graph = g.Y.System.graph c.args.system.now in
+    let states = c.as_slice-states.result.now in
+    are_steps graph states c.loop-layer.from c.deref.result.now
+    (subst (λ (ss : List _). c.loop-layer.from ≤ length ss) (sym c.as_slice-states.ensures.keys) c.loop-layer.invariant.from)
+    (c.deref.ensures.value ∙ c.in_ok-candidates.ensures ∙ ap (layer_candidates graph c.loop-layer.from) (take_rest states c.loop-layer.from))
+
 pub place_layer-requires-clause-fits : goal.place_layer-requires-clause-fits
-place_layer-requires-clause-fits g c =
+place_layer-requires-clause-fits g c κs within =
     let fits = g.Y.System.fits c.args.system.now in
     let graph = g.Y.System.graph c.args.system.now in
-    let layer = take_rest c.as_slice.result.now c.loop-layer.from ∙ ap (drop c.loop-layer.from) c.as_slice.ensures.keys in
-    subst (All (λ (k : _). fits k.state)) (sym (c.in_ok-candidates.ensures.candidates ∙ ap (layer_candidates graph c.loop-layer.from) layer))
-    (layer_fits graph fits (g.met.Y.System.after_fits c.args.system.now) c.loop-layer.from (drop c.loop-layer.from c.loop-layer.visited.states.keys)
+    let layer = take_rest c.as_slice-states.result.now c.loop-layer.from ∙ ap (drop c.loop-layer.from) c.as_slice-states.ensures.keys in
+    subst (All (λ (k : _). fits k.state)) (sym (c.in_ok-candidates.ensures ∙ ap (layer_candidates graph c.loop-layer.from) layer))
+    (layer_fits graph fits ((g.met.Y.System g.world.𝓛 g.world.𝓜 g.world.𝓡 ((λ s x. x), (λ x. x), (λ x. x), λ x. x)).after_fits c.args.system.now) c.loop-layer.from (drop c.loop-layer.from c.loop-layer.visited.states.keys)
     (All-drop fits c.loop-layer.from c.loop-layer.visited.states.keys c.loop-layer.invariant.fits))
 
 pub returns-in_err-summary-clause-too_many : goal.returns-in_err-summary-clause-too_many
@@ -44,12 +57,17 @@ returns-in_err-summary-clause-too_many g c many =
     let reading = g.U.Summary.reading c.args.system.now in
     let eq = g.Y.State.PartialEq.eq in
     let p = err_from_is_err_and c.from_residual-in_err-summary.result c.from_residual-in_err-summary.ensures.1 in
-    let layer = take_rest c.as_slice.result.now c.loop-layer.from ∙ ap (drop c.loop-layer.from) c.as_slice.ensures.keys in
+    let states = c.as_slice-states.result.now in
+    let shown_is = c.in_ok-shown.ensures
+    ∙ steps_shown graph states joins reading c.loop-layer.from c.loop-layer.summary c.deref.result.now
+    (c.deref.ensures.value ∙ c.in_ok-candidates.ensures ∙ ap (layer_candidates graph c.loop-layer.from) (take_rest states c.loop-layer.from))
+    ∙ ap (λ ss. with_layer joins reading graph c.loop-layer.summary (drop c.loop-layer.from ss)) c.as_slice-states.ensures.keys in
+    let layer = take_rest states c.loop-layer.from ∙ ap (drop c.loop-layer.from) c.as_slice-states.ensures.keys in
     layer_too_many graph joins reading eq c.loop-layer.layer c.args.plan.now.steps c.args.plan.now.limit c.loop-layer.from
-    c.loop-layer.visited.states.keys c.loop-layer.visited.steps.items c.loop-layer.summary c.in_ok-candidates.shown c.in_ok-candidates.candidates.items
+    c.loop-layer.visited.states.keys c.loop-layer.visited.steps.items c.loop-layer.summary c.in_ok-shown.shown c.in_ok-candidates.candidates.items
     c.loop-layer-test.true c.loop-layer.invariant.found
-    (c.in_ok-candidates.ensures.candidates ∙ ap (layer_candidates graph c.loop-layer.from) layer)
-    (c.in_ok-candidates.ensures.summary ∙ ap (with_layer joins reading graph c.loop-layer.summary) layer)
+    (c.in_ok-candidates.ensures ∙ ap (layer_candidates graph c.loop-layer.from) layer)
+    shown_is
     (c.in_err-summary.ensures.too_many (cc (p.1, p.2, many)))
 
 pub loop-layer-preserved : goal.loop-layer-preserved
@@ -59,26 +77,31 @@ loop-layer-preserved g c =
     let joins = g.U.Summary.joins in
     let reading = g.U.Summary.reading c.args.system.now in
     let eq = g.Y.State.PartialEq.eq in
-    let layer = take_rest c.as_slice.result.now c.loop-layer.from ∙ ap (drop c.loop-layer.from) c.as_slice.ensures.keys in
-    let cands = c.in_ok-candidates.ensures.candidates ∙ ap (layer_candidates graph c.loop-layer.from) layer in
-    let old = as_found c.loop-layer.visited.states.keys c.loop-layer.visited.steps.items 0 c.in_ok-candidates.shown in
+    let states = c.as_slice-states.result.now in
+    let shown_is = c.in_ok-shown.ensures
+    ∙ steps_shown graph states joins reading c.loop-layer.from c.loop-layer.summary c.deref.result.now
+    (c.deref.ensures.value ∙ c.in_ok-candidates.ensures ∙ ap (layer_candidates graph c.loop-layer.from) (take_rest states c.loop-layer.from))
+    ∙ ap (λ ss. with_layer joins reading graph c.loop-layer.summary (drop c.loop-layer.from ss)) c.as_slice-states.ensures.keys in
+    let layer = take_rest states c.loop-layer.from ∙ ap (drop c.loop-layer.from) c.as_slice-states.ensures.keys in
+    let cands = c.in_ok-candidates.ensures ∙ ap (layer_candidates graph c.loop-layer.from) layer in
+    let old = as_found c.loop-layer.visited.states.keys c.loop-layer.visited.steps.items 0 c.in_ok-shown.shown in
     let new_states = ap (λ (f : Found _ _ _). f.states) (c.in_ok-summary.ensures.placed 0) in
     record {
       found = layer_done graph joins reading eq c.loop-layer.layer c.loop-layer.from c.len-from.result
           c.loop-layer.visited.states.keys c.place_layer.new.visited.states.keys c.loop-layer.visited.steps.items c.place_layer.new.visited.steps.items
-          c.loop-layer.summary c.in_ok-candidates.shown c.in_ok-summary.summary c.in_ok-candidates.candidates.items
+          c.loop-layer.summary c.in_ok-shown.shown c.in_ok-summary.summary c.in_ok-candidates.candidates.items
           c.loop-layer.invariant.found cands
-          (c.in_ok-candidates.ensures.summary ∙ ap (with_layer joins reading graph c.loop-layer.summary) layer)
+          shown_is
           c.len-from.ensures.len c.in_ok-summary.ensures.placed;
       fits = subst (All fits) (sym new_states)
           (place_all_fits joins reading eq fits old c.in_ok-candidates.candidates.items c.loop-layer.invariant.fits
           (subst (All (λ (k : _). fits k.state)) (sym cands)
-          (layer_fits graph fits (g.met.Y.System.after_fits c.args.system.now) c.loop-layer.from (drop c.loop-layer.from c.loop-layer.visited.states.keys)
+          (layer_fits graph fits ((g.met.Y.System g.world.𝓛 g.world.𝓜 g.world.𝓡 ((λ s x. x), (λ x. x), (λ x. x), λ x. x)).after_fits c.args.system.now) c.loop-layer.from (drop c.loop-layer.from c.loop-layer.visited.states.keys)
           (All-drop fits c.loop-layer.from c.loop-layer.visited.states.keys c.loop-layer.invariant.fits))));
       within = c.in_ok-summary.ensures.within c.loop-layer.invariant.within;
       from =
           let grown = placed_grows joins reading eq c.loop-layer.visited.states.keys c.place_layer.new.visited.states.keys c.loop-layer.visited.steps.items
-          c.place_layer.new.visited.steps.items 0 c.in_ok-candidates.shown c.in_ok-summary.summary c.in_ok-candidates.candidates.items (c.in_ok-summary.ensures.placed 0) in
+          c.place_layer.new.visited.steps.items 0 c.in_ok-shown.shown c.in_ok-summary.summary c.in_ok-candidates.candidates.items (c.in_ok-summary.ensures.placed 0) in
           subst (λ (k : ℕ). k ≤ length c.place_layer.new.visited.states.keys) (sym c.len-from.ensures.len) grown;
     }
 

@@ -1,0 +1,24 @@
+-- A layer's candidates, put together from the successors of its states.
+use Rattle.std.specs.Prelude.{◌≡◌, ℕ, ◌+◌, ◌<◌, List, map, flat_map, length, slice_index_or, Contains}
+use Rattle.summary.specs.Graph.{Graph, with_after}
+use Rattle.explore.specs.declared.visited.Candidate.{Candidate}
+use Rattle.explore.specs.declared.expand.Expanded.{Expanded}
+
+module _ {C L : Type 0} where
+  -- a candidate for each successor of the state at a place
+  abbrev pub candidates_with : ℕ → List (L × C) → List (Candidate C L)
+  candidates_with place pairs = map (λ p. record { before = place; label = p.0; state = p.1 }) pairs
+
+  abbrev pub candidates_in : List (Expanded C L) → List (Candidate C L)
+  candidates_in states = flat_map (λ e. candidates_with e.place e.successors.items) states
+
+module _ {C L : Type 0} (g : Graph C L) where
+  -- the place of a state of the layer that begins at a place, and the state's successors
+  abbrev pub IsExpanded : ℕ → List C → ℕ → ℕ → List (L × C) → Type 0
+  IsExpanded from layer at place pairs =
+      (place ≡ from + at)
+      × (pairs ≡ with_after g (slice_index_or layer at g.first) (g.enabled (slice_index_or layer at g.first)))
+
+  -- the candidate is a step from one of these states by an enabled label
+  abbrev pub IsStep : List C → Candidate C L → Type 0
+  IsStep states c = (c.before < length states) × Contains (g.enabled (slice_index_or states c.before g.first)) c.label
