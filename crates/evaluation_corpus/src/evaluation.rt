@@ -7,11 +7,12 @@ use ttcn_values::{ComponentId, Fault, Frame, Path, Value, eval_template, eval_va
 
 /// What is told of a module: what `A` gives, or whether `T` matches that.
 pub fn told(alloc: Global, definitions: &Definitions<'_>) -> Result<String, AllocError> {
-    let running = [path(alloc, &[])?];
     let itself = component(alloc, &[1])?;
     let mtc = component(alloc, &[])?;
+    let running = [&mtc.path];
     let frame = Frame {
         definitions,
+        names: &[],
         locals: &[],
         members: &[],
         local_timers: &[],

@@ -3,8 +3,8 @@ use Rattle.std.proofs.Common.{◌≡◌, Bool, true, false, List, [], ◌∷◌,
 use Rattle.ttcn_syntax.specs.declared.tree.expression.Expr.{Expr}
 use Rattle.checker_laws.proofs.Nothing.{kept, nothing-first, nothing-rest}
 use Rattle.checker_laws.specs.Laws.{IsWhole}
-use Rattle.check_expressions.specs.Expressions.{Judged, expression}
-use Rattle.check_expressions.specs.Values.{at_expression}
+use Rattle.check_expressions.specs.Expressions.{Judgement, expression}
+use Rattle.check_expressions.specs.Values.{check_expression}
 use Rattle.check_scope.specs.Names.{Scope}
 use Rattle.check_scope.specs.Typings.{goes_to, unless}
 use Rattle.check_scope.specs.declared.rule.Rule.{Rule}
@@ -93,14 +93,14 @@ goes-valued t typing.Unknown goes = refl
 goes-valued t typing.NoValue goes = absurd (let e = goes in cc)
 
 -- an expression where a value of a type is wanted
-pub wanted_meets : (scope : Scope) (reading : Reading) → IsWhole scope → FitsIn scope reading → (strict : Bool) → AllIf strict scope reading → (t : DataType) (o : Bool) (e : Expr) → at_expression scope (Some t) e ≡ []
+pub wanted_meets : (scope : Scope) (reading : Reading) → IsWhole scope → FitsIn scope reading → (strict : Bool) → AllIf strict scope reading → (t : DataType) (o : Bool) (e : Expr) → check_expression scope (Some t) e ≡ []
     → Meets strict (value_of e reading) (λ v. value_goes v scope.definitions (record { data_type = Some t; optional = o }) ≡ true)
 wanted_meets scope reading whole fit strict all t o e nothing =
     meets_both strict (λ v. value_goes v scope.definitions (record { data_type = Some t; optional = o }) ≡ true) (value_of e reading) (wanted_goes scope reading whole fit t o e nothing) (λ is. is_met strict is all)
   where
     is_met : (demanded : Bool) → demanded ≡ true → AllIf demanded scope reading → IsMet (value_of e reading)
     is_met true is has =
-        let judged : Judged = expression e scope false in
+        let judged : Judgement = expression e scope false in
         let wanted : List Rule = unless (goes_to t judged.typing) rule.ValueType in
         expressions_met e scope reading whole fit has false (nothing-first judged.broken wanted nothing)
         (goes-valued t judged.typing (kept (goes_to t judged.typing) rule.ValueType (nothing-rest judged.broken wanted nothing)))

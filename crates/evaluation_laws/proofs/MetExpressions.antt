@@ -23,7 +23,7 @@ use Rattle.checker_laws.proofs.Typed.{component-typed, reference-typed}
 use Rattle.checker_laws.proofs.Typed.{expression_typed as expression_known}
 use Rattle.checker_laws.specs.Laws.{HasFieldType, IsWhole}
 use Rattle.check_expressions.specs.Expressions as said
-use Rattle.check_expressions.specs.Expressions.{Judged, Judgement, at_component, at_field, at_meaning, at_running, between, chained, demanding, expression, is_timer, names_timer, of_type, within}
+use Rattle.check_expressions.specs.Expressions.{Judgement, Judge, check_component, check_field, check_meaning, check_running, between, join_links, demand, expression, is_timer, names_timer, of_type, within}
 use Rattle.check_scope.specs.Names.{Scope, field_named, fields_at, module_names, resolved}
 use Rattle.check_scope.specs.Typings.{comparable, compares, operands_of, refers_to_component, result_of, target_of, typed}
 use Rattle.check_scope.specs.Typings as typings
@@ -166,7 +166,7 @@ module _ (definitions : List Definition) where
   state-there Value-F.Null at name goes there = absurd (let e = goes in cc)
   state-there Value-F.Omit at name goes there = absurd (let e = goes in cc)
 
-  field-is : (o : Option Field) → (at_field definitions o).broken ≡ [] → is_some o ≡ true
+  field-is : (o : Option Field) → (check_field definitions o).broken ≡ [] → is_some o ≡ true
   field-is (Some f) nothing = refl
   field-is None nothing = absurd (let e = nothing in cc)
 
@@ -195,12 +195,12 @@ module _ (definitions : List Definition) where
   known-typed None known is = cc
 
   module _ (fields_known : (at : ℕ) → All (HasFieldType definitions) (fields_at definitions at)) where
-    chosen-known : (b : Bool) (f : Field) (found : Option Field) → HasFieldType definitions f → ((at_field definitions found).broken ≡ [] → (at_field definitions found).typing ≢ typing.Unknown)
-        → (at_field definitions (if b then Some f else found)).broken ≡ [] → (at_field definitions (if b then Some f else found)).typing ≢ typing.Unknown
+    chosen-known : (b : Bool) (f : Field) (found : Option Field) → HasFieldType definitions f → ((check_field definitions found).broken ≡ [] → (check_field definitions found).typing ≢ typing.Unknown)
+        → (check_field definitions (if b then Some f else found)).broken ≡ [] → (check_field definitions (if b then Some f else found)).typing ≢ typing.Unknown
     chosen-known true f found known rest nothing = known-typed (resolved (module_names definitions) f.type_name) known
     chosen-known false f found known rest nothing = rest nothing
 
-    found-known : (test : Field → Bool) (fs : List Field) → All (HasFieldType definitions) fs → (at_field definitions (find test fs)).broken ≡ [] → (at_field definitions (find test fs)).typing ≢ typing.Unknown
+    found-known : (test : Field → Bool) (fs : List Field) → All (HasFieldType definitions) fs → (check_field definitions (find test fs)).broken ≡ [] → (check_field definitions (find test fs)).typing ≢ typing.Unknown
     found-known test [] known nothing = absurd (let e = nothing in cc)
     found-known test (f ∷ fs) known nothing =
         chosen-known (test f) f (find test fs) (All-head (HasFieldType definitions) f fs known) (found-known test fs (All-tail (HasFieldType definitions) f fs known)) nothing
@@ -244,12 +244,12 @@ module _ (definitions : List Definition) where
   typed-valued (Some t) = refl
   typed-valued None = refl
 
-  at_field-valued : (o : Option Field) → is_valued (at_field definitions o).typing ≡ true
-  at_field-valued (Some f) = typed-valued (resolved (module_names definitions) f.type_name)
-  at_field-valued None = refl
+  check_field-valued : (o : Option Field) → is_valued (check_field definitions o).typing ≡ true
+  check_field-valued (Some f) = typed-valued (resolved (module_names definitions) f.type_name)
+  check_field-valued None = refl
 
   within-valued : (t : Typing) (name : List ℕ) → is_valued (within definitions t name).typing ≡ true
-  within-valued (typing.Known (type.Record at)) name = at_field-valued (field_named name (fields_at definitions at))
+  within-valued (typing.Known (type.Record at)) name = check_field-valued (field_named name (fields_at definitions at))
   within-valued (typing.Known type.Integer) name = refl
   within-valued (typing.Known type.Boolean) name = refl
   within-valued (typing.Known type.Default) name = refl
@@ -271,8 +271,8 @@ module _ (definitions : List Definition) where
   no-fields [] nothing valued = let e = valued in cc
   no-fields (name ∷ names) nothing valued = let e = nothing in cc
 
-  name-there : (m : Option Meaning) (names : List (List ℕ)) → (at_meaning definitions m).broken ≡ [] → (said.along definitions (at_meaning definitions m).typing names).broken ≡ []
-      → is_valued (said.along definitions (at_meaning definitions m).typing names).typing ≡ true → names_value m ≡ true
+  name-there : (m : Option Meaning) (names : List (List ℕ)) → (check_meaning definitions m).broken ≡ [] → (said.along definitions (check_meaning definitions m).typing names).broken ≡ []
+      → is_valued (said.along definitions (check_meaning definitions m).typing names).typing ≡ true → names_value m ≡ true
   name-there (Some (meaning.Variable of)) names first rest valued = refl
   name-there (Some (meaning.Constant of)) names first rest valued = refl
   name-there (Some (meaning.ModuleConstant at item)) names first rest valued = refl
@@ -338,13 +338,13 @@ module _ (definitions : List Definition) where
 
 -- ---- demands that are kept
 
-demanding-kept : (b : Bool) (r : Rule) (t : DataType) → (demanding b r t).broken ≡ [] → b ≡ true
-demanding-kept true r t nothing = refl
-demanding-kept false r t nothing = absurd (let e = nothing in cc)
+demand-kept : (b : Bool) (r : Rule) (t : DataType) → (demand b r t).broken ≡ [] → b ≡ true
+demand-kept true r t nothing = refl
+demand-kept false r t nothing = absurd (let e = nothing in cc)
 
-demanding-known : (b : Bool) (r : Rule) (t : DataType) → (demanding b r t).broken ≡ [] → (demanding b r t).typing ≢ typing.Unknown
-demanding-known true r t nothing is = cc
-demanding-known false r t nothing is = let e = nothing in cc
+demand-known : (b : Bool) (r : Rule) (t : DataType) → (demand b r t).broken ≡ [] → (demand b r t).typing ≢ typing.Unknown
+demand-known true r t nothing is = cc
+demand-known false r t nothing is = let e = nothing in cc
 
 -- what is of a type has this typing, where its typing is known
 is-known : (wanted : DataType) (t : Typing) → t ≢ typing.Unknown → typings.is_of wanted t ≡ true → t ≡ typing.Known wanted
@@ -355,21 +355,17 @@ is-known wanted typing.NoValue known is = absurd (let e = is in cc)
 is-known wanted typing.Unknown known is = absurd (known refl)
 
 operand-kept : (wanted : DataType) (t : Typing) → t ≢ typing.Unknown → (of_type wanted t).broken ≡ [] → t ≡ typing.Known wanted
-operand-kept wanted t known nothing = is-known wanted t known (demanding-kept (typings.is_of wanted t) rule.OperandType wanted nothing)
-
--- what an operator demands of two operands
-abbrev demand : Operator → Typing → Typing → Bool
-demand op l r = if compares op then comparable l r else (typings.is_of (operands_of op) l && typings.is_of (operands_of op) r)
+operand-kept wanted t known nothing = is-known wanted t known (demand-kept (typings.is_of wanted t) rule.OperandType wanted nothing)
 
 -- two operands that an operator may have
 record AreKept (op : Operator) (l r : Typing) : Type 0 where
-  demands : demand op l r ≡ true
+  demands : said.takes op l r ≡ true
   is_typed : (between op l r).typing ≢ typing.Unknown
 
 between-kept : (op : Operator) (l r : Typing) → (between op l r).broken ≡ [] → AreKept op l r
 between-kept op l r nothing = record {
-  demands = demanding-kept (demand op l r) rule.OperandType (result_of op) nothing;
-  is_typed = demanding-known (demand op l r) rule.OperandType (result_of op) nothing;
+  demands = demand-kept (said.takes op l r) rule.OperandType (result_of op) nothing;
+  is_typed = demand-known (said.takes op l r) rule.OperandType (result_of op) nothing;
 }
 
 comparable-left : (l r : Typing) → comparable l r ≡ true → r ≢ typing.Unknown → is_valued l ≡ true
@@ -424,19 +420,19 @@ runs-valued typing.NoValue nothing = absurd (let e = nothing in cc)
 -- ---- references
 
 module _ (scope : Scope) (reading : Reading) (whole : IsWhole scope) (fits : FitsIn scope reading) (all : HasAll scope reading) where
-  meaning-known : (name : List ℕ) → (at_meaning scope.definitions (scope.names name)).broken ≡ [] → (at_meaning scope.definitions (scope.names name)).typing ≢ typing.Unknown
+  meaning-known : (name : List ℕ) → (check_meaning scope.definitions (scope.names name)).broken ≡ [] → (check_meaning scope.definitions (scope.names name)).typing ≢ typing.Unknown
   meaning-known name nothing = reference-typed scope whole (record { name = name; fields = [] }) (ap (λ l. l ++ []) nothing)
 
-  reference-met : (reference : Reference) → (said.at_reference scope reference).broken ≡ [] → is_valued (said.at_reference scope reference).typing ≡ true → IsMet (referred reading reference)
+  reference-met : (reference : Reference) → (said.check_reference scope reference).broken ≡ [] → is_valued (said.check_reference scope reference).typing ≡ true → IsMet (referred reading reference)
   reference-met reference nothing valued =
-      let found : Judged = at_meaning scope.definitions (scope.names reference.name) in
+      let found : Judgement = check_meaning scope.definitions (scope.names reference.name) in
       let first : found.broken ≡ [] = nothing-first found.broken (said.along scope.definitions found.typing reference.fields).broken nothing in
       let rest = nothing-rest found.broken (said.along scope.definitions found.typing reference.fields).broken nothing in
       subst (λ ds. IsMet (along ds reference.fields (named reading reference.name))) (sym fits.definitions)
       (along-met scope.definitions whole.fields reference.fields found.typing (named reading reference.name) (meaning-known reference.name first) rest
       (all.values reference.name (name-there scope.definitions (scope.names reference.name) reference.fields first rest valued)) (fits.names reference.name))
 
-  component-met : (c : ComponentRef) (free : Bool) → (at_component scope c free).broken ≡ [] → is_valued (at_component scope c free).typing ≡ true → IsMet (component_at reading c)
+  component-met : (c : ComponentRef) (free : Bool) → (check_component scope c free).broken ≡ [] → is_valued (check_component scope c free).typing ≡ true → IsMet (component_at reading c)
   component-met component.Itself free nothing valued = tt
   component-met component.Mtc free nothing valued = tt
   component-met (component.Named reference) free nothing valued = reference-met reference nothing valued
@@ -465,60 +461,60 @@ module _ (scope : Scope) (reading : Reading) (whole : IsWhole scope) (fits : Fit
   component-value typing.Unknown v known nothing of = absurd (known refl)
 
   runs-at : (c : ComponentRef) (b : Bool) → names_timer scope c ≡ b
-      → (if b then said.fine (typing.Known type.Boolean) else said.after (at_component scope c true).broken (said.runs (at_component scope c true).typing)).broken ≡ []
+      → (if b then said.fine (typing.Known type.Boolean) else said.after (check_component scope c true).broken (said.runs (check_component scope c true).typing)).broken ≡ []
       → (timer : Option Bool) → timer_at reading c ≡ timer → IsMet (runs_at reading c timer)
   runs-at c b is nothing (Some r) timed = tt
   runs-at c true is nothing None timed = absurd (not-there (timer_at reading c) timed (timer-there c is))
   runs-at c false is nothing None timed =
-      let found : Judged = at_component scope c true in
+      let found : Judgement = check_component scope c true in
       let first : found.broken ≡ [] = nothing-first found.broken (said.runs found.typing).broken nothing in
       let rest : (said.runs found.typing).broken ≡ [] = nothing-rest found.broken (said.runs found.typing).broken nothing in
       met-then (IsOfTyping scope.definitions found.typing) (component_runs reading) (component_at reading c) (component-met c true first (runs-valued found.typing rest))
       (component-goes scope reading fits c true)
       (λ v of. met-map _ (values.component v) (component-value found.typing v (component-typed scope whole c true first) rest of))
 
-  running-met : (c : ComponentRef) → (at_running scope c).broken ≡ [] → IsMet (runs reading c)
+  running-met : (c : ComponentRef) → (check_running scope c).broken ≡ [] → IsMet (runs reading c)
   running-met c nothing = runs-at c (names_timer scope c) refl nothing (timer_at reading c) refl
 
   -- ---- presence
 
-  presence-met : (name : List ℕ) (fields : List (List ℕ)) → (at_meaning scope.definitions (scope.names name)).broken ≡ []
-      → (said.along scope.definitions (at_meaning scope.definitions (scope.names name)).typing fields).broken ≡ []
-      → (demanding (said.names_field fields) rule.Fields type.Boolean).broken ≡ []
+  presence-met : (name : List ℕ) (fields : List (List ℕ)) → (check_meaning scope.definitions (scope.names name)).broken ≡ []
+      → (said.along scope.definitions (check_meaning scope.definitions (scope.names name)).typing fields).broken ≡ []
+      → (demand (said.names_field fields) rule.Fields type.Boolean).broken ≡ []
       → IsMet (outcome_and_then (presence scope.definitions fields) (named reading name))
   presence-met name [] first rest nothing = absurd (let e = nothing in cc)
   presence-met name (f ∷ fields) first rest nothing =
-      let t : Typing = (at_meaning scope.definitions (scope.names name)).typing in
+      let t : Typing = (check_meaning scope.definitions (scope.names name)).typing in
       met-then (IsOfTyping scope.definitions t) (presence scope.definitions (f ∷ fields)) (named reading name)
       (all.values name (name-there scope.definitions (scope.names name) (f ∷ fields) first rest (along-valued scope.definitions fields (within scope.definitions t f).typing (within-valued scope.definitions t f))))
       (fits.names name) (λ v of. last-met scope.definitions whole.fields f fields t v (meaning-known name first) rest of)
 
-  ispresent-met : (reference : Reference) → (said.at_ispresent scope reference).broken ≡ []
+  ispresent-met : (reference : Reference) → (said.check_ispresent scope reference).broken ≡ []
       → IsMet (outcome_and_then (presence reading.definitions reference.fields) (named reading reference.name))
   ispresent-met reference nothing =
-      let found : Judged = at_meaning scope.definitions (scope.names reference.name) in
-      let fields : Judged = said.along scope.definitions found.typing reference.fields in
-      let fine : (said.at_reference scope reference).broken ≡ [] = nothing-first (said.at_reference scope reference).broken (demanding (said.names_field reference.fields) rule.Fields type.Boolean).broken nothing in
+      let found : Judgement = check_meaning scope.definitions (scope.names reference.name) in
+      let fields : Judgement = said.along scope.definitions found.typing reference.fields in
+      let fine : (said.check_reference scope reference).broken ≡ [] = nothing-first (said.check_reference scope reference).broken (demand (said.names_field reference.fields) rule.Fields type.Boolean).broken nothing in
       subst (λ ds. IsMet (outcome_and_then (presence ds reference.fields) (named reading reference.name))) (sym fits.definitions)
       (presence-met reference.name reference.fields (nothing-first found.broken fields.broken fine) (nothing-rest found.broken fields.broken fine)
-      (nothing-rest (said.at_reference scope reference).broken (demanding (said.names_field reference.fields) rule.Fields type.Boolean).broken nothing))
+      (nothing-rest (said.check_reference scope reference).broken (demand (said.names_field reference.fields) rule.Fields type.Boolean).broken nothing))
 
   -- ---- operands
 
-  abbrev Progress : Judgement → Outcome Value → Type 0
+  abbrev Progress : Judge → Outcome Value → Type 0
   Progress judgement found = (free : Bool) → (judgement scope free).broken ≡ [] → is_valued (judgement scope free).typing ≡ true → IsMet found
 
-  abbrev Known : Judgement → Type 0
+  abbrev Known : Judge → Type 0
   Known judgement = (free : Bool) → (judgement scope free).broken ≡ [] → (judgement scope free).typing ≢ typing.Unknown
 
-  abbrev OfType : Judgement → Outcome Value → Type 0
+  abbrev OfType : Judge → Outcome Value → Type 0
   OfType judgement found = (free : Bool) → IfYields found (IsOfTyping scope.definitions (judgement scope free).typing)
 
   -- an operand that is demanded to be of a type
-  operand-met : (wanted : DataType) (judgement : Judgement) (found : Outcome Value) → Known judgement → OfType judgement found → Progress judgement found
+  operand-met : (wanted : DataType) (judgement : Judge) (found : Outcome Value) → Known judgement → OfType judgement found → Progress judgement found
       → (said.operand wanted (judgement scope false)).broken ≡ [] → IsMet found × IfYields found (λ v. is_of scope.definitions wanted v ≡ true)
   operand-met wanted judgement found known of progress nothing =
-      let judged : Judged = judgement scope false in
+      let judged : Judgement = judgement scope false in
       let first : judged.broken ≡ [] = nothing-first judged.broken (of_type wanted judged.typing).broken nothing in
       let is : judged.typing ≡ typing.Known wanted =
       operand-kept wanted judged.typing (known false first) (nothing-rest judged.broken (of_type wanted judged.typing).broken nothing) in
@@ -533,12 +529,12 @@ module _ (scope : Scope) (reading : Reading) (whole : IsWhole scope) (fits : Fit
       chosen true on = tt
       chosen false on = on refl
 
-  module _ (op : Operator) (l r : Judgement) (found right : Outcome Value) (free : Bool) (l_known : Known l) (r_known : Known r) (l_of : OfType l found) (r_of : OfType r right)
-      (l_met : Progress l found) (r_met : Progress r right) (nothing : (said.joined op l r scope free).broken ≡ []) where
-    abbrev left : Judged
+  module _ (op : Operator) (l r : Judge) (found right : Outcome Value) (free : Bool) (l_known : Known l) (r_known : Known r) (l_of : OfType l found) (r_of : OfType r right)
+      (l_met : Progress l found) (r_met : Progress r right) (nothing : (said.join_link op l r scope free).broken ≡ []) where
+    abbrev left : Judgement
     left = l scope (compares op)
 
-    abbrev other : Judged
+    abbrev other : Judgement
     other = r scope (compares op)
 
     left-fine : left.broken ≡ []
@@ -569,7 +565,7 @@ module _ (scope : Scope) (reading : Reading) (whole : IsWhole scope) (fits : Fit
 -- ---- expressions
 
 -- what is met where it breaks no rule
-abbrev pub IsProgress : Evaluation → Judgement → Type 0
+abbrev pub IsProgress : Evaluation → Judge → Type 0
 IsProgress evaluation judgement = (scope : Scope) (reading : Reading) → IsWhole scope → FitsIn scope reading → HasAll scope reading → (free : Bool) → (judgement scope free).broken ≡ []
     → is_valued (judgement scope free).typing ≡ true → IsMet (evaluation reading)
 
@@ -583,7 +579,7 @@ link-is : (l : Link) → (link l).1 ≡ value_of (out-Link l).operand
 link-is l = ap (λ (p : Operator × Evaluation). p.1) (fold_out-Link Evaluation (Operator × Evaluation) expression_step link_step l)
 
 said-is : (l : Link) → (said.link l).1 ≡ expression (out-Link l).operand
-said-is l = ap (λ (p : Operator × Judgement). p.1) (fold_out-Link Judgement (Operator × Judgement) said.expression_step said.link_step l)
+said-is l = ap (λ (p : Operator × Judge). p.1) (fold_out-Link Judge (Operator × Judge) said.expression_step said.link_step l)
 
 module _ (scope : Scope) (reading : Reading) (whole : IsWhole scope) (fits : FitsIn scope reading) (all : HasAll scope reading) where
   link-known : (l : Link) → Known scope reading whole fits all (said.link l).1
@@ -595,31 +591,31 @@ module _ (scope : Scope) (reading : Reading) (whole : IsWhole scope) (fits : Fit
       (subst (λ (f : Evaluation). OfType scope reading whole fits all (expression (out-Link l).operand) (f reading)) (sym (link-is l))
       (λ free. expression_typed (out-Link l).operand scope free reading fits))
 
-  step-met : (first : Judgement) (found : Outcome Value) (l : HeldLink) → Known scope reading whole fits all first → OfType scope reading whole fits all first found → Progress scope reading whole fits all first found
-      → (free : Bool) → (said.joined (said.link l.0).0 first (said.link l.0).1 scope free).broken ≡ [] → IsMet (outcome_and_then (joined reading (link l.0)) found)
+  step-met : (first : Judge) (found : Outcome Value) (l : HeldLink) → Known scope reading whole fits all first → OfType scope reading whole fits all first found → Progress scope reading whole fits all first found
+      → (free : Bool) → (said.join_link (said.link l.0).0 first (said.link l.0).1 scope free).broken ≡ [] → IsMet (outcome_and_then (joined reading (link l.0)) found)
   step-met first found l known of met free nothing =
       subst (λ op. IsMet (outcome_and_then (λ v. if decides op v then Yields v else outcome_and_then (applied op v) ((link l.0).1 reading)) found)) (sym (same-operator scope reading fits l.0))
       (links-met scope reading whole fits all (said.link l.0).0 first (said.link l.0).1 found ((link l.0).1 reading) free known (link-known l.0) of (link-of l.0) met
       (λ f n valued. l.1 scope reading whole fits all f n valued) nothing)
 
-  step-known : (first : Judgement) (l : Link) → Known scope reading whole fits all first → Known scope reading whole fits all (said.joined (said.link l).0 first (said.link l).1)
+  step-known : (first : Judge) (l : Link) → Known scope reading whole fits all first → Known scope reading whole fits all (said.join_link (said.link l).0 first (said.link l).1)
   step-known first l known free nothing =
       let op : Operator = (said.link l).0 in
-      let left : Judged = first scope (compares op) in
-      let other : Judged = (said.link l).1 scope (compares op) in
+      let left : Judgement = first scope (compares op) in
+      let other : Judgement = (said.link l).1 scope (compares op) in
       let rest = nothing-rest left.broken (other.broken ++ (between op left.typing other.typing).broken) nothing in
       (between-kept op left.typing other.typing (nothing-rest other.broken (between op left.typing other.typing).broken rest)).is_typed
 
-  chained-met : (links : List HeldLink) (first : Judgement) (found : Outcome Value) → Known scope reading whole fits all first → OfType scope reading whole fits all first found → Progress scope reading whole fits all first found
-      → Progress scope reading whole fits all (chained first (map said.link (map (λ l. l.0) links))) (after reading found (map link (map (λ l. l.0) links)))
-  chained-met [] first found known of met = met
-  chained-met (l ∷ links) first found known of met =
-      chained-met links (said.joined (said.link l.0).0 first (said.link l.0).1) (outcome_and_then (joined reading (link l.0)) found)
+  join_links-met : (links : List HeldLink) (first : Judge) (found : Outcome Value) → Known scope reading whole fits all first → OfType scope reading whole fits all first found → Progress scope reading whole fits all first found
+      → Progress scope reading whole fits all (join_links first (map said.link (map (λ l. l.0) links))) (after reading found (map link (map (λ l. l.0) links)))
+  join_links-met [] first found known of met = met
+  join_links-met (l ∷ links) first found known of met =
+      join_links-met links (said.join_link (said.link l.0).0 first (said.link l.0).1) (outcome_and_then (joined reading (link l.0)) found)
       (step-known first l.0 known) (λ free. joined-goes scope reading fits first found l.0 free) (λ free nothing valued. step-met first found l known of met free nothing)
 
 abbrev LevelMet : Expr-F Expr Link → Type 0
 LevelMet x = IsProgress (expression_step (map-Expr Expr Link Evaluation (Operator × Evaluation) value_of link x))
-    (said.expression_step (map-Expr Expr Link Judgement (Operator × Judgement) expression said.link x))
+    (said.expression_step (map-Expr Expr Link Judge (Operator × Judge) expression said.link x))
 
 expr-met : (y : Expr-F HeldExpr HeldLink) → LevelMet (map-Expr HeldExpr HeldLink Expr Link (λ e. e.0) (λ l. l.0) y)
 expr-met (Expr-F.Int n) = λ scope reading whole fits all free nothing valued. fitting-met (integers.within (pos n))
@@ -637,12 +633,12 @@ expr-met (Expr-F.Signed s e) = λ scope reading whole fits all free nothing valu
     (λ f. expression_typed e.0 scope f reading fits) (λ f n v. e.1 scope reading whole fits all f n v) nothing in
     met-then (λ v. is_of scope.definitions type.Integer v ≡ true) (under_sign s) (value_of e.0 reading) found.0 found.1 (λ v is. under-sign-met scope.definitions s v is)
 expr-met (Expr-F.Chain first links) = λ scope reading whole fits all free nothing valued.
-    chained-met scope reading whole fits all links (expression first.0) (value_of first.0 reading) (λ f n. expression_known first.0 scope f whole n)
+    join_links-met scope reading whole fits all links (expression first.0) (value_of first.0 reading) (λ f n. expression_known first.0 scope f whole n)
     (λ f. expression_typed first.0 scope f reading fits) (λ f n v. first.1 scope reading whole fits all f n v) free nothing valued
 
 abbrev LevelLink : Link-F Expr Link → Type 0
 LevelLink x = IsProgress (link_step (map-Link Expr Link Evaluation (Operator × Evaluation) value_of link x)).1
-    (said.link_step (map-Link Expr Link Judgement (Operator × Judgement) expression said.link x)).1
+    (said.link_step (map-Link Expr Link Judge (Operator × Judge) expression said.link x)).1
 
 link-met : (y : Link-F HeldExpr HeldLink) → LevelLink (map-Link HeldExpr HeldLink Expr Link (λ e. e.0) (λ l. l.0) y)
 link-met y = y.operand.1
@@ -651,8 +647,8 @@ link-met y = y.operand.1
 pub expressions_met : (e : Expr) → IsProgress (value_of e) (expression e)
 expressions_met = ind-Expr (λ e. IsProgress (value_of e) (expression e)) (λ l. IsProgress (link l).1 (said.link l).1) (λ x y is.
     subst (λ f. IsProgress f (expression (roll-Expr x))) (sym (fold-roll-Expr Evaluation (Operator × Evaluation) expression_step link_step x))
-    (subst (λ j. IsProgress (expression_step (map-Expr Expr Link Evaluation (Operator × Evaluation) value_of link x)) j) (sym (fold-roll-Expr Judgement (Operator × Judgement) said.expression_step said.link_step x))
+    (subst (λ j. IsProgress (expression_step (map-Expr Expr Link Evaluation (Operator × Evaluation) value_of link x)) j) (sym (fold-roll-Expr Judge (Operator × Judge) said.expression_step said.link_step x))
     (subst LevelMet is (expr-met y)))) (λ x y is.
     subst (λ (f : Operator × Evaluation). IsProgress f.1 (said.link (roll-Link x)).1) (sym (fold-roll-Link Evaluation (Operator × Evaluation) expression_step link_step x))
-    (subst (λ (j : Operator × Judgement). IsProgress (link_step (map-Link Expr Link Evaluation (Operator × Evaluation) value_of link x)).1 j.1) (sym (fold-roll-Link Judgement (Operator × Judgement) said.expression_step said.link_step x))
+    (subst (λ (j : Operator × Judge). IsProgress (link_step (map-Link Expr Link Evaluation (Operator × Evaluation) value_of link x)).1 j.1) (sym (fold-roll-Link Judge (Operator × Judge) said.expression_step said.link_step x))
     (subst LevelLink is (link-met y))))

@@ -22,10 +22,10 @@ use Rattle.checker_laws.proofs.Nothing.{kept, nothing-first, nothing-rest}
 use Rattle.checker_laws.proofs.Whole.{definition_is_fine, module_whole, parameters_whole}
 use Rattle.checker_laws.specs.Laws.{IsWhole}
 use Rattle.check_expressions.specs.Calls.{parameters_of, template_type}
-use Rattle.check_expressions.specs.Targets.{at_new_name, at_type}
+use Rattle.check_expressions.specs.Targets.{check_new_name, check_type}
 use Rattle.check_expressions.specs.Templates.{template}
 use Rattle.check_expressions.specs.Values.{value as checked}
-use Rattle.check_statements.specs.Definitions.{at_parameter, in_module_constants, in_parameters, parameter_entry, with_parameters}
+use Rattle.check_statements.specs.Definitions.{check_parameter, check_module_constants, check_parameters, parameter_entry, with_parameters}
 use Rattle.check_scope.specs.Names.{Entry, Names, Scope, constant_at, constant_entries, constant_of, constants_type, declaring, entries_at, entries_from, kind_at, listed, module_names, resolved, template_at, template_of, type_meant}
 use Rattle.check_scope.specs.Scopes.{module_scope}
 use Rattle.check_scope.specs.Typings.{target_of, typed}
@@ -52,7 +52,7 @@ use Rattle.ttcn_values.specs.declared.value.Value.TheVariants as value
 
 -- ---- parameters have their types
 
-type-known : (names : Names) (with_default : Bool) (t : TypeName) → at_type names with_default t ≡ [] → is_some (resolved names t) ≡ true
+type-known : (names : Names) (with_default : Bool) (t : TypeName) → check_type names with_default t ≡ [] → is_some (resolved names t) ≡ true
 type-known names with_default type_name.Integer nothing = refl
 type-known names with_default type_name.Boolean nothing = refl
 type-known names with_default type_name.Default nothing = refl
@@ -77,24 +77,24 @@ module _ (definitions : List Definition) where
   resolved-known scope type_name.Default types known = refl
   resolved-known scope (type_name.Named name) types known = subst (λ o. is_some o ≡ true) (types name) known
 
-  each-known : (scope : Scope) (ps : List Parameter) → Types scope → in_parameters scope ps ≡ [] → All (HasParameterType definitions) ps
+  each-known : (scope : Scope) (ps : List Parameter) → Types scope → check_parameters scope ps ≡ [] → All (HasParameterType definitions) ps
   each-known scope [] types nothing = All-nil (HasParameterType definitions)
   each-known scope (p ∷ ps) types nothing =
       let next : Scope = declaring scope (parameter_entry scope p ∷ []) in
-      let here : List Rule = at_parameter scope p in
-      let others : List Rule = in_parameters next ps in
-      let name : List Rule = at_new_name scope.names p.name in
-      let type : List Rule = at_type scope.names true p.type_name in
+      let here : List Rule = check_parameter scope p in
+      let others : List Rule = check_parameters next ps in
+      let name : List Rule = check_new_name scope.names p.name in
+      let type : List Rule = check_type scope.names true p.type_name in
       let fine : here ≡ [] = nothing-first here others nothing in
       let new : scope.names p.name ≡ None = none-is (scope.names p.name) (kept (is_none (scope.names p.name)) rule.DuplicateName (nothing-first name type fine)) in
       All-cons (HasParameterType definitions) p ps (resolved-known scope p.type_name types (type-known scope.names true p.type_name (nothing-rest name type fine)))
       (each-known next ps (types-next scope p types new) (nothing-rest here others nothing))
 
-  parameters-fine : AreWellTyped definitions → (t : TemplateDefinition) (at : ℕ) → kind_at definitions at ≡ Some (kind.Template t) → in_parameters (module_scope definitions) t.parameters ≡ []
+  parameters-fine : AreWellTyped definitions → (t : TemplateDefinition) (at : ℕ) → kind_at definitions at ≡ Some (kind.Template t) → check_parameters (module_scope definitions) t.parameters ≡ []
   parameters-fine well t at is =
       let scope : Scope = module_scope definitions in
-      let type_fine : List Rule = at_type scope.names false t.type_name in
-      let parameters : List Rule = in_parameters scope t.parameters in
+      let type_fine : List Rule = check_type scope.names false t.type_name in
+      let parameters : List Rule = check_parameters scope t.parameters in
       let body : List Rule = template t.template (with_parameters scope t.parameters) (target_of (resolved (module_names definitions) t.type_name)) in
       nothing-rest type_fine parameters (nothing-first (type_fine ++ parameters) body (definition_is_fine definitions well at (kind.Template t) is))
 
@@ -102,8 +102,8 @@ module _ (definitions : List Definition) where
       → template t.template (with_parameters (module_scope definitions) t.parameters) (target_of (resolved (module_names definitions) t.type_name)) ≡ []
   body-fine well t at is =
       let scope : Scope = module_scope definitions in
-      let type_fine : List Rule = at_type scope.names false t.type_name in
-      let parameters : List Rule = in_parameters scope t.parameters in
+      let type_fine : List Rule = check_type scope.names false t.type_name in
+      let parameters : List Rule = check_parameters scope t.parameters in
       let body : List Rule = template t.template (with_parameters scope t.parameters) (target_of (resolved (module_names definitions) t.type_name)) in
       nothing-rest (type_fine ++ parameters) body (definition_is_fine definitions well at (kind.Template t) is)
 
@@ -378,8 +378,8 @@ module _ (reading : Reading) (well : AreWellTyped reading.definitions) where
       → IsMet (value_wanted c.value (family n (λ name. unmet)) (constants_type (module_names reading.definitions) k))
   constant-of n at item (Some (kind.Constants cs)) is c found =
       let of = resolved (module_names reading.definitions) cs.type_name in
-      let type_fine : List Rule = at_type (module_names reading.definitions) false cs.type_name in
-      let parts : List Rule = in_module_constants (module_scope reading.definitions) of cs.constants in
+      let type_fine : List Rule = check_type (module_names reading.definitions) false cs.type_name in
+      let parts : List Rule = check_module_constants (module_scope reading.definitions) of cs.constants in
       let fine = definition_is_fine reading.definitions well at (kind.Constants cs) is in
       constant-value n c of (type-known (module_names reading.definitions) false cs.type_name (nothing-first type_fine parts fine))
       (constants-fine (module_scope reading.definitions) of cs.constants item c (nothing-rest type_fine parts fine) found)

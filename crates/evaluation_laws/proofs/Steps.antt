@@ -19,13 +19,13 @@ use Rattle.ttcn_syntax.specs.declared.tree.definition.TemplateDefinition.{Templa
 use Rattle.ttcn_syntax.specs.declared.tree.statement.Constant.{Constant}
 use Rattle.checker_laws.proofs.Nothing.{kept, nothing-first, nothing-rest}
 use Rattle.checker_laws.proofs.Whole.{definition_is_fine}
-use Rattle.check_statements.specs.Definitions.{at_parameter, in_parameters, parameter_entry, with_parameters}
+use Rattle.check_statements.specs.Definitions.{check_parameter, check_parameters, parameter_entry, with_parameters}
 use Rattle.check_scope.specs.Scopes.{module_scope}
 use Rattle.check_scope.specs.Names.{Scope, constant_at, constants_type, declaring, kind_at, module_names, resolved, template_at, template_of}
 use Rattle.ttcn_types.specs.Parts.{constant_parts, number_at, template_parts, written_out}
 use Rattle.ttcn_types.specs.Rules.{AreWellTyped}
 use Rattle.ttcn_types.specs.Rules.Breaks.{size}
-use Rattle.check_expressions.specs.Targets.{at_new_name, at_type}
+use Rattle.check_expressions.specs.Targets.{check_new_name, check_type}
 use Rattle.check_expressions.specs.Templates.{template, template_meant}
 use Rattle.check_scope.specs.Typings.{target_of}
 use Rattle.check_scope.specs.declared.names.Meaning.{Meaning}
@@ -73,14 +73,14 @@ module _ (definitions : List Definition) where
       templates = λ name. template-kept (bytes_eq p.name name) name refl;
     }
 
-  parameters-keep : (scope : Scope) (ps : List Parameter) → in_parameters scope ps ≡ [] → Keeps definitions scope → Keeps definitions (with_parameters scope ps)
+  parameters-keep : (scope : Scope) (ps : List Parameter) → check_parameters scope ps ≡ [] → Keeps definitions scope → Keeps definitions (with_parameters scope ps)
   parameters-keep scope [] nothing keeps = keeps
   parameters-keep scope (p ∷ ps) nothing keeps =
-      let here : List Rule = at_parameter scope p in
+      let here : List Rule = check_parameter scope p in
       let next : Scope = declaring scope (parameter_entry scope p ∷ []) in
-      let others : List Rule = in_parameters next ps in
+      let others : List Rule = check_parameters next ps in
       let new : scope.names p.name ≡ None =
-      none-is (scope.names p.name) (kept (is_none (scope.names p.name)) rule.DuplicateName (nothing-first (at_new_name scope.names p.name) (at_type scope.names true p.type_name) (nothing-first here others nothing))) in
+      none-is (scope.names p.name) (kept (is_none (scope.names p.name)) rule.DuplicateName (nothing-first (check_new_name scope.names p.name) (check_type scope.names true p.type_name) (nothing-first here others nothing))) in
       parameters-keep next ps (nothing-rest here others nothing) (parameter-keeps scope p keeps new)
 
   pub kind-of-template : (k : Option DefinitionKind) (t : TemplateDefinition) → template_of k ≡ Some t → k ≡ Some (kind.Template t)
@@ -98,8 +98,8 @@ module _ (definitions : List Definition) where
   template-keeps : AreWellTyped definitions → (at : ℕ) (t : TemplateDefinition) → template_at definitions at ≡ Some t → Keeps definitions (with_parameters (module_scope definitions) t.parameters)
   template-keeps well at t is =
       let scope : Scope = module_scope definitions in
-      let type_fine : List Rule = at_type scope.names false t.type_name in
-      let parameters : List Rule = in_parameters scope t.parameters in
+      let type_fine : List Rule = check_type scope.names false t.type_name in
+      let parameters : List Rule = check_parameters scope t.parameters in
       let body : List Rule = template t.template (with_parameters scope t.parameters) (target_of (resolved scope.names t.type_name)) in
       let fine = definition_is_fine definitions well at (kind.Template t) (kind-of-template (kind_at definitions at) t is) in
       parameters-keep scope t.parameters (nothing-rest type_fine parameters (nothing-first (type_fine ++ parameters) body fine)) module-keeps

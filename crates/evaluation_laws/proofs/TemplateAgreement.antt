@@ -25,7 +25,7 @@ use Rattle.ttcn_values.specs.Chains.{Outcomes, with_outcomes}
 use Rattle.ttcn_values.specs.Literals.{type_of_field, wanted_record}
 use Rattle.ttcn_values.specs.Outcomes.{Fails, Outcome, Yields, each, or_unmet, outcome_and_then, outcome_map, unmet}
 use Rattle.ttcn_values.specs.Readings.{Reading}
-use Rattle.ttcn_values.specs.Templates.{Wanted, argument, arguments, as_pattern, at_bound, at_name, at_range, body_step, body_wanted, by_name, element, element_named, field_template, field_template_step, in_order, parts_of, plain, record_at, template_called, template_of_name, template_step, template_wanted, with_ifpresent}
+use Rattle.ttcn_values.specs.Templates.{Wanted, argument, arguments, as_pattern, value_of_bound, template_of_expression, template_of_range, body_step, body_wanted, by_name, element, element_named, field_template, field_template_step, in_order, parts_of, plain, record_at, template_called, template_of_name, template_step, template_wanted, with_ifpresent}
 use Rattle.ttcn_values.specs.Values.{integer}
 use Rattle.ttcn_values.specs.declared.template.Pattern.TheVariants as pattern
 use Rattle.ttcn_values.specs.declared.template.Template.{Template}
@@ -74,25 +74,25 @@ module _ (base : Reading) (one other : Outcomes) (scope : Scope) (keeps : Keeps 
 
   -- ---- expressions and the names of templates
 
-  at-name-same : (e : Expr) (at : Option ℕ) → Agrees (of_name scope e at) → at_name here e at ≡ at_name there e at
+  at-name-same : (e : Expr) (at : Option ℕ) → Agrees (of_name scope e at) → template_of_expression here e at ≡ template_of_expression there e at
   at-name-same e None all = ap (outcome_and_then as_pattern) (expression_same base one other scope keeps e all)
   at-name-same e (Some at) all = called-same (Some at) [] (subst (λ ds. Agrees (of_template ds (Some at))) keeps.same all) tt
 
-  by-name-same : (e : Expr) (name : Option (List ℕ)) → Agrees (of_name scope e (template_by_name scope name)) → at_name here e (template_of_name here name) ≡ at_name there e (template_of_name there name)
+  by-name-same : (e : Expr) (name : Option (List ℕ)) → Agrees (of_name scope e (template_by_name scope name)) → template_of_expression here e (template_of_name here name) ≡ template_of_expression there e (template_of_name there name)
   by-name-same e None all = at-name-same e None all
   by-name-same e (Some name) all =
       at-name-same e (template_meant (module_names base.definitions name)) (subst (λ at. Agrees (of_name scope e at)) (keeps.templates name) all)
 
   -- ---- ranges
 
-  bound-same : (b : Bound) → Agrees (of_bound scope b) → at_bound here b ≡ at_bound there b
+  bound-same : (b : Bound) → Agrees (of_bound scope b) → value_of_bound here b ≡ value_of_bound there b
   bound-same (bound.Expr e) all = ap (outcome_and_then (λ v. outcome_map Some (or_unmet (integer v)))) (expression_same base one other scope keeps e all)
   bound-same bound.Infinity all = refl
 
-  range-same : (low high : Bound) → Agrees (of_bound scope low) → Agrees (of_bound scope high) → at_range here low high ≡ at_range there low high
+  range-same : (low high : Bound) → Agrees (of_bound scope low) → Agrees (of_bound scope high) → template_of_range here low high ≡ template_of_range there low high
   range-same low high low_agrees high_agrees =
-      ap (λ h. outcome_and_then (λ l. outcome_map (λ u. plain (pattern.Range l u)) h) (at_bound here low)) (bound-same high high_agrees)
-      ∙ ap (outcome_and_then (λ l. outcome_map (λ u. plain (pattern.Range l u)) (at_bound there high))) (bound-same low low_agrees)
+      ap (λ h. outcome_and_then (λ l. outcome_map (λ u. plain (pattern.Range l u)) h) (value_of_bound here low)) (bound-same high high_agrees)
+      ∙ ap (outcome_and_then (λ l. outcome_map (λ u. plain (pattern.Range l u)) (value_of_bound there high))) (bound-same low low_agrees)
 
   -- ---- parts
 

@@ -22,13 +22,13 @@ use Rattle.ttcn_types.proofs.Meanings.{EachMeans, IfMeans, means-append, means-l
 use Rattle.checker_laws.proofs.Nothing.{kept, nothing-first, nothing-rest}
 use Rattle.checker_laws.proofs.Whole.{definition_is_fine, module_whole, parameters_whole}
 use Rattle.check_expressions.specs.Calls.{parameters_of, template_type}
-use Rattle.check_statements.specs.Definitions.{at_parameter, at_part, in_fields, in_module_constants, in_parameters, parameter_entry, with_parameters}
+use Rattle.check_statements.specs.Definitions.{check_parameter, check_part, check_fields, check_module_constants, check_parameters, parameter_entry, with_parameters}
 use Rattle.check_scope.specs.Scopes.{module_scope}
-use Rattle.check_expressions.specs.Expressions.{at_meaning}
+use Rattle.check_expressions.specs.Expressions.{check_meaning}
 use Rattle.checker_laws.specs.Laws.{IsWhole}
 use Rattle.check_scope.specs.Names.{Entry, Names, Scope, constant_entries, constant_of, constants_type, declaring, entries_at, entries_from, field_named, fields_of, kind_at, module_names, resolved, template_of, type_meant}
 use Rattle.ttcn_types.specs.Rules.{AreWellTyped}
-use Rattle.check_expressions.specs.Targets.{at_new_name, at_type}
+use Rattle.check_expressions.specs.Targets.{check_new_name, check_type}
 use Rattle.check_expressions.specs.Templates.{template, template_meant}
 use Rattle.check_scope.specs.Typings.{typed, unless}
 use Rattle.check_scope.specs.Typings.{target_of}
@@ -92,12 +92,12 @@ new-here before name f is =
     (or_parts (list_any (bytes_eq f.name) before) (list_any (bytes_eq f.name) (name ∷ [])) (sym (list_any-append (bytes_eq f.name) before (name ∷ [])) ∙ is)).1).0
 
 module _ (names : Names) where
-  fields-new : (before : List (List ℕ)) (fields : List Field) → in_fields names before fields ≡ [] → All (IsNew before) fields
+  fields-new : (before : List (List ℕ)) (fields : List Field) → check_fields names before fields ≡ [] → All (IsNew before) fields
   fields-new before [] nothing = All-nil (IsNew before)
   fields-new before (f ∷ fs) nothing =
       let new : List Rule = unless (not (list_any (bytes_eq f.name) before)) rule.DuplicateName in
-      let part : List Rule = at_part names f.type_name in
-      let others : List Rule = in_fields names (before ++ f.name ∷ []) fs in
+      let part : List Rule = check_part names f.type_name in
+      let others : List Rule = check_fields names (before ++ f.name ∷ []) fs in
       All-cons (IsNew before) f fs (not-true (list_any (bytes_eq f.name) before) (kept (not (list_any (bytes_eq f.name) before)) rule.DuplicateName (nothing-first new part (nothing-first (new ++ part) others nothing))))
       (all-imply (IsNew (before ++ f.name ∷ [])) (IsNew before) fs (new-earlier before f.name) (fields-new (before ++ f.name ∷ []) fs (nothing-rest (new ++ part) others nothing)))
 
@@ -109,12 +109,12 @@ module _ (names : Names) where
   found-later false f g o is found = found
   found-later true f g o is found = absurd (let e = is in cc)
 
-  fields-own : (before : List (List ℕ)) (fields : List Field) → in_fields names before fields ≡ [] → All (IsOwn fields) fields
+  fields-own : (before : List (List ℕ)) (fields : List Field) → check_fields names before fields ≡ [] → All (IsOwn fields) fields
   fields-own before [] nothing = All-nil (IsOwn [])
   fields-own before (f ∷ fs) nothing =
       let new : List Rule = unless (not (list_any (bytes_eq f.name) before)) rule.DuplicateName in
-      let part : List Rule = at_part names f.type_name in
-      let others : List Rule = in_fields names (before ++ f.name ∷ []) fs in
+      let part : List Rule = check_part names f.type_name in
+      let others : List Rule = check_fields names (before ++ f.name ∷ []) fs in
       let rest : others ≡ [] = nothing-rest (new ++ part) others nothing in
       All-cons (IsOwn (f ∷ fs)) f fs (found-first (bytes_eq f.name f.name) f (field_named f.name fs) (bytes-same f.name))
       (all-both (IsNew (before ++ f.name ∷ [])) (IsOwn fs) (IsOwn (f ∷ fs)) fs
@@ -202,7 +202,7 @@ TemplatesFit definitions reading = (at : ℕ) (values : List Value) → AreGiven
     → IfYields (reading.templates at values) (λ t. IfSome (template_type definitions (kind_at definitions at)) (λ of. template_goes t definitions (target_of (Some of)) ≡ true))
 
 meaning-fits : (definitions : List Definition) (reading : Reading) → reading.definitions ≡ definitions → ConstantsFit definitions reading → (name : List ℕ) (m : Option Meaning) → IfMeans IsOfModule m
-    → IfYields (by_meaning reading name m) (IsOfTyping definitions (at_meaning definitions m).typing)
+    → IfYields (by_meaning reading name m) (IsOfTyping definitions (check_meaning definitions m).typing)
 meaning-fits definitions reading is constants name (Some (meaning.ModuleConstant at item)) of = constants at item
 meaning-fits definitions reading is constants name (Some (meaning.Enumerator at)) of =
     subst (λ ds. IfYields (enumerated ds at name) (λ v. is_of definitions (type.Enumerated at) v ≡ true)) (sym is) (enumerated-fits definitions at name)
@@ -214,7 +214,7 @@ meaning-fits definitions reading is constants name _ of = if-any (λ v. Unit {0}
 pub module-fits : (reading : Reading) (definitions : List Definition) → reading.definitions ≡ definitions → ConstantsFit definitions reading → TemplatesFit definitions reading → FitsIn (module_scope definitions) reading
 module-fits reading definitions is constants templates = record {
   definitions = is;
-  names = λ name. subst (λ ds. IfYields (by_meaning reading name (module_names ds name)) (IsOfTyping definitions (at_meaning definitions (module_names definitions name)).typing)) (sym is)
+  names = λ name. subst (λ ds. IfYields (by_meaning reading name (module_names ds name)) (IsOfTyping definitions (check_meaning definitions (module_names definitions name)).typing)) (sym is)
       (meaning-fits definitions reading is constants name (module_names definitions name) (names-of-module definitions name));
   itself = tt;
   template_names = λ name. refl;
@@ -300,7 +300,7 @@ module _ (reading : Reading) where
         subst (λ o. IfYields o (IsOfTyping scope.definitions (typed (resolved scope.names p.type_name)))) (sym its-value)
         (subst (λ t. IsOfTyping scope.definitions (typed t) v) (same-resolved p.type_name) of)
 
-    name-fits : (b : Bool) (name : List ℕ) → bytes_eq p.name name ≡ b → IfYields (named reading name) (IsOfTyping scope.definitions (at_meaning scope.definitions (with b (scope.names name))).typing)
+    name-fits : (b : Bool) (name : List ℕ) → bytes_eq p.name name ≡ b → IfYields (named reading name) (IsOfTyping scope.definitions (check_meaning scope.definitions (with b (scope.names name))).typing)
     name-fits true name is = subst (λ n. IfYields (named reading n) (IsOfTyping scope.definitions (typed (resolved scope.names p.type_name)))) ((bytes_decides p.name name).0 is) value-fits
     name-fits false name is = behind.fits.names name
 
@@ -350,42 +350,42 @@ module _ (reading : Reading) where
       templates = has.templates;
     }
 
-  parameters-have : (scope : Scope) (ps : List Parameter) (vs : List Value) → in_parameters scope ps ≡ [] → AreGiven scope.definitions ps vs → Behind scope ps vs → HasAll scope reading → HasAll (with_parameters scope ps) reading
+  parameters-have : (scope : Scope) (ps : List Parameter) (vs : List Value) → check_parameters scope ps ≡ [] → AreGiven scope.definitions ps vs → Behind scope ps vs → HasAll scope reading → HasAll (with_parameters scope ps) reading
   parameters-have scope [] [] nothing are behind has = has
   parameters-have scope [] (v ∷ vs) nothing are behind has = absurd are
   parameters-have scope (p ∷ ps) [] nothing are behind has = absurd are
   parameters-have scope (p ∷ ps) (v ∷ vs) nothing are behind has =
-      let here : List Rule = at_parameter scope p in
+      let here : List Rule = check_parameter scope p in
       let behind_it : Scope = declaring scope (parameter_entry scope p ∷ []) in
-      let others : List Rule = in_parameters behind_it ps in
+      let others : List Rule = check_parameters behind_it ps in
       let new : scope.names p.name ≡ None =
-      none-is (scope.names p.name) (kept (is_none (scope.names p.name)) rule.DuplicateName (nothing-first (at_new_name scope.names p.name) (at_type scope.names true p.type_name) (nothing-first here others nothing))) in
+      none-is (scope.names p.name) (kept (is_none (scope.names p.name)) rule.DuplicateName (nothing-first (check_new_name scope.names p.name) (check_type scope.names true p.type_name) (nothing-first here others nothing))) in
       parameters-have behind_it ps vs (nothing-rest here others nothing) are.1 (next-behind scope p ps v vs behind new are.0) (next-has scope p ps v vs behind new are.0 has)
 
-  parameters-fit : (scope : Scope) (ps : List Parameter) (vs : List Value) → in_parameters scope ps ≡ [] → AreGiven scope.definitions ps vs → Behind scope ps vs → FitsIn (with_parameters scope ps) reading
+  parameters-fit : (scope : Scope) (ps : List Parameter) (vs : List Value) → check_parameters scope ps ≡ [] → AreGiven scope.definitions ps vs → Behind scope ps vs → FitsIn (with_parameters scope ps) reading
   parameters-fit scope [] [] nothing are behind = behind.fits
   parameters-fit scope [] (v ∷ vs) nothing are behind = absurd are
   parameters-fit scope (p ∷ ps) [] nothing are behind = absurd are
   parameters-fit scope (p ∷ ps) (v ∷ vs) nothing are behind =
-      let here : List Rule = at_parameter scope p in
+      let here : List Rule = check_parameter scope p in
       let behind_it : Scope = declaring scope (parameter_entry scope p ∷ []) in
-      let others : List Rule = in_parameters behind_it ps in
+      let others : List Rule = check_parameters behind_it ps in
       let new : scope.names p.name ≡ None =
-      none-is (scope.names p.name) (kept (is_none (scope.names p.name)) rule.DuplicateName (nothing-first (at_new_name scope.names p.name) (at_type scope.names true p.type_name) (nothing-first here others nothing))) in
+      none-is (scope.names p.name) (kept (is_none (scope.names p.name)) rule.DuplicateName (nothing-first (check_new_name scope.names p.name) (check_type scope.names true p.type_name) (nothing-first here others nothing))) in
       parameters-fit behind_it ps vs (nothing-rest here others nothing) are.1 (next-behind scope p ps v vs behind new are.0)
 
 -- ---- what the module's constants and templates give
 
-pub constants-fine : (scope : Scope) (of : Option DataType) (constants : List Constant) (item : ℕ) (c : Constant) → in_module_constants scope of constants ≡ [] → slice_get constants item ≡ Some c
+pub constants-fine : (scope : Scope) (of : Option DataType) (constants : List Constant) (item : ℕ) (c : Constant) → check_module_constants scope of constants ≡ [] → slice_get constants item ≡ Some c
     → checked c.value scope (target_of of) ≡ []
 constants-fine scope of [] item c nothing is = absurd (let e = is in cc)
 constants-fine scope of (d ∷ constants) zero c nothing is =
-    subst (λ k. checked k.value scope (target_of of) ≡ []) (some-constant d c is) (nothing-first (checked d.value scope (target_of of)) (in_module_constants scope of constants) nothing)
+    subst (λ k. checked k.value scope (target_of of) ≡ []) (some-constant d c is) (nothing-first (checked d.value scope (target_of of)) (check_module_constants scope of constants) nothing)
   where
     some-constant : (d c : Constant) → Some d ≡ Some c → d ≡ c
     some-constant d c is = cc
 constants-fine scope of (d ∷ constants) (suc item) c nothing is =
-    constants-fine scope of constants item c (nothing-rest (checked d.value scope (target_of of)) (in_module_constants scope of constants) nothing) is
+    constants-fine scope of constants item c (nothing-rest (checked d.value scope (target_of of)) (check_module_constants scope of constants) nothing) is
 
 module _ (definitions : List Definition) (well : AreWellTyped definitions) where
   abbrev whole : IsWhole (module_scope definitions)
@@ -403,10 +403,10 @@ module _ (definitions : List Definition) (well : AreWellTyped definitions) where
     constant-found at cs is item None found = tt
     constant-found at cs is item (Some c) found =
         let of = resolved (module_names definitions) cs.type_name in
-        let type_fine : List Rule = at_type (module_names definitions) false cs.type_name in
+        let type_fine : List Rule = check_type (module_names definitions) false cs.type_name in
         value-of c (family (λ name. unmet)) (fits (λ name. unmet)) of
         (constants-fine (module_scope definitions) of cs.constants item c
-        (nothing-rest type_fine (in_module_constants (module_scope definitions) of cs.constants) (definition_is_fine definitions well at (kind.Constants cs) is)) found)
+        (nothing-rest type_fine (check_module_constants (module_scope definitions) of cs.constants) (definition_is_fine definitions well at (kind.Constants cs) is)) found)
 
     constant-fits : (at item : ℕ) (k : Option DefinitionKind) → kind_at definitions at ≡ k
         → IfYields (constant_value (family (λ name. unmet)) (constant_of k item) (constants_type (module_names definitions) k)) (IsOfTyping definitions (typed (constants_type (module_names definitions) k)))
@@ -422,7 +422,7 @@ module _ (definitions : List Definition) (well : AreWellTyped definitions) where
     constant-fits at item None is = tt
 
     -- a reading with the parameters of a template
-    pub given-fits : (t : TemplateDefinition) (values : List Value) → in_parameters (module_scope definitions) t.parameters ≡ [] → AreGiven definitions t.parameters values
+    pub given-fits : (t : TemplateDefinition) (values : List Value) → check_parameters (module_scope definitions) t.parameters ≡ [] → AreGiven definitions t.parameters values
         → FitsIn (with_parameters (module_scope definitions) t.parameters) (family (given_to t.parameters values))
     given-fits t values nothing are =
         parameters-fit (family (given_to t.parameters values)) (module_scope definitions) t.parameters values nothing are (record {
@@ -432,7 +432,7 @@ module _ (definitions : List Definition) (well : AreWellTyped definitions) where
           given = λ name none. has (given_to t.parameters values) name;
         })
 
-    pub given-has : (t : TemplateDefinition) (values : List Value) → in_parameters (module_scope definitions) t.parameters ≡ [] → AreGiven definitions t.parameters values
+    pub given-has : (t : TemplateDefinition) (values : List Value) → check_parameters (module_scope definitions) t.parameters ≡ [] → AreGiven definitions t.parameters values
         → HasAll (module_scope definitions) (family (given_to t.parameters values)) → HasAll (with_parameters (module_scope definitions) t.parameters) (family (given_to t.parameters values))
     given-has t values nothing are all =
         parameters-have (family (given_to t.parameters values)) (module_scope definitions) t.parameters values nothing are (record {
@@ -458,8 +458,8 @@ module _ (definitions : List Definition) (well : AreWellTyped definitions) where
     template-found at t is values are =
         let scope : Scope = module_scope definitions in
         let of = resolved (module_names definitions) t.type_name in
-        let type_fine : List Rule = at_type scope.names false t.type_name in
-        let parameters : List Rule = in_parameters scope t.parameters in
+        let type_fine : List Rule = check_type scope.names false t.type_name in
+        let parameters : List Rule = check_parameters scope t.parameters in
         let body : List Rule = template t.template (with_parameters scope t.parameters) (target_of of) in
         let fine = definition_is_fine definitions well at (kind.Template t) is in
         let parameters_fine : parameters ≡ [] = nothing-rest type_fine parameters (nothing-first (type_fine ++ parameters) body fine) in

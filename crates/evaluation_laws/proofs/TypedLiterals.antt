@@ -13,12 +13,12 @@ use Rattle.ttcn_syntax.specs.declared.tree.expression.Link.{Link}
 use Rattle.checker_laws.proofs.Nothing.{kept, nothing-first, nothing-rest}
 use Rattle.checker_laws.proofs.Typed.{expression_typed as expression_known}
 use Rattle.check_expressions.specs.Expressions as said
-use Rattle.check_expressions.specs.Expressions.{Judged, Judgement, any_component, at_component, at_field, at_meaning, at_running, at_self, between, chained, demanding, expression, names_timer, of_type, within}
+use Rattle.check_expressions.specs.Expressions.{Judgement, Judge, any_component, check_component, check_field, check_meaning, check_running, check_self, between, join_links, demand, expression, names_timer, of_type, within}
 use Rattle.checker_laws.specs.Laws.{IsWhole}
 use Rattle.check_scope.specs.Names.{Scope, constants_type, field_named, fields_at, kind_at, module_names, resolved}
 use Rattle.check_scope.specs.Typings.{comparable, compares, fits, goes_to, operands_of, refers_to_component, result_of, same_type, typed, unless}
 use Rattle.check_scope.specs.Typings as typings
-use Rattle.check_expressions.specs.Values.{at_expression}
+use Rattle.check_expressions.specs.Values.{check_expression}
 use Rattle.check_scope.specs.declared.names.Meaning.{Meaning}
 use Rattle.check_scope.specs.declared.names.Meaning.TheVariants as meaning
 use Rattle.check_scope.specs.declared.rule.Rule.{Rule}
@@ -43,20 +43,20 @@ is_any typing.AnyComponent = true
 is_any _ = false
 
 -- where it breaks no rule, its typing is not that of components of all types
-abbrev NotAny : Judged → Type 0
+abbrev NotAny : Judgement → Type 0
 NotAny judged = judged.broken ≡ [] → is_any judged.typing ≡ false
 
 typed-not : (of : Option DataType) → is_any (typed of) ≡ false
 typed-not (Some t) = refl
 typed-not None = refl
 
-meaning-not : (definitions : List Definition) (m : Option Meaning) → is_any (at_meaning definitions m).typing ≡ false
+meaning-not : (definitions : List Definition) (m : Option Meaning) → is_any (check_meaning definitions m).typing ≡ false
 meaning-not definitions (Some (meaning.Variable of)) = typed-not of
 meaning-not definitions (Some (meaning.Constant of)) = typed-not of
 meaning-not definitions (Some (meaning.ModuleConstant at item)) = typed-not (constants_type (module_names definitions) (kind_at definitions at))
 meaning-not definitions _ = refl
 
-field-not : (definitions : List Definition) (f : Option Field) → is_any (at_field definitions f).typing ≡ false
+field-not : (definitions : List Definition) (f : Option Field) → is_any (check_field definitions f).typing ≡ false
 field-not definitions None = refl
 field-not definitions (Some f) = typed-not (resolved (module_names definitions) f.type_name)
 
@@ -68,26 +68,26 @@ along-not : (definitions : List Definition) (names : List (List ℕ)) (t : Typin
 along-not definitions [] t is = is
 along-not definitions (name ∷ names) t is = along-not definitions names (within definitions t name).typing (within-not definitions t name)
 
-self-not : (itself : Option ℕ) → NotAny (at_self itself false)
+self-not : (itself : Option ℕ) → NotAny (check_self itself false)
 self-not (Some at) nothing = refl
 self-not None nothing = absurd (let e = nothing in cc)
 
-component-not : (scope : Scope) (c : ComponentRef) → NotAny (at_component scope c false)
+component-not : (scope : Scope) (c : ComponentRef) → NotAny (check_component scope c false)
 component-not scope component.Itself nothing = self-not scope.itself nothing
 component-not scope component.Mtc nothing = absurd (let e = nothing in cc)
 component-not scope (component.Named reference) nothing =
-    along-not scope.definitions reference.fields (at_meaning scope.definitions (scope.names reference.name)).typing (meaning-not scope.definitions (scope.names reference.name))
+    along-not scope.definitions reference.fields (check_meaning scope.definitions (scope.names reference.name)).typing (meaning-not scope.definitions (scope.names reference.name))
 
-running-not : (b : Bool) (found : Judged) → is_any (if b then said.fine (typing.Known type.Boolean) else said.after found.broken (said.runs found.typing)).typing ≡ false
+running-not : (b : Bool) (found : Judgement) → is_any (if b then said.fine (typing.Known type.Boolean) else said.after found.broken (said.runs found.typing)).typing ≡ false
 running-not true found = refl
 running-not false found = refl
 
-chained-not : (scope : Scope) (links : List Link) (first : Judgement) → NotAny (first scope false) → NotAny (chained first (map said.link links) scope false)
-chained-not scope [] first is nothing = is nothing
-chained-not scope (l ∷ links) first is nothing =
-    chained-not scope links (said.joined (said.link l).0 first (said.link l).1) (λ n. refl) nothing
+join_links-not : (scope : Scope) (links : List Link) (first : Judge) → NotAny (first scope false) → NotAny (join_links first (map said.link links) scope false)
+join_links-not scope [] first is nothing = is nothing
+join_links-not scope (l ∷ links) first is nothing =
+    join_links-not scope links (said.join_link (said.link l).0 first (said.link l).1) (λ n. refl) nothing
 
-abbrev NeverAny : Judgement → Type 0
+abbrev NeverAny : Judge → Type 0
 NeverAny judgement = (scope : Scope) → NotAny (judgement scope false)
 
 abbrev HeldExpr : Type 0
@@ -97,22 +97,22 @@ abbrev HeldLink : Type 0
 HeldLink = (l : Link) × Unit {0}
 
 abbrev LevelNot : Expr-F Expr Link → Type 0
-LevelNot x = NeverAny (said.expression_step (map-Expr Expr Link Judgement (Operator × Judgement) expression said.link x))
+LevelNot x = NeverAny (said.expression_step (map-Expr Expr Link Judge (Operator × Judge) expression said.link x))
 
 expr-not : (y : Expr-F HeldExpr HeldLink) → LevelNot (map-Expr HeldExpr HeldLink Expr Link (λ e. e.0) (λ l. l.0) y)
 expr-not (Expr-F.Int n) = λ scope nothing. refl
 expr-not (Expr-F.Bool b) = λ scope nothing. refl
 expr-not Expr-F.Null = λ scope nothing. refl
 expr-not (Expr-F.Reference reference) = λ scope nothing. component-not scope reference nothing
-expr-not (Expr-F.Running reference) = λ scope nothing. running-not (names_timer scope reference) (at_component scope reference true)
+expr-not (Expr-F.Running reference) = λ scope nothing. running-not (names_timer scope reference) (check_component scope reference true)
 expr-not (Expr-F.Ispresent reference) = λ scope nothing. refl
 expr-not (Expr-F.Not e) = λ scope nothing. refl
 expr-not (Expr-F.Signed s e) = λ scope nothing. refl
-expr-not (Expr-F.Chain first links) = λ scope nothing. chained-not scope (map (λ l. l.0) links) (expression first.0) (first.1 scope) nothing
+expr-not (Expr-F.Chain first links) = λ scope nothing. join_links-not scope (map (λ l. l.0) links) (expression first.0) (first.1 scope) nothing
 
 pub expression_not_any : (e : Expr) → NeverAny (expression e)
 expression_not_any = ind-Expr (λ e. NeverAny (expression e)) (λ l. Unit {0}) (λ x y is.
-    subst NeverAny (sym (fold-roll-Expr Judgement (Operator × Judgement) said.expression_step said.link_step x))
+    subst NeverAny (sym (fold-roll-Expr Judge (Operator × Judge) said.expression_step said.link_step x))
     (subst LevelNot is (expr-not y))) (λ x y is. tt)
 
 -- ---- what goes to a type
@@ -148,10 +148,10 @@ typing-goes definitions t o typing.NoValue v goes known single of = absurd (let 
 typing-goes definitions t o typing.Unknown v goes known single of = absurd (known refl)
 
 -- the value of an expression where a value of a type is wanted
-pub wanted_goes : (scope : Scope) (reading : Reading) → IsWhole scope → FitsIn scope reading → (t : DataType) (o : Bool) (e : Expr) → at_expression scope (Some t) e ≡ []
+pub wanted_goes : (scope : Scope) (reading : Reading) → IsWhole scope → FitsIn scope reading → (t : DataType) (o : Bool) (e : Expr) → check_expression scope (Some t) e ≡ []
     → IfYields (value_of e reading) (λ v. value_goes v scope.definitions (record { data_type = Some t; optional = o }) ≡ true)
 wanted_goes scope reading whole fit t o e nothing =
-    let judged : Judged = expression e scope false in
+    let judged : Judgement = expression e scope false in
     let wanted : List Rule = unless (goes_to t judged.typing) rule.ValueType in
     let fine : judged.broken ≡ [] = nothing-first judged.broken wanted nothing in
     if-more (IsOfTyping scope.definitions judged.typing) (λ v. value_goes v scope.definitions (record { data_type = Some t; optional = o }) ≡ true) (value_of e reading)

@@ -18,14 +18,14 @@ use Rattle.ttcn_syntax.specs.declared.tree.template.TemplateBody.TheOpen.{FieldT
 use Rattle.ttcn_syntax.specs.declared.tree.value.Value as written
 use Rattle.checker_laws.proofs.Fitting.{are-elements, are-named, arguments_fit, same-number}
 use Rattle.checker_laws.proofs.Nothing.{kept, nothing-first, nothing-rest}
-use Rattle.check_expressions.specs.Calls.{at_arguments, parameters_of, template_type}
+use Rattle.check_expressions.specs.Calls.{check_arguments, parameters_of, template_type}
 use Rattle.checker_laws.specs.Laws.{AreArguments, AreElements, AreNamedElements, HasFieldType, IsKnown, IsWhole}
 use Rattle.check_scope.specs.Names.{Scope, field_named, fields_at, kind_at, module_names, resolved}
 use Rattle.check_expressions.specs.Templates as said
-use Rattle.check_expressions.specs.Templates.{at_name, at_template, bare_name, template_by_name, template_meant, type_of_template}
+use Rattle.check_expressions.specs.Templates.{check_name, check_named_template, bare_name, template_by_name, template_meant, type_of_template}
 use Rattle.check_scope.specs.Typings.{fits, goes_to, typed, unless}
 use Rattle.check_expressions.specs.Values as checked
-use Rattle.check_expressions.specs.Values.{AtTarget, at_expression, field_target}
+use Rattle.check_expressions.specs.Values.{AtTarget, check_expression, field_target}
 use Rattle.check_scope.specs.Typings.{target_of}
 use Rattle.check_scope.specs.declared.names.Meaning.{Meaning}
 use Rattle.check_scope.specs.declared.names.Meaning.TheVariants as meaning
@@ -45,7 +45,7 @@ use Rattle.ttcn_values.specs.Literals.{value_wanted}
 use Rattle.ttcn_values.specs.Outcomes.{IfYields, IsMet, Yields, dynamic_error, each, or_unmet, outcome_and_then, outcome_map}
 use Rattle.ttcn_values.specs.Readings.{Reading}
 use Rattle.ttcn_values.specs.Templates as given
-use Rattle.ttcn_values.specs.Templates.{Wanted, argument, arguments, as_pattern, at_bound, at_range, body_step, body_wanted, by_name, element, element_named, field_template, field_template_step, in_order, parts_of, plain, template_called, template_of_name, template_step, template_wanted, with_ifpresent}
+use Rattle.ttcn_values.specs.Templates.{Wanted, argument, arguments, as_pattern, value_of_bound, template_of_range, body_step, body_wanted, by_name, element, element_named, field_template, field_template_step, in_order, parts_of, plain, template_called, template_of_name, template_step, template_wanted, with_ifpresent}
 use Rattle.evaluation_laws.specs.Types as types
 use Rattle.evaluation_laws.specs.Types.{AreGiven, FieldsDiffer, FitsIn, Goes, HasAll, HasParameterType, IsOfTyping, ParametersKnown, go_to_each, is_of, pattern_step, template_goes, value_goes, wants}
 use Rattle.ttcn_values.specs.Values.{integer, is_complete}
@@ -235,7 +235,7 @@ module _ (scope : Scope) (reading : Reading) (whole : IsWhole scope) (differ : F
   pattern-chosen t o v true is goes = value-goes scope.definitions t o v goes is
   pattern-chosen t o v false is goes = tt
 
-  expression-goes : (t : DataType) (o : Bool) (e : Expr) → at_expression scope (Some t) e ≡ [] → Meets strict (outcome_and_then as_pattern (value_of e reading)) (GoTo (to t o))
+  expression-goes : (t : DataType) (o : Bool) (e : Expr) → check_expression scope (Some t) e ≡ [] → Meets strict (outcome_and_then as_pattern (value_of e reading)) (GoTo (to t o))
   expression-goes t o e nothing =
       meets_then strict (λ v. value_goes v scope.definitions (target_of (Some t)) ≡ true) (GoTo (to t o)) as_pattern (value_of e reading) (wanted_meets scope reading whole fit strict (all_if strict scope reading has) t false e nothing)
       (λ v goes. pattern-chosen t o v (is_complete v) refl goes)
@@ -294,10 +294,10 @@ module _ (scope : Scope) (reading : Reading) (whole : IsWhole scope) (differ : F
   template-met true given at values known are is = given.0.templates at values known are
   template-met false given at values known are is = absurd (let e = is in cc)
 
-  called-at : (t : DataType) (o : Bool) (at : ℕ) (vs : List written.Value) → HasType at → at_template scope (to t o) vs (Some at) ≡ [] → Meets strict (template_called reading (Some at) vs) (GoTo (to t o))
+  called-at : (t : DataType) (o : Bool) (at : ℕ) (vs : List written.Value) → HasType at → check_named_template scope (to t o) vs (Some at) ≡ [] → Meets strict (template_called reading (Some at) vs) (GoTo (to t o))
   called-at t o at vs known nothing =
       let ps : List Parameter = parameters_of (kind_at scope.definitions at) in
-      let before : List Rule = at_arguments scope ps vs in
+      let before : List Rule = check_arguments scope ps vs in
       let wanted : List Rule = unless (fits (Some t) (typed (type_of_template scope at))) rule.ValueType in
       let goes : Template → Type 0 = λ p. IfSome (type_of_template scope at) (λ u. template_goes p scope.definitions (target_of (Some u)) ≡ true) in
       meets_then strict (AreGiven scope.definitions ps) (GoTo (to t o)) (reading.templates at) (arguments reading (parameters_of (kind_at reading.definitions at)) vs)
@@ -307,11 +307,11 @@ module _ (scope : Scope) (reading : Reading) (whole : IsWhole scope) (differ : F
       (meets_both strict goes (reading.templates at values) (fit.templates at values are) (template-met strict has at values known are))
       (λ p goes. of-type t o (type_of_template scope at) p known (kept (fits (Some t) (typed (type_of_template scope at))) rule.ValueType (nothing-rest before wanted nothing)) goes))
 
-  called-goes : (t : DataType) (o : Bool) (meant : Option ℕ) (vs : List written.Value) → IfSome meant HasType → at_template scope (to t o) vs meant ≡ [] → Meets strict (template_called reading meant vs) (GoTo (to t o))
+  called-goes : (t : DataType) (o : Bool) (meant : Option ℕ) (vs : List written.Value) → IfSome meant HasType → check_named_template scope (to t o) vs meant ≡ [] → Meets strict (template_called reading meant vs) (GoTo (to t o))
   called-goes t o None vs known nothing = absurd (let e = nothing in cc)
   called-goes t o (Some at) vs known nothing = called-at t o at vs known nothing
 
-  name-goes : (t : DataType) (o : Bool) (e : Expr) (meant : Option ℕ) → IfSome meant HasType → at_name scope (to t o) e meant ≡ [] → Meets strict (given.at_name reading e meant) (GoTo (to t o))
+  name-goes : (t : DataType) (o : Bool) (e : Expr) (meant : Option ℕ) → IfSome meant HasType → check_name scope (to t o) e meant ≡ [] → Meets strict (given.template_of_expression reading e meant) (GoTo (to t o))
   name-goes t o e None known nothing = expression-goes t o e nothing
   name-goes t o e (Some at) known nothing = called-at t o at [] known nothing
 
@@ -450,16 +450,16 @@ module _ (scope : Scope) (reading : Reading) (whole : IsWhole scope) (differ : F
   number-given (Some n) there = tt
   number-given None there = absurd (let e = there in cc)
 
-  bound-given : (b : Bound) → said.at_bound scope b ≡ [] → Meets strict (at_bound reading b) Any
+  bound-given : (b : Bound) → said.check_bound scope b ≡ [] → Meets strict (value_of_bound reading b) Any
   bound-given (bound.Expr e) nothing =
       meets_then strict (λ v. value_goes v scope.definitions (target_of (Some type.Integer)) ≡ true) Any (λ v. outcome_map Some (or_unmet (integer v))) (value_of e reading)
       (wanted_meets scope reading whole fit strict (all_if strict scope reading has) type.Integer false e nothing) (λ v goes. number-given (integer v) (integer-there scope.definitions v goes))
   bound-given bound.Infinity nothing = tt
 
-  range-given : (t : DataType) (o : Bool) (low high : Bound) → wants type.Integer (Some t) ≡ true → said.at_bound scope low ≡ [] → said.at_bound scope high ≡ [] → Meets strict (at_range reading low high) (GoTo (to t o))
+  range-given : (t : DataType) (o : Bool) (low high : Bound) → wants type.Integer (Some t) ≡ true → said.check_bound scope low ≡ [] → said.check_bound scope high ≡ [] → Meets strict (template_of_range reading low high) (GoTo (to t o))
   range-given t o low high is low_fine high_fine =
-      meets_then strict Any (GoTo (to t o)) (λ l. outcome_map (λ h. plain (pattern.Range l h)) (at_bound reading high)) (at_bound reading low) (bound-given low low_fine)
-      (λ l any. meets_mapped strict Any (GoTo (to t o)) (λ h. plain (pattern.Range l h)) (at_bound reading high) (bound-given high high_fine) (λ h any. range-goes scope.definitions (to t o) l h is))
+      meets_then strict Any (GoTo (to t o)) (λ l. outcome_map (λ h. plain (pattern.Range l h)) (value_of_bound reading high)) (value_of_bound reading low) (bound-given low low_fine)
+      (λ l any. meets_mapped strict Any (GoTo (to t o)) (λ h. plain (pattern.Range l h)) (value_of_bound reading high) (bound-given high high_fine) (λ h any. range-goes scope.definitions (to t o) l h is))
 
 -- ---- templates
 
@@ -515,14 +515,14 @@ body-held (TemplateBody-F.List parts) = λ scope reading whole differ fit strict
 body-held (TemplateBody-F.Range low high) = λ scope reading whole differ fit strict has t o nothing.
     let wanted : List Rule = unless (goes_to t (typing.Known type.Integer)) rule.ValueType in
     range-given scope reading whole differ fit strict has t o low high
-    (kept (goes_to t (typing.Known type.Integer)) rule.ValueType (nothing-first wanted (said.at_bound scope low) (nothing-first (wanted ++ said.at_bound scope low) (said.at_bound scope high) nothing)))
-    (nothing-rest wanted (said.at_bound scope low) (nothing-first (wanted ++ said.at_bound scope low) (said.at_bound scope high) nothing))
-    (nothing-rest (wanted ++ said.at_bound scope low) (said.at_bound scope high) nothing)
+    (kept (goes_to t (typing.Known type.Integer)) rule.ValueType (nothing-first wanted (said.check_bound scope low) (nothing-first (wanted ++ said.check_bound scope low) (said.check_bound scope high) nothing)))
+    (nothing-rest wanted (said.check_bound scope low) (nothing-first (wanted ++ said.check_bound scope low) (said.check_bound scope high) nothing))
+    (nothing-rest (wanted ++ said.check_bound scope low) (said.check_bound scope high) nothing)
 body-held (TemplateBody-F.Call call) = λ scope reading whole differ fit strict has t o nothing.
     subst (λ m. Meets strict (template_called reading m call.arguments) (λ p. template_goes p scope.definitions (record { data_type = Some t; optional = o }) ≡ true)) (same-meant scope reading whole differ fit strict has call.name)
     (called-goes scope reading whole differ fit strict has t o (template_meant (scope.names call.name)) call.arguments (meant-known scope reading whole differ fit strict has (scope.names call.name) (whole.names call.name)) nothing)
 body-held (TemplateBody-F.Expr e) = λ scope reading whole differ fit strict has t o nothing.
-    subst (λ m. Meets strict (given.at_name reading e m) (λ p. template_goes p scope.definitions (record { data_type = Some t; optional = o }) ≡ true)) (same-named scope reading whole differ fit strict has (bare_name (out-Expr e)))
+    subst (λ m. Meets strict (given.template_of_expression reading e m) (λ p. template_goes p scope.definitions (record { data_type = Some t; optional = o }) ≡ true)) (same-named scope reading whole differ fit strict has (bare_name (out-Expr e)))
     (name-goes scope reading whole differ fit strict has t o e (template_by_name scope (bare_name (out-Expr e))) (named-known scope reading whole differ fit strict has (bare_name (out-Expr e))) nothing)
 body-held (TemplateBody-F.Listed parts) = listed-held parts
 body-held (TemplateBody-F.Assigned parts) = assigned-held parts

@@ -18,14 +18,11 @@ use Rattle.ttcn_syntax.specs.declared.tree.expression.Expr.TheOpen.{Expr-F}
 use Rattle.ttcn_syntax.specs.declared.tree.expression.Link.{Link, fold_out-Link}
 use Rattle.ttcn_syntax.specs.declared.tree.expression.Reference.{Reference}
 use Rattle.check_expressions.specs.Expressions as said
-use Rattle.check_expressions.specs.Expressions.{Judged, Judgement, at_component, at_field, at_meaning, at_running, at_self, between, chained, demanding, expression, names_timer, of_type, within}
+use Rattle.check_expressions.specs.Expressions.{Judgement, Judge, check_component, check_field, check_meaning, check_running, check_self, between, join_links, demand, expression, names_timer, of_type, within}
 use Rattle.check_scope.specs.Names.{Scope, fields_at, module_names, resolved}
-use Rattle.check_scope.specs.Typings.{comparable, compares, operands_of, refers_to_component, result_of, same_type, typed}
-use Rattle.check_scope.specs.Typings as typings
+use Rattle.check_scope.specs.Typings.{result_of, typed}
 use Rattle.check_expressions.specs.Values.{field_target}
 use Rattle.check_scope.specs.Typings.{target_of}
-use Rattle.check_scope.specs.declared.rule.Rule.{Rule}
-use Rattle.check_scope.specs.declared.rule.Rule.TheVariants as rule
 use Rattle.check_scope.specs.declared.types.DataType.{DataType}
 use Rattle.check_scope.specs.declared.types.DataType.TheVariants as type
 use Rattle.check_scope.specs.declared.types.Target.{Target}
@@ -153,8 +150,8 @@ module _ (definitions : List Definition) where
 
   field-here : (test : Bool) (f : Field) (found : Option Field) (state : Option Value) (at : Option (Option Value)) (behind : Option (Option Value))
       → goes_to_field definitions f (with_goes state) ≡ true → at ≡ Some state
-      → IfYields (outcome_and_then read (or_unmet behind)) (IsOfTyping definitions (at_field definitions found).typing)
-      → IfYields (outcome_and_then read (or_unmet (if test then at else behind))) (IsOfTyping definitions (at_field definitions (if test then Some f else found)).typing)
+      → IfYields (outcome_and_then read (or_unmet behind)) (IsOfTyping definitions (check_field definitions found).typing)
+      → IfYields (outcome_and_then read (or_unmet (if test then at else behind))) (IsOfTyping definitions (check_field definitions (if test then Some f else found)).typing)
   field-here true f found state at behind goes is rest =
       subst (λ o. IfYields (outcome_and_then read (or_unmet o)) (IsOfTyping definitions (typed (resolved (module_names definitions) f.type_name)))) (sym is) (state-read f state goes)
   field-here false f found state at behind goes is rest = rest
@@ -166,25 +163,25 @@ module _ (definitions : List Definition) where
 
   fields-read : (test : Field → Bool) (get : ℕ → Option (Option Value)) (i : ℕ) (fs : List Field) (states : List (Option Value))
       → ((k j : ℕ) → j ≡ i + k → get j ≡ slice_get states k) → go_to_fields definitions fs (map with_goes states) ≡ true
-      → IfYields (outcome_and_then read (or_unmet (option_and_then get (position_from test i fs)))) (IsOfTyping definitions (at_field definitions (find test fs)).typing)
+      → IfYields (outcome_and_then read (or_unmet (option_and_then get (position_from test i fs)))) (IsOfTyping definitions (check_field definitions (find test fs)).typing)
   fields-read test get i [] states same go = tt
   fields-read test get i (f ∷ fs) [] same go = absurd (let e = go in cc)
   fields-read test get i (f ∷ fs) (s ∷ ss) same go =
       let p = and_parts (goes_to_field definitions f (with_goes s)) (go_to_fields definitions fs (map with_goes ss)) go in
-      subst (λ o. IfYields (outcome_and_then read (or_unmet o)) (IsOfTyping definitions (at_field definitions (find test (f ∷ fs))).typing))
+      subst (λ o. IfYields (outcome_and_then read (or_unmet o)) (IsOfTyping definitions (check_field definitions (find test (f ∷ fs))).typing))
       (sym (branches (test f) get i (position_from test (i + 1) fs)))
       (field-here (test f) f (find test fs) s (get i) (option_and_then get (position_from test (i + 1) fs)) p.0 (same 0 i (omega arith))
       (fields-read test get (i + 1) fs ss (λ k j is. same (suc k) j (omega (arith, is))) p.1))
 
   -- a record's field, by its name
   level-field : (x : Value-F Value) (at : ℕ) (name : List ℕ) → level_goes x (target_of (Some (type.Record at))) ≡ true
-      → IfYields (outcome_and_then read (state_in definitions name (record_in x))) (IsOfTyping definitions (at_field definitions (find (λ f. bytes_eq f.name name) (fields_at definitions at))).typing)
+      → IfYields (outcome_and_then read (state_in definitions name (record_in x))) (IsOfTyping definitions (check_field definitions (find (λ f. bytes_eq f.name name) (fields_at definitions at))).typing)
   level-field (Value-F.Record bt states) at name goes =
       let p = and_parts (nat_eq at bt) (go_to_fields definitions (fields_at definitions bt) (map with_goes states)) goes in
       let test : Field → Bool = λ f. bytes_eq f.name name in
-      subst (λ k. IfYields (outcome_and_then read (or_unmet (option_and_then (slice_get states) (position test (fields_at definitions bt))))) (IsOfTyping definitions (at_field definitions (find test (fields_at definitions k))).typing))
+      subst (λ k. IfYields (outcome_and_then read (or_unmet (option_and_then (slice_get states) (position test (fields_at definitions bt))))) (IsOfTyping definitions (check_field definitions (find test (fields_at definitions k))).typing))
       (sym (eqb-true at bt p.0))
-      (subst (λ o. IfYields (outcome_and_then read (or_unmet (option_and_then (slice_get states) o))) (IsOfTyping definitions (at_field definitions (find test (fields_at definitions bt))).typing))
+      (subst (λ o. IfYields (outcome_and_then read (or_unmet (option_and_then (slice_get states) o))) (IsOfTyping definitions (check_field definitions (find test (fields_at definitions bt))).typing))
       (sym (position_from-zero test (fields_at definitions bt)))
       (fields-read test (slice_get states) 0 (fields_at definitions bt) states (λ k j is. let e : j ≡ k = omega (arith, is) in ap (slice_get states) e) p.1))
   level-field (Value-F.Integer n) at name goes = tt
@@ -294,7 +291,7 @@ module _ (definitions : List Definition) where
       decided true is = decides-gives op left is
       decided false is = if-then (λ u. is_of definitions (result_of op) u ≡ true) (applied op left) (right reading) (applied_gives op left)
 
-  running-of : (b : Bool) (found : Judged) (v : Value) → IsBoolean v
+  running-of : (b : Bool) (found : Judgement) (v : Value) → IsBoolean v
       → IsOfTyping definitions (if b then said.fine (typing.Known type.Boolean) else said.after found.broken (said.runs found.typing)).typing v
   running-of true found v is = is
   running-of false found v is = is
@@ -318,26 +315,26 @@ module _ (definitions : List Definition) where
 -- ---- references
 
 module _ (scope : Scope) (reading : Reading) (fits : FitsIn scope reading) where
-  reference-goes : (reference : Reference) → IfYields (referred reading reference) (IsOfTyping scope.definitions (said.at_reference scope reference).typing)
+  reference-goes : (reference : Reference) → IfYields (referred reading reference) (IsOfTyping scope.definitions (said.check_reference scope reference).typing)
   reference-goes reference =
-      subst (λ ds. IfYields (along ds reference.fields (named reading reference.name)) (IsOfTyping scope.definitions (said.at_reference scope reference).typing)) (sym fits.definitions)
-      (along-goes scope.definitions reference.fields (at_meaning scope.definitions (scope.names reference.name)).typing (named reading reference.name) (fits.names reference.name))
+      subst (λ ds. IfYields (along ds reference.fields (named reading reference.name)) (IsOfTyping scope.definitions (said.check_reference scope reference).typing)) (sym fits.definitions)
+      (along-goes scope.definitions reference.fields (check_meaning scope.definitions (scope.names reference.name)).typing (named reading reference.name) (fits.names reference.name))
 
-  self-goes : (itself : Option ℕ) (free : Bool) → IfSome itself (λ at. reading.itself.component_type ≡ at) → IsOfTyping scope.definitions (at_self itself free).typing (value.Component reading.itself)
+  self-goes : (itself : Option ℕ) (free : Bool) → IfSome itself (λ at. reading.itself.component_type ≡ at) → IsOfTyping scope.definitions (check_self itself free).typing (value.Component reading.itself)
   self-goes (Some at) free is = subst (λ k. is_of scope.definitions (type.Component k) (value.Component reading.itself) ≡ true) is (component_goes scope.definitions reading.itself)
   self-goes None free is = (reading.itself.component_type, component_goes scope.definitions reading.itself)
 
-  pub component-goes : (c : ComponentRef) (free : Bool) → IfYields (component_at reading c) (IsOfTyping scope.definitions (at_component scope c free).typing)
+  pub component-goes : (c : ComponentRef) (free : Bool) → IfYields (component_at reading c) (IsOfTyping scope.definitions (check_component scope c free).typing)
   component-goes component.Itself free = self-goes scope.itself free fits.itself
   component-goes component.Mtc free = (reading.mtc.component_type, component_goes scope.definitions reading.mtc)
   component-goes (component.Named reference) free = reference-goes reference
 
-  running-goes : (c : ComponentRef) → IfYields (runs reading c) (IsOfTyping scope.definitions (at_running scope c).typing)
+  running-goes : (c : ComponentRef) → IfYields (runs reading c) (IsOfTyping scope.definitions (check_running scope c).typing)
   running-goes c =
-      if-more (IsBoolean scope.definitions) (IsOfTyping scope.definitions (at_running scope c).typing) (runs reading c) (runs-boolean scope.definitions reading c (timer_at reading c))
-      (λ v is. running-of scope.definitions (names_timer scope c) (at_component scope c true) v is)
+      if-more (IsBoolean scope.definitions) (IsOfTyping scope.definitions (check_running scope c).typing) (runs reading c) (runs-boolean scope.definitions reading c (timer_at reading c))
+      (λ v is. running-of scope.definitions (names_timer scope c) (check_component scope c true) v is)
 
-  ispresent-goes : (reference : Reference) → IfYields (outcome_and_then (presence reading.definitions reference.fields) (named reading reference.name)) (IsOfTyping scope.definitions (said.at_ispresent scope reference).typing)
+  ispresent-goes : (reference : Reference) → IfYields (outcome_and_then (presence reading.definitions reference.fields) (named reading reference.name)) (IsOfTyping scope.definitions (said.check_ispresent scope reference).typing)
   ispresent-goes reference =
       if-then (IsBoolean scope.definitions) (presence reading.definitions reference.fields) (named reading reference.name) (presence-boolean scope.definitions reading.definitions reference.fields)
 
@@ -346,26 +343,26 @@ module _ (scope : Scope) (reading : Reading) (fits : FitsIn scope reading) where
   pub same-operator : (l : Link) → (link l).0 ≡ (said.link l).0
   same-operator l =
       ap (λ (p : Operator × Evaluation). p.0) (fold_out-Link Evaluation (Operator × Evaluation) expression_step link_step l)
-      ∙ sym (ap (λ (p : Operator × Judgement). p.0) (fold_out-Link Judgement (Operator × Judgement) said.expression_step said.link_step l))
+      ∙ sym (ap (λ (p : Operator × Judge). p.0) (fold_out-Link Judge (Operator × Judge) said.expression_step said.link_step l))
 
-  pub joined-goes : (first : Judgement) (found : Outcome Value) (l : Link) (free : Bool)
-      → IfYields (outcome_and_then (joined reading (link l)) found) (IsOfTyping scope.definitions (said.joined (said.link l).0 first (said.link l).1 scope free).typing)
+  pub joined-goes : (first : Judge) (found : Outcome Value) (l : Link) (free : Bool)
+      → IfYields (outcome_and_then (joined reading (link l)) found) (IsOfTyping scope.definitions (said.join_link (said.link l).0 first (said.link l).1 scope free).typing)
   joined-goes first found l free =
-      if-then (IsOfTyping scope.definitions (said.joined (said.link l).0 first (said.link l).1 scope free).typing) (joined reading (link l)) found
-      (λ left. if-more (λ u. is_of scope.definitions (result_of (link l).0) u ≡ true) (IsOfTyping scope.definitions (said.joined (said.link l).0 first (said.link l).1 scope free).typing)
+      if-then (IsOfTyping scope.definitions (said.join_link (said.link l).0 first (said.link l).1 scope free).typing) (joined reading (link l)) found
+      (λ left. if-more (λ u. is_of scope.definitions (result_of (link l).0) u ≡ true) (IsOfTyping scope.definitions (said.join_link (said.link l).0 first (said.link l).1 scope free).typing)
       (joined reading (link l) left) (joined-gives scope.definitions reading (link l).0 (link l).1 left)
       (λ u is. subst (λ op. is_of scope.definitions (result_of op) u ≡ true) (same-operator l) is))
 
-  chained-goes : (links : List Link) (first : Judgement) (found : Outcome Value) → ((free : Bool) → IfYields found (IsOfTyping scope.definitions (first scope free).typing)) → (free : Bool)
-      → IfYields (after reading found (map link links)) (IsOfTyping scope.definitions (chained first (map said.link links) scope free).typing)
-  chained-goes [] first found goes free = goes free
-  chained-goes (l ∷ links) first found goes free =
-      chained-goes links (said.joined (said.link l).0 first (said.link l).1) (outcome_and_then (joined reading (link l)) found) (joined-goes first found l) free
+  join_links-goes : (links : List Link) (first : Judge) (found : Outcome Value) → ((free : Bool) → IfYields found (IsOfTyping scope.definitions (first scope free).typing)) → (free : Bool)
+      → IfYields (after reading found (map link links)) (IsOfTyping scope.definitions (join_links first (map said.link links) scope free).typing)
+  join_links-goes [] first found goes free = goes free
+  join_links-goes (l ∷ links) first found goes free =
+      join_links-goes links (said.join_link (said.link l).0 first (said.link l).1) (outcome_and_then (joined reading (link l)) found) (joined-goes first found l) free
 
 -- ---- expressions
 
 -- what gives values of the type that is said of it
-abbrev IsFitting : Evaluation → Judgement → Type 0
+abbrev IsFitting : Evaluation → Judge → Type 0
 IsFitting evaluation judgement = (scope : Scope) (reading : Reading) → FitsIn scope reading → (free : Bool) → IfYields (evaluation reading) (IsOfTyping scope.definitions (judgement scope free).typing)
 
 abbrev HeldExpr : Type 0
@@ -379,7 +376,7 @@ bare = map-Expr HeldExpr HeldLink Expr Link (λ e. e.0) (λ l. l.0)
 
 abbrev LevelFits : Expr-F Expr Link → Type 0
 LevelFits x = IsFitting (expression_step (map-Expr Expr Link Evaluation (Operator × Evaluation) value_of link x))
-    (said.expression_step (map-Expr Expr Link Judgement (Operator × Judgement) expression said.link x))
+    (said.expression_step (map-Expr Expr Link Judge (Operator × Judge) expression said.link x))
 
 expr-held : (y : Expr-F HeldExpr HeldLink) → LevelFits (bare y)
 expr-held (Expr-F.Int n) = λ scope reading fits free. fitting-integer scope.definitions (integers.within (pos n))
@@ -393,13 +390,13 @@ expr-held (Expr-F.Not e) = λ scope reading fits free.
 expr-held (Expr-F.Signed s e) = λ scope reading fits free.
     if-then (IsInteger scope.definitions) (under_sign s) (value_of e.0 reading) (under-sign-integer scope.definitions s)
 expr-held (Expr-F.Chain first links) = λ scope reading fits free.
-    chained-goes scope reading fits (map (λ l. l.0) links) (expression first.0) (value_of first.0 reading) (first.1 scope reading fits) free
+    join_links-goes scope reading fits (map (λ l. l.0) links) (expression first.0) (value_of first.0 reading) (first.1 scope reading fits) free
 
 -- an expression's value is of its type
 pub expressions_typed : (e : Expr) → IsFitting (value_of e) (expression e)
 expressions_typed = ind-Expr (λ e. IsFitting (value_of e) (expression e)) (λ l. Unit {0}) (λ x y is.
     subst (λ f. IsFitting f (expression (roll-Expr x))) (sym (fold-roll-Expr Evaluation (Operator × Evaluation) expression_step link_step x))
-    (subst (λ j. IsFitting (expression_step (map-Expr Expr Link Evaluation (Operator × Evaluation) value_of link x)) j) (sym (fold-roll-Expr Judgement (Operator × Judgement) said.expression_step said.link_step x))
+    (subst (λ j. IsFitting (expression_step (map-Expr Expr Link Evaluation (Operator × Evaluation) value_of link x)) j) (sym (fold-roll-Expr Judge (Operator × Judge) said.expression_step said.link_step x))
     (subst LevelFits is (expr-held y)))) (λ x y is. tt)
 
 pub expression_typed : (e : Expr) (scope : Scope) (free : Bool) (reading : Reading) → FitsIn scope reading → IfYields (value_of e reading) (IsOfTyping scope.definitions (expression e scope free).typing)

@@ -5,7 +5,7 @@ use Rattle.ttcn_syntax.specs.declared.tree.definition.Definition.{Definition}
 use Rattle.ttcn_syntax.specs.declared.tree.definition.Field.{Field}
 use Rattle.ttcn_syntax.specs.declared.tree.definition.Parameter.{Parameter}
 use Rattle.check_expressions.specs.Calls.{parameters_of, template_type}
-use Rattle.check_expressions.specs.Expressions.{at_meaning}
+use Rattle.check_expressions.specs.Expressions.{check_meaning}
 use Rattle.check_scope.specs.Names.{Scope, field_named, fields_at, kind_at, module_names, resolved}
 use Rattle.check_expressions.specs.Templates.{template_meant}
 use Rattle.check_scope.specs.declared.names.Meaning.{Meaning}
@@ -133,7 +133,7 @@ AreGiven definitions (p ∷ ps) (v ∷ vs) = IsOfTyping definitions (typed (reso
 -- give with arguments of their parameters' types; and the names of templates are those of the module
 pub record FitsIn (scope : Scope) (reading : Reading) : Type 0 where
   pub definitions : reading.definitions ≡ scope.definitions
-  pub names : (name : List ℕ) → IfYields (named reading name) (IsOfTyping scope.definitions (at_meaning scope.definitions (scope.names name)).typing)
+  pub names : (name : List ℕ) → IfYields (named reading name) (IsOfTyping scope.definitions (check_meaning scope.definitions (scope.names name)).typing)
   pub itself : IfSome scope.itself (λ at. reading.itself.component_type ≡ at)
   pub template_names : (name : List ℕ) → template_meant (module_names scope.definitions name) ≡ template_meant (scope.names name)
   pub templates : (at : ℕ) (values : List Value) → AreGiven scope.definitions (parameters_of (kind_at scope.definitions at)) values → IfYields (reading.templates at values) (λ t. IfSome (template_type scope.definitions (kind_at scope.definitions at)) (λ of. template_goes t scope.definitions (target_of (Some of)) ≡ true))

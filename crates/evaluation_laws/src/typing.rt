@@ -11,7 +11,7 @@ ghost use Rattle.checker_laws.specs.Laws.{AreArguments, IsWhole};
 ghost use Rattle.check_scope.specs.Names.{Scope};
 ghost use Rattle.ttcn_types.specs.Rules.{AreWellTyped};
 ghost use Rattle.check_expressions.specs.Templates.{template};
-ghost use Rattle.check_expressions.specs.Values.{at_expression, value};
+ghost use Rattle.check_expressions.specs.Values.{check_expression, value};
 ghost use Rattle.check_scope.specs.declared.types.DataType.{DataType};
 ghost use Rattle.ttcn_values.specs.Chains.{with_names, within_chains};
 ghost use Rattle.ttcn_values.specs.Evaluation.{value_of};
@@ -38,7 +38,7 @@ pub fn expressions_are_met()
 /// The value of an expression where a value of a type is wanted goes there.
 #[tactic(auto, using(crate::proofs::TypedLiterals::wanted_goes))]
 pub fn wanted_expressions_go()
-    ensures { (scope : Scope) (reading : Reading) → IsWhole scope → FitsIn scope reading → (t : DataType) (o : Bool) (e : Expr) → at_expression scope (Some t) e ≡ [] → IfYields (value_of e reading) (λ v. value_goes v scope.definitions (record { data_type = Some t; optional = o }) ≡ true) }
+    ensures { (scope : Scope) (reading : Reading) → IsWhole scope → FitsIn scope reading → (t : DataType) (o : Bool) (e : Expr) → check_expression scope (Some t) e ≡ [] → IfYields (value_of e reading) (λ v. value_goes v scope.definitions (record { data_type = Some t; optional = o }) ≡ true) }
 {}
 
 /// The value of what stands where a value of a type is wanted goes there.

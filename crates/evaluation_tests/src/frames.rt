@@ -5,11 +5,47 @@ use std::test::Fail;
 use ttcn_parse::parse;
 use ttcn_syntax::{ComponentRef, Expr, Name, Reference, Seq, Value as Written, lex};
 use ttcn_types::{Definitions, Program, check};
-use ttcn_values::{ComponentId, Fault, Frame, Path, TimerState, Value, eval, eval_value};
+use ttcn_values::{ComponentId, Fault, Frame, Path, Slot, TimerState, Value, eval, eval_value};
 
-/// The record stands at position 0.
-const MODULE: &str =
-    "module M {\ntype record R { integer a, integer b optional }\nconst integer one := 1\n}\n";
+/// The record stands at position 0, and the function at position 2.
+pub(crate) const MODULE: &str =
+    "module M {\ntype record R { integer a, integer b optional }\nconst integer one := 1\nfunction f(integer n, R r) { }\n}\n";
+
+/// The names of the slots, in their order: no slot has the name `y`.
+const NAMES_OF_SLOTS: &[&str] = &[
+    "x", "r", "s", "m", "i", "c", "d", "n", "b", "t", "u", "v", "w", "z",
+];
+
+const X: Slot = 0;
+
+const R: Slot = 1;
+
+const S: Slot = 2;
+
+const M: Slot = 3;
+
+const I: Slot = 4;
+
+const C: Slot = 5;
+
+const D: Slot = 6;
+
+const N: Slot = 7;
+
+const B: Slot = 8;
+
+const T: Slot = 9;
+
+const U: Slot = 10;
+
+const V: Slot = 11;
+
+const W: Slot = 12;
+
+const Z: Slot = 13;
+
+/// A slot without a name.
+const NAMELESS: Slot = 14;
 
 /// What an expression gives.
 #[derive(Debug, Drop, PartialEq)]
@@ -36,14 +72,14 @@ impl Want {
     }
 }
 
-fn path(alloc: Global, numbers: &[u32]) -> Result<Path, AllocError> {
+pub(crate) fn path(alloc: Global, numbers: &[u32]) -> Result<Path, AllocError> {
     let numbers = Vec::from_slice(alloc, numbers)?;
     Ok(Path {
         numbers: Seq::from_vec(numbers),
     })
 }
 
-fn component(alloc: Global, numbers: &[u32]) -> Result<ComponentId, AllocError> {
+pub(crate) fn component(alloc: Global, numbers: &[u32]) -> Result<ComponentId, AllocError> {
     Ok(ComponentId {
         path: path(alloc, numbers)?,
         component_type: 0,
@@ -59,12 +95,57 @@ pub(crate) fn program(alloc: Global, text: &str) -> Result<Program, TextFault> {
 
 /// What the entries of a frame are made of.
 #[derive(Drop)]
-struct Entries {
-    locals: Vec<(Name, Value)>,
-    members: Vec<(Name, Value)>,
-    local_timers: Vec<(Name, TimerState)>,
-    member_timers: Vec<(Name, TimerState)>,
-    running: Vec<Path>,
+pub(crate) struct Entries {
+    names: Vec<Name>,
+    locals: Vec<(Slot, Value)>,
+    members: Vec<(Slot, Value)>,
+    local_timers: Vec<(Slot, TimerState)>,
+    member_timers: Vec<(Slot, TimerState)>,
+}
+
+/// The components of a test: the MTC, `self`, and another one that runs.
+#[derive(Drop)]
+pub(crate) struct Surroundings {
+    pub(crate) mtc: ComponentId,
+    pub(crate) itself: ComponentId,
+    other: Path,
+}
+
+impl Surroundings {
+    pub(crate) fn new(alloc: Global) -> Result<Surroundings, AllocError> {
+        Ok(Surroundings {
+            mtc: component(alloc, &[])?,
+            itself: component(alloc, &[1])?,
+            other: path(alloc, &[1, 2])?,
+        })
+    }
+
+    /// The components that run: `self` doesn't.
+    pub(crate) fn running(&self) -> [&Path; 2] {
+        [&self.mtc.path, &self.other]
+    }
+}
+
+impl Entries {
+    /// The frame of these entries.
+    pub(crate) fn frame<'a>(
+        &'a self,
+        definitions: &'a Definitions<'a>,
+        surroundings: &'a Surroundings,
+        running: &'a [&'a Path],
+    ) -> Frame<'a> {
+        Frame {
+            definitions,
+            names: self.names.as_slice(),
+            locals: self.locals.as_slice(),
+            members: self.members.as_slice(),
+            local_timers: self.local_timers.as_slice(),
+            member_timers: self.member_timers.as_slice(),
+            running,
+            itself: &surroundings.itself,
+            mtc: &surroundings.mtc,
+        }
+    }
 }
 
 /// An expression with one name.
@@ -158,12 +239,12 @@ const RUNNING: &[Row] = &[
     ("self", Form::SelfRunning, Want::Boolean(false)),
 ];
 
-fn named(alloc: Global, text: &str) -> Result<Name, AllocError> {
+pub(crate) fn named(alloc: Global, text: &str) -> Result<Name, AllocError> {
     Name::new(alloc, text.as_bytes())
 }
 
 /// A name, and fields behind it.
-fn reference(alloc: Global, of: &str, fields: &[&str]) -> Result<Reference, AllocError> {
+pub(crate) fn reference(alloc: Global, of: &str, fields: &[&str]) -> Result<Reference, AllocError> {
     let mut names = Vec::new(alloc);
     for field in fields {
         names.push(named(alloc, field)?)?;
@@ -197,23 +278,21 @@ fn record(alloc: Global, number: i64) -> Result<Value, AllocError> {
     Ok(Value::Record(0, Seq::from_vec(fields)))
 }
 
-fn integers(alloc: Global, entries: &[(&str, i64)]) -> Result<Vec<(Name, Value)>, AllocError> {
+fn integers(alloc: Global, entries: &[(Slot, i64)]) -> Result<Vec<(Slot, Value)>, AllocError> {
     let mut values = Vec::with_capacity(alloc, entries.len())?;
-    for (text, number) in entries {
-        values.push((named(alloc, text)?, Value::Integer(*number)))?;
+    for (slot, number) in entries {
+        values.push((*slot, Value::Integer(*number)))?;
     }
     Ok(values)
 }
 
-fn timers(
-    alloc: Global,
-    entries: &[(&str, TimerState)],
-) -> Result<Vec<(Name, TimerState)>, AllocError> {
-    let mut timers = Vec::with_capacity(alloc, entries.len())?;
-    for (text, state) in entries {
-        timers.push((named(alloc, text)?, *state))?;
+/// The names of all slots.
+fn names_of_slots(alloc: Global) -> Result<Vec<Name>, AllocError> {
+    let mut names = Vec::with_capacity(alloc, NAMES_OF_SLOTS.len())?;
+    for text in NAMES_OF_SLOTS {
+        names.push(named(alloc, text)?)?;
     }
-    Ok(timers)
+    Ok(names)
 }
 
 /// What a call gave, unless memory was refused.
@@ -261,69 +340,54 @@ fn first_other(
     entries: &Entries,
     rows: &[Row],
 ) -> Result<Option<String>, Fault> {
-    let itself = component(alloc, &[1])?;
-    let mtc = component(alloc, &[])?;
-    let frame = Frame {
-        definitions,
-        locals: entries.locals.as_slice(),
-        members: entries.members.as_slice(),
-        local_timers: entries.local_timers.as_slice(),
-        member_timers: entries.member_timers.as_slice(),
-        running: entries.running.as_slice(),
-        itself: &itself,
-        mtc: &mtc,
-    };
+    let surroundings = Surroundings::new(alloc)?;
+    let running = surroundings.running();
+    let frame = entries.frame(definitions, &surroundings, &running);
     first_in(alloc, &frame, rows)
 }
 
 /// Names that have a value among the locals, among the members, or among both.
 fn entries_of_names(alloc: Global) -> Result<Entries, AllocError> {
-    let mut locals = integers(alloc, &[("x", 1), ("x", 2)])?;
-    locals.push((named(alloc, "r")?, record(alloc, 3)?))?;
-    let mut members = integers(alloc, &[("x", 4), ("r", 5), ("m", 6)])?;
-    members.push((named(alloc, "s")?, record(alloc, 7)?))?;
+    let mut locals = integers(alloc, &[(NAMELESS, 0), (X, 1), (X, 2)])?;
+    locals.push((R, record(alloc, 3)?))?;
+    let mut members = integers(alloc, &[(X, 4), (R, 5), (M, 6)])?;
+    members.push((S, record(alloc, 7)?))?;
     Ok(Entries {
+        names: names_of_slots(alloc)?,
         locals,
         members,
         local_timers: Vec::new(alloc),
         member_timers: Vec::new(alloc),
-        running: Vec::new(alloc),
     })
 }
 
 /// Timers of both kinds, and components of which the MTC and another one run.
-fn entries_that_run(alloc: Global) -> Result<Entries, AllocError> {
-    let mut locals = integers(alloc, &[("i", 1)])?;
-    locals.push((
-        named(alloc, "c")?,
-        Value::Component(component(alloc, &[1, 2])?),
-    ))?;
-    locals.push((
-        named(alloc, "d")?,
-        Value::Component(component(alloc, &[2])?),
-    ))?;
-    locals.push((named(alloc, "n")?, Value::Null))?;
-    let mut running = Vec::with_capacity(alloc, 2)?;
-    running.push(path(alloc, &[])?)?;
-    running.push(path(alloc, &[1, 2])?)?;
+pub(crate) fn entries_that_run(alloc: Global) -> Result<Entries, AllocError> {
+    let mut locals = integers(alloc, &[(I, 1)])?;
+    locals.push((C, Value::Component(component(alloc, &[1, 2])?)))?;
+    locals.push((D, Value::Component(component(alloc, &[2])?)))?;
+    locals.push((N, Value::Null))?;
+    locals.push((B, Value::Boolean(true)))?;
+    locals.push((R, record(alloc, 3)?))?;
     let local_timers = [
-        ("t", TimerState::Running),
-        ("u", TimerState::Expired),
-        ("v", TimerState::Inactive),
-        ("v", TimerState::Running),
+        (NAMELESS, TimerState::Running),
+        (T, TimerState::Running),
+        (U, TimerState::Expired),
+        (V, TimerState::Inactive),
+        (V, TimerState::Running),
     ];
     let member_timers = [
-        ("t", TimerState::Inactive),
-        ("u", TimerState::Running),
-        ("w", TimerState::Running),
-        ("z", TimerState::Expired),
+        (T, TimerState::Inactive),
+        (U, TimerState::Running),
+        (W, TimerState::Running),
+        (Z, TimerState::Expired),
     ];
     Ok(Entries {
+        names: names_of_slots(alloc)?,
         locals,
         members: Vec::new(alloc),
-        local_timers: timers(alloc, &local_timers)?,
-        member_timers: timers(alloc, &member_timers)?,
-        running,
+        local_timers: Vec::from_slice(alloc, &local_timers)?,
+        member_timers: Vec::from_slice(alloc, &member_timers)?,
     })
 }
 

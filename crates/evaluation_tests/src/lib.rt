@@ -9,6 +9,8 @@ mod basic_expressions;
 #[cfg(test)]
 mod basic_frames;
 #[cfg(test)]
+mod calls;
+#[cfg(test)]
 mod fault;
 #[cfg(test)]
 mod frames;

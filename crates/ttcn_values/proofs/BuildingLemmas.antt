@@ -9,7 +9,7 @@ use Rattle.std.specs.List.{zip}
 use Rattle.std.proofs.Math.Seq.{drop-append_seam, take-append_seam}
 use mathlib.Core.Path.{fun_ext}
 use Rattle.ttcn_values.specs.Outcomes.{Fails, Outcome, Yields, each, outcome_and_then, outcome_map, unmet, value_in}
-use Rattle.ttcn_values.specs.Building.{Build, after_step, after_steps, alone, last_as, one_after, with_more}
+use Rattle.ttcn_values.specs.internal.Building.{Build, after_step, after_steps, alone, last_as, one_after, with_more}
 use Rattle.ttcn_values.specs.Readings.{Reading}
 use Rattle.ttcn_values.specs.declared.reader.Step.{Step}
 use Rattle.ttcn_values.specs.declared.template.Template.{Template}

@@ -15,6 +15,7 @@ pub mod MatchForms
 pub mod Outcomes
 pub mod Plans
 pub mod Sending
+pub mod Slots
 pub mod TemplateCalls
 pub mod TemplateEquality
 pub mod TemplateForms

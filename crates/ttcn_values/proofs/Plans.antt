@@ -7,7 +7,7 @@ use Rattle.std.specs.List.{zip}
 use Rattle.std.specs.Result.{IsErrAnd}
 use Rattle.ttcn_syntax.specs.declared.tree.definition.Field.{Field}
 use Rattle.ttcn_values.proofs.BuildingLemmas.{AreSoMany, each-many, last_behind, mapped_at, one_after_assoc, steps-more}
-use Rattle.ttcn_values.specs.Building.{Build, Builds, Plans, after_step, after_steps, alone, last_as, one_after, with_more}
+use Rattle.ttcn_values.specs.internal.Building.{Build, Builds, Plans, after_step, after_steps, alone, last_as, one_after, with_more}
 use Rattle.ttcn_values.specs.Outcomes.{Fails, Gives, GivesBy, Outcome, Yields, each, outcome_and_then, outcome_map, unmet, value_in}
 use Rattle.ttcn_values.specs.Readings.{Reading}
 use Rattle.ttcn_values.specs.Templates.{Wanted, element, in_order, plain, record_at, with_ifpresent}

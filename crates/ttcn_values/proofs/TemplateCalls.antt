@@ -9,7 +9,8 @@ use Rattle.check_expressions.specs.Calls.{parameters_of}
 use Rattle.check_scope.specs.Names.{kind_at, module_names, resolved, template_at, template_of}
 use Rattle.check_scope.specs.declared.types.DataType.{DataType}
 use Rattle.ttcn_values.specs.Chains.{given_to, template_value, with_names, within_chains}
-use Rattle.ttcn_values.specs.Frames.{facts, read_by, seen_by}
+use Rattle.ttcn_values.specs.Frames.{facts}
+use Rattle.ttcn_values.specs.internal.Readers.{read_by, seen_by}
 use Rattle.ttcn_values.specs.Outcomes.{Outcome, outcome_and_then}
 use Rattle.ttcn_values.specs.Templates.{arguments, template_called, template_wanted}
 use Rattle.ttcn_values.specs.declared.reader.Reader.{Reader}

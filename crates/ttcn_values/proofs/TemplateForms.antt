@@ -14,7 +14,7 @@ use Rattle.check_scope.specs.Names.{module_names, resolved}
 use Rattle.check_scope.specs.declared.types.DataType.{DataType}
 use Rattle.ttcn_values.proofs.Each.{if_as_long}
 use Rattle.ttcn_values.proofs.Lists.{find_among}
-use Rattle.ttcn_values.specs.Frames.{read_by}
+use Rattle.ttcn_values.specs.internal.Readers.{read_by}
 use Rattle.ttcn_values.specs.Outcomes.{Outcome, Yields, each, outcome_map, unmet}
 use Rattle.ttcn_values.specs.Readings.{Reading}
 use Rattle.ttcn_values.specs.Templates.{Wanted, body_step, body_wanted, element, element_named, field_template, field_template_step, in_order, parts_of, plain, template_step, template_wanted, with_ifpresent}

@@ -1,7 +1,7 @@
 -- What a failure gives for a use.
 use Rattle.std.proofs.Common.{◌≡◌, ℕ, List, [], ◌∷◌, Result, Ok, Err, refl, sym, ap, subst, ◌∙◌}
 use Rattle.ttcn_syntax.specs.declared.tree.definition.Definition.{Definition}
-use Rattle.ttcn_values.specs.Frames.{taken_for}
+use Rattle.ttcn_values.specs.internal.Readers.{taken_for}
 use Rattle.ttcn_values.specs.Outcomes.{Failure, Fails, Gives, Outcome, Yields, value_in}
 use Rattle.ttcn_values.specs.Readings.{along}
 use Rattle.ttcn_values.specs.declared.fault.Fault.{Fault}

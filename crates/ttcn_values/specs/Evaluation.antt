@@ -1,13 +1,14 @@
 -- The value of an expression (ES 201 873-1, 7).
-use Rattle.std.specs.Prelude.{pos, List, [], ◌∷◌, if◌then◌else◌}
+use Rattle.std.specs.Prelude.{pos, Bool, List, [], ◌∷◌, if◌then◌else◌}
 use Rattle.ttcn_syntax.specs.declared.operator.Operator.{Operator}
 use Rattle.ttcn_syntax.specs.declared.tree.expression.Expr.{Expr, fold-Expr}
 use Rattle.ttcn_syntax.specs.declared.tree.expression.Expr.TheOpen.{Expr-F, Link-F}
 use Rattle.ttcn_syntax.specs.declared.tree.expression.Link.{Link, fold-Link}
 use Rattle.arithmetic.specs.Integers.{within}
 use Rattle.ttcn_values.specs.Operations.{applied, decides, fitting, negated, truth, under_sign}
-use Rattle.ttcn_values.specs.Outcomes.{Outcome, Yields, outcome_and_then}
+use Rattle.ttcn_values.specs.Outcomes.{Outcome, Yields, or_unmet, outcome_and_then}
 use Rattle.ttcn_values.specs.Readings.{Reading, component_at, named, presence, runs}
+use Rattle.ttcn_values.specs.Values.{boolean}
 use Rattle.ttcn_values.specs.declared.value.Value.{Value}
 use Rattle.ttcn_values.specs.declared.value.Value.TheVariants as value
 
@@ -45,3 +46,7 @@ value_of = fold-Expr Evaluation (Operator × Evaluation) expression_step link_st
 -- an operator with what the operand behind it gives
 abbrev pub link : Link → Operator × Evaluation
 link = fold-Link Evaluation (Operator × Evaluation) expression_step link_step
+
+-- what a condition gives: no checked module has one that is no boolean
+abbrev pub condition_of : Expr → Reading → Outcome Bool
+condition_of e reading = outcome_and_then (λ v. or_unmet (boolean v)) (value_of e reading)

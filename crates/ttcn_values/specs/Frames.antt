@@ -1,42 +1,53 @@
 -- The readings that frames stand for.
-use Rattle.std.specs.Prelude.{ℕ, Bool, true, false, All, List, Option, None, bytes_eq}
-use Rattle.std.specs.List.{find, list_any}
+use Rattle.std.specs.Prelude.{ℕ, Bool, true, false, List, Option, bytes_eq}
+use Rattle.std.specs.List.{filter_map, find, list_any, slice_get}
 use Rattle.std.specs.Option.{option_map, option_or}
-use Rattle.ttcn_syntax.specs.declared.tree.definition.Definition.{Definition}
-use Rattle.ttcn_syntax.specs.declared.tree.expression.Reference.{Reference}
 pub use Rattle.ttcn_types.specs.Limits.{longest_chain}
-use Rattle.ttcn_values.specs.Chains.{given_to, within_chains}
-use Rattle.ttcn_values.specs.Outcomes.{Gives, Outcome, or_error, or_unmet, outcome_and_then, unmet}
-use Rattle.ttcn_values.specs.Readings.{Reading, along, named, presence}
+use Rattle.ttcn_values.specs.Chains.{within_chains}
+use Rattle.ttcn_values.specs.Outcomes.{or_error, unmet}
+use Rattle.ttcn_values.specs.Readings.{Reading}
 use Rattle.ttcn_values.specs.contracts.path.PathPartialEq.TheImpl as equality
 use Rattle.ttcn_values.specs.declared.frame.Frame.{Frame}
 use Rattle.ttcn_values.specs.declared.frame.TimerState.{TimerState}
 use Rattle.ttcn_values.specs.declared.frame.TimerState.TheVariants as timer
-use Rattle.ttcn_values.specs.declared.reader.ConstantResult.{ConstantResult}
-use Rattle.ttcn_values.specs.declared.reader.Origin.{Origin}
-use Rattle.ttcn_values.specs.declared.reader.Origin.TheVariants as origin
-use Rattle.ttcn_values.specs.declared.reader.Reader.{Reader}
-use Rattle.ttcn_values.specs.declared.reader.Use.{Use}
-use Rattle.ttcn_values.specs.declared.reader.Use.TheVariants as use_form
-use Rattle.ttcn_values.specs.declared.reader.Visible.{Visible}
-use Rattle.ttcn_values.specs.declared.reader.Visible.TheVariants as visible
-use Rattle.ttcn_values.specs.declared.value.Value.{Value}
+
+-- ---- entries
+
+-- an entry with the name of its slot, where that has one
+abbrev pub named_entry : {A : Type 0} → List (List ℕ) → ℕ × A → Option (List ℕ × A)
+named_entry names e = option_map (λ name. (name, e.1)) (slice_get names e.0)
+
+-- the entries with the names of their slots: an entry whose slot has no name says nothing
+abbrev pub named_entries : {A : Type 0} → List (List ℕ) → List (ℕ × A) → List (List ℕ × A)
+named_entries names entries = filter_map (named_entry names) entries
 
 -- what the first entry of a name says
 abbrev pub entry : {A : Type 0} → List (List ℕ × A) → List ℕ → Option A
 entry entries name = option_map (λ e. e.1) (find (λ e. bytes_eq e.0 name) entries)
 
+-- what is seen of a name in two frames: the inner one comes first
+abbrev pub seen_entry : {A : Type 0} → List (List ℕ × A) → List (List ℕ × A) → List ℕ → Option A
+seen_entry inner outer name = option_or (entry inner name) (entry outer name)
+
+-- ---- timers
+
 abbrev pub is_running : TimerState → Bool
 is_running timer.Running = true
 is_running _ = false
+
+-- the state of the timer of a name, where a frame has one
+abbrev pub timer_of : Frame → List ℕ → Option TimerState
+timer_of frame name = seen_entry (named_entries frame.names.now frame.local_timers.now) (named_entries frame.names.now frame.member_timers.now) name
+
+-- ---- readings
 
 -- what a frame gives, without the module's constants and templates: a name without an entry has no value
 abbrev pub facts : Frame → Reading
 facts frame = record {
   definitions = frame.definitions.now;
-  names = λ name. or_error (option_or (entry frame.locals.now name) (entry frame.members.now name));
-  timers = λ name. option_map is_running (option_or (entry frame.local_timers.now name) (entry frame.member_timers.now name));
-  running = λ path. list_any ((equality.ghosts).eq path) frame.running.now;
+  names = λ name. or_error (seen_entry (named_entries frame.names.now frame.locals.now) (named_entries frame.names.now frame.members.now) name);
+  timers = λ name. option_map is_running (timer_of frame name);
+  running = λ path. list_any (λ other. (equality.ghosts).eq path other.now) frame.running.now;
   itself = frame.itself.now;
   mtc = frame.mtc.now;
   constants = λ at item. unmet;
@@ -46,53 +57,3 @@ facts frame = record {
 -- the reading that a frame stands for
 abbrev pub reading : Frame → Reading
 reading frame = within_chains longest_chain (facts frame)
-
--- ---- readers
-
-abbrev pub names_seen : Visible → Reading → List ℕ → Outcome Value
-names_seen visible.Frame facts = facts.names
-names_seen visible.Nothing facts = λ name. unmet
-names_seen (visible.Parameters parameters values) facts = given_to parameters.now values.now
-
-abbrev pub timers_seen : Visible → Reading → List ℕ → Option Bool
-timers_seen visible.Frame facts = facts.timers
-timers_seen _ facts = λ name. None
-
-abbrev pub seen_by : Visible → Reading → Reading
-seen_by seen facts = record {
-  definitions = facts.definitions;
-  names = names_seen seen facts;
-  timers = timers_seen seen facts;
-  running = facts.running;
-  itself = facts.itself;
-  mtc = facts.mtc;
-  constants = facts.constants;
-  templates = facts.templates;
-}
-
--- the reading that a reader has
-abbrev pub read_by : Reader → Reading
-read_by reader = within_chains reader.depth (seen_by reader.visible (facts reader.frame.now))
-
--- each of these constants gives this in a reading
-abbrev pub AreResults : Reading → List ConstantResult → Type 0
-AreResults reading constants = All (λ constant. Gives (reading.constants constant.at constant.item) constant.result) constants
-
--- the constants that a reader knows give what it knows of them
-abbrev pub KnowsConstants : Reader → Type 0
-KnowsConstants reader = AreResults (read_by reader) reader.constants.now
-
--- what a value gives for a use, with fields behind it
-abbrev pub taken_for : Use → List Definition → List (List ℕ) → Outcome Value → Outcome Value
-taken_for use_form.Value definitions fields found = along definitions fields found
-taken_for use_form.Presence definitions fields found = outcome_and_then (presence definitions fields) found
-
--- what a reference gives for a use
-abbrev pub wanted_of : Use → Reading → Reference → Outcome Value
-wanted_of wanted reading reference = taken_for wanted reading.definitions reference.fields (named reading reference.name)
-
--- the value of what a name stands for
-abbrev pub origin_value : Reading → Origin → Outcome Value
-origin_value reading (origin.Constant at item) = reading.constants at item
-origin_value reading (origin.Made v) = or_unmet v
-origin_value reading (origin.Kept v) = or_error (option_map (λ value. value.now) v)

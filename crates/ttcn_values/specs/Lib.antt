@@ -5,7 +5,6 @@ pub mod BasicPlace
 pub mod BasicSame
 pub mod BasicValues
 pub mod BasicWhole
-pub mod Building
 pub mod Chains
 pub mod Evaluation
 pub mod Frames
@@ -16,3 +15,4 @@ pub mod Outcomes
 pub mod Readings
 pub mod Templates
 pub mod Values
+pub mod internal

@@ -65,20 +65,20 @@ abbrev pub template_named : Reading → Expr → Option ℕ
 template_named reading e = template_of_name reading (bare_name (out-Expr e))
 
 -- an expression, or the name of a template
-abbrev pub at_name : Reading → Expr → Option ℕ → Outcome Template
-at_name reading e None = outcome_and_then as_pattern (value_of e reading)
-at_name reading e (Some at) = template_called reading (Some at) []
+abbrev pub template_of_expression : Reading → Expr → Option ℕ → Outcome Template
+template_of_expression reading e None = outcome_and_then as_pattern (value_of e reading)
+template_of_expression reading e (Some at) = template_called reading (Some at) []
 
 -- ---- ranges
 
 -- an end of a range: an infinite one is none, whatever its sign
-abbrev pub at_bound : Reading → Bound → Outcome (Option ℤ)
-at_bound reading (bound.Expr e) = outcome_and_then (λ v. outcome_map Some (or_unmet (integer v))) (value_of e reading)
-at_bound reading bound.Infinity = Yields None
+abbrev pub value_of_bound : Reading → Bound → Outcome (Option ℤ)
+value_of_bound reading (bound.Expr e) = outcome_and_then (λ v. outcome_map Some (or_unmet (integer v))) (value_of e reading)
+value_of_bound reading bound.Infinity = Yields None
 
-abbrev pub at_range : Reading → Bound → Bound → Outcome Template
-at_range reading low high =
-    outcome_and_then (λ l. outcome_map (λ h. plain (pattern.Range l h)) (at_bound reading high)) (at_bound reading low)
+abbrev pub template_of_range : Reading → Bound → Bound → Outcome Template
+template_of_range reading low high =
+    outcome_and_then (λ l. outcome_map (λ h. plain (pattern.Range l h)) (value_of_bound reading high)) (value_of_bound reading low)
 
 -- ---- parts
 
@@ -116,9 +116,9 @@ body_step TemplateBody-F.AnyOrOmit reading wanted = Yields (plain pattern.AnyOrO
 body_step TemplateBody-F.Omit reading wanted = Yields (plain pattern.Omit)
 body_step (TemplateBody-F.Complement parts) reading wanted = outcome_map (λ ps. plain (pattern.Complement ps)) (parts_of reading wanted parts)
 body_step (TemplateBody-F.List parts) reading wanted = outcome_map (λ ps. plain (pattern.List ps)) (parts_of reading wanted parts)
-body_step (TemplateBody-F.Range low high) reading wanted = at_range reading low high
+body_step (TemplateBody-F.Range low high) reading wanted = template_of_range reading low high
 body_step (TemplateBody-F.Call call) reading wanted = template_called reading (template_of_name reading (Some call.name)) call.arguments
-body_step (TemplateBody-F.Expr e) reading wanted = at_name reading e (template_named reading e)
+body_step (TemplateBody-F.Expr e) reading wanted = template_of_expression reading e (template_named reading e)
 body_step (TemplateBody-F.Listed parts) reading wanted =
     record_at (wanted_record wanted) (λ at. in_order reading (fields_at reading.definitions at) parts)
 body_step (TemplateBody-F.Assigned parts) reading wanted =

@@ -1,15 +1,20 @@
 //! What expressions, values and templates of the text give (ES 201 873-1, sections 7 and 15).
-ghost use Rattle.ttcn_values.specs.Evaluation.{value_of};
 ghost use Rattle.std.specs.Prelude.{◌≡◌};
-ghost use Rattle.ttcn_values.specs.Frames.{KnowsConstants, read_by, reading};
+ghost use Rattle.ttcn_values.specs.Evaluation.{condition_of, value_of};
+ghost use Rattle.ttcn_values.specs.Frames.{reading};
+ghost use Rattle.ttcn_values.specs.internal.Readers.{KnowsConstants, read_by};
 ghost use Rattle.ttcn_values.specs.Literals.{value_wanted};
 ghost use Rattle.ttcn_values.specs.Outcomes.{Gives};
-ghost use Rattle.ttcn_values.specs.Templates.{template_wanted};
+ghost use Rattle.ttcn_values.specs.Readings.{component_at, component_referred, referred, timer_at};
+ghost use Rattle.ttcn_values.specs.Templates.{arguments, template_wanted};
 
-use crate::reader::{Reader, Visible};
-use crate::{Fault, Frame, Template, Value};
+use crate::reader::{Reader, Use, Visible};
+use crate::{ComponentId, Fault, Frame, Template, Value};
 use std::alloc::Global;
-use ttcn_syntax::{Expr, Template as WrittenTemplate, Value as WrittenValue};
+use ttcn_syntax::{
+    ComponentRef, Expr, Parameter, Reference, Seq, Template as WrittenTemplate,
+    Value as WrittenValue,
+};
 use ttcn_types::DataType;
 
 /// Constants and templates of a program refer to each other in chains of at most so many.
@@ -35,6 +40,74 @@ pub fn eval(alloc: Global, expr: &Expr, frame: &Frame<'_>) -> Result<Value, Faul
     ensures { Gives (value_of expr.now (reading frame.now)) result }
 {
     Reader::of(frame).evaluate(alloc, expr)
+}
+
+/// Whether a condition is true, or its dynamic error.
+#[tactic(auto, using(crate::proofs::Outcomes::outcome_forms))]
+pub fn eval_condition(alloc: Global, condition: &Expr, frame: &Frame<'_>) -> Result<bool, Fault>
+    ensures { Gives (condition_of condition.now (reading frame.now)) result }
+{
+    match eval(alloc, condition, frame)? {
+        Value::Boolean(truth) => Ok(truth),
+        _ => Err(Fault::Dynamic),
+    }
+}
+
+/// The value of a name, or of fields behind it, or its dynamic error.
+pub fn eval_reference(
+    alloc: Global,
+    reference: &Reference,
+    frame: &Frame<'_>,
+) -> Result<Value, Fault>
+    ensures { Gives (referred (reading frame.now) reference.now) result }
+{
+    Reader::of(frame).read(alloc, reference, Use::Value)
+}
+
+/// The value of a component reference, which may be `null`, or its dynamic error.
+pub fn eval_component_reference(
+    alloc: Global,
+    component: &ComponentRef,
+    frame: &Frame<'_>,
+) -> Result<Value, Fault>
+    ensures { Gives (component_at (reading frame.now) component.now) result }
+{
+    Reader::of(frame).component(alloc, component)
+}
+
+/// The component that a reference refers to, or its dynamic error: `null` refers to none.
+#[tactic(auto, using(crate::proofs::Outcomes::outcome_forms))]
+pub fn eval_component(
+    alloc: Global,
+    component: &ComponentRef,
+    frame: &Frame<'_>,
+) -> Result<ComponentId, Fault>
+    ensures { Gives (component_referred (reading frame.now) component.now) result }
+{
+    match eval_component_reference(alloc, component, frame)? {
+        Value::Component(id) => Ok(id),
+        _ => Err(Fault::Dynamic),
+    }
+}
+
+/// Whether the timer runs that a reference means, if it means one.
+pub fn timer_runs(component: &ComponentRef, frame: &Frame<'_>) -> Option<bool>
+    ensures { result ≡ timer_at (reading frame.now) component.now }
+{
+    Reader::of(frame).timer(component)
+}
+
+/// What arguments give for parameters, or the dynamic error of the first that has one.
+pub fn eval_arguments(
+    alloc: Global,
+    parameters: &[Parameter],
+    given: &[WrittenValue],
+    frame: &Frame<'_>,
+) -> Result<Seq<Value>, Fault>
+    ensures { Gives (arguments (reading frame.now) parameters.now given.now) result }
+{
+    let values = Reader::of(frame).arguments(alloc, parameters, given)?;
+    Ok(Seq::from_vec(values))
 }
 
 /// The value of what stands where a value of a type is wanted, or its dynamic error. `Value::Omit` is what `omit` gives.

@@ -1,4 +1,8 @@
 //! What expressions read.
+ghost use Rattle.std.specs.Prelude.{◌≡◌};
+ghost use Rattle.ttcn_values.specs.Frames.{timer_of};
+
+use crate::entries::{Slot, seen_entry};
 use crate::{ComponentId, Path, Value};
 use ttcn_syntax::Name;
 use ttcn_types::Definitions;
@@ -11,20 +15,30 @@ pub enum TimerState {
     Expired,
 }
 
-/// What an expression reads: the definitions of its module, the values of names that have one, the timers by their names, the
-/// components that run, and what `self` and `mtc` are. Of several entries of a name the first one counts, and those of
-/// the innermost frame count before those of the component type.
+/// What an expression reads: the definitions of its module, the values of names that have one, the timers, the components
+/// that run, and what `self` and `mtc` are. An entry belongs to the name of its slot. Of several entries of a name the first
+/// one counts, and those of the innermost frame count before those of the component type.
 #[derive(Clone, Copy)]
 pub struct Frame<'a> {
     pub definitions: &'a Definitions<'a>,
+    /// The name of each slot: an entry of another slot says nothing.
+    pub names: &'a [Name],
     /// The values of the innermost frame.
-    pub locals: &'a [(Name, Value)],
+    pub locals: &'a [(Slot, Value)],
     /// The values of the component type's variables and constants.
-    pub members: &'a [(Name, Value)],
-    pub local_timers: &'a [(Name, TimerState)],
-    pub member_timers: &'a [(Name, TimerState)],
+    pub members: &'a [(Slot, Value)],
+    pub local_timers: &'a [(Slot, TimerState)],
+    pub member_timers: &'a [(Slot, TimerState)],
     /// The components that run.
-    pub running: &'a [Path],
+    pub running: &'a [&'a Path],
     pub itself: &'a ComponentId,
     pub mtc: &'a ComponentId,
+}
+
+/// The state of the timer of a name, if there is one.
+pub fn timer_state(name: &Name, frame: &Frame<'_>) -> Option<TimerState>
+    ensures { result ≡ timer_of frame.now name.now }
+{
+    let state = seen_entry(frame.names, frame.local_timers, frame.member_timers, name)?;
+    Some(*state)
 }

@@ -2,6 +2,7 @@
 #![tactic(auto)]
 
 mod basic;
+mod entries;
 mod evaluation;
 mod fault;
 mod frame;
@@ -15,9 +16,13 @@ mod template;
 mod value;
 
 pub use basic::{BasicFrame, BasicValue, eval_basic};
-pub use evaluation::{eval, eval_template, eval_value};
+pub use entries::Slot;
+pub use evaluation::{
+    eval, eval_arguments, eval_component, eval_component_reference, eval_condition, eval_reference,
+    eval_template, eval_value, timer_runs,
+};
 pub use fault::Fault;
-pub use frame::{Frame, TimerState};
+pub use frame::{Frame, TimerState, timer_state};
 pub use laws::{equal_templates_are_one, equal_values_are_one};
 pub use matching::matches;
 pub use path::Path;

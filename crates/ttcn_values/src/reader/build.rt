@@ -1,8 +1,8 @@
 //! How templates are built that name others (ES 201 873-1, section 15): by the steps that are written down for each. So
 //! evaluation goes down one text at a time, however long chains of templates are.
 ghost use Rattle.std.specs.Prelude.{◌≡◌, ◌-◌, ◌≤◌, [], drop, length, take};
-ghost use Rattle.ttcn_values.specs.Building.{Builds, Gathers, after_step, after_steps};
-ghost use Rattle.ttcn_values.specs.Frames.{KnowsConstants, read_by};
+ghost use Rattle.ttcn_values.specs.internal.Building.{Builds, Gathers, after_step, after_steps};
+ghost use Rattle.ttcn_values.specs.internal.Readers.{KnowsConstants, read_by};
 ghost use Rattle.ttcn_values.specs.Outcomes.{Gives, GivesBy};
 ghost use Rattle.ttcn_values.specs.Templates.{plain, template_wanted};
 

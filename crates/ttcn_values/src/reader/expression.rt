@@ -1,7 +1,7 @@
 //! What an expression gives (ES 201 873-1, section 7).
 ghost use Rattle.std.specs.Prelude.{◌≡◌, map};
 ghost use Rattle.ttcn_values.specs.Evaluation.{after, joined, link, value_of};
-ghost use Rattle.ttcn_values.specs.Frames.{KnowsConstants, read_by, wanted_of};
+ghost use Rattle.ttcn_values.specs.internal.Readers.{KnowsConstants, read_by, wanted_of};
 ghost use Rattle.ttcn_values.specs.Outcomes.{Answers, Gives, Yields};
 ghost use Rattle.ttcn_values.specs.Readings.{component_at, component_runs};
 
@@ -79,7 +79,7 @@ impl Reader<'_> {
 
     /// A component, or what a name stands for.
     #[cycle(reader)]
-    fn component(&self, alloc: Global, component: &ComponentRef) -> Result<Value, Fault>
+    pub(crate) fn component(&self, alloc: Global, component: &ComponentRef) -> Result<Value, Fault>
         requires { KnowsConstants self.now }
         ensures { Gives (component_at (read_by self.now) component.now) result }
     {
@@ -93,7 +93,12 @@ impl Reader<'_> {
     /// What a reference is read for: the value that it leads to, or whether it leads to one.
     #[cycle(reader)]
     #[tactic(auto, using(crate::proofs::Uses::taken_of_failure, crate::proofs::Uses::taken_alike))]
-    fn read(&self, alloc: Global, reference: &Reference, wanted: Use) -> Result<Value, Fault>
+    pub(crate) fn read(
+        &self,
+        alloc: Global,
+        reference: &Reference,
+        wanted: Use,
+    ) -> Result<Value, Fault>
         requires { KnowsConstants self.now }
         ensures { Gives (wanted_of wanted (read_by self.now) reference.now) result }
     {

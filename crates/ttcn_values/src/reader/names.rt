@@ -2,24 +2,17 @@
 ghost use Rattle.std.specs.Prelude.{◌≡◌};
 ghost use Rattle.std.specs.Option.{option_map};
 ghost use Rattle.ttcn_values.specs.Chains.{given_to};
-ghost use Rattle.ttcn_values.specs.Frames.{entry, origin_value, read_by};
+ghost use Rattle.ttcn_values.specs.internal.Readers.{origin_value, read_by};
 ghost use Rattle.ttcn_values.specs.Outcomes.{value_in};
 ghost use Rattle.ttcn_values.specs.Readings.{named, timer_at};
 
 use super::record::enumerated;
 use super::{Origin, Reader, Visible};
+use crate::entries::seen_entry;
 use crate::named::position_of;
-use crate::{Path, TimerState, Value};
+use crate::{Path, TimerState, Value, timer_state};
 use ttcn_syntax::{ComponentRef, Name, Parameter};
 use ttcn_types::Meaning;
-
-/// What the first entry of a name says.
-fn entry<'a, T>(entries: &'a [(Name, T)], name: &Name) -> Option<&'a T>
-    ensures { option_map (λ found. found.now) result ≡ entry entries.now name.now }
-{
-    let found = entries.iter().find(|entry| entry.0 == *name)?;
-    Some(&found.1)
-}
 
 /// What the parameter of a name is given.
 #[tactic(auto, using(crate::proofs::Outcomes::outcome_forms))]
@@ -36,17 +29,17 @@ impl<'a> Reader<'a> {
         ensures { option_map (λ value. value.now) result ≡ value_in ((read_by self.now).names name.now) }
     {
         match self.visible {
-            Visible::Frame => match entry(self.frame.locals, name) {
-                Some(value) => Some(value),
-                None => entry(self.frame.members, name),
-            },
+            Visible::Frame => {
+                let frame = self.frame;
+                seen_entry(frame.names, frame.locals, frame.members, name)
+            }
             Visible::Nothing => None,
             Visible::Parameters(parameters, values) => given(parameters, values, name),
         }
     }
 
     /// Whether the timer runs that is meant, if one is: a name without fields may be that of a timer.
-    pub(super) fn timer(&self, component: &ComponentRef) -> Option<bool>
+    pub(crate) fn timer(&self, component: &ComponentRef) -> Option<bool>
         ensures { result ≡ timer_at (read_by self.now) component.now }
     {
         let ComponentRef::Named(reference) = component else {
@@ -58,10 +51,7 @@ impl<'a> Reader<'a> {
         if reference.fields.len() > 0 {
             return None;
         }
-        let state = match entry(self.frame.local_timers, &reference.name) {
-            Some(state) => *state,
-            None => *entry(self.frame.member_timers, &reference.name)?,
-        };
+        let state = timer_state(&reference.name, self.frame)?;
         Some(state == TimerState::Running)
     }
 
@@ -69,7 +59,7 @@ impl<'a> Reader<'a> {
     pub(super) fn runs(&self, path: &Path) -> bool
         ensures { result ≡ (read_by self.now).running path.now }
     {
-        self.frame.running.contains(path)
+        self.frame.running.iter().any(|other| path == *other)
     }
 
     /// What a name stands for.

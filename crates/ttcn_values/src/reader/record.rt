@@ -3,7 +3,7 @@ ghost use Rattle.std.specs.Prelude.{◌≡◌, bytes_eq};
 ghost use Rattle.std.specs.List.{find, position, slice_get};
 ghost use Rattle.std.specs.Option.{option_and_then, option_map};
 ghost use Rattle.ttcn_syntax.specs.declared.tree.value.FieldValue.{out-FieldValue};
-ghost use Rattle.ttcn_values.specs.Frames.{taken_for};
+ghost use Rattle.ttcn_values.specs.internal.Readers.{taken_for};
 ghost use Rattle.ttcn_values.specs.Readings.{along, enumerated, field, last_presence, presence, read, state_of_field};
 ghost use Rattle.ttcn_values.specs.Outcomes.{Answers, Gives, Yields, or_error, or_unmet, value_in};
 

@@ -5,8 +5,8 @@ ghost use Rattle.std.specs.Option.{option_map};
 ghost use Rattle.ttcn_syntax.specs.declared.tree.expression.Expr.{out-Expr};
 ghost use Rattle.check_expressions.specs.Templates.{bare_name};
 ghost use Rattle.check_scope.specs.Names.{fields_at};
-ghost use Rattle.ttcn_values.specs.Building.{Plans, alone};
-ghost use Rattle.ttcn_values.specs.Frames.{KnowsConstants, read_by};
+ghost use Rattle.ttcn_values.specs.internal.Building.{Plans, alone};
+ghost use Rattle.ttcn_values.specs.internal.Readers.{KnowsConstants, read_by};
 ghost use Rattle.ttcn_values.specs.Literals.{wanted_record};
 ghost use Rattle.ttcn_values.specs.Outcomes.{Gives, GivesBy, Yields, outcome_map};
 ghost use Rattle.ttcn_values.specs.Readings.{Reading};
@@ -58,7 +58,7 @@ impl Reader<'_> {
     #[tactic(auto, using(crate::proofs::Outcomes::outcome_forms))]
     fn bound(&self, alloc: Global, bound: &Bound) -> Result<Option<i64>, Fault>
         requires { KnowsConstants self.now }
-        ensures { Gives (spec.at_bound (read_by self.now) bound.now) result }
+        ensures { Gives (spec.value_of_bound (read_by self.now) bound.now) result }
     {
         let Bound::Expr(expr) = bound else {
             return Ok(None);
@@ -73,7 +73,7 @@ impl Reader<'_> {
     #[tactic(auto, using(crate::proofs::Outcomes::outcome_forms))]
     fn range(&self, alloc: Global, low: &Bound, high: &Bound) -> Result<Pattern, Fault>
         requires { KnowsConstants self.now }
-        ensures { GivesBy spec.plain (spec.at_range (read_by self.now) low.now high.now) result }
+        ensures { GivesBy spec.plain (spec.template_of_range (read_by self.now) low.now high.now) result }
     {
         let low = self.bound(alloc, low)?;
         let high = self.bound(alloc, high)?;
@@ -84,7 +84,7 @@ impl Reader<'_> {
     #[tactic(auto, using(crate::proofs::Outcomes::outcome_forms))]
     fn pattern(&self, alloc: Global, expr: &Expr) -> Result<Pattern, Fault>
         requires { KnowsConstants self.now }
-        ensures { GivesBy spec.plain (spec.at_name (read_by self.now) expr.now None) result }
+        ensures { GivesBy spec.plain (spec.template_of_expression (read_by self.now) expr.now None) result }
     {
         let value = self.evaluate(alloc, expr)?;
         if value.is_complete() {
@@ -95,7 +95,7 @@ impl Reader<'_> {
     }
 
     /// What arguments give for parameters.
-    fn arguments(
+    pub(crate) fn arguments(
         &self,
         alloc: Global,
         parameters: &[Parameter],
@@ -146,7 +146,7 @@ impl Reader<'_> {
         steps: &mut Vec<Step>,
     ) -> Result<(), Fault>
         requires { KnowsConstants self.now }
-        ensures { Plans (read_by self.now) (outcome_map alone (spec.at_range (read_by self.now) low.now high.now)) steps.old.items steps.new.items result }
+        ensures { Plans (read_by self.now) (outcome_map alone (spec.template_of_range (read_by self.now) low.now high.now)) steps.old.items steps.new.items result }
     {
         let range = self.range(alloc, low, high)?;
         steps.push(Step::Plain(range))?;
@@ -161,7 +161,7 @@ impl Reader<'_> {
         steps: &mut Vec<Step>,
     ) -> Result<(), Fault>
         requires { KnowsConstants self.now }
-        ensures { Plans (read_by self.now) (outcome_map alone (spec.at_name (read_by self.now) expr.now (spec.template_named (read_by self.now) expr.now))) steps.old.items steps.new.items result }
+        ensures { Plans (read_by self.now) (outcome_map alone (spec.template_of_expression (read_by self.now) expr.now (spec.template_named (read_by self.now) expr.now))) steps.old.items steps.new.items result }
     {
         let named = self.template_named(expr);
         if named.is_some() {

@@ -1,6 +1,6 @@
 //! What stands where a value of a type is wanted (ES 201 873-1, sections 5.4 and 6.2).
 ghost use Rattle.std.specs.Prelude.{◌≡◌, map};
-ghost use Rattle.ttcn_values.specs.Frames.{KnowsConstants, read_by};
+ghost use Rattle.ttcn_values.specs.internal.Readers.{KnowsConstants, read_by};
 ghost use Rattle.ttcn_values.specs.Literals as spec;
 ghost use Rattle.ttcn_values.specs.Outcomes.{Answers, Gives};
 

@@ -3,8 +3,8 @@ use Rattle.std.proofs.Common.{Global, Vec}
 use Rattle.ttcn_values.proofs.Faults.{gives_same}
 use Rattle.ttcn_values.proofs.Plans.{alone_last, alone_none, and_then_fault, gives_by_fault, gives_fault, none_built, none_given_by, none_of_map, planned_alone}
 use Rattle.ttcn_values.proofs.TemplateCalls.{template_gives}
-use Rattle.ttcn_values.specs.Building.{after_step, after_steps, alone}
-use Rattle.ttcn_values.specs.Frames.{read_by}
+use Rattle.ttcn_values.specs.internal.Building.{after_step, after_steps, alone}
+use Rattle.ttcn_values.specs.internal.Readers.{read_by}
 use Rattle.ttcn_values.specs.Outcomes.{outcome_and_then, value_in}
 use Rattle.ttcn_values.specs.Templates as spec
 use Rattle.ttcn_values.specs.declared.template.Template.{Template}

@@ -1,6 +1,6 @@
 use Rattle.std.proofs.Common.{◌≡◌, ◌+◌, ◌*◌, []}
-use Rattle.ttcn_values.specs.Building.{after_steps}
-use Rattle.ttcn_values.specs.Frames.{read_by}
+use Rattle.ttcn_values.specs.internal.Building.{after_steps}
+use Rattle.ttcn_values.specs.internal.Readers.{read_by}
 use Rattle.ttcn_values.proofs.reader.Reader.+building.Given as goal
 
 -- each template that is called has one link less

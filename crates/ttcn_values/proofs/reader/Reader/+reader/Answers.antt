@@ -7,7 +7,8 @@ use Rattle.ttcn_values.proofs.LiteralForms.{assigned_fault, listed_fault, at_fie
 use Rattle.ttcn_values.proofs.Outcomes.{passes_on}
 use Rattle.ttcn_values.specs.Evaluation.{value_of}
 use Rattle.ttcn_values.specs.Chains.{within_chains}
-use Rattle.ttcn_values.specs.Frames.{AreResults, facts, read_by, seen_by}
+use Rattle.ttcn_values.specs.Frames.{facts}
+use Rattle.ttcn_values.specs.internal.Readers.{AreResults, read_by, seen_by}
 use Rattle.ttcn_values.specs.Literals as spec
 use Rattle.ttcn_values.specs.Outcomes.{Fails, Yields}
 use Rattle.ttcn_values.specs.declared.reader.Visible.TheVariants as visible

@@ -8,8 +8,8 @@ use Rattle.ttcn_values.proofs.Bounds.{element_larger, found_within}
 use Rattle.ttcn_values.proofs.BuildingLemmas.{each-none, loop-last, loop-next, mapped_at, paired_at, paired_length}
 use Rattle.ttcn_values.proofs.Plans.{alone-many, gather_step, in_order-many, map_map, mapped-many, mapped_twice-many, mapped_twice_at, none_of_map, none_planned, plans_fault, plans_same, present_made, record_is, record_none, without_ifpresent}
 use Rattle.ttcn_values.proofs.TemplateForms.{body_of_any, body_of_any_or_omit, body_of_complement, body_of_list, body_of_omit, element_found, element_missing, in_order_as_long, wanted_out}
-use Rattle.ttcn_values.specs.Building.{after_steps, alone, one_after, with_more}
-use Rattle.ttcn_values.specs.Frames.{read_by}
+use Rattle.ttcn_values.specs.internal.Building.{after_steps, alone, one_after, with_more}
+use Rattle.ttcn_values.specs.internal.Readers.{read_by}
 use Rattle.ttcn_values.specs.Literals.{wanted_record}
 use Rattle.ttcn_values.specs.Outcomes.{Yields, outcome_map, unmet, value_in}
 use Rattle.ttcn_values.specs.Templates as spec

@@ -1,7 +1,7 @@
 use Rattle.std.proofs.Common.{◌≡◌, map}
 use Rattle.std.specs.List.{zip}
 use Rattle.ttcn_values.proofs.Each.{behind, beside}
-use Rattle.ttcn_values.specs.Frames.{read_by}
+use Rattle.ttcn_values.specs.internal.Readers.{read_by}
 use Rattle.ttcn_values.specs.Outcomes.{each}
 use Rattle.ttcn_values.specs.Templates.{argument}
 use Rattle.ttcn_values.proofs.reader.Reader.arguments.Given as goal

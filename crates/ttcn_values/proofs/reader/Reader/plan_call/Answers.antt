@@ -1,8 +1,8 @@
 use Rattle.std.proofs.Common.{Global, Vec, refl, ap, sym, ◌∙◌}
 use Rattle.ttcn_values.proofs.Plans.{and_then_fault, call_step, map_none, none_given_by, plans_fault}
 use Rattle.ttcn_values.proofs.TemplateCalls.{with_arguments}
-use Rattle.ttcn_values.specs.Building.{alone}
-use Rattle.ttcn_values.specs.Frames.{read_by}
+use Rattle.ttcn_values.specs.internal.Building.{alone}
+use Rattle.ttcn_values.specs.internal.Readers.{read_by}
 use Rattle.ttcn_values.specs.Outcomes.{Yields, outcome_map, value_in}
 use Rattle.ttcn_values.specs.Templates as spec
 use Rattle.ttcn_values.specs.declared.value.Value.{Value}
