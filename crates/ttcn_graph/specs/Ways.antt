@@ -96,9 +96,9 @@ abbrev pub items_otherwise : List Definition → Site → Statement → List Ite
 items_otherwise definitions site s rest next conditionals last =
     if nat_lt next (length conditionals) then Doing site s (From next) ∷ rest else (items_if_any definitions site last ++ rest)
 
--- the conditions of an `if` from one on: its block, and what follows where it is false
+-- the conditions of an `if` from one on: its block, and what follows where it is false. Without any, the block of its `else`
 abbrev pub ways_of_conditional : List Definition → Site → Statement → List Item → ℕ → List Conditional → Option (List Statement) → Option Conditional → Lists
-ways_of_conditional definitions site s rest k conditionals last None = []
+ways_of_conditional definitions site s rest k conditionals last None = (items_if_any definitions site last ++ rest) ∷ []
 ways_of_conditional definitions site s rest k conditionals last (Some c) =
     (items definitions site (out-Conditional c).block ++ rest) ∷ items_otherwise definitions site s rest (k + 1) conditionals last ∷ []
 

@@ -1,3 +1,4 @@
+pub mod Drawing
 pub mod KeptNames
 pub mod OwnNames
 pub mod Within

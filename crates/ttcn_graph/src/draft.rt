@@ -239,6 +239,25 @@ impl<'a> Draft<'a> {
 
     // ---- positions with their ways
 
+    /// No ways yet.
+    pub fn no_ways(&self) -> Seq<usize>
+        ensures { result ≡ [] }
+    {
+        Seq::new(self.alloc)
+    }
+
+    /// Says where the one list is that may come of the list at a position.
+    pub fn finish_one(&mut self, at: usize, way: usize) -> Result<(), AllocError>
+        requires at { at < length self.old.lists }
+        requires within { way < length self.old.lists }
+        requires ways { ways_of self.old.definitions (get_or self.old.lists at []) ≡ get_or self.old.lists way [] ∷ [] }
+        ensures { OnOk result (IsFinished self.old self.new at) }
+    {
+        let mut ways = self.no_ways();
+        ways.push(way)?;
+        self.finish(at, ways)
+    }
+
     /// The position of a part of a statement in front of a list, where it is known what may come of it.
     pub fn put(
         &mut self,

@@ -2,9 +2,9 @@
 ghost use Rattle.std.specs.Prelude.{◌≡◌, is_some, IfOk, OnOk, OnErr};
 ghost use Rattle.std.specs.Option.{option_map};
 ghost use Rattle.check_expressions.specs.Calls.{altstep_meant};
-ghost use Rattle.check_scope.specs.Checking.{view};
+ghost use Rattle.check_scope.specs.internal.Checking.{view};
 ghost use Rattle.check_scope.specs.Names.{module_names, resolved};
-ghost use Rattle.check_scope.specs.Tables.{has};
+ghost use Rattle.check_scope.specs.internal.Tables.{has};
 ghost use Rattle.check_statements.specs.Definitions.{with_parameters};
 ghost use Rattle.step_rules.specs.Sites as sites;
 ghost use Rattle.step_rules.specs.Storing.{type_of_name};
@@ -43,8 +43,8 @@ impl<'a> Model for Here<'a> {
     ghost use Rattle.ttcn_syntax.specs.contracts.tree.template.Template as template;
     ghost use Rattle.ttcn_syntax.specs.contracts.tree.value.Value as value;
     ghost use Rattle.ttcn_syntax.specs.declared.tree.definition.Definition.{Definition};
-    ghost use Rattle.check_scope.specs.Checking.{view as scope_view};
-    ghost use Rattle.check_scope.specs.Tables.{has};
+    ghost use Rattle.check_scope.specs.internal.Checking.{view as scope_view};
+    ghost use Rattle.check_scope.specs.internal.Tables.{has};
     ghost use Rattle.step_rules.specs.Sites.{Site, behaviour_scope};
     ghost use Rattle.ttcn_graph.specs.internal.OwnNames.{is_parameter};
 

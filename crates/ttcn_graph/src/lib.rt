@@ -2,11 +2,13 @@
 #![tactic(auto)]
 
 mod at;
+mod block;
 mod cells;
 mod declared;
 mod draft;
 mod here;
 mod item;
+mod names;
 mod own;
 mod referred;
 

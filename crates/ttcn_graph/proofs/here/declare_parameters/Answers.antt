@@ -1,5 +1,5 @@
 use Rattle.std.proofs.Common.{[], ◌∷◌, ap, ◌∙◌}
-use Rattle.check_scope.specs.Checking.{view}
+use Rattle.check_scope.specs.internal.Checking.{view}
 use Rattle.check_scope.specs.Names.{declaring}
 use Rattle.check_scope.specs.declared.names.Meaning.TheVariants as meaning
 use Rattle.ttcn_graph.proofs.Sites.{parameters-end, parameters-next}

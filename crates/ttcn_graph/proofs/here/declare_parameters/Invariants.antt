@@ -1,5 +1,5 @@
 use Rattle.std.proofs.Common.{◌≡◌, drop}
-use Rattle.check_scope.specs.Checking.{view}
+use Rattle.check_scope.specs.internal.Checking.{view}
 use Rattle.check_statements.specs.Definitions.{with_parameters}
 use Rattle.ttcn_graph.proofs.here.declare_parameters.Given as goal
 

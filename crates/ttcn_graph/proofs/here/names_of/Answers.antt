@@ -1,5 +1,5 @@
 use Rattle.std.proofs.Common.{ap, ◌∙◌, true, bytes_eq, if◌then◌else◌}
-use Rattle.check_scope.specs.Tables.{has}
+use Rattle.check_scope.specs.internal.Tables.{has}
 use Rattle.ttcn_graph.proofs.Sites.{names-end, names-next}
 use Rattle.ttcn_graph.proofs.here.names_of.Goals as goal
 

@@ -1,5 +1,5 @@
 use Rattle.std.proofs.Common.{◌≡◌, ◌||◌, ℕ, List, drop}
-use Rattle.check_scope.specs.Tables.{has}
+use Rattle.check_scope.specs.internal.Tables.{has}
 use Rattle.ttcn_graph.specs.internal.OwnNames.{is_one_of}
 use Rattle.ttcn_graph.proofs.here.names_of.Given as goal
 

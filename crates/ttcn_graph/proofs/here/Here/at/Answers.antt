@@ -1,7 +1,7 @@
 use Rattle.std.proofs.Common.{◌≡◌, ap, sym, subst, ◌∙◌}
 use Rattle.std.specs.Option.{option_map}
-use Rattle.check_scope.specs.Checking.{view}
-use Rattle.check_scope.specs.Tables.{has}
+use Rattle.check_scope.specs.internal.Checking.{view}
+use Rattle.check_scope.specs.internal.Tables.{has}
 use Rattle.step_rules.specs.Sites.{behaviour_scope}
 use Rattle.ttcn_graph.specs.internal.OwnNames.{is_one_of, is_parameter}
 use Rattle.ttcn_graph.proofs.Sites.{at_beginning}

@@ -1,5 +1,5 @@
 use Rattle.std.proofs.Common.{ap, ◌∙◌}
-use Rattle.check_scope.specs.Checking.{view}
+use Rattle.check_scope.specs.internal.Checking.{view}
 use Rattle.step_rules.specs.Sites.{scope_at}
 use Rattle.ttcn_graph.proofs.Sites.{found_inside, found_outside}
 use Rattle.ttcn_graph.proofs.here.Here.get.Goals as goal
