@@ -1,0 +1,40 @@
+//! What a component has of its own.
+use ttcn_syntax::Seq;
+use ttcn_values::{Slot, TimerState, Value};
+
+/// The values of names and the states of timers, each in the order of the slots. A name without value has no entry among
+/// the values.
+#[derive(Debug, Drop, PartialEq, Eq, Hash)]
+pub struct Cells {
+    pub values: Seq<(Slot, Value)>,
+    pub timers: Seq<(Slot, TimerState)>,
+}
+
+/// The position of what remains to be done in a frame, and the frame's names.
+#[derive(Debug, Drop, PartialEq, Eq, Hash)]
+pub struct Frame {
+    pub remaining: usize,
+    pub cells: Cells,
+}
+
+/// An activated default: the number of the activation, the altstep, and its arguments (ES 201 873-1, 20.5).
+#[derive(Debug, Drop, PartialEq, Eq, Hash)]
+pub struct ActiveDefault {
+    pub number: u32,
+    pub altstep: usize,
+    pub arguments: Seq<Value>,
+}
+
+/// What the statements of a component read and change of its own, beside its state, its verdict and the messages that wait.
+#[derive(Debug, Drop, PartialEq, Eq, Hash)]
+pub struct Data {
+    /// Frame 0: the variables, constants and timers of its type.
+    pub members: Cells,
+    /// The frames above, the last one first.
+    pub calls: Seq<Frame>,
+    /// Its defaults, the one that was activated last first, and how many were activated so far.
+    pub defaults: Seq<ActiveDefault>,
+    pub activations: u32,
+    /// How many components it created so far.
+    pub children: u32,
+}

@@ -1,0 +1,21 @@
+//! Configurations of a test case that runs (ES 201 873-1, 21 and 22, ES 201 873-4).
+#![tactic(auto)]
+
+mod act;
+mod change;
+mod component;
+mod config;
+mod connect;
+mod connection;
+mod copy;
+mod create;
+mod frame;
+mod going;
+mod verdict;
+
+pub use act::Act;
+pub use component::{Component, Message, Queue, State};
+pub use config::{Config, Going};
+pub use connection::{Connection, End};
+pub use copy::TryClone;
+pub use frame::{ActiveDefault, Cells, Data, Frame};
