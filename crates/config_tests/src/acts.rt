@@ -180,6 +180,8 @@ fn new_components_in_order(rt: HostRuntime) -> Result<(), Fail> {
     }
     assert_eq!(rt; going.components.len(), 4);
     let third = going.components.as_slice().get(2);
-    assert!(rt; third.is_some_and(|third| third.itself.path.numbers.as_slice() == [1, 0].as_slice()));
+    assert!(rt;
+        third.is_some_and(|third| third.itself.path.numbers.as_slice() == [1, 0].as_slice())
+    );
     Ok(())
 }
