@@ -11,7 +11,7 @@ pub fn told(alloc: Global, definitions: &Definitions<'_>) -> Result<String, Allo
     let mtc = component(alloc, &[])?;
     let running = [&mtc.path];
     let frame = Frame {
-        definitions,
+        definitions: &*definitions,
         names: &[],
         locals: &[],
         members: &[],
