@@ -1,0 +1,10 @@
+pub mod Asked
+pub mod Changes
+pub mod Members
+pub mod Orders
+pub mod Outcomes
+pub mod Puts
+pub mod Runs
+pub mod Stored
+pub mod Unmarked
+pub mod Ways
