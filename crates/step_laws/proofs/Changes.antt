@@ -48,7 +48,7 @@ pub record IsGentle (change : Component → Component) : Type 0 where
   pub path : (x : Component) → path_of (change x) ≡ path_of x
   pub within : (x : Component) → IsComponentInOrder x → IsComponentInOrder (change x)
 
-unless-path : (b : Bool) (change : Component → Component) (x : Component) → path_of (change x) ≡ path_of x → path_of (if b then x else change x) ≡ path_of x
+pub unless-path : (b : Bool) (change : Component → Component) (x : Component) → path_of (change x) ≡ path_of x → path_of (if b then x else change x) ≡ path_of x
 unless-path true change x e = refl
 unless-path false change x e = e
 
@@ -56,7 +56,7 @@ unless-within : (b : Bool) (change : Component → Component) (x : Component) �
 unless-within true change x is also = is
 unless-within false change x is also = also
 
-if-path : (b : Bool) (change : Component → Component) (x : Component) → path_of (change x) ≡ path_of x → path_of (if b then change x else x) ≡ path_of x
+pub if-path : (b : Bool) (change : Component → Component) (x : Component) → path_of (change x) ≡ path_of x → path_of (if b then change x else x) ≡ path_of x
 if-path true change x e = e
 if-path false change x e = refl
 
@@ -129,7 +129,7 @@ settle-ordered c path n own is all = touch-ordered c path (with_data own) (data-
 
 -- ---- new components
 
-insert-each : (P : Component → Type 0) (new : Component) → P new → (xs : List Component) → All P xs → All P (insert new xs)
+pub insert-each : (P : Component → Type 0) (new : Component) → P new → (xs : List Component) → All P xs → All P (insert new xs)
 insert-each P new is [] all = All-cons P new [] is (All-nil P)
 insert-each P new is (x ∷ xs) all = insert-each-first (is_before new x) (insert-each P new is xs (All-tail P x xs all))
   where

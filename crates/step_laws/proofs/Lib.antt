@@ -1,5 +1,6 @@
 pub mod Asked
 pub mod Changes
+pub mod Families
 pub mod Members
 pub mod Orders
 pub mod Outcomes

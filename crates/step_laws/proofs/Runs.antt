@@ -108,7 +108,7 @@ started-ordered test body =
     map-yields IsFrameInOrder IsConfigurationInOrder (λ members. Goes (record { components = mtc_with test body members ∷ []; connections = []; forgotten = verdict.None })) (new_members test (mtc_of test) (first_snapshot test))
     (first-ordered test body) (members-ordered test (mtc_of test) (first_snapshot test))
 
-starts : (test : Test) → IsConfigurationInOrder (start test)
+pub starts : (test : Test) → IsConfigurationInOrder (start test)
 starts test =
     settled-ordered (outcome_and_then (started test) (or_unmet (testcase_body (kind_at test.definitions test.testcase))))
     (then-yields (λ body. Unit {0}) IsConfigurationInOrder (started test) (or_unmet (testcase_body (kind_at test.definitions test.testcase))) (λ body any. started-ordered test body)
@@ -127,10 +127,10 @@ settled-step : (o : Option (Outcome Configuration)) → LeadsToOrder o → IfSom
 settled-step None is = tt
 settled-step (Some out) is = settled-ordered out is
 
-next-of : (test : Test) (c : Configuration) (label : Label) → IsConfigurationInOrder c → IfSome (next test c label) IsConfigurationInOrder
+pub next-of : (test : Test) (c : Configuration) (label : Label) → IsConfigurationInOrder c → IfSome (next test c label) IsConfigurationInOrder
 next-of test c label is = settled-step (step test c label) (step-of test c label is)
 
-some-of : {A : Type 0} (P : A → Type 0) (o : Option A) (a : A) → o ≡ Some a → IfSome o P → P a
+pub some-of : {A : Type 0} (P : A → Type 0) (o : Option A) (a : A) → o ≡ Some a → IfSome o P → P a
 some-of P o a e is = subst (λ x. IfSome x P) e is
 
 pub next_ordered : (test : Test) (c d : Configuration) (label : Label) → StandsInOrder c → next test c label ≡ Some d → StandsInOrder d
