@@ -1,0 +1,11 @@
+pub mod Asked
+pub mod Changes
+pub mod Families
+pub mod Members
+pub mod Orders
+pub mod Outcomes
+pub mod Puts
+pub mod Runs
+pub mod Stored
+pub mod Unmarked
+pub mod Ways
