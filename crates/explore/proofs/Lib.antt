@@ -1,11 +1,15 @@
+pub mod AllWorked
 pub mod Conclusions
 pub mod Covering
+pub mod Drawing
 pub mod Expanding
 pub mod FirstPlaces
+pub mod Joining
 pub mod Known
 pub mod LayerSteps
 pub mod Lists
 pub mod Outcome
+pub mod Placing
 pub mod RunLabels
 pub mod RunOrder
 pub mod SearchSteps

@@ -4,3 +4,4 @@ pub mod Limits
 pub mod Ring
 pub mod Search
 pub mod Tied
+pub mod Work

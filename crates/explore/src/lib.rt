@@ -8,6 +8,7 @@ mod layers;
 mod plan;
 mod runs;
 mod visited;
+mod workers;
 
 pub use answer::{Answer, explore};
 pub use plan::{ExploreError, Gate, NoGate, Plan};

@@ -1,7 +1,7 @@
 ghost use Rattle.std.specs.Prelude.{◌≡◌, ◌<◌, ◌+◌, IfOk};
 
 use indexmap::IndexSet;
-use std::hash::Hash;
+use std::hash::{Hash, Hasher};
 
 /// The last step of a run: the place of the state before it, and its label.
 #[derive(Debug, Drop)]
@@ -16,6 +16,32 @@ pub struct Candidate<S, L> {
     pub before: usize,
     pub label: L,
     pub state: S,
+}
+
+// Candidates are equal where their states are.
+
+impl<S: PartialEq, L> PartialEq for Candidate<S, L> {
+    ghost eq = { λ a b. S.eq a.state b.state };
+
+    ghost laws = { record { symm = λ a b. S.PartialEq.laws.symm a.state b.state; trans = λ a b c. S.PartialEq.laws.trans a.state b.state c.state } };
+
+    fn eq(&self, other: &Candidate<S, L>) -> bool {
+        self.state == other.state
+    }
+}
+
+impl<S: Eq, L> Eq for Candidate<S, L> {
+    ghost laws = { record { refl = λ a. S.Eq.laws.refl a.state; symm = λ a b. S.Eq.laws.symm a.state b.state; congr = λ a b c. S.Eq.laws.congr a.state b.state c.state } };
+}
+
+impl<S: Eq + Hash, L> Hash for Candidate<S, L> {
+    ghost hash_input = { λ c. S.hash_input c.state };
+
+    ghost respects_eq = { λ a b. S.respects_eq a.state b.state };
+
+    fn hash<H: Hasher>(&self, state: &mut H) {
+        self.state.hash(state);
+    }
 }
 
 /// The states that were found, in the order of their least runs, and the last step of each of these runs.
