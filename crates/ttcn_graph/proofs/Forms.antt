@@ -1,29 +1,25 @@
 -- What may come of each form of statement.
-use Rattle.std.proofs.Common.{◌≡◌, refl, sym, ap, subst, ◌∙◌, ℕ, zero, suc, ◌+◌, ◌<◌, ◌≤◌, Bool, true, false, true≢false, List, [], ◌∷◌, ◌++◌, map, length, nat_lt, Option, Some, None, is_some, slice_get, arith}
-use Rattle.std.proofs.lemmas.List.{append_assoc}
+use Rattle.std.proofs.Common.{◌≡◌, refl, sym, ap, ◌∙◌, ℕ, true, false, true≢false, List, [], ◌∷◌, Option, Some, None, is_some}
 use Rattle.ttcn_syntax.specs.declared.tree.definition.Definition.{Definition}
 use Rattle.ttcn_syntax.specs.declared.tree.expression.Expr.{Expr}
-use Rattle.ttcn_syntax.specs.declared.tree.expression.Reference.{Reference}
-use Rattle.ttcn_syntax.specs.declared.tree.statement.Action.{Action, out-Action, out-roll-Action, roll-Action, roll-out-Action}
+use Rattle.ttcn_syntax.specs.declared.tree.statement.Action.{out-Action, out-roll-Action, roll-Action, roll-out-Action}
 use Rattle.ttcn_syntax.specs.declared.tree.statement.Action.TheOpen.{Action-F}
 use Rattle.ttcn_syntax.specs.declared.tree.statement.Action.TheVariants as form
 use Rattle.ttcn_syntax.specs.declared.tree.statement.Assignment.{Assignment}
 use Rattle.ttcn_syntax.specs.declared.tree.statement.Branch.{Branch}
 use Rattle.ttcn_syntax.specs.declared.tree.statement.Conditional.{Conditional}
-use Rattle.ttcn_syntax.specs.declared.tree.statement.Constant.{Constant}
 use Rattle.ttcn_syntax.specs.declared.tree.statement.Constants.{Constants}
 use Rattle.ttcn_syntax.specs.declared.tree.statement.Event.{Event}
 use Rattle.ttcn_syntax.specs.declared.tree.statement.ForStart.{ForStart}
 use Rattle.ttcn_syntax.specs.declared.tree.statement.ForStart.TheVariants as for_start
 use Rattle.ttcn_syntax.specs.declared.tree.statement.Statement.{Statement, out-Statement}
 use Rattle.ttcn_syntax.specs.declared.tree.statement.Timer.{Timer}
-use Rattle.ttcn_syntax.specs.declared.tree.statement.Variable.{Variable}
 use Rattle.ttcn_syntax.specs.declared.tree.statement.Variables.{Variables}
 use Rattle.ttcn_syntax.specs.declared.tree.value.Call.{Call}
 use Rattle.step_rules.specs.Items as rules
 use Rattle.step_rules.specs.Items.{Doing, Item, action_of, items_of_action, items_of_statement, site_after}
-use Rattle.step_rules.specs.Sites.{Site, constant_entries, entries_of, scope_at, site_behind, timer_entries, variable_entries}
-use Rattle.ttcn_graph.specs.Ways.{Lists, ways_of, ways_of_call, ways_of_part}
+use Rattle.step_rules.specs.Sites.{Site, entries_of, scope_at, site_behind}
+use Rattle.ttcn_graph.specs.Ways.{ways_of, ways_of_call, ways_of_part}
 use Rattle.ttcn_graph.specs.internal.Drawing.{AreNames, Does}
 
 -- ---- what a statement does

@@ -1,7 +1,6 @@
 -- How drafts grow from part to part.
-use Rattle.std.proofs.Common.{◌≡◌, refl, sym, ap, subst, ◌∙◌, ℕ, zero, suc, ◌+◌, ◌<◌, ◌≤◌, Bool, List, [], ◌∷◌, ◌++◌, map, length, get_or, take, drop, Option, Result, Ok, Err, IfOk, arith}
+use Rattle.std.proofs.Common.{◌≡◌, refl, sym, ap, subst, ◌∙◌, ℕ, zero, suc, ◌+◌, ◌<◌, ◌≤◌, List, [], ◌∷◌, ◌++◌, map, length, get_or, take, drop, Option, Result, Ok, Err, IfOk, arith}
 use Rattle.std.proofs.lemmas.List.{append_assoc, drop_all, take_all}
-use Rattle.ttcn_syntax.specs.declared.tree.definition.Definition.{Definition}
 use Rattle.ttcn_syntax.specs.declared.tree.statement.Conditional.{Conditional}
 use Rattle.ttcn_syntax.specs.declared.tree.statement.ForStart.{ForStart}
 use Rattle.ttcn_syntax.specs.declared.tree.statement.ForStart.TheVariants as for_start
@@ -13,7 +12,7 @@ use Rattle.check_scope.specs.Names.{Entry, resolved}
 use Rattle.check_scope.specs.declared.names.Meaning.TheVariants as meaning
 use Rattle.step_rules.specs.Items.{Doing, Item, Name, Part, declarations, items, items_of_statement, site_after, site_in_for, start_items}
 use Rattle.step_rules.specs.Sites.{Site, scope_at, site_behind, site_with, variable_entries}
-use Rattle.ttcn_graph.specs.Drafts.{AllBut, AreAt, AreDrawn, Draft, Grows, IsBegun, IsDrawn, IsFinished, at_site}
+use Rattle.ttcn_graph.specs.Drafts.{AreAt, AreDrawn, Draft, Grows, IsBegun, IsDrawn, at_site}
 use Rattle.ttcn_graph.specs.Ways.{Lists, items_otherwise, ways_of}
 use Rattle.ttcn_graph.specs.internal.Drawing.{declared_before, site_before, site_behind_all}
 use Rattle.ttcn_graph.specs.internal.OwnNames.{retracted}
@@ -72,7 +71,7 @@ begun-ways a c at list ways h is =
 
 -- ---- positions one after the other
 
-at-push : (lists : Lists) (positions : List ℕ) (ways : Lists) (p : ℕ) (list : List Item) → AreAt lists positions ways → p < length lists → get_or lists p [] ≡ list
+pub at-push : (lists : Lists) (positions : List ℕ) (ways : Lists) (p : ℕ) (list : List Item) → AreAt lists positions ways → p < length lists → get_or lists p [] ≡ list
     → AreAt lists (positions ++ p ∷ []) (ways ++ list ∷ [])
 at-push lists [] [] p list h within is = (within, is, tt)
 at-push lists [] (l ∷ ways) p list h within is = absurd h

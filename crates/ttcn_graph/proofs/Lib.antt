@@ -1,6 +1,7 @@
 pub mod Apart
 pub mod Behind
 pub mod Drafted
+pub mod Drawing
 pub mod Forms
 pub mod Growing
 pub mod ListsKept

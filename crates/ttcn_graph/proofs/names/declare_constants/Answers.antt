@@ -1,4 +1,4 @@
-use Rattle.std.proofs.Common.{ap, map, ◌∙◌}
+use Rattle.std.proofs.Common.{map, ◌∙◌}
 use Rattle.check_scope.specs.declared.names.Meaning.TheVariants as meaning
 use Rattle.step_rules.specs.Sites as sites
 use Rattle.ttcn_graph.specs.Drafts.{at_site}
