@@ -4,4 +4,6 @@
 #[cfg(test)]
 mod acts;
 #[cfg(test)]
+mod names;
+#[cfg(test)]
 mod parts;

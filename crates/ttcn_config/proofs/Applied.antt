@@ -55,7 +55,7 @@ unless-in legend f g alike state.Created x = alike x
 unless-in legend f g alike state.Running x = alike x
 unless-in legend f g alike state.Terminated x = refl
 
-touch-by : (legend : Legend) (f : Component → Component) (g : rules.Component → rules.Component) → Alike legend f g → (going : Going) (p : Path) → Ascend going.components
+pub touch-by : (legend : Legend) (f : Component → Component) (g : rules.Component → rules.Component) → Alike legend f g → (going : Going) (p : Path) → Ascend going.components
     → going_by legend (with_components (kept.touch going.components p f) going) ≡ steps.touch (going_by legend going) p g
 touch-by legend f g alike going p ascend =
     ap (λ cs. record { components = cs; connections = map (connection_by legend) going.connections; forgotten = going.forgotten })
@@ -135,7 +135,7 @@ find-first : (legend : Legend) (b : Bool) (c : Component) (o : Option Component)
 find-first legend true c o found e = refl
 find-first legend false c o found e = e
 
-find-by : (legend : Legend) (p : Path) (cs : List Component)
+pub find-by : (legend : Legend) (p : Path) (cs : List Component)
     → find (λ c. same_path (rules.path_of c) p) (map (component_by legend) cs) ≡ option_map (component_by legend) (find (kept.is_of p) cs)
 find-by legend p [] = refl
 find-by legend p (c ∷ cs) =

@@ -28,7 +28,7 @@ and-true : (b : Bool) → (b && true) ≡ b
 and-true true = refl
 and-true false = refl
 
-equal-numbers : (a b : ℕ) → is_eq (nat_cmp a b) ≡ nat_eq a b
+pub equal-numbers : (a b : ℕ) → is_eq (nat_cmp a b) ≡ nat_eq a b
 equal-numbers a b = sym (equal-then (nat_cmp a b)) ∙ is_eq-slice_cmp (a ∷ []) (b ∷ []) ∙ and-true (nat_eq a b)
 
 -- two slots have one name where they are one

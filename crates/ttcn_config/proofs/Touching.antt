@@ -20,7 +20,7 @@ paths components = map (λ component. component.itself.path) components
 abbrev pub Ascend : List Component → Type 0
 Ascend components = AllPairs (λ p q. path_cmp p q ≡ Less) (paths components)
 
-path-is : (p q : Path) → same_path p q ≡ true → p ≡ q
+pub path-is : (p q : Path) → same_path p q ≡ true → p ≡ q
 path-is p q e = ap (λ n. record { numbers = n }) ((bytes_eq-Decides p.numbers q.numbers).0 e)
 
 not-before-itself : (p : Path) → path_cmp p p ≡ Less → ⊥

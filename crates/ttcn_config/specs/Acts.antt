@@ -1,11 +1,11 @@
 -- What components ask for, as the code keeps it, and what comes of it.
-use Rattle.std.specs.Prelude.{◌≡◌, map, AllPairs, Option, Some, None, Result, Ok, Err}
+use Rattle.std.specs.Prelude.{◌≡◌, Bool, true, false, map, AllPairs, Option, Some, None, Result, Ok, Err}
 use Rattle.std.specs.Option.{option_map}
 use Rattle.std.specs.declared.cmp.Ordering.TheVariants.{Less}
 use Rattle.step_rules.specs.Configurations as rules
 use Rattle.step_rules.specs.Statements as said
 use Rattle.step_rules.specs.Taking.{uncovered}
-use Rattle.ttcn_config.specs.Legend.{Legend, component_by, config_by, data_by, end_by, frame_by}
+use Rattle.ttcn_config.specs.Legend.{Legend, component_by, config_by, data_by, end_by, frame_by, going_by}
 use Rattle.ttcn_config.specs.declared.act.Act.{Act}
 use Rattle.ttcn_config.specs.declared.act.Act.TheVariants as act
 use Rattle.ttcn_config.specs.declared.config.Config.{Config}
@@ -49,6 +49,12 @@ abbrev pub IsFailing : Option (Outcome rules.Configuration) → Type 0
 IsFailing None = ⊥
 IsFailing (Some (Yields c)) = ⊥
 IsFailing (Some (Fails why)) = Unit {0}
+
+-- a call does the step, and says whether there is one, unless memory was refused
+abbrev pub DoesStep : {E : Type 0} → Legend → Option (Outcome rules.Configuration) → Going → Result Bool E → Type 0
+DoesStep legend step going (Ok true) = step ≡ Some (Yields (rules.Goes (going_by legend going)))
+DoesStep legend step going (Ok false) = step ≡ None
+DoesStep legend step going (Err refused) = Unit {0}
 
 -- a call gives the configuration that a step leads to, or says that the step fails, unless memory was refused
 abbrev pub Leads : Legend → Option (Outcome rules.Configuration) → Result Config Fault → Type 0

@@ -1,3 +1,5 @@
 pub mod Changes
 pub mod Done
 pub mod Ends
+pub mod Expiries
+pub mod Stored

@@ -2,6 +2,7 @@
 #![tactic(auto)]
 
 mod act;
+mod cells;
 mod change;
 mod component;
 mod config;
@@ -9,6 +10,8 @@ mod connect;
 mod connection;
 mod copy;
 mod create;
+mod data;
+mod expire;
 mod frame;
 mod going;
 mod verdict;

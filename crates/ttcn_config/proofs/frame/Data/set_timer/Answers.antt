@@ -1,0 +1,7 @@
+use Rattle.ttcn_config.proofs.Stored.{stored, timer-alike}
+use Rattle.ttcn_config.proofs.frame.Data.set_timer.Goals as goal
+
+pub returns : goal.returns
+returns c legend is =
+    stored legend _ _ (timer-alike legend is c.args.slot c.args.state) c.args.last c.args.self.now c.take_cells.new.self c.put_cells.new.self c.take_cells.result c.in_ok-cells.cells
+    c.take_cells.ensures.taken c.take_cells.ensures.left c.in_ok-cells.ensures c.put_cells.ensures

@@ -1,0 +1,7 @@
+use Rattle.ttcn_config.proofs.Stored.{stored, value-alike}
+use Rattle.ttcn_config.proofs.frame.Data.set_value.Goals as goal
+
+pub returns : goal.returns
+returns c legend is =
+    stored legend _ _ (value-alike legend is c.args.slot c.args.value) c.args.last c.args.self.now c.take_cells.new.self c.put_cells.new.self c.take_cells.result c.in_ok-cells.cells
+    c.take_cells.ensures.taken c.take_cells.ensures.left c.in_ok-cells.ensures c.put_cells.ensures
