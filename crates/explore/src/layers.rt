@@ -35,7 +35,7 @@ fn join_steps<Y: System, U: Summary<Y>>(
 }
 
 /// Keeps the candidate's state unless it was found before, and then joins what it shows.
-fn place_one<Y: System, U: Summary<Y>>(
+pub fn place_one<Y: System, U: Summary<Y>>(
     alloc: Global,
     system: &Y,
     limit: u64,
