@@ -40,7 +40,7 @@ any_at {X} test (x ∷ xs) e = go (test x) refl (any_at test xs) e
     go true is rest h = (0, x, refl, is)
     go false is rest h = let r = rest h in (suc r.0, r.1, r.2, r.3)
 
-stands_behind : (d k : ℕ) (ds : List ℕ) → d ≢ k → Stands k (d ∷ ds) → Stands k ds
+pub stands_behind : (d k : ℕ) (ds : List ℕ) → d ≢ k → Stands k (d ∷ ds) → Stands k ds
 stands_behind d k ds other has =
     let e : times k (d ∷ ds) ≡ 0 + times k ds = times_cons k d ds ∙ ap (λ b. cond b 1 0 + times k ds) (ne_eqb d k other) in omega arith
 

@@ -8,6 +8,7 @@ pub mod Joining
 pub mod Known
 pub mod LayerSteps
 pub mod Lists
+pub mod NotFirst
 pub mod Outcome
 pub mod Placing
 pub mod RunLabels

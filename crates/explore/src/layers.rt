@@ -5,37 +5,19 @@ ghost use Rattle.explore.specs.Search.{with_steps, place_all, found_after};
 ghost use Rattle.explore.specs.Tied.{as_found, Places};
 ghost use Rattle.indexmap.specs.IndexSet.{insert_key};
 
+use crate::entering::enter_first;
 use crate::expand::expand_layer;
 use crate::plan::{ExploreError, Gate, Plan};
 use crate::visited::{Candidate, Step, Visited};
+use crate::workers::find_first;
 use indexmap::IndexSet;
 use std::alloc::{AllocError, Global};
 use std::hash::Hash;
 use std::thread::Threads;
 use summary::{Summary, System};
 
-/// Joins what the steps of candidates show.
-fn join_steps<Y: System, U: Summary<Y>>(
-    alloc: Global,
-    system: &Y,
-    states: &[Y::State],
-    candidates: &[Candidate<Y::State, Y::Label>],
-    summary: U,
-) -> Result<U, AllocError>
-    requires fits { All (Y.fits system.now) states.now }
-    requires steps { All (IsStep (Y.graph system.now) states.now) candidates.now }
-    ensures { IfOk result (λ s. s ≡ with_steps U.joins (U.reading system.now) (Y.graph system.now) states.now summary candidates.now) }
-{
-    let mut summary = summary;
-    for candidate in candidates {
-        let before = &states[candidate.before];
-        summary = summary.join(alloc, U::by(alloc, system, before, &candidate.label)?)?;
-    }
-    Ok(summary)
-}
-
 /// Keeps the candidate's state unless it was found before, and then joins what it shows.
-fn place_one<Y: System, U: Summary<Y>>(
+pub fn place_one<Y: System, U: Summary<Y>>(
     alloc: Global,
     system: &Y,
     limit: u64,
@@ -67,8 +49,10 @@ fn place_one<Y: System, U: Summary<Y>>(
     Ok(summary.join(alloc, shown)?)
 }
 
-/// Places a layer's candidates in order. The gate hears of each piece as it begins.
-fn place_layer<Y: System, U: Summary<Y>, G: Gate>(
+/// Lets the workers find a layer's new states, keeps these in order, and joins what all steps and the new states
+/// show.
+fn place_layer<Y: System, U: Summary<Y>, G: Gate, R: Threads + Sync>(
+    rt: &R,
     alloc: Global,
     system: &Y,
     plan: &Plan,
@@ -78,26 +62,39 @@ fn place_layer<Y: System, U: Summary<Y>, G: Gate>(
     candidates: Vec<Candidate<Y::State, Y::Label>>,
     summary: U,
 ) -> Result<U, ExploreError>
+    requires plan { IsWithinLimits plan.now }
+    requires states { All (Y.fits system.now) visited.old.states.keys }
+    requires steps { All (IsStep (Y.graph system.now) visited.old.states.keys) candidates.items }
     requires fits { All (λ c. Y.fits system.now c.state) candidates.items }
-    requires pieces { 1 ≤ plan.now.piece }
     ensures placed { IfOk result (λ s. (from : ℕ) → as_found visited.new.states.keys visited.new.steps.items from s
-        ≡ place_all U.joins (U.reading system.now) Y.State.eq (as_found visited.old.states.keys visited.old.steps.items from summary) candidates.items) }
+        ≡ place_all U.joins (U.reading system.now) Y.State.eq (as_found visited.old.states.keys visited.old.steps.items from
+        (with_steps U.joins (U.reading system.now) (Y.graph system.now) visited.old.states.keys summary candidates.items)) candidates.items) }
     ensures within { OnOk result (length visited.old.states.keys ≤ plan.now.limit → length visited.new.states.keys ≤ plan.now.limit) }
     ensures too_many { IsErrOf result ExploreError.TooMany → (from : ℕ) → plan.now.limit
-        < length (place_all U.joins (U.reading system.now) Y.State.eq (as_found visited.old.states.keys visited.old.steps.items from summary) candidates.items).states }
+        < length (place_all U.joins (U.reading system.now) Y.State.eq (as_found visited.old.states.keys visited.old.steps.items from
+        (with_steps U.joins (U.reading system.now) (Y.graph system.now) visited.old.states.keys summary candidates.items)) candidates.items).states }
     ensures planned { result ≢ Err ExploreError.BadPlan }
 {
-    let pieces = (candidates.len() as u64).div_ceil(plan.piece);
-    let mut summary = summary;
-    let mut placed: u64 = 0;
-    for candidate in candidates {
-        if placed % plan.piece == 0 {
-            gate.enter(0, layer, placed / plan.piece, pieces);
-        }
-        placed = placed.wrapping_add(1);
-        summary = place_one(alloc, system, plan.limit, visited, candidate, summary)?;
-    }
-    Ok(summary)
+    let (firsts, shown) = find_first::<Y, U, G, R>(
+        rt,
+        alloc,
+        system,
+        plan,
+        gate,
+        layer,
+        &visited.states,
+        candidates.as_slice(),
+    )?;
+    let summary = summary.join(alloc, shown)?;
+    enter_first(
+        alloc,
+        system,
+        plan.limit,
+        visited,
+        candidates,
+        firsts.as_slice(),
+        summary,
+    )
 }
 
 /// What a search found: the states, the place where the last layer begins, and the summary.
@@ -131,9 +128,9 @@ pub fn search<Y: System, U: Summary<Y>, G: Gate, R: Threads + Sync>(
     for layer in 0..plan.steps {
         let states = visited.states.as_slice();
         let candidates = expand_layer(rt, alloc, system, from, &states[from..])?;
-        let shown = join_steps(alloc, system, states, &candidates, summary)?;
         from = visited.states.len();
-        summary = place_layer(
+        summary = place_layer::<Y, U, G, R>(
+            rt,
             alloc,
             system,
             plan,
@@ -141,7 +138,7 @@ pub fn search<Y: System, U: Summary<Y>, G: Gate, R: Threads + Sync>(
             layer,
             &mut visited,
             candidates,
-            shown,
+            summary,
         )?;
     }
     Ok(Explored {

@@ -2,6 +2,7 @@
 #![tactic(auto)]
 
 mod answer;
+mod entering;
 pub mod example;
 mod expand;
 mod layers;

@@ -1,37 +1,42 @@
-use Rattle.std.proofs.Common.{ap, sym, ◌∙◌, ◌∷◌, []}
-use Rattle.std.proofs.iter.Next.{Yields-more}
-use Rattle.std.proofs.lemmas.Result.{err_from_is_err_and}
-use Rattle.std.specs.Vec.Iter.{into_iter_items, into_iter_steps}
-use Rattle.explore.specs.Search.{place}
+use Rattle.std.proofs.Common.{List, ℕ, ◌≡◌, ◌<◌, length, ap, sym, subst, ◌∙◌}
+use Rattle.std.specs.Prelude.{IfOk, IsErrOf}
+use Rattle.summary.specs.Reading.{IsSemilattice}
+use Rattle.explore.specs.declared.plan.ExploreError.TheVariants.{TooMany}
+use Rattle.explore.specs.Search.{with_steps, place_all}
 use Rattle.explore.specs.Tied.{as_found}
-use Rattle.explore.proofs.SearchSteps.{placed, place_all_append, too_many_at}
-use Rattle.explore.proofs.Taken.{front_taken}
+use Rattle.explore.proofs.StepSums.{steps_join}
+use Rattle.explore.proofs.layers.place_layer.Given.{Over}
 use Rattle.explore.proofs.layers.place_layer.Goals as goal
+use Rattle.explore.proofs.layers.place_layer.Goals.{After-enter_first}
 
-pub returns-in_err-summary-clause-too_many : goal.returns-in_err-summary-clause-too_many
-returns-in_err-summary-clause-too_many g c many from =
+semilattice : (g : Over) → IsSemilattice g.U.Summary.joins
+semilattice g = (g.met.U.Summary g.world.𝓛 g.world.𝓜 g.world.𝓡 ((λ s x. x), (λ x. x), (λ x. x), λ x. x)).semilattice
+
+-- the workers' sum joined to the one before is that of all steps
+joined : (g : Over) (c : After-enter_first g) → c.in_ok-summary.summary ≡ with_steps g.U.Summary.joins (g.U.Summary.reading c.args.system.now) (g.Y.System.graph c.args.system.now) c.args.visited.now.states.keys c.args.summary c.args.candidates.items
+joined g c =
     let joins = g.U.Summary.joins in
     let reading = g.U.Summary.reading c.args.system.now in
-    let eq = g.Y.State.PartialEq.eq in
-    let p = err_from_is_err_and c.from_residual.result c.from_residual.ensures.1 in
-    let start = c.into_iter-candidate-iterator.result in
-    let more = Yields-more into_iter_steps start c.loop-candidate.yielded c.loop-candidate.candidate-iterator c.in-Some.candidate c.next.new.self c.loop-candidate.yielded_by c.in-Some.ensures.steps in
-    too_many_at joins reading eq c.args.plan.now.limit
-    (as_found c.args.visited.now.states.keys c.args.visited.now.steps.items from c.args.summary)
-    (as_found c.loop-candidate.visited.states.keys c.loop-candidate.visited.steps.items from c.loop-candidate.summary)
-    c.loop-candidate.yielded (into_iter_items c.next.new.self) c.args.candidates.items c.in-Some.candidate
-    (c.loop-candidate.invariant.0 from)
-    (sym c.into_iter-candidate-iterator.ensures.into_iter_gives.0 ∙ front_taken start _ c.next.new.self more)
-    (c.in_err-summary.ensures.too_many (cc (p.1, p.2, many)))
+    let graph = g.Y.System.graph c.args.system.now in
+    let keys = c.args.visited.now.states.keys in
+    c.in_ok-summary.ensures
+    ∙ ap (joins.join c.args.summary) (c.in_ok-firsts.ensures.summary ∙ ap (with_steps joins reading graph keys joins.none) c.as_slice.ensures.value)
+    ∙ sym (steps_join joins reading graph keys (semilattice g) c.args.summary c.args.candidates.items)
 
-pub loop-candidate-preserved : goal.loop-candidate-preserved
-loop-candidate-preserved g c =
+pub returns-clause-placed : goal.returns-clause-placed
+returns-clause-placed g c =
     let joins = g.U.Summary.joins in
     let reading = g.U.Summary.reading c.args.system.now in
-    let eq = g.Y.State.PartialEq.eq in (
-      λ from.
-          placed joins reading eq c.in_ok-summary.ensures.placed from
-          ∙ ap (λ f. place joins reading eq f c.in-Some.candidate) (c.loop-candidate.invariant.0 from)
-          ∙ sym (place_all_append joins reading eq (as_found c.args.visited.now.states.keys c.args.visited.now.steps.items from c.args.summary) c.loop-candidate.yielded (c.in-Some.candidate ∷ [])),
-      λ within. c.in_ok-summary.ensures.within (c.loop-candidate.invariant.1 within),
-    )
+    let old = c.args.visited.now in
+    subst (λ t. IfOk c.enter_first.result (λ s. (from : ℕ) → as_found c.enter_first.new.visited.states.keys c.enter_first.new.visited.steps.items from s
+    ≡ place_all joins reading g.Y.State.PartialEq.eq (as_found old.states.keys old.steps.items from t) c.args.candidates.items))
+    (joined g (goal.at.returns-clause-placed g c).After-enter_first) c.enter_first.ensures.placed
+
+pub returns-clause-too_many : goal.returns-clause-too_many
+returns-clause-too_many g c =
+    let joins = g.U.Summary.joins in
+    let reading = g.U.Summary.reading c.args.system.now in
+    let old = c.args.visited.now in
+    subst (λ t. IsErrOf c.enter_first.result TooMany → (from : ℕ) → c.args.plan.now.limit
+    < length (place_all joins reading g.Y.State.PartialEq.eq (as_found old.states.keys old.steps.items from t) c.args.candidates.items).states)
+    (joined g (goal.at.returns-clause-too_many g c).After-enter_first) c.enter_first.ensures.too_many

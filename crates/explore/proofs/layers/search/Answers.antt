@@ -3,7 +3,7 @@ use Rattle.std.specs.Prelude.{All}
 use Rattle.std.proofs.lemmas.List.{take_rest}
 use Rattle.std.proofs.lemmas.List.Elements.{All-nil, All-cons, All-drop}
 use Rattle.std.proofs.lemmas.Result.{err_from_is_err_and}
-use Rattle.explore.specs.Search.{Found, found_after, layer_candidates, with_layer}
+use Rattle.explore.specs.Search.{Found, found_after, layer_candidates, with_steps}
 use Rattle.explore.specs.Tied.{as_found}
 use Rattle.explore.proofs.SearchSteps.{layer_fits, place_all_fits, placed_grows, layer_done, layer_too_many}
 use Rattle.explore.proofs.LayerSteps.{are_steps, steps_shown}
@@ -29,17 +29,13 @@ expand_layer-requires-clause-fits g c κs within =
     let layer = take_rest c.as_slice-states.result.now c.loop-layer.from ∙ ap (drop c.loop-layer.from) c.as_slice-states.ensures.keys in
     subst (All fits) (sym layer) (All-drop fits c.loop-layer.from c.loop-layer.visited.states.keys c.loop-layer.invariant.fits)
 
-pub join_steps-requires-clause-fits : goal.join_steps-requires-clause-fits
-join_steps-requires-clause-fits g c κs within =
-    subst (All (g.Y.System.fits c.args.system.now)) (sym c.as_slice-states.ensures.keys) c.loop-layer.invariant.fits
-
-pub join_steps-requires-clause-steps : goal.join_steps-requires-clause-steps
-join_steps-requires-clause-steps g c κs within =
+pub place_layer-requires-clause-steps : goal.place_layer-requires-clause-steps
+place_layer-requires-clause-steps g c κs within =
     let graph = g.Y.System.graph c.args.system.now in
-    let states = c.as_slice-states.result.now in
-    are_steps graph states c.loop-layer.from c.deref.result.now
-    (subst (λ (ss : List _). c.loop-layer.from ≤ length ss) (sym c.as_slice-states.ensures.keys) c.loop-layer.invariant.from)
-    (c.deref.ensures.value ∙ c.in_ok-candidates.ensures ∙ ap (layer_candidates graph c.loop-layer.from) (take_rest states c.loop-layer.from))
+    let keys = c.loop-layer.visited.states.keys in
+    let layer = take_rest c.as_slice-states.result.now c.loop-layer.from ∙ ap (drop c.loop-layer.from) c.as_slice-states.ensures.keys in
+    are_steps graph keys c.loop-layer.from c.in_ok-candidates.candidates.items c.loop-layer.invariant.from
+    (c.in_ok-candidates.ensures ∙ ap (layer_candidates graph c.loop-layer.from) layer)
 
 pub place_layer-requires-clause-fits : goal.place_layer-requires-clause-fits
 place_layer-requires-clause-fits g c κs within =
@@ -58,13 +54,13 @@ returns-in_err-summary-clause-too_many g c many =
     let eq = g.Y.State.PartialEq.eq in
     let p = err_from_is_err_and c.from_residual-in_err-summary.result c.from_residual-in_err-summary.ensures.1 in
     let states = c.as_slice-states.result.now in
-    let shown_is = c.in_ok-shown.ensures
-    ∙ steps_shown graph states joins reading c.loop-layer.from c.loop-layer.summary c.deref.result.now
-    (c.deref.ensures.value ∙ c.in_ok-candidates.ensures ∙ ap (layer_candidates graph c.loop-layer.from) (take_rest states c.loop-layer.from))
-    ∙ ap (λ ss. with_layer joins reading graph c.loop-layer.summary (drop c.loop-layer.from ss)) c.as_slice-states.ensures.keys in
+    let keys = c.loop-layer.visited.states.keys in
     let layer = take_rest states c.loop-layer.from ∙ ap (drop c.loop-layer.from) c.as_slice-states.ensures.keys in
+    let shown = with_steps joins reading graph keys c.loop-layer.summary c.in_ok-candidates.candidates.items in
+    let shown_is = steps_shown graph keys joins reading c.loop-layer.from c.loop-layer.summary c.in_ok-candidates.candidates.items
+    (c.in_ok-candidates.ensures ∙ ap (layer_candidates graph c.loop-layer.from) layer) in
     layer_too_many graph joins reading eq c.loop-layer.layer c.args.plan.now.steps c.args.plan.now.limit c.loop-layer.from
-    c.loop-layer.visited.states.keys c.loop-layer.visited.steps.items c.loop-layer.summary c.in_ok-shown.shown c.in_ok-candidates.candidates.items
+    c.loop-layer.visited.states.keys c.loop-layer.visited.steps.items c.loop-layer.summary shown c.in_ok-candidates.candidates.items
     c.loop-layer-test.true c.loop-layer.invariant.found
     (c.in_ok-candidates.ensures ∙ ap (layer_candidates graph c.loop-layer.from) layer)
     shown_is
@@ -78,18 +74,18 @@ loop-layer-preserved g c =
     let reading = g.U.Summary.reading c.args.system.now in
     let eq = g.Y.State.PartialEq.eq in
     let states = c.as_slice-states.result.now in
-    let shown_is = c.in_ok-shown.ensures
-    ∙ steps_shown graph states joins reading c.loop-layer.from c.loop-layer.summary c.deref.result.now
-    (c.deref.ensures.value ∙ c.in_ok-candidates.ensures ∙ ap (layer_candidates graph c.loop-layer.from) (take_rest states c.loop-layer.from))
-    ∙ ap (λ ss. with_layer joins reading graph c.loop-layer.summary (drop c.loop-layer.from ss)) c.as_slice-states.ensures.keys in
+    let keys = c.loop-layer.visited.states.keys in
     let layer = take_rest states c.loop-layer.from ∙ ap (drop c.loop-layer.from) c.as_slice-states.ensures.keys in
+    let shown = with_steps joins reading graph keys c.loop-layer.summary c.in_ok-candidates.candidates.items in
+    let shown_is = steps_shown graph keys joins reading c.loop-layer.from c.loop-layer.summary c.in_ok-candidates.candidates.items
+    (c.in_ok-candidates.ensures ∙ ap (layer_candidates graph c.loop-layer.from) layer) in
     let cands = c.in_ok-candidates.ensures ∙ ap (layer_candidates graph c.loop-layer.from) layer in
-    let old = as_found c.loop-layer.visited.states.keys c.loop-layer.visited.steps.items 0 c.in_ok-shown.shown in
+    let old = as_found c.loop-layer.visited.states.keys c.loop-layer.visited.steps.items 0 shown in
     let new_states = ap (λ (f : Found _ _ _). f.states) (c.in_ok-summary.ensures.placed 0) in
     record {
       found = layer_done graph joins reading eq c.loop-layer.layer c.loop-layer.from c.len-from.result
           c.loop-layer.visited.states.keys c.place_layer.new.visited.states.keys c.loop-layer.visited.steps.items c.place_layer.new.visited.steps.items
-          c.loop-layer.summary c.in_ok-shown.shown c.in_ok-summary.summary c.in_ok-candidates.candidates.items
+          c.loop-layer.summary shown c.in_ok-summary.summary c.in_ok-candidates.candidates.items
           c.loop-layer.invariant.found cands
           shown_is
           c.len-from.ensures.len c.in_ok-summary.ensures.placed;
@@ -101,7 +97,7 @@ loop-layer-preserved g c =
       within = c.in_ok-summary.ensures.within c.loop-layer.invariant.within;
       from =
           let grown = placed_grows joins reading eq c.loop-layer.visited.states.keys c.place_layer.new.visited.states.keys c.loop-layer.visited.steps.items
-          c.place_layer.new.visited.steps.items 0 c.in_ok-shown.shown c.in_ok-summary.summary c.in_ok-candidates.candidates.items (c.in_ok-summary.ensures.placed 0) in
+          c.place_layer.new.visited.steps.items 0 shown c.in_ok-summary.summary c.in_ok-candidates.candidates.items (c.in_ok-summary.ensures.placed 0) in
           subst (λ (k : ℕ). k ≤ length c.place_layer.new.visited.states.keys) (sym c.len-from.ensures.len) grown;
     }
 
