@@ -89,7 +89,7 @@ found-at [] i x h is = absurd (omega (arith, h))
 found-at (y ∷ l) zero x h is = ap Some (sym is)
 found-at (y ∷ l) (suc i) x h is = found-at l i x (omega (arith, h)) is
 
-not-found : {A : Type 0} (l : List A) (i : ℕ) → length l ≤ i → slice_get l i ≡ None
+pub not-found : {A : Type 0} (l : List A) (i : ℕ) → length l ≤ i → slice_get l i ≡ None
 not-found [] i h = refl
 not-found (y ∷ l) zero h = absurd (omega (arith, h))
 not-found (y ∷ l) (suc i) h = not-found l i (omega (arith, h))

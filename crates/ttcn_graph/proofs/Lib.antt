@@ -3,6 +3,7 @@ pub mod Behind
 pub mod Drafted
 pub mod Drawing
 pub mod Forms
+pub mod Graphed
 pub mod Growing
 pub mod ListsKept
 pub mod Owned

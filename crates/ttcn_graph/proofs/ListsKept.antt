@@ -23,7 +23,7 @@ get-map f [] i d = refl
 get-map f (x ∷ xs) zero d = refl
 get-map f (x ∷ xs) (suc i) d = get-map f xs i d
 
-get-append : {A : Type 0} (xs ys : List A) (i : ℕ) (d : A) → i < length xs → get_or (xs ++ ys) i d ≡ get_or xs i d
+pub get-append : {A : Type 0} (xs ys : List A) (i : ℕ) (d : A) → i < length xs → get_or (xs ++ ys) i d ≡ get_or xs i d
 get-append [] ys i d h = absurd (omega (arith, h))
 get-append (x ∷ xs) ys zero d h = refl
 get-append (x ∷ xs) ys (suc i) d h = get-append xs ys i d (omega (arith, h))

@@ -1,5 +1,6 @@
 pub mod Drafts
 pub mod Equality
+pub mod Graphs
 pub mod ItemEquality
 pub mod ItemFeeding
 pub mod ItemHash

@@ -52,7 +52,7 @@ impl<'a> Model for Draft<'a> {
 }
 
 /// One of positions.
-fn way_in(ways: &Seq<usize>, place: usize) -> Option<usize>
+pub(crate) fn way_in(ways: &Seq<usize>, place: usize) -> Option<usize>
     ensures { result ≡ slice_get ways.now place }
 {
     ways.as_slice().get(place).copied()

@@ -1,0 +1,106 @@
+-- How the graphs of a module are drawn.
+use mathlib.Core.Path.{fun_ext}
+use Rattle.std.proofs.Common.{◌≡◌, refl, sym, ap, subst, ◌∙◌, ℕ, zero, suc, ◌+◌, ◌<◌, ◌≤◌, false, List, [], ◌∷◌, ◌++◌, map, length, get_or, slice_get, Option, Some, None, arith, inl, inr}
+use Rattle.std.proofs.lemmas.Bool.{cases_lt}
+use Rattle.std.proofs.lemmas.List.{append-nil, length-append}
+use Rattle.std.specs.Option.{IfNone, IfSome, option_map}
+use Rattle.ttcn_syntax.specs.declared.tree.definition.Definition.{Definition}
+use Rattle.ttcn_syntax.specs.declared.tree.statement.Branch.{Branch}
+use Rattle.ttcn_syntax.specs.declared.tree.statement.Statement.{Statement}
+use Rattle.step_rules.specs.Items.{Item, items}
+use Rattle.step_rules.specs.Sites.{beginning}
+use Rattle.ttcn_graph.specs.Drafts.{AreAt, AreDrawn, Draft, HasWays, IsDrawn, at_site, empty_draft}
+use Rattle.ttcn_graph.specs.Graphs.{AllHaveWays, IsAt, beginnings, beginnings_at, body_alone, graphs_of}
+use Rattle.ttcn_graph.specs.Ways.{Lists, items_of_branch}
+use Rattle.ttcn_graph.proofs.Drafted.{at-more, way-found, way-missing}
+use Rattle.ttcn_graph.proofs.Drawing.{not-found}
+use Rattle.ttcn_graph.proofs.ListsKept.{get-append, get-past}
+
+-- ---- what a definition begins with
+
+pub body-drawn : (old d : Draft) (body : List Statement) (nothing at : ℕ) (none one : List ℕ) → get_or old.lists nothing [] ≡ []
+    → IsDrawn old d at (items old.definitions old.site body ++ get_or old.lists nothing []) → none ≡ [] → one ≡ none ++ at ∷ []
+    → AreDrawn old d one (body_alone old.definitions old.site body)
+body-drawn old d body nothing at none one empty h none_is one_is =
+    subst (λ p. AreDrawn old d p (body_alone old.definitions old.site body)) (sym (one_is ∙ ap (λ p. p ++ at ∷ []) none_is))
+    (record {
+      grown = h.grown;
+      stand = (h.within, h.stands ∙ ap (λ l. items old.definitions old.site body ++ l) empty ∙ append-nil (items old.definitions old.site body), tt);
+    })
+
+pub branches-drawn : (old d : Draft) (branches : List Branch) (nothing : ℕ) (starts : List ℕ) → get_or old.lists nothing [] ≡ []
+    → AreDrawn old d starts (map (λ branch. items_of_branch old.definitions old.site branch ++ get_or old.lists nothing []) branches)
+    → AreDrawn old d starts (map (λ branch. items_of_branch old.definitions old.site branch) branches)
+branches-drawn old d branches nothing starts empty h =
+    subst (λ (f : Branch → List Item). AreDrawn old d starts (map f branches))
+    (fun_ext (λ branch. ap (λ l. items_of_branch old.definitions old.site branch ++ l) empty ∙ append-nil (items_of_branch old.definitions old.site branch))) h
+
+-- ---- definition by definition
+
+get-last : {A : Type 0} (xs : List A) (x d : A) → get_or (xs ++ x ∷ []) (length xs) d ≡ x
+get-last [] x d = refl
+get-last (y ∷ xs) x d = get-last xs x d
+
+-- so many definitions were drawn
+pub record AreGraphed (definitions : List Definition) (d : Draft) (starts : List (List ℕ)) (count : ℕ) : Type 0 where
+  pub module_is : d.definitions ≡ definitions
+  pub whole : AllHaveWays d
+  pub many : length starts ≡ count
+  pub stand : (at : ℕ) → at < count → AreAt d.lists (get_or starts at []) (beginnings_at definitions at)
+
+pub graphed-first : (definitions : List Definition) (d : Draft) (starts : List (List ℕ)) → d ≡ empty_draft definitions → starts ≡ [] → AreGraphed definitions d starts 0
+graphed-first definitions d starts is none =
+    subst (λ d. AreGraphed definitions d starts 0) (sym is) (subst (λ all. AreGraphed definitions (empty_draft definitions) all 0) (sym none) (record {
+      module_is = refl;
+      whole = λ p below. none-open definitions p below;
+      many = refl;
+      stand = λ at below. absurd (omega (arith, below));
+    }))
+  where
+    none-open : (definitions : List Definition) (p : ℕ) → p < 1 → HasWays (empty_draft definitions) p
+    none-open definitions zero below = tt
+    none-open definitions (suc p) below = absurd (omega (arith, below))
+
+pub graphed-next : (definitions : List Definition) (d d' : Draft) (starts pushed : List (List ℕ)) (here : List ℕ) (count : ℕ) → AreGraphed definitions d starts count
+    → AreDrawn (at_site (beginning count) d) d' here (beginnings_at definitions count) → pushed ≡ starts ++ here ∷ [] → AreGraphed definitions d' pushed (count + 1)
+graphed-next definitions d d' starts pushed here count g h push =
+    let long = length-append starts (here ∷ []) in
+    let many = g.many in
+    subst (λ all. AreGraphed definitions d' all (count + 1)) (sym push) (record {
+      module_is = h.grown.definitions ∙ g.module_is;
+      whole = λ p below. h.grown.keeps (λ q. false) (λ q within closed. g.whole q within) p below refl;
+      many = omega (arith, long, many);
+      stand = λ at below. elim (cases_lt at count) as (λ _. AreAt d'.lists (get_or (starts ++ here ∷ []) at []) (beginnings_at definitions at)) [
+        | inl before ↦
+            subst (λ positions. AreAt d'.lists positions (beginnings_at definitions at)) (sym (get-append starts (here ∷ []) at [] (omega (arith, before, many))))
+            (at-more d.lists d'.lists h.grown.lists (get_or starts at []) (beginnings_at definitions at) (g.stand at before))
+        | inr from ↦
+            let last : count ≡ at = omega (arith, below, from) in
+            subst (λ at. AreAt d'.lists (get_or (starts ++ here ∷ []) at []) (beginnings_at definitions at)) last
+            (subst (λ n. AreAt d'.lists (get_or (starts ++ here ∷ []) n []) (beginnings_at definitions count)) many
+            (subst (λ positions. AreAt d'.lists positions (beginnings_at definitions count)) (sym (get-last starts here [])) h.stand))
+      ];
+    })
+
+pub graphed-end : (definitions : List Definition) (d : Draft) (starts : List (List ℕ)) (count : ℕ) → AreGraphed definitions d starts count → length definitions ≤ count
+    → (at : ℕ) → AreAt d.lists (get_or starts at []) (beginnings_at d.definitions at)
+graphed-end definitions d starts count g all at =
+    subst (λ definitions. AreAt d.lists (get_or starts at []) (beginnings_at definitions at)) (sym g.module_is)
+    (elim (cases_lt at count) as (λ _. AreAt d.lists (get_or starts at []) (beginnings_at definitions at)) [
+      | inl before ↦ g.stand at before
+      | inr from ↦
+          let many = g.many in
+          subst (λ positions. AreAt d.lists positions (beginnings_at definitions at)) (sym (get-past starts at [] (omega (arith, many, from))))
+          (subst (λ (found : Option Definition). AreAt d.lists [] (beginnings definitions (beginning at) (option_map (λ definition. definition.kind) found)))
+          (sym (not-found definitions at (omega (arith, all, from)))) tt)
+    ])
+
+-- ---- positions
+
+pub is-at : (d : Draft) (starts : List (List ℕ)) (positions : List ℕ) (among : Lists) (place at : ℕ) → AreAt d.lists positions among → slice_get positions place ≡ Some at → IsAt (graphs_of d starts) at place among
+is-at d starts positions among place at h is = let found = way-found d.lists positions among h place at is in record { within = found.0; stands = found.1 }
+
+pub at-answer : (d : Draft) (starts : List (List ℕ)) (positions : List ℕ) (among : Lists) (place : ℕ) (found : Option ℕ) → AreAt d.lists positions among → found ≡ slice_get positions place
+    → IfSome found (λ at. IsAt (graphs_of d starts) at place among) × IfNone found (slice_get among place ≡ None)
+at-answer d starts positions among place None h is = (tt, way-missing d.lists positions among h place (sym is))
+at-answer d starts positions among place (Some at) h is = (is-at d starts positions among place at h (sym is), tt)

@@ -1,0 +1,168 @@
+//! The graphs of all behaviours of a module.
+ghost use Rattle.std.specs.Prelude.{◌≡◌, ◌<◌, [], length, get_or, nat_eq, slice_get, IfOk, IfNone, IfSome, None};
+ghost use Rattle.std.specs.Option.{option_map};
+ghost use Rattle.interner.specs.Lists.{AreDifferent};
+ghost use Rattle.ttcn_graph.specs.Drafts.{AreDrawn, at_site};
+ghost use Rattle.step_rules.specs.Sites.{beginning};
+ghost use Rattle.ttcn_graph.specs.Graphs.{IsAt, beginnings, beginnings_at, body_alone};
+ghost use Rattle.ttcn_graph.specs.Ways.{ways_of};
+
+use crate::block::{draw_block, draw_branches};
+use crate::draft::{Draft, way_in};
+use check_scope::scope::kind_at;
+use std::alloc::{AllocError, Global};
+use std::marker::Model;
+use ttcn_syntax::{Definition, DefinitionKind, Seq, Statement};
+use ttcn_types::Program;
+
+/// The graphs of a module. A contract sees the lists that positions stand for, and where they lead.
+#[derive(Drop)]
+pub struct Graphs<'a> {
+    draft: Draft<'a>,
+    starts: Vec<Seq<usize>>,
+}
+
+impl<'a> Model for Graphs<'a> {
+    ghost use Rattle.std.specs.Prelude.{ℕ, [], get_or};
+    ghost use Rattle.std.specs.Coded.{codes};
+    ghost use Rattle.ttcn_syntax.specs.contracts.tree.statement.Action as action;
+    ghost use Rattle.ttcn_syntax.specs.contracts.tree.statement.Branch as branch;
+    ghost use Rattle.ttcn_syntax.specs.contracts.tree.statement.Statement as statement;
+    ghost use Rattle.ttcn_syntax.specs.contracts.tree.template.Template as template;
+    ghost use Rattle.ttcn_syntax.specs.contracts.tree.value.Value as value;
+    ghost use Rattle.ttcn_graph.specs.Drafts.{AreAt};
+    ghost use Rattle.ttcn_graph.specs.Graphs as definition;
+
+    ghost Value = { definition.Graphs };
+
+    ghost coded = { Prim.hlevel (codes, action.the_row.coded, branch.the_row.coded, statement.the_row.coded, template.the_row.coded, value.the_row.coded) };
+
+    ghost view = { λ graphs. definition.graphs_of graphs.draft graphs.starts.items };
+
+    ghost invariant = { λ graphs. definition.AllHaveWays graphs.draft
+        × ((at : ℕ) → AreAt graphs.draft.lists (get_or graphs.starts.items at []) (definition.beginnings_at graphs.draft.definitions at)) };
+}
+
+/// The position of the block of a function or a test case.
+fn draw_body<'a>(
+    draft: &mut Draft<'a>,
+    body: &'a [Statement],
+    nothing: usize,
+) -> Result<Seq<usize>, AllocError>
+    requires within { nothing < length draft.old.lists }
+    requires empty { get_or draft.old.lists nothing [] ≡ [] }
+    ensures { IfOk result (λ starts. AreDrawn draft.old draft.new starts (body_alone draft.old.definitions draft.old.site body.now)) }
+{
+    let at = draw_block(draft, body, nothing)?;
+    let mut starts = draft.no_ways();
+    starts.push(at)?;
+    Ok(starts)
+}
+
+/// The positions of what a definition begins with.
+fn draw_definition<'a>(
+    draft: &mut Draft<'a>,
+    kind: Option<&'a DefinitionKind>,
+) -> Result<Seq<usize>, AllocError>
+    ensures { IfOk result (λ starts. AreDrawn draft.old draft.new starts (beginnings draft.old.definitions draft.old.site (option_map (λ kind. kind.now) kind.entry))) }
+{
+    let nothing = draft.nothing();
+    match kind {
+        Some(DefinitionKind::Function(function)) => {
+            draw_body(draft, function.body.as_slice(), nothing)
+        }
+        Some(DefinitionKind::Testcase(testcase)) => {
+            draw_body(draft, testcase.body.as_slice(), nothing)
+        }
+        Some(DefinitionKind::Altstep(altstep)) => {
+            draw_branches(draft, altstep.branches.as_slice(), nothing)
+        }
+        _ => Ok(draft.no_ways()),
+    }
+}
+
+/// The positions of what the definition at a position begins with.
+fn draw_at<'a>(
+    draft: Draft<'a>,
+    definitions: &'a [Definition],
+    at: usize,
+) -> Result<(Draft<'a>, Seq<usize>), AllocError>
+    requires { draft.definitions ≡ definitions.now }
+    ensures { IfOk result (λ drawn. AreDrawn (at_site (beginning at) draft.entry) drawn.0 drawn.1 (beginnings_at definitions.now at)) }
+{
+    let mut draft = draft.go_to(at)?;
+    let starts = draw_definition(&mut draft, kind_at(definitions, at))?;
+    Ok((draft, starts))
+}
+
+/// The graphs of all definitions.
+fn draw_all<'a>(alloc: Global, definitions: &'a [Definition]) -> Result<Graphs<'a>, AllocError>
+    ensures { IfOk result (λ graphs. graphs.definitions ≡ definitions.now) }
+{
+    let mut draft = Draft::new(alloc, definitions)?;
+    let mut starts = Vec::new(alloc);
+    for at in 0..definitions.len() {
+        let (drawn, here) = draw_at(draft, definitions, at)?;
+        draft = drawn;
+        starts.push(here)?;
+    }
+    Ok(Graphs { draft, starts })
+}
+
+/// The graphs of a module: the blocks of all its behaviours, and all that may come of them.
+pub fn compile<'a>(alloc: Global, program: &'a Program) -> Result<Graphs<'a>, AllocError>
+    ensures { IfOk result (λ graphs. graphs.definitions ≡ program.now.definitions) }
+{
+    draw_all(alloc, program.module().definitions.as_slice())
+}
+
+impl<'a> Graphs<'a> {
+    /// How many lists there are.
+    pub fn len(&self) -> usize
+        ensures { result ≡ length self.now.lists }
+    {
+        self.draft.len()
+    }
+
+    /// Whether there are none, which never is: the empty list always has a position.
+    pub fn is_empty(&self) -> bool
+        ensures { result ≡ nat_eq (length self.now.lists) 0 }
+    {
+        self.len() == 0
+    }
+
+    /// The position of the empty list.
+    pub fn nothing(&self) -> usize
+        ensures within { result < length self.now.lists }
+        ensures empty { get_or self.now.lists result [] ≡ [] }
+    {
+        self.draft.nothing()
+    }
+
+    /// The position of one of the lists that may come of the list at a position.
+    pub fn way(&self, at: usize, place: usize) -> Option<usize>
+        requires { at < length self.now.lists }
+        ensures found { IfSome result (λ way. IsAt self.now way place (ways_of self.now.definitions (get_or self.now.lists at []))) }
+        ensures missing { IfNone result (slice_get (ways_of self.now.definitions (get_or self.now.lists at [])) place ≡ None) }
+    {
+        self.draft.way(at, place)
+    }
+
+    /// The position of one of the lists that the definition at a position begins with.
+    pub fn start(&self, definition: usize, place: usize) -> Option<usize>
+        ensures found { IfSome result (λ start. IsAt self.now start place (beginnings_at self.now.definitions definition)) }
+        ensures missing { IfNone result (slice_get (beginnings_at self.now.definitions definition) place ≡ None) }
+    {
+        match self.starts.get(definition) {
+            Some(starts) => way_in(starts, place),
+            None => None,
+        }
+    }
+
+    /// No list has two positions.
+    pub fn lists_differ(&self)
+        ensures { AreDifferent self.now.lists }
+    {
+        self.draft.lists_differ();
+    }
+}
