@@ -153,3 +153,14 @@ fn other_timers_do_not_expire(rt: HostRuntime) -> Result<(), Fail> {
     assert!(rt; !going.expire(alloc, &main, 1, 4)?);
     Ok(())
 }
+
+#[test]
+fn components_that_run(rt: HostRuntime) -> Result<(), Fail> {
+    let alloc = rt.alloc();
+    let going = two(alloc)?;
+    let running = going.running(alloc)?;
+    assert_eq!(rt; running.len(), 1);
+    let main = path(alloc, &[])?;
+    assert!(rt; running.get(0).is_some_and(|found| **found == main));
+    Ok(())
+}

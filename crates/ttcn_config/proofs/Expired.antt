@@ -229,7 +229,7 @@ running-lives state.Created e = absurd (let bad = e in cc)
 running-lives state.Running e = refl
 running-lives state.Terminated e = absurd (let bad = e in cc)
 
-running-first : (s : State) → rules.is_running_state (state_by s) ≡ is_running_state s
+pub running-first : (s : State) → rules.is_running_state (state_by s) ≡ is_running_state s
 running-first state.Created = refl
 running-first state.Running = refl
 running-first state.Terminated = refl

@@ -6,3 +6,4 @@ pub mod Named
 pub mod Places
 pub mod Stored
 pub mod Touching
+pub mod Viewed

@@ -26,7 +26,7 @@ path-is p q e = ap (λ n. record { numbers = n }) ((bytes_eq-Decides p.numbers q
 not-before-itself : (p : Path) → path_cmp p p ≡ Less → ⊥
 not-before-itself p less = let found : Equal ≡ Less = sym (names-alike p.numbers) ∙ less in cc
 
-other-than : (b : Bool) (p q r : Path) → same_path p r ≡ true → path_cmp p q ≡ Less → same_path q r ≡ b → b ≡ false
+pub other-than : (b : Bool) (p q r : Path) → same_path p r ≡ true → path_cmp p q ≡ Less → same_path q r ≡ b → b ≡ false
 other-than false p q r first less is = refl
 other-than true p q r first less is =
     absurd (not-before-itself p (subst (λ x. path_cmp p x ≡ Less) (path-is q r is ∙ sym (path-is p r first)) less))

@@ -1,3 +1,4 @@
 pub mod Acts
 pub mod Legend
+pub mod Views
 pub mod internal

@@ -15,6 +15,7 @@ mod expire;
 mod frame;
 mod going;
 mod verdict;
+mod view;
 
 pub use act::Act;
 pub use component::{Component, Message, Queue, State};
@@ -22,3 +23,4 @@ pub use config::{Config, Going};
 pub use connection::{Connection, End};
 pub use copy::TryClone;
 pub use frame::{ActiveDefault, Cells, Data, Frame};
+pub use view::frame_of;
