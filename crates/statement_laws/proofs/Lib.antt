@@ -3,4 +3,5 @@ pub mod Chains
 pub mod Descent
 pub mod MessageTypes
 pub mod Naming
+pub mod NoComponents
 pub mod Resolving

@@ -24,10 +24,11 @@ use Rattle.check_scope.specs.declared.types.DataType.{DataType}
 use Rattle.check_scope.specs.declared.types.Target.{Target}
 use Rattle.check_scope.specs.declared.types.Typing.{Typing}
 use Rattle.check_scope.specs.declared.types.Typing.TheVariants as typing
-use Rattle.check_statements.specs.Messages.{check_message, passage_at, check_type_name, by_template, by_type_name, of_only, type_by_itself, type_by_port, type_of_message}
+use Rattle.check_statements.specs.Messages.{check_message, passage_at, check_type_name, by_template, by_type_name, of_only, type_anywhere, type_by_itself, type_by_port, type_of_message}
 use Rattle.checker_laws.proofs.Nothing.{kept, nothing-first, nothing-rest}
 use Rattle.checker_laws.proofs.Typed.{expression_typed}
 use Rattle.checker_laws.specs.Laws.{IsKnown, IsWhole}
+use Rattle.statement_laws.proofs.NoComponents.{IsToldApart, expression-apart, typed-apart}
 use Rattle.statement_laws.specs.Messages.{HasType}
 
 typed-known : (of : Option DataType) → is_some of ≡ true → typed of ≢ typing.Unknown
@@ -149,3 +150,68 @@ module _ (scope : Scope) (whole : IsWhole scope) where
       → check_message scope (passage_at scope.definitions incoming (Some port)).0 (passage_at scope.definitions incoming (Some port)).1 message ≡ []
       → HasType scope (passage_at scope.definitions incoming (Some port)) message
   passing_typed incoming port message nothing = message-typed (types_of_port (module_names scope.definitions) incoming (kind_at scope.definitions port)) message nothing
+
+  -- ---- at `any port`
+
+  anywhere-by-itself : (t : Typing) → t ≢ typing.Unknown → IsToldApart t → (type_by_itself None t).broken ≡ [] → HasKnown (type_by_itself None t)
+  anywhere-by-itself (typing.Known t) known apart nothing = (t, refl)
+  anywhere-by-itself typing.Null known apart nothing = absurd (let e = nothing in cc)
+  anywhere-by-itself typing.AnyComponent known apart nothing = absurd (apart refl)
+  anywhere-by-itself typing.NoValue known apart nothing = absurd (let e = nothing in cc)
+  anywhere-by-itself typing.Unknown known apart nothing = absurd (known refl)
+
+  name-apart : (target : Target) (e : Expr) (found : Option ℕ) → check_name scope target e found ≡ [] → IsToldApart (typing_at_name scope e found)
+  name-apart target e None nothing =
+      expression-apart e scope (nothing-first (expression e scope false).broken (unless (fits target.data_type (expression e scope false).typing) rule.ValueType) nothing)
+  name-apart target e (Some at) nothing = typed-apart (type_of_template scope at)
+
+  position-apart : (found : Option ℕ) → IsToldApart (typing_by_position scope found)
+  position-apart None = λ is. cc
+  position-apart (Some at) = typed-apart (type_of_template scope at)
+
+  abbrev SaysApart : Target → TemplateBody-F TemplateBody FieldTemplate Template → Type 0
+  SaysApart target x = body_step (map-TemplateBody TemplateBody FieldTemplate Template AtTarget (List ℕ × AtTarget) AtTarget body field_template template x) scope target ≡ []
+      → IfSome (typing_of_body scope x) IsToldApart
+
+  body-apart : (target : Target) (x : TemplateBody-F TemplateBody FieldTemplate Template) → SaysApart target x
+  body-apart target (TemplateBody-F.Expr e) nothing = name-apart target e (template_named scope e) nothing
+  body-apart target (TemplateBody-F.Call call) nothing = position-apart (template_meant (scope.names call.name))
+  body-apart target TemplateBody-F.Any nothing = tt
+  body-apart target TemplateBody-F.AnyOrOmit nothing = tt
+  body-apart target TemplateBody-F.Omit nothing = tt
+  body-apart target (TemplateBody-F.Complement parts) nothing = tt
+  body-apart target (TemplateBody-F.List parts) nothing = tt
+  body-apart target (TemplateBody-F.Range low high) nothing = tt
+  body-apart target (TemplateBody-F.Listed parts) nothing = tt
+  body-apart target (TemplateBody-F.Assigned parts) nothing = tt
+
+  template-apart : (target : Target) (t : Template) → template t scope target ≡ [] → IfSome (typing_of_template scope t) IsToldApart
+  template-apart target t nothing =
+      let it = out-Template t in
+      let said : body it.body scope target ++ unless (not it.ifpresent || target.optional) rule.Fields ≡ [] =
+      ap (λ (f : AtTarget). f scope target) (sym (fold_out-Template AtTarget (List ℕ × AtTarget) AtTarget body_step field_template_step template_step t)) ∙ nothing in
+      let inside = nothing-first (body it.body scope target) (unless (not it.ifpresent || target.optional) rule.Fields) said in
+      body-apart target (out-TemplateBody it.body)
+      (ap (λ (f : AtTarget). f scope target) (sym (fold_out-TemplateBody AtTarget (List ℕ × AtTarget) AtTarget body_step field_template_step template_step it.body)) ∙ inside)
+
+  anywhere-by-template : (found : Option Typing) → IfSome found (λ t. t ≢ typing.Unknown) → IfSome found IsToldApart
+      → (by_template None type_anywhere found).broken ≡ [] → HasKnown (by_template None type_anywhere found)
+  anywhere-by-template None known apart nothing = absurd (let e = nothing in cc)
+  anywhere-by-template (Some t) known apart nothing = anywhere-by-itself t known apart nothing
+
+  anywhere-by-name : (t : Template) (target : Target) (name : Option TypeName) → check_type_name scope name ≡ [] → template t scope target ≡ []
+      → (by_type_name scope None type_anywhere t name).broken ≡ [] → HasKnown (by_type_name scope None type_anywhere t name)
+  anywhere-by-name t target None named fine nothing = anywhere-by-template (typing_of_template scope t) (template-typed target t fine) (template-apart target t fine) nothing
+  anywhere-by-name t target (Some name) named fine nothing =
+      anywhere-by-itself (typed (resolved scope.names name)) (typed-known (resolved scope.names name) (type-resolved name named)) (typed-apart (resolved scope.names name)) nothing
+
+  pub anywhere_typed : (message : MessageTemplate) → check_message scope None type_anywhere message ≡ [] → HasType scope (None, type_anywhere) message
+  anywhere_typed message nothing =
+      let judged : Judgement = type_of_message scope None type_anywhere message in
+      let target : Target = target_of (type_known judged.typing) in
+      let front = nothing-first (check_type_name scope message.type_name ++ judged.broken) (template message.template scope target) nothing in
+      let known = anywhere-by-name message.template target message.type_name
+      (nothing-first (check_type_name scope message.type_name) judged.broken front)
+      (nothing-rest (check_type_name scope message.type_name ++ judged.broken) (template message.template scope target) nothing)
+      (nothing-rest (check_type_name scope message.type_name) judged.broken front) in
+      record { data_type = known.0; is = known.1 }

@@ -1,7 +1,7 @@
 //! Laws of statements that break no rule, for the layers above: they run no code.
 #![tactic(auto)]
 
-ghost use Rattle.std.specs.Prelude.{◌≡◌, ℕ, Bool, List, [], Some};
+ghost use Rattle.std.specs.Prelude.{◌≡◌, ℕ, Bool, List, [], None, Some};
 ghost use Rattle.ttcn_syntax.specs.declared.tree.definition.Definition.{Definition};
 ghost use Rattle.ttcn_syntax.specs.declared.tree.expression.ComponentRef.{ComponentRef};
 ghost use Rattle.ttcn_syntax.specs.declared.tree.expression.Expr.{Expr};
@@ -15,7 +15,7 @@ ghost use Rattle.check_expressions.specs.Calls.{check_activation};
 ghost use Rattle.check_expressions.specs.Targets.{check_assignment};
 ghost use Rattle.check_scope.specs.Names.{Scope, module_names};
 ghost use Rattle.check_scope.specs.declared.names.Meaning.{Meaning};
-ghost use Rattle.check_statements.specs.Messages.{check_message, passage_at};
+ghost use Rattle.check_statements.specs.Messages.{check_message, passage_at, type_anywhere};
 ghost use Rattle.check_statements.specs.Statements.{Place, check_condition, check_start, branch, statement};
 ghost use Rattle.checker_laws.specs.Laws.{IsWhole};
 ghost use Rattle.statement_laws.specs.Messages.{HasType};
@@ -65,6 +65,12 @@ pub fn starts_resolve()
 #[tactic(auto, using(crate::proofs::MessageTypes::passing_typed))]
 pub fn message_types_are_known()
     ensures { (scope : Scope) → IsWhole scope → (incoming : Bool) (port : ℕ) (message : MessageTemplate) → check_message scope (passage_at scope.definitions incoming (Some port)).0 (passage_at scope.definitions incoming (Some port)).1 message ≡ [] → HasType scope (passage_at scope.definitions incoming (Some port)) message }
+{}
+
+/// The type of a message that breaks no rule where it is received at `any port` is known.
+#[tactic(auto, using(crate::proofs::MessageTypes::anywhere_typed))]
+pub fn message_types_are_known_at_any_port()
+    ensures { (scope : Scope) → IsWhole scope → (message : MessageTemplate) → check_message scope None type_anywhere message ≡ [] → HasType scope (None, type_anywhere) message }
 {}
 
 /// What a name of a module stands for is defined at the position that it means, under that name, in every module.
