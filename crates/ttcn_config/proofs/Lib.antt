@@ -7,3 +7,4 @@ pub mod Places
 pub mod Stored
 pub mod Touching
 pub mod Viewed
+pub mod Within

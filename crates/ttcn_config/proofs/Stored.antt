@@ -171,7 +171,7 @@ put-twice true c d own =
 put-twice false c d own = refl
 
 -- what remains
-last-position : (legend : Legend) (at : ℕ) (calls : List Frame)
+pub last-position : (legend : Legend) (at : ℕ) (calls : List Frame)
     → map (frame_by legend) (in_last (with_position at) calls) ≡ storing.in_last (storing.with_remaining (legend.lists at)) (map (frame_by legend) calls)
 last-position legend at [] = refl
 last-position legend at (frame ∷ frames) = refl

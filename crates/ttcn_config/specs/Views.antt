@@ -3,8 +3,13 @@ use Rattle.std.specs.Prelude.{◌≡◌, ◌<◌, ℕ, Bool, List, map, length, 
 use Rattle.std.specs.List.{All, filter, list_any}
 use Rattle.step_rules.specs.Snapshots.{View}
 use Rattle.ttcn_config.specs.Legend.{Legend, entries_by}
+use Rattle.ttcn_config.specs.declared.act.Act.{Act}
+use Rattle.ttcn_config.specs.declared.act.Act.TheVariants as act
 use Rattle.ttcn_config.specs.declared.component.Component.{Component}
+use Rattle.ttcn_config.specs.declared.config.Config.{Config}
+use Rattle.ttcn_config.specs.declared.config.Config.TheVariants as config
 use Rattle.ttcn_config.specs.declared.frame.Cells.{Cells}
+use Rattle.ttcn_config.specs.declared.frame.Data.{Data}
 use Rattle.ttcn_config.specs.internal.Expiries.{is_running_state}
 use Rattle.ttcn_values.specs.declared.path.Path.{Path}
 
@@ -19,6 +24,30 @@ AreWithin size entries = All (λ e. e.0 < size) entries
 pub record HasSlotsWithin (size : ℕ) (cells : Cells) : Type 0 where
   pub values : AreWithin size cells.values
   pub timers : AreWithin size cells.timers
+
+-- each slot in a component's own data has a name
+pub record IsWithin (size : ℕ) (own : Data) : Type 0 where
+  pub members : HasSlotsWithin size own.members
+  pub calls : All (λ frame. HasSlotsWithin size frame.cells) own.calls
+
+-- so it is in all components
+abbrev pub AreAllWithin : ℕ → List Component → Type 0
+AreAllWithin size components = All (λ component. IsWithin size component.own) components
+
+abbrev pub IsConfigWithin : ℕ → Config → Type 0
+IsConfigWithin size (config.Ended v) = Unit {0}
+IsConfigWithin size (config.Going going) = AreAllWithin size going.components
+
+-- so it is in all that is asked for
+abbrev pub IsActWithin : ℕ → Act → Type 0
+IsActWithin size (act.Continues own) = IsWithin size own
+IsActWithin size (act.Worsens v own) = IsWithin size own
+IsActWithin size (act.Removes port own) = IsWithin size own
+IsActWithin size (act.Sends port to v own) = IsWithin size own
+IsActWithin size (act.Creates new own) = IsWithin size new.own × IsWithin size own
+IsActWithin size (act.Starts path frame own) = HasSlotsWithin size frame.cells × IsWithin size own
+IsActWithin size (act.Stops path own) = IsWithin size own
+IsActWithin size (act.Connects one other own) = IsWithin size own
 
 -- what is seen of the names of a frame
 abbrev pub view_by : Legend → Cells → View

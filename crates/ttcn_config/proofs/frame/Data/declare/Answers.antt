@@ -1,8 +1,14 @@
 use Rattle.std.proofs.Common.{true}
 use Rattle.ttcn_config.proofs.Stored.{stored, declare-alike}
+use Rattle.ttcn_config.proofs.Within.{stored-within, declare-keeps}
 use Rattle.ttcn_config.proofs.frame.Data.declare.Goals as goal
 
-pub returns : goal.returns
-returns c legend is =
+pub returns-clause-changed : goal.returns-clause-changed
+returns-clause-changed c legend is =
     stored legend _ _ (declare-alike legend is c.args.slot c.args.value) true c.args.self.now c.take_cells.new.self c.put_cells.new.self c.take_cells.result c.in_ok-cells.cells
     c.take_cells.ensures.taken c.take_cells.ensures.left c.in_ok-cells.ensures c.put_cells.ensures
+
+pub returns-clause-within : goal.returns-clause-within
+returns-clause-within c size less all =
+    stored-within size _ (declare-keeps size c.args.slot c.args.value less) true c.args.self.now c.take_cells.new.self c.put_cells.new.self c.take_cells.result c.in_ok-cells.cells
+    c.take_cells.ensures.taken c.take_cells.ensures.left c.in_ok-cells.ensures c.put_cells.ensures all
