@@ -11,6 +11,8 @@ mod basic_frames;
 #[cfg(test)]
 mod calls;
 #[cfg(test)]
+mod deep;
+#[cfg(test)]
 mod fault;
 #[cfg(test)]
 mod frames;
