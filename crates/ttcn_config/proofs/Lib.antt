@@ -3,6 +3,7 @@ pub mod Changed
 pub mod Expired
 pub mod Inserted
 pub mod Named
+pub mod Naming
 pub mod Places
 pub mod Stored
 pub mod Touching

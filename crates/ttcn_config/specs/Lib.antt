@@ -1,4 +1,5 @@
 pub mod Acts
 pub mod Legend
+pub mod Names
 pub mod Views
 pub mod internal

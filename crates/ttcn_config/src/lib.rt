@@ -14,6 +14,7 @@ mod data;
 mod expire;
 mod frame;
 mod going;
+mod legend;
 mod verdict;
 mod view;
 
@@ -23,4 +24,5 @@ pub use config::{Config, Going};
 pub use connection::{Connection, End};
 pub use copy::TryClone;
 pub use frame::{ActiveDefault, Cells, Data, Frame};
+pub use legend::names_make_legends;
 pub use view::frame_of;
