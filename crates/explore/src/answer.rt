@@ -62,6 +62,7 @@ pub fn explore<Y: System, U: Summary<Y>, G: Gate, R: Threads + Sync>(
     let complete = is_quiet(alloc, system, &states[explored.from..])?;
     let best = best_runs(alloc, system, &explored.visited)?;
     let count = states.len() as u64;
+    explored.visited.drop_all(rt, alloc, plan.workers);
     Ok(Answer {
         summary: explored.summary,
         count,

@@ -5,12 +5,14 @@ ghost use Rattle.explore.specs.Tied.{as_found};
 ghost use Rattle.explore.specs.Work.{AreFirst};
 
 use crate::layers::place_one;
+use crate::leftovers::Leftovers;
 use crate::plan::ExploreError;
 use crate::visited::{Candidate, Visited};
 use std::alloc::Global;
 use summary::{Summary, System};
 
-/// Keeps the states of the candidates at these positions, in order, and joins what the states show.
+/// Keeps the states of the candidates at these positions, in order, and joins what the states show. The other
+/// candidates are left over.
 pub fn enter_first<Y: System, U: Summary<Y>>(
     alloc: Global,
     system: &Y,
@@ -18,6 +20,7 @@ pub fn enter_first<Y: System, U: Summary<Y>>(
     visited: &mut Visited<Y::State, Y::Label>,
     candidates: Vec<Candidate<Y::State, Y::Label>>,
     firsts: &[u64],
+    leftovers: &mut Leftovers<Candidate<Y::State, Y::Label>>,
     summary: U,
 ) -> Result<U, ExploreError>
     requires fits { All (λ c. Y.fits system.now c.state) candidates.items }
@@ -36,6 +39,8 @@ pub fn enter_first<Y: System, U: Summary<Y>>(
         if next < firsts.len() && firsts[next] == at {
             next += 1;
             summary = place_one(alloc, system, limit, visited, candidate, summary)?;
+        } else {
+            leftovers.take(candidate);
         }
         at = at.wrapping_add(1);
     }

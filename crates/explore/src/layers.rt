@@ -7,6 +7,7 @@ ghost use Rattle.indexmap.specs.IndexSet.{insert_key};
 
 use crate::entering::enter_first;
 use crate::expand::expand_layer;
+use crate::leftovers::Leftovers;
 use crate::plan::{ExploreError, Gate, Plan};
 use crate::visited::{Candidate, Step, Visited};
 use crate::workers::find_first;
@@ -86,15 +87,20 @@ fn place_layer<Y: System, U: Summary<Y>, G: Gate, R: Threads + Sync>(
         candidates.as_slice(),
     )?;
     let summary = summary.join(alloc, shown)?;
-    enter_first(
+    let old = candidates.len().saturating_sub(firsts.len());
+    let mut leftovers = Leftovers::new(alloc, old, plan.workers);
+    let entered = enter_first(
         alloc,
         system,
         plan.limit,
         visited,
         candidates,
         firsts.as_slice(),
+        &mut leftovers,
         summary,
-    )
+    );
+    leftovers.drop_all(rt);
+    entered
 }
 
 /// What a search found: the states, the place where the last layer begins, and the summary.

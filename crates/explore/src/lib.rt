@@ -6,6 +6,7 @@ mod entering;
 pub mod example;
 mod expand;
 mod layers;
+mod leftovers;
 mod plan;
 mod runs;
 mod visited;

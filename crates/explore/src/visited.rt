@@ -1,7 +1,10 @@
-ghost use Rattle.std.specs.Prelude.{◌≡◌, ◌<◌, ◌+◌, IfOk};
+ghost use Rattle.std.specs.Prelude.{◌≡◌, ◌<◌, ◌≤◌, ◌+◌, IfOk};
 
+use crate::leftovers::Leftovers;
 use indexmap::IndexSet;
+use std::alloc::Global;
 use std::hash::{Hash, Hasher};
+use std::thread::Threads;
 
 /// The last step of a run: the place of the state before it, and its label.
 #[derive(Debug, Drop)]
@@ -49,4 +52,21 @@ impl<S: Eq + Hash, L> Hash for Candidate<S, L> {
 pub struct Visited<S: Eq + Hash, L> {
     pub states: IndexSet<S>,
     pub steps: Vec<Option<Step<L>>>,
+}
+
+impl<S: Eq + Hash + Send + Drop, L: Send + Drop> Visited<S, L> {
+    /// Drops the states and the steps. As many threads as there are workers share the states.
+    pub fn drop_all<R: Threads + Sync>(self, rt: &R, alloc: Global, workers: u64)
+        requires { 1 ≤ workers }
+    {
+        let Visited {
+            states,
+            steps: _steps,
+        } = self;
+        let mut leftovers = Leftovers::new(alloc, states.len(), workers);
+        for state in states {
+            leftovers.take(state);
+        }
+        leftovers.drop_all(rt);
+    }
 }

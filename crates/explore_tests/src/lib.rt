@@ -2,6 +2,8 @@
 #![tactic(auto)]
 
 #[cfg(test)]
+mod fork;
+#[cfg(test)]
 mod gate;
 #[cfg(test)]
 mod rings;

@@ -36,6 +36,9 @@ const ROWS: [Row; 8] = [
     Row { size: 1, steps: 1, count: 1, complete: true, residues: [Y, N, N, N], turns: [Y, Y], best: Some(&[]) },
 ];
 
+/// Workers, and how many candidates a piece has.
+const CUTS: [(u64, u64); 5] = [(1, 256), (2, 1), (5, 2), (64, 1), (64, 65_536)];
+
 /// Whether the set holds just those numbers whose place says so.
 fn is_set(set: &SmallSet, wanted: &[bool]) -> bool {
     let mut number = 0u8;
@@ -99,10 +102,9 @@ fn check_row<R: Threads + Sync + Abort>(
 #[test]
 fn rings_are_explored(rt: HostRuntime) -> Result<(), Fail> {
     for row in &ROWS {
-        check_row(&rt, rt.alloc(), row, 1, 256)?;
-        check_row(&rt, rt.alloc(), row, 2, 1)?;
-        check_row(&rt, rt.alloc(), row, 7, 2)?;
-        check_row(&rt, rt.alloc(), row, 64, 65_536)?;
+        for (workers, piece) in CUTS {
+            check_row(&rt, rt.alloc(), row, workers, piece)?;
+        }
     }
     Ok(())
 }
@@ -138,20 +140,26 @@ fn the_limit_is_exact(rt: HostRuntime) {
 
 #[test]
 fn a_large_ring_is_explored(rt: HostRuntime) -> Result<(), Fail> {
-    let plan = Plan { steps: 20, ..PLAN };
-    let answer = explore::<Ring, Verdicts, NoGate, HostRuntime>(
-        &rt,
-        rt.alloc(),
-        &ring(&rt, 1_000_000),
-        &plan,
-        &NoGate,
-    )?;
-    assert_eq!(rt; answer.count, 17_711);
-    assert!(rt; !answer.complete);
-    assert!(rt;
-        is_best(answer.best.as_slice(), None),
-        "no run of 20 steps ends in the last state"
-    );
+    for (workers, piece) in [(1, 256), (2, 1), (4, 1), (5, 2), (64, 65_536)] {
+        let plan = Plan {
+            steps: 20,
+            limit: 1_000_000,
+            workers,
+            piece,
+        };
+        let answer = explore::<Ring, Verdicts, NoGate, HostRuntime>(
+            &rt,
+            rt.alloc(),
+            &ring(&rt, 1_000_000),
+            &plan,
+            &NoGate,
+        )?;
+        assert!(rt; answer.count == 17_711 && !answer.complete, "{plan:?}");
+        assert!(rt;
+            is_best(answer.best.as_slice(), None),
+            "no run of 20 steps ends in the last state"
+        );
+    }
     Ok(())
 }
 
