@@ -2,9 +2,11 @@ pub mod Apart
 pub mod Behind
 pub mod Drafted
 pub mod Drawing
+pub mod FactsKept
 pub mod Forms
 pub mod Graphed
 pub mod Growing
 pub mod ListsKept
 pub mod Owned
 pub mod Sites
+pub mod Typed

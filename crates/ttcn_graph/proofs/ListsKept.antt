@@ -10,7 +10,7 @@ use Rattle.ttcn_graph.specs.declared.item.Item.{Item}
 use Rattle.ttcn_graph.specs.declared.item.Item.TheVariants as item
 use Rattle.ttcn_graph.specs.internal.Within.{AreAllWithin, AreWithin, IsWithin}
 
-map-append : {A B : Type 0} (f : A → B) (xs ys : List A) → map f (xs ++ ys) ≡ map f xs ++ map f ys
+pub map-append : {A B : Type 0} (f : A → B) (xs ys : List A) → map f (xs ++ ys) ≡ map f xs ++ map f ys
 map-append f [] ys = refl
 map-append f (x ∷ xs) ys = ap (λ l. f x ∷ l) (map-append f xs ys)
 

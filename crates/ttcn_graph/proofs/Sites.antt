@@ -30,6 +30,10 @@ definitions_with : (scope : Scope) (entries : List Entry) → (scope_with scope 
 definitions_with scope [] = refl
 definitions_with scope (e ∷ es) = definitions_with scope es
 
+itself_with : (scope : Scope) (entries : List Entry) → (scope_with scope entries).itself ≡ scope.itself
+itself_with scope [] = refl
+itself_with scope (e ∷ es) = itself_with scope es
+
 definitions_behind : (scope : Scope) (parameters : List Parameter) → (with_parameters scope parameters).definitions ≡ scope.definitions
 definitions_behind scope [] = refl
 definitions_behind scope (p ∷ ps) = definitions_behind (declaring scope (parameter_entry scope p ∷ [])) ps
@@ -39,6 +43,10 @@ module _ (definitions : List Definition) (site : Site) where
   pub definitions_at : (scope_at definitions site).definitions ≡ definitions
   definitions_at = definitions_with (behaviour_scope definitions site.behaviour) site.declared
       ∙ definitions_behind (scope_on definitions (runs_on definitions site.behaviour)) (parameters_of (kind_at definitions site.behaviour))
+
+  -- and of what `self` is at the beginning of the behaviour
+  pub itself_at : (scope_at definitions site).itself ≡ (behaviour_scope definitions site.behaviour).itself
+  itself_at = itself_with (behaviour_scope definitions site.behaviour) site.declared
 
   module _ (outer : Scope) (is : outer ≡ behaviour_scope definitions site.behaviour) (name : List ℕ) where
     pub found_inside : (m : Meaning) → Some m ≡ own_names site.declared name → Some m ≡ (scope_at definitions site).names name

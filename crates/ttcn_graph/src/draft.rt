@@ -6,6 +6,8 @@ ghost use Rattle.interner.specs.Lists.{AreDifferent};
 ghost use Rattle.step_rules.specs.Items as rules;
 ghost use Rattle.step_rules.specs.Sites as sites;
 ghost use Rattle.ttcn_graph.specs.Drafts.{AreAt, AreDrawn, HasWays, IsBegun, IsDrawn, IsFinished, IsWay, at_site, empty_draft};
+ghost use Rattle.ttcn_graph.specs.Facts.{facts_by, facts_of};
+ghost use Rattle.ttcn_graph.specs.Graphs.{IsBegunBy};
 ghost use Rattle.ttcn_graph.specs.Standing.{part_of, target_of};
 ghost use Rattle.ttcn_graph.specs.Ways.{target_in, ways_of, ways_of_assignment, ways_of_right};
 ghost use Rattle.ttcn_graph.specs.internal.OwnNames.{retracted};
@@ -13,6 +15,9 @@ ghost use Rattle.ttcn_graph.specs.internal.OwnNames.{retracted};
 use crate::at::At;
 use crate::cells::Cells;
 use crate::declared::Declared;
+use crate::facts::Facts;
+use crate::facts_at::facts_of_part;
+use crate::first::{First, first_of};
 use crate::here::Here;
 use crate::item::{Item, Part, Site, Target};
 use check_scope::names::Meaning;
@@ -33,7 +38,7 @@ pub struct Draft<'a> {
 }
 
 impl<'a> Model for Draft<'a> {
-    ghost use Rattle.std.specs.Prelude.{◌≡◌, ◌<◌, [], length, get_or};
+    ghost use Rattle.std.specs.Prelude.{◌≡◌, ◌<◌, [], length, map, get_or};
     ghost use Rattle.std.specs.Coded.{codes};
     ghost use Rattle.ttcn_syntax.specs.contracts.tree.statement.Action as action;
     ghost use Rattle.ttcn_syntax.specs.contracts.tree.statement.Branch as branch;
@@ -41,6 +46,7 @@ impl<'a> Model for Draft<'a> {
     ghost use Rattle.ttcn_syntax.specs.contracts.tree.template.Template as template;
     ghost use Rattle.ttcn_syntax.specs.contracts.tree.value.Value as value;
     ghost use Rattle.ttcn_graph.specs.Drafts as drafts;
+    ghost use Rattle.ttcn_graph.specs.Facts.{facts_by, facts_of};
 
     ghost Value = { drafts.Draft };
 
@@ -48,7 +54,8 @@ impl<'a> Model for Draft<'a> {
 
     ghost view = { λ d. record { definitions = d.here.0; site = d.here.1; lists = d.cells.1; ways = d.ways.items } };
 
-    ghost invariant = { λ d. (d.declared < length d.cells.0) × (get_or d.cells.0 d.declared [] ≡ d.here.1.declared) };
+    ghost invariant = { λ d. (d.declared < length d.cells.0) × (get_or d.cells.0 d.declared [] ≡ d.here.1.declared)
+        × (map facts_by d.cells.2 ≡ map (facts_of d.here.0) d.cells.1) };
 }
 
 /// One of positions.
@@ -64,7 +71,7 @@ impl<'a> Draft<'a> {
         ensures { IfOk result (λ draft. draft ≡ empty_draft definitions.now) }
     {
         let here = Here::new(alloc, definitions)?;
-        let cells = Cells::new(alloc);
+        let cells = Cells::new(alloc)?;
         let declared = cells.no_names();
         Ok(Draft {
             alloc,
@@ -167,6 +174,30 @@ impl<'a> Draft<'a> {
         }
     }
 
+    /// What stands first in the list at a position, and the position of the list behind it, which is a lesser one.
+    pub fn first(&self, at: usize) -> Option<(First<'_, 'a>, usize)>
+        requires { at < length self.now.lists }
+        ensures missing { IfNone result (get_or self.now.lists at [] ≡ []) }
+        ensures found { IfSome result (λ found. IsBegunBy (get_or self.now.lists at []) found.0 (get_or self.now.lists found.1 [])) }
+        ensures before { IfSome result (λ found. found.1 < at) }
+    {
+        match self.cells.first(at) {
+            Some((item, rest)) => Some((first_of(item), rest)),
+            None => None,
+        }
+    }
+
+    /// What is known where the first item of the list at a position stands.
+    pub fn facts(&self, at: usize) -> &Facts<'a>
+        requires { at < length self.now.lists }
+        ensures { facts_by result.now ≡ facts_of self.now.definitions (get_or self.now.lists at []) }
+    {
+        match self.cells.facts(at) {
+            Some(facts) => facts,
+            None => unreachable!(),
+        }
+    }
+
     /// The position of the empty list.
     pub fn nothing(&self) -> usize
         ensures within { result < length self.now.lists }
@@ -189,9 +220,9 @@ impl<'a> Draft<'a> {
             behaviour: self.here.behaviour(),
             declared: self.declared,
         };
-        let at = self
-            .cells
-            .put(Item::Doing(site, At::new(statement), part), rest)?;
+        let facts = facts_of_part(self.alloc, &self.here, statement, part)?;
+        let item = Item::Doing(site, At::new(statement), part);
+        let at = self.cells.put(item, rest, facts)?;
         Ok(at)
     }
 
@@ -204,7 +235,8 @@ impl<'a> Draft<'a> {
             behaviour: self.here.behaviour(),
             declared: self.declared,
         };
-        let at = self.cells.put(Item::Mark(site, At::new(statement)), rest)?;
+        let item = Item::Mark(site, At::new(statement));
+        let at = self.cells.put(item, rest, Facts::Nothing)?;
         Ok(at)
     }
 
@@ -213,7 +245,7 @@ impl<'a> Draft<'a> {
         requires { rest < length self.old.lists }
         ensures { IfOk result (λ at. IsBegun self.old self.new at (rules.Waiting (target_of target.entry) ∷ get_or self.old.lists rest [])) }
     {
-        let at = self.cells.put(Item::Waiting(target), rest)?;
+        let at = self.cells.put(Item::Waiting(target), rest, Facts::Nothing)?;
         Ok(at)
     }
 

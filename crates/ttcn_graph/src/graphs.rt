@@ -4,11 +4,14 @@ ghost use Rattle.std.specs.Option.{option_map};
 ghost use Rattle.interner.specs.Lists.{AreDifferent};
 ghost use Rattle.ttcn_graph.specs.Drafts.{AreDrawn, at_site};
 ghost use Rattle.step_rules.specs.Sites.{beginning};
-ghost use Rattle.ttcn_graph.specs.Graphs.{IsAt, beginnings, beginnings_at, body_alone};
+ghost use Rattle.ttcn_graph.specs.Facts.{facts_by, facts_of};
+ghost use Rattle.ttcn_graph.specs.Graphs.{IsAt, IsBegunBy, beginnings, beginnings_at, body_alone};
 ghost use Rattle.ttcn_graph.specs.Ways.{ways_of};
 
 use crate::block::{draw_block, draw_branches};
 use crate::draft::{Draft, way_in};
+use crate::facts::Facts;
+use crate::first::First;
 use check_scope::scope::kind_at;
 use std::alloc::{AllocError, Global};
 use std::marker::Model;
@@ -137,6 +140,24 @@ impl<'a> Graphs<'a> {
         ensures empty { get_or self.now.lists result [] ≡ [] }
     {
         self.draft.nothing()
+    }
+
+    /// What stands first in the list at a position, and the position of the list behind it, which is a lesser one.
+    pub fn first(&self, at: usize) -> Option<(First<'_, 'a>, usize)>
+        requires { at < length self.now.lists }
+        ensures missing { IfNone result (get_or self.now.lists at [] ≡ []) }
+        ensures found { IfSome result (λ found. IsBegunBy (get_or self.now.lists at []) found.0 (get_or self.now.lists found.1 [])) }
+        ensures before { IfSome result (λ found. found.1 < at) }
+    {
+        self.draft.first(at)
+    }
+
+    /// What is known where the first item of the list at a position stands.
+    pub fn facts(&self, at: usize) -> &Facts<'a>
+        requires { at < length self.now.lists }
+        ensures { facts_by result.now ≡ facts_of self.now.definitions (get_or self.now.lists at []) }
+    {
+        self.draft.facts(at)
     }
 
     /// The position of one of the lists that may come of the list at a position.

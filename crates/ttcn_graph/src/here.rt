@@ -1,9 +1,11 @@
 //! What names mean where a statement stands.
 ghost use Rattle.std.specs.Prelude.{◌≡◌, is_some, IfOk, OnOk, OnErr};
 ghost use Rattle.std.specs.Option.{option_map};
-ghost use Rattle.check_expressions.specs.Calls.{altstep_meant};
+ghost use Rattle.check_expressions.specs.Calls.{altstep_meant, template_type};
+ghost use Rattle.check_expressions.specs.Expressions as expressions;
 ghost use Rattle.check_scope.specs.internal.Checking.{view};
-ghost use Rattle.check_scope.specs.Names.{module_names, resolved};
+ghost use Rattle.check_scope.specs.Names.{constants_type, kind_at, module_names, resolved};
+ghost use Rattle.check_scope.specs.PortTypes as ports;
 ghost use Rattle.check_scope.specs.internal.Tables.{has};
 ghost use Rattle.check_statements.specs.Definitions.{with_parameters};
 ghost use Rattle.step_rules.specs.Sites as sites;
@@ -16,11 +18,12 @@ use crate::item::Target;
 use crate::own::Own;
 use crate::referred::Referred;
 use check_expressions::call::{component_named, parameters_of, runs_on_of};
+use check_expressions::expression::within;
 use check_scope::least::Least;
 use check_scope::name_set::NameSet;
 use check_scope::names::Meaning;
 use check_scope::scope::{Scope, built_in, kind_at, type_meant};
-use check_scope::types::DataType;
+use check_scope::types::{DataType, Typing};
 use std::alloc::{AllocError, Global};
 use std::marker::Model;
 use ttcn_syntax::{Definition, DefinitionKind, Name, Parameter, Reference, TypeName};
@@ -140,7 +143,7 @@ impl<'a> Here<'a> {
     }
 
     /// What a name stands for.
-    fn get(&self, name: &[u8]) -> Option<Meaning>
+    pub(crate) fn get(&self, name: &[u8]) -> Option<Meaning>
         ensures { result ≡ (sites.scope_at self.now.0 self.now.1).names name.now }
     {
         match self.own.get(name) {
@@ -150,10 +153,53 @@ impl<'a> Here<'a> {
     }
 
     /// Whether a name is the behaviour's own.
-    fn is_own(&self, name: &[u8]) -> bool
+    pub(crate) fn is_own(&self, name: &[u8]) -> bool
         ensures { result ≡ sites.is_own self.now.0 self.now.1 name.now }
     {
         self.parameters.contains(name) || self.own.get(name).is_some()
+    }
+
+    /// The component type that `self` is of.
+    pub(crate) fn itself(&self) -> Option<usize>
+        ensures { result ≡ (sites.scope_at self.now.0 self.now.1).itself }
+    {
+        self.scope.itself()
+    }
+
+    /// The type of the constants at a position of the module.
+    pub(crate) fn type_of_constants(&self, at: usize) -> Option<DataType>
+        ensures { result ≡ constants_type (module_names self.now.0) (kind_at self.now.0 at) }
+    {
+        self.scope.constants_type(at)
+    }
+
+    /// The type of the template at a position of the module.
+    pub(crate) fn type_of_template(&self, at: usize) -> Option<DataType>
+        ensures { result ≡ template_type self.now.0 (kind_at self.now.0 at) }
+    {
+        match self.scope.kind(at) {
+            Some(DefinitionKind::Template(template)) => {
+                self.scope.resolved_in_module(&template.type_name)
+            }
+            _ => None,
+        }
+    }
+
+    /// What is known of a field of something.
+    pub(crate) fn typing_within(&self, typing: Typing, name: &Name) -> Typing
+        ensures { result ≡ (expressions.within self.now.0 typing name.now).typing }
+    {
+        within(&self.scope, typing, name).typing
+    }
+
+    /// The only type of messages that pass in a direction at ports of the type at a position.
+    pub(crate) fn type_passing(&self, incoming: bool, at: usize) -> Option<DataType>
+        ensures { result ≡ ports.only_type (ports.types_of_port (module_names self.now.0) incoming (kind_at self.now.0 at)) }
+    {
+        match self.scope.traffic(at) {
+            Some(traffic) => traffic.towards(incoming).only_type(),
+            None => None,
+        }
     }
 
     /// The type that a declaration names.

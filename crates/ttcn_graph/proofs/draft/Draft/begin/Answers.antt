@@ -1,9 +1,33 @@
-use Rattle.std.proofs.Common.{[], ◌∷◌, get_or, subst}
+use Rattle.std.proofs.Common.{◌<◌, [], ◌∷◌, ap, get_or, length, subst, sym, ◌∙◌}
 use Rattle.step_rules.specs.Items as rules
+use Rattle.step_rules.specs.Items.{action_of}
 use Rattle.ttcn_graph.specs.Drafts.{Draft, IsBegun}
+use Rattle.ttcn_graph.specs.Facts.{facts_of, facts_of_part}
 use Rattle.ttcn_graph.specs.Standing.{part_of}
 use Rattle.ttcn_graph.proofs.Drafted.{begun}
 use Rattle.ttcn_graph.proofs.draft.Draft.begin.Goals as goal
+
+pub invariant_of-self : goal.invariant_of-self
+invariant_of-self c =
+    let here = c.self.inside.here in
+    let names = c.put.ensures.names in
+    let is = c.in_ok-facts.ensures
+    ∙ sym (λ k. facts_of_part here.0 (record { behaviour = c.behaviour.ensures k; declared = c.self.invariant.1 k }) (part_of c.args.part) (action_of (c.new.ensures k))) in (
+      subst (λ n. c.self.inside.declared < length n) (sym names) c.self.invariant.0,
+      ap (λ n. get_or n c.self.inside.declared []) names ∙ c.self.invariant.1,
+      c.put.ensures.facts (facts_of here.0) c.self.invariant.2 is,
+    )
+
+pub invariant_of-self-2 : goal.invariant_of-self-2
+invariant_of-self-2 c =
+    let here = c.self.inside.here in
+    let names = c.put.ensures.names in
+    let is = c.in_ok-facts.ensures
+    ∙ sym (λ k. facts_of_part here.0 (record { behaviour = c.behaviour.ensures k; declared = c.self.invariant.1 k }) (part_of c.args.part) (action_of (c.new.ensures k))) in (
+      subst (λ n. c.self.inside.declared < length n) (sym names) c.self.invariant.0,
+      ap (λ n. get_or n c.self.inside.declared []) names ∙ c.self.invariant.1,
+      c.put.ensures.facts (facts_of here.0) c.self.invariant.2 is,
+    )
 
 pub returns : goal.returns
 returns c =
