@@ -1,0 +1,14 @@
+use Rattle.std.proofs.Common.{ap, subst, ◌∙◌, map, ◌∷◌, [], ◌++◌}
+use Rattle.step_data.specs.Frames.{entered_all}
+use Rattle.step_rules.specs.Configurations as rules
+use Rattle.step_rules.specs.Statements as said
+use Rattle.ttcn_config.specs.Legend.{data_by, frame_by}
+use Rattle.ttcn_values.specs.Outcomes.{GivesBy}
+use Rattle.step_data.proofs.frames.enter.Goals as goal
+
+pub returns-clause-entered : goal.returns-clause-entered
+returns-clause-entered c legend =
+    let own : rules.Data = data_by legend c.args.own in
+    let items = legend.lists c.args.position in
+    let is = c.in_ok-own.ensures.entered legend ∙ ap (λ frames. entered_all (map (frame_by legend) frames) items own) (c.in_ok-push.ensures.items ∙ ap (λ frames. frames ++ c.args.frame ∷ []) c.new-frames.ensures.items) in
+    subst (λ (d : rules.Data). GivesBy (data_by legend) (said.with_frames d.calls d) c.limit_frames.result) is (c.limit_frames.ensures.limited legend)

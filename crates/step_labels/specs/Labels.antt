@@ -1,0 +1,12 @@
+-- What labels of code stand for among those of the rules.
+use Rattle.std.specs.Prelude.{ℕ, List, Option, Some, None}
+use Rattle.step_labels.specs.declared.label.Expiry.{Expiry}
+use Rattle.step_labels.specs.declared.label.Label.{Label}
+use Rattle.step_rules.specs.Steps as rules
+
+abbrev pub label_with : List ℕ → Option Expiry → rules.Label
+label_with numbers None = rules.Statement (record { numbers = numbers })
+label_with numbers (Some expiry) = rules.Expiry (record { numbers = numbers }) expiry.frame expiry.timer
+
+abbrev pub label_by : Label → rules.Label
+label_by label = label_with label.component label.expiry

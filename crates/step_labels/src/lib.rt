@@ -1,0 +1,6 @@
+//! Labels of steps, and runs of labels (ES 201 873-4).
+#![tactic(auto)]
+
+mod label;
+
+pub use label::{Expiry, Label, labels_are_ordered};

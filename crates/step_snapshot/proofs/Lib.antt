@@ -1,0 +1,4 @@
+pub mod Searched
+pub mod Beyond
+pub mod Entries
+pub mod Framed

@@ -1,0 +1,33 @@
+//! Test cases that can be run.
+ghost use Rattle.std.specs.Prelude.{◌≡◌, ℕ, ◌<◌, ◌^◌, length};
+ghost use Rattle.check_scope.specs.Names.{kind_at};
+ghost use Rattle.step_rules.specs.Snapshots.{mtc_of};
+ghost use Rattle.step_snapshot.specs.Slots.{NoneIsMissing};
+ghost use Rattle.ttcn_config.specs.internal.Stored.{no_cells};
+ghost use Rattle.ttcn_graph.specs.Known.{names_of_kind};
+
+use names::Names;
+use ttcn_config::Cells;
+use ttcn_graph::Graphs;
+use ttcn_types::Definitions;
+use ttcn_values::ComponentId;
+
+/// A test case, with all that its steps need of its module.
+#[derive(Drop)]
+pub struct TestCase<'a> {
+    /// The definitions of the module, by their names.
+    pub definitions: Definitions<'a>,
+    pub graphs: Graphs<'a>,
+    /// The names that have slots.
+    pub names: Names,
+    /// The position of the test case among the definitions.
+    pub position: usize,
+    pub mtc: ComponentId,
+    /// No names, which is what a behaviour sees of a component on which it doesn't say to run.
+    pub nothing: Cells,
+    ghost same: { graphs.definitions ≡ definitions },
+    ghost main: { mtc_of (record { definitions = definitions; testcase = position }) ≡ mtc },
+    ghost none: { nothing ≡ no_cells },
+    ghost room: { length names < 2 ^ 32 },
+    ghost known: { (at : ℕ) → NoneIsMissing names (names_of_kind (kind_at definitions at)) },
+}
