@@ -85,8 +85,12 @@ fn defaults_come_and_go(rt: HostRuntime) -> Result<(), Fail> {
         defaults(alloc, &own)?.as_slice(),
         [(3, 7), (1, 7)].as_slice()
     );
-    let own = create_child(deactivate_all(alloc, own));
+    let own = deactivate_all(alloc, own);
     assert_eq!(rt; own.defaults.len(), 0);
+    if own.children != 0 {
+        return Err(Fail::new("a child that nobody created"));
+    }
+    let own = create_child(own);
     assert_eq!(rt; (own.activations, own.children), (3, 1));
     Ok(())
 }
