@@ -47,7 +47,7 @@ fn set_of(alloc: Global, names: &[&Name]) -> Result<BTreeSet<Name>, AllocError>
 }
 
 impl Names {
-    /// These names, and no others.
+    /// All of these names.
     pub fn of(alloc: Global, names: &[&Name]) -> Result<Names, AllocError>
         ensures { IfOk result (λ all. (name : List ℕ) → Contains (map (λ n. n.now) names.now) name → Contains all name) }
     {
