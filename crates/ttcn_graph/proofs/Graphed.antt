@@ -7,11 +7,15 @@ use Rattle.std.specs.Option.{IfNone, IfSome, option_map}
 use Rattle.ttcn_syntax.specs.declared.tree.definition.Definition.{Definition}
 use Rattle.ttcn_syntax.specs.declared.tree.statement.Branch.{Branch}
 use Rattle.ttcn_syntax.specs.declared.tree.statement.Statement.{Statement}
+use Rattle.step_rules.specs.Branches.{branches_of}
 use Rattle.step_rules.specs.Items.{Item, items}
 use Rattle.step_rules.specs.Sites.{beginning}
 use Rattle.ttcn_graph.specs.Drafts.{AreAt, AreDrawn, Draft, HasWays, IsDrawn, at_site, empty_draft}
+use Rattle.ttcn_graph.specs.Facts.{altstep_facts, branch_facts, event_by}
 use Rattle.ttcn_graph.specs.Graphs.{AllHaveWays, IsAt, beginnings, beginnings_at, body_alone, graphs_of}
+use Rattle.ttcn_graph.specs.Known.{Known}
 use Rattle.ttcn_graph.specs.Ways.{Lists, items_of_branch}
+use Rattle.ttcn_graph.specs.declared.facts.EventFacts.{EventFacts}
 use Rattle.ttcn_graph.proofs.Drafted.{at-more, way-found, way-missing}
 use Rattle.ttcn_graph.proofs.Drawing.{not-found}
 use Rattle.ttcn_graph.proofs.ListsKept.{get-append, get-past}
@@ -95,12 +99,77 @@ graphed-end definitions d starts count g all at =
           (sym (not-found definitions at (omega (arith, all, from)))) tt)
     ])
 
+-- ---- branches of altsteps
+
+-- what is known of the branches of so many definitions
+pub record AreFactsOf (definitions : List Definition) (altsteps : List (List EventFacts)) (count : ℕ) : Type 0 where
+  pub many : length altsteps ≡ count
+  pub stand : (at : ℕ) → at < count → map event_by (get_or altsteps at []) ≡ altstep_facts definitions at
+
+pub facts-first : (definitions : List Definition) (altsteps : List (List EventFacts)) → altsteps ≡ [] → AreFactsOf definitions altsteps 0
+facts-first definitions altsteps none = record { many = ap length none; stand = λ at below. absurd (omega (arith, below)) }
+
+pub facts-next : (definitions : List Definition) (altsteps pushed : List (List EventFacts)) (facts : List EventFacts) (count : ℕ) → AreFactsOf definitions altsteps count
+    → map event_by facts ≡ altstep_facts definitions count → pushed ≡ altsteps ++ facts ∷ [] → AreFactsOf definitions pushed (count + 1)
+facts-next definitions altsteps pushed facts count g is push =
+    let long = length-append altsteps (facts ∷ []) in
+    let many = g.many in
+    subst (λ all. AreFactsOf definitions all (count + 1)) (sym push) (record {
+      many = omega (arith, long, many);
+      stand = λ at below. elim (cases_lt at count) as (λ _. map event_by (get_or (altsteps ++ facts ∷ []) at []) ≡ altstep_facts definitions at) [
+        | inl before ↦ ap (map event_by) (get-append altsteps (facts ∷ []) at [] (omega (arith, before, many))) ∙ g.stand at before
+        | inr from ↦
+            let last : at ≡ length altsteps = omega (arith, below, from, many) in
+            let same : count ≡ at = omega (arith, below, from) in
+            ap (λ n. map event_by (get_or (altsteps ++ facts ∷ []) n [])) last ∙ ap (map event_by) (get-last altsteps facts []) ∙ is ∙ ap (altstep_facts definitions) same
+      ];
+    })
+
+pub facts-end : (definitions : List Definition) (altsteps : List (List EventFacts)) (count : ℕ) → AreFactsOf definitions altsteps count → length definitions ≤ count
+    → (at : ℕ) → map event_by (get_or altsteps at []) ≡ altstep_facts definitions at
+facts-end definitions altsteps count g all at = elim (cases_lt at count) as (λ _. map event_by (get_or altsteps at []) ≡ altstep_facts definitions at) [
+  | inl before ↦ g.stand at before
+  | inr from ↦
+      let many = g.many in
+      ap (map event_by) (get-past altsteps at [] (omega (arith, many, from)))
+      ∙ sym (ap (λ (found : Option Definition). map (branch_facts definitions (beginning at)) (branches_of (option_map (λ definition. definition.kind) found)))
+      (not-found definitions at (omega (arith, all, from))))
+]
+
+-- one more, of which nothing is known, tells nothing else
+get-more : (altsteps : List (List EventFacts)) (at : ℕ) → get_or (altsteps ++ [] ∷ []) at [] ≡ get_or altsteps at []
+get-more [] zero = refl
+get-more [] (suc at) = refl
+get-more (facts ∷ altsteps) zero = refl
+get-more (facts ∷ altsteps) (suc at) = get-more altsteps at
+
+pub facts-more : (definitions : List Definition) (altsteps pushed : List (List EventFacts)) (none : List EventFacts) → none ≡ [] → pushed ≡ altsteps ++ none ∷ []
+    → ((at : ℕ) → map event_by (get_or altsteps at []) ≡ altstep_facts definitions at) → (at : ℕ) → map event_by (get_or pushed at []) ≡ altstep_facts definitions at
+facts-more definitions altsteps pushed none is push all at =
+    ap (λ l. map event_by (get_or l at [])) (push ∙ ap (λ facts. altsteps ++ facts ∷ []) is) ∙ ap (map event_by) (get-more altsteps at) ∙ all at
+
+pub more-than : (definitions : List Definition) (altsteps pushed : List (List EventFacts)) (none : List EventFacts) (count : ℕ) → AreFactsOf definitions altsteps count
+    → length definitions ≤ count → pushed ≡ altsteps ++ none ∷ [] → length definitions < length pushed
+more-than definitions altsteps pushed none count g all push =
+    let long = ap length push ∙ length-append altsteps (none ∷ []) in
+    let many = g.many in
+    omega (arith, long, many, all)
+
+-- the last one is that of all positions behind
+pub facts-of-last : (definitions : List Definition) (altsteps : List (List EventFacts)) (at last : ℕ) → ((at : ℕ) → map event_by (get_or altsteps at []) ≡ altstep_facts definitions at)
+    → length definitions ≤ last → last ≤ at → map event_by (get_or altsteps last []) ≡ altstep_facts definitions at
+facts-of-last definitions altsteps at last all from behind =
+    all last
+    ∙ ap (λ (found : Option Definition). map (branch_facts definitions (beginning last)) (branches_of (option_map (λ definition. definition.kind) found))) (not-found definitions last from)
+    ∙ sym (ap (λ (found : Option Definition). map (branch_facts definitions (beginning at)) (branches_of (option_map (λ definition. definition.kind) found)))
+    (not-found definitions at (omega (arith, from, behind))))
+
 -- ---- positions
 
-pub is-at : (d : Draft) (starts : List (List ℕ)) (positions : List ℕ) (among : Lists) (place at : ℕ) → AreAt d.lists positions among → slice_get positions place ≡ Some at → IsAt (graphs_of d starts) at place among
-is-at d starts positions among place at h is = let found = way-found d.lists positions among h place at is in record { within = found.0; stands = found.1 }
+pub is-at : (d : Draft) (starts : List (List ℕ)) (names : Known) (positions : List ℕ) (among : Lists) (place at : ℕ) → AreAt d.lists positions among → slice_get positions place ≡ Some at → IsAt (graphs_of d starts names) at place among
+is-at d starts names positions among place at h is = let found = way-found d.lists positions among h place at is in record { within = found.0; stands = found.1 }
 
-pub at-answer : (d : Draft) (starts : List (List ℕ)) (positions : List ℕ) (among : Lists) (place : ℕ) (found : Option ℕ) → AreAt d.lists positions among → found ≡ slice_get positions place
-    → IfSome found (λ at. IsAt (graphs_of d starts) at place among) × IfNone found (slice_get among place ≡ None)
-at-answer d starts positions among place None h is = (tt, way-missing d.lists positions among h place (sym is))
-at-answer d starts positions among place (Some at) h is = (is-at d starts positions among place at h (sym is), tt)
+pub at-answer : (d : Draft) (starts : List (List ℕ)) (names : Known) (positions : List ℕ) (among : Lists) (place : ℕ) (found : Option ℕ) → AreAt d.lists positions among → found ≡ slice_get positions place
+    → IfSome found (λ at. IsAt (graphs_of d starts names) at place among) × IfNone found (slice_get among place ≡ None)
+at-answer d starts names positions among place None h is = (tt, way-missing d.lists positions among h place (sym is))
+at-answer d starts names positions among place (Some at) h is = (is-at d starts names positions among place at h (sym is), tt)

@@ -9,17 +9,19 @@ use Rattle.check_scope.specs.Names.{kind_at}
 use Rattle.step_rules.specs.Items.{Doing, Item, Mark, Waiting, items}
 use Rattle.step_rules.specs.Sites.{Site, beginning}
 use Rattle.ttcn_graph.specs.Drafts.{Draft, HasWays}
+use Rattle.ttcn_graph.specs.Known.{Known}
 use Rattle.ttcn_graph.specs.Standing.{part_of, target_of}
 use Rattle.ttcn_graph.specs.Ways.{Lists, items_of_branch}
 use Rattle.ttcn_graph.specs.declared.first.First.{First}
 use Rattle.ttcn_graph.specs.declared.first.First.TheVariants as first
 
--- the module, the lists by their positions, for each position those of the lists that may come of it, and for each definition those of what it begins with
+-- the module, the lists by their positions, for each position those of the lists that may come of it, for each definition those of what it begins with, and names that are known
 pub record Graphs : Type 0 where
   pub definitions : List Definition
   pub lists : Lists
   pub ways : List (List ℕ)
   pub starts : List (List ℕ)
+  pub names : Known
 
 -- the one list of a block
 abbrev pub body_alone : List Definition → Site → List Statement → Lists
@@ -36,9 +38,9 @@ beginnings definitions site _ = []
 abbrev pub beginnings_at : List Definition → ℕ → Lists
 beginnings_at definitions at = beginnings definitions (beginning at) (kind_at definitions at)
 
--- the graphs that are drawn with these beginnings
-abbrev pub graphs_of : Draft → List (List ℕ) → Graphs
-graphs_of d starts = record { definitions = d.definitions; lists = d.lists; ways = d.ways; starts = starts }
+-- the graphs that are drawn with these beginnings, and these names
+abbrev pub graphs_of : Draft → List (List ℕ) → Known → Graphs
+graphs_of d starts names = record { definitions = d.definitions; lists = d.lists; ways = d.ways; starts = starts; names = names }
 
 -- what may come of each list has its positions
 abbrev pub AllHaveWays : Draft → Type 0

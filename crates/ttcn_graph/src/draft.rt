@@ -1,12 +1,13 @@
 //! Graphs that are being drawn.
-ghost use Rattle.std.specs.Prelude.{◌≡◌, ◌<◌, ◌∷◌, [], length, get_or, is_some, nat_eq, slice_get, IfOk, IfNone, IfSome, OnOk};
+ghost use Rattle.std.specs.Prelude.{◌≡◌, ◌<◌, ◌∷◌, [], length, map, get_or, is_some, nat_eq, slice_get, IfOk, IfNone, IfSome, OnOk};
 ghost use Rattle.check_expressions.specs.Calls.{altstep_meant};
-ghost use Rattle.check_scope.specs.Names.{module_names, resolved};
+ghost use Rattle.check_scope.specs.Names.{module_names, names_on, resolved};
+ghost use Rattle.check_statements.specs.Messages.{port_meant};
 ghost use Rattle.interner.specs.Lists.{AreDifferent};
 ghost use Rattle.step_rules.specs.Items as rules;
 ghost use Rattle.step_rules.specs.Sites as sites;
 ghost use Rattle.ttcn_graph.specs.Drafts.{AreAt, AreDrawn, HasWays, IsBegun, IsDrawn, IsFinished, IsWay, at_site, empty_draft};
-ghost use Rattle.ttcn_graph.specs.Facts.{facts_by, facts_of};
+ghost use Rattle.ttcn_graph.specs.Facts.{branch_facts, event_by, facts_by, facts_of};
 ghost use Rattle.ttcn_graph.specs.Graphs.{IsBegunBy};
 ghost use Rattle.ttcn_graph.specs.Standing.{part_of, target_of};
 ghost use Rattle.ttcn_graph.specs.Ways.{target_in, ways_of, ways_of_assignment, ways_of_right};
@@ -15,16 +16,17 @@ ghost use Rattle.ttcn_graph.specs.internal.OwnNames.{retracted};
 use crate::at::At;
 use crate::cells::Cells;
 use crate::declared::Declared;
-use crate::facts::Facts;
-use crate::facts_at::facts_of_part;
+use crate::facts::{EventFacts, Facts};
+use crate::facts_at::{facts_of_branches, facts_of_part};
 use crate::first::{First, first_of};
 use crate::here::Here;
 use crate::item::{Item, Part, Site, Target};
+use crate::ports::port_type;
 use check_scope::names::Meaning;
 use check_scope::types::DataType;
 use std::alloc::{AllocError, Global};
 use std::marker::Model;
-use ttcn_syntax::{Assignment, Definition, Name, Reference, Rhs, Seq, Statement, TypeName};
+use ttcn_syntax::{Assignment, Branch, Definition, Name, Reference, Rhs, Seq, Statement, TypeName};
 
 /// A graph that is being drawn. A contract sees it as the definitions say.
 #[derive(Drop)]
@@ -147,6 +149,13 @@ impl<'a> Draft<'a> {
         self.here.is_altstep(name)
     }
 
+    /// The port of the component type at a position that a name stands for: the position of its type, if that is known.
+    pub(crate) fn port_type(&self, component: usize, name: &Name) -> Option<Option<usize>>
+        ensures { result ≡ port_meant (names_on self.now.definitions component name.now) }
+    {
+        port_type(&self.here, component, name)
+    }
+
     // ---- positions
 
     /// How many lists there are.
@@ -185,6 +194,16 @@ impl<'a> Draft<'a> {
             Some((item, rest)) => Some((first_of(item), rest)),
             None => None,
         }
+    }
+
+    /// What is known here of the events of branches.
+    pub(crate) fn facts_of_branches(
+        &self,
+        branches: &'a [Branch],
+    ) -> Result<Seq<EventFacts<'a>>, AllocError>
+        ensures { IfOk result (λ facts. map event_by facts ≡ map (branch_facts self.now.definitions self.now.site) branches.now) }
+    {
+        facts_of_branches(self.alloc, &self.here, branches)
     }
 
     /// What is known where the first item of the list at a position stands.

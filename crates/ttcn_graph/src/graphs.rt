@@ -1,21 +1,26 @@
 //! The graphs of all behaviours of a module.
-ghost use Rattle.std.specs.Prelude.{◌≡◌, ◌<◌, [], length, get_or, nat_eq, slice_get, IfOk, IfNone, IfSome, None};
+ghost use Rattle.std.specs.Prelude.{◌≡◌, ℕ, ◌<◌, [], length, map, get_or, nat_eq, slice_get, IfOk, IfNone, IfSome, None};
 ghost use Rattle.std.specs.Option.{option_map};
+ghost use Rattle.check_scope.specs.Names.{kind_at, names_on};
+ghost use Rattle.check_statements.specs.Messages.{port_meant};
 ghost use Rattle.interner.specs.Lists.{AreDifferent};
 ghost use Rattle.ttcn_graph.specs.Drafts.{AreDrawn, at_site};
+ghost use Rattle.step_rules.specs.Branches.{branches_of};
 ghost use Rattle.step_rules.specs.Sites.{beginning};
-ghost use Rattle.ttcn_graph.specs.Facts.{facts_by, facts_of};
+ghost use Rattle.ttcn_graph.specs.Facts.{altstep_facts, event_by, facts_by, facts_of};
 ghost use Rattle.ttcn_graph.specs.Graphs.{IsAt, IsBegunBy, beginnings, beginnings_at, body_alone};
+ghost use Rattle.ttcn_graph.specs.Known.{AreKnown, names_of, names_of_kind};
 ghost use Rattle.ttcn_graph.specs.Ways.{ways_of};
 
 use crate::block::{draw_block, draw_branches};
 use crate::draft::{Draft, way_in};
-use crate::facts::Facts;
+use crate::facts::{EventFacts, Facts};
 use crate::first::First;
+use crate::known::{Names, all_names};
 use check_scope::scope::kind_at;
 use std::alloc::{AllocError, Global};
 use std::marker::Model;
-use ttcn_syntax::{Definition, DefinitionKind, Seq, Statement};
+use ttcn_syntax::{Branch, Definition, DefinitionKind, Name, Seq, Statement};
 use ttcn_types::Program;
 
 /// The graphs of a module. A contract sees the lists that positions stand for, and where they lead.
@@ -23,10 +28,14 @@ use ttcn_types::Program;
 pub struct Graphs<'a> {
     draft: Draft<'a>,
     starts: Vec<Seq<usize>>,
+    /// For each definition, and the position behind the last one, what is known of the events of its branches, if it is an
+    /// altstep.
+    altsteps: Vec<Seq<EventFacts<'a>>>,
+    names: Names<'a>,
 }
 
 impl<'a> Model for Graphs<'a> {
-    ghost use Rattle.std.specs.Prelude.{ℕ, [], get_or};
+    ghost use Rattle.std.specs.Prelude.{◌≡◌, ◌<◌, ℕ, [], length, map, get_or};
     ghost use Rattle.std.specs.Coded.{codes};
     ghost use Rattle.ttcn_syntax.specs.contracts.tree.statement.Action as action;
     ghost use Rattle.ttcn_syntax.specs.contracts.tree.statement.Branch as branch;
@@ -34,16 +43,21 @@ impl<'a> Model for Graphs<'a> {
     ghost use Rattle.ttcn_syntax.specs.contracts.tree.template.Template as template;
     ghost use Rattle.ttcn_syntax.specs.contracts.tree.value.Value as value;
     ghost use Rattle.ttcn_graph.specs.Drafts.{AreAt};
+    ghost use Rattle.ttcn_graph.specs.Facts.{altstep_facts, event_by};
     ghost use Rattle.ttcn_graph.specs.Graphs as definition;
+    ghost use Rattle.ttcn_graph.specs.internal.Learning.{all_names};
 
     ghost Value = { definition.Graphs };
 
     ghost coded = { Prim.hlevel (codes, action.the_row.coded, branch.the_row.coded, statement.the_row.coded, template.the_row.coded, value.the_row.coded) };
 
-    ghost view = { λ graphs. definition.graphs_of graphs.draft graphs.starts.items };
+    ghost view = { λ graphs. definition.graphs_of graphs.draft graphs.starts.items graphs.names };
 
     ghost invariant = { λ graphs. definition.AllHaveWays graphs.draft
-        × ((at : ℕ) → AreAt graphs.draft.lists (get_or graphs.starts.items at []) (definition.beginnings_at graphs.draft.definitions at)) };
+        × ((at : ℕ) → AreAt graphs.draft.lists (get_or graphs.starts.items at []) (definition.beginnings_at graphs.draft.definitions at))
+        × ((at : ℕ) → map event_by (get_or graphs.altsteps.items at []) ≡ altstep_facts graphs.draft.definitions at)
+        × (graphs.names ≡ all_names graphs.draft.definitions graphs.draft.lists)
+        × (length graphs.draft.definitions < length graphs.altsteps.items) };
 }
 
 /// The position of the block of a function or a test case.
@@ -84,18 +98,31 @@ fn draw_definition<'a>(
     }
 }
 
-/// The positions of what the definition at a position begins with.
+/// The branches of an altstep.
+fn branches_of<'a>(kind: Option<&'a DefinitionKind>) -> &'a [Branch]
+    ensures { result.now ≡ branches_of (option_map (λ kind. kind.now) kind.entry) }
+{
+    match kind {
+        Some(DefinitionKind::Altstep(altstep)) => altstep.branches.as_slice(),
+        _ => &[],
+    }
+}
+
+/// The positions of what the definition at a position begins with, and what is known of the branches of an altstep.
 fn draw_at<'a>(
     draft: Draft<'a>,
     definitions: &'a [Definition],
     at: usize,
-) -> Result<(Draft<'a>, Seq<usize>), AllocError>
+) -> Result<(Draft<'a>, Seq<usize>, Seq<EventFacts<'a>>), AllocError>
     requires { draft.definitions ≡ definitions.now }
-    ensures { IfOk result (λ drawn. AreDrawn (at_site (beginning at) draft.entry) drawn.0 drawn.1 (beginnings_at definitions.now at)) }
+    ensures drawn { IfOk result (λ drawn. AreDrawn (at_site (beginning at) draft.entry) drawn.0 drawn.1 (beginnings_at definitions.now at)) }
+    ensures facts { IfOk result (λ drawn. map event_by drawn.2 ≡ altstep_facts definitions.now at) }
 {
     let mut draft = draft.go_to(at)?;
-    let starts = draw_definition(&mut draft, kind_at(definitions, at))?;
-    Ok((draft, starts))
+    let kind = kind_at(definitions, at);
+    let facts = draft.facts_of_branches(branches_of(kind))?;
+    let starts = draw_definition(&mut draft, kind)?;
+    Ok((draft, starts, facts))
 }
 
 /// The graphs of all definitions.
@@ -104,12 +131,21 @@ fn draw_all<'a>(alloc: Global, definitions: &'a [Definition]) -> Result<Graphs<'
 {
     let mut draft = Draft::new(alloc, definitions)?;
     let mut starts = Vec::new(alloc);
+    let mut altsteps = Vec::new(alloc);
     for at in 0..definitions.len() {
-        let (drawn, here) = draw_at(draft, definitions, at)?;
+        let (drawn, here, facts) = draw_at(draft, definitions, at)?;
         draft = drawn;
         starts.push(here)?;
+        altsteps.push(facts)?;
     }
-    Ok(Graphs { draft, starts })
+    altsteps.push(Seq::new(alloc))?;
+    let names = all_names(alloc, &draft, definitions)?;
+    Ok(Graphs {
+        draft,
+        starts,
+        altsteps,
+        names,
+    })
 }
 
 /// The graphs of a module: the blocks of all its behaviours, and all that may come of them.
@@ -178,6 +214,43 @@ impl<'a> Graphs<'a> {
             Some(starts) => way_in(starts, place),
             None => None,
         }
+    }
+
+    /// What is known of the events of the branches of the altstep at a position, where branches are judged at its beginning.
+    pub fn altstep_facts(&self, at: usize) -> &[EventFacts<'a>]
+        ensures { map event_by result.now ≡ altstep_facts self.now.definitions at }
+    {
+        let last = self.altsteps.len() - 1;
+        let place = if at < last { at } else { last };
+        self.altsteps[place].as_slice()
+    }
+
+    /// The port of the component type at a position that a name stands for: the position of its type, if that is known.
+    pub fn port_type(&self, component: usize, port: &Name) -> Option<Option<usize>>
+        ensures { result ≡ port_meant (names_on self.now.definitions component port.now) }
+    {
+        self.draft.port_type(component, port)
+    }
+
+    /// The names that steps change or declare, and those of ports that they name.
+    pub fn names(&self) -> &[&'a Name]
+        ensures { map (λ name. name.now) result.now ≡ self.now.names }
+    {
+        self.names.as_slice()
+    }
+
+    /// The names of what stands first at each position are among them.
+    pub fn knows_items(&self)
+        ensures { (p : ℕ) → p < length self.now.lists → AreKnown self.now.names (names_of (get_or self.now.lists p [])) }
+    {
+        let _ = self.draft.len();
+    }
+
+    /// So are those of each definition.
+    pub fn knows_definitions(&self)
+        ensures { (at : ℕ) → AreKnown self.now.names (names_of_kind (kind_at self.now.definitions at)) }
+    {
+        let _ = self.draft.len();
     }
 
     /// No list has two positions.

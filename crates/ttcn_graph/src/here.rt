@@ -241,6 +241,20 @@ impl<'a> Here<'a> {
         }
     }
 
+    /// What is defined at a position.
+    pub(crate) fn kind(&self, at: usize) -> Option<&'a DefinitionKind>
+        ensures { option_map (λ kind. kind.now) result ≡ kind_at self.now.0 at }
+    {
+        self.scope.kind(at)
+    }
+
+    /// What a name stands for in the whole module.
+    pub(crate) fn in_module(&self, name: &[u8]) -> Option<Meaning>
+        ensures { result ≡ module_names self.now.0 name.now }
+    {
+        self.scope.in_module(name)
+    }
+
     /// Whether a name is that of an altstep of the module.
     pub(crate) fn is_altstep(&self, name: &Name) -> bool
         ensures { result ≡ is_some (altstep_meant (module_names self.now.0 name.now)) }

@@ -12,8 +12,10 @@ mod first;
 mod graphs;
 mod here;
 mod item;
+mod known;
 mod names;
 mod own;
+mod ports;
 mod referred;
 mod typing;
 

@@ -158,7 +158,7 @@ fn type_of_message(
 }
 
 /// The port that a name stands for: the position of its type, which may be unknown.
-fn port_meant(meaning: Option<Meaning>) -> Option<Option<usize>>
+pub(crate) fn port_meant(meaning: Option<Meaning>) -> Option<Option<usize>>
     ensures { result ≡ messages.port_meant meaning }
 {
     match meaning {

@@ -1,13 +1,36 @@
-use Rattle.std.proofs.Common.{arith}
-use Rattle.ttcn_graph.proofs.Graphed.{graphed-end, graphed-next}
+use Rattle.std.proofs.Common.{List, ap, arith, get_or, length, map, subst, sym, ◌≡◌, ◌<◌, ◌∙◌, ℕ, []}
+use Rattle.ttcn_syntax.specs.declared.tree.definition.Definition.{Definition}
+use Rattle.ttcn_graph.specs.Facts.{altstep_facts, event_by}
+use Rattle.ttcn_graph.specs.internal.Learning.{all_names}
+use Rattle.ttcn_graph.proofs.Graphed.{facts-end, facts-first, facts-more, facts-next, graphed-end, graphed-first, graphed-next, more-than}
 use Rattle.ttcn_graph.proofs.graphs.draw_all.Goals as goal
 
+pub loop-at-init : goal.loop-at-init
+loop-at-init c = record {
+  drawn = graphed-first c.args.definitions.now c.in_ok-draft.draft c.new-starts.result.items c.in_ok-draft.ensures c.new-starts.ensures.items;
+  known = facts-first c.args.definitions.now c.new-altsteps.result.items c.new-altsteps.ensures.items;
+}
+
 pub loop-at-preserved : goal.loop-at-preserved
-loop-at-preserved c =
-    graphed-next c.args.definitions.now c.loop-at.draft c.in_ok-drawn.drawn c.loop-at.starts.items c.push.new.self.items c.in_ok-drawn.here c.loop-at.at c.loop-at.invariant
-    c.in_ok-drawn.ensures c.in_ok-push.ensures.items
+loop-at-preserved c = record {
+  drawn = graphed-next c.args.definitions.now c.loop-at.draft c.in_ok-drawn.drawn c.loop-at.starts.items c.push.new.self.items c.in_ok-drawn.here c.loop-at.at c.loop-at.invariant.drawn
+      c.in_ok-drawn.ensures.drawn c.in_ok-push.ensures.items;
+  known = facts-next c.args.definitions.now c.loop-at.altsteps.items _ c.in_ok-drawn.facts c.loop-at.at c.loop-at.invariant.known
+      c.in_ok-drawn.ensures.facts c.in_ok-push-2.ensures.items;
+}
 
 pub invariant_of-result : goal.invariant_of-result
 invariant_of-result c =
     let end = c.loop-at-test.false in
-    (c.loop-at.invariant.whole, graphed-end c.args.definitions.now c.loop-at.draft c.loop-at.starts.items c.loop-at.at c.loop-at.invariant (omega (arith, end)))
+    let definitions = c.args.definitions.now in
+    let drawn = c.loop-at.invariant.drawn in
+    let pushed = c.push-2.new.self.items in
+    let known = facts-more definitions c.loop-at.altsteps.items pushed c.new-2.result c.new-2.ensures c.in_ok-push-3.ensures.items
+    (facts-end definitions c.loop-at.altsteps.items c.loop-at.at c.loop-at.invariant.known (omega (arith, end))) in
+    let more = more-than definitions c.loop-at.altsteps.items pushed c.new-2.result c.loop-at.at c.loop-at.invariant.known (omega (arith, end)) c.in_ok-push-3.ensures.items in (
+      drawn.whole,
+      graphed-end definitions c.loop-at.draft c.loop-at.starts.items c.loop-at.at drawn (omega (arith, end)),
+      subst (λ (definitions : List Definition). (at : ℕ) → map event_by (get_or pushed at []) ≡ altstep_facts definitions at) (sym drawn.module_is) known,
+      c.in_ok-names.ensures ∙ ap (λ (definitions : List Definition). all_names definitions c.loop-at.draft.lists) (sym drawn.module_is),
+      subst (λ (definitions : List Definition). length definitions < length pushed) (sym drawn.module_is) more,
+    )

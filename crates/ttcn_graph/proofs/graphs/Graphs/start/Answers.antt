@@ -10,7 +10,7 @@ returns-in-Some-clause-found c =
     let starts = c.self.inside.starts.items in
     let found = c.in-Some.ensures.lookup.4 (omega arith) [] ∙ ap (λ l. get_or l c.args.definition []) c.deref.ensures.value in
     subst (λ (graphs : Graphs). IfSome c.way_in.result (λ start. IsAt graphs start c.args.place (beginnings_at graphs.definitions c.args.definition))) c.self.view_is
-    (at-answer d starts (get_or starts c.args.definition []) (beginnings_at d.definitions c.args.definition) c.args.place c.way_in.result (c.self.invariant.1 c.args.definition)
+    (at-answer d starts c.self.inside.names (get_or starts c.args.definition []) (beginnings_at d.definitions c.args.definition) c.args.place c.way_in.result (c.self.invariant.1 c.args.definition)
     (c.way_in.ensures ∙ ap (λ w. slice_get w c.args.place) found)).0
 
 pub returns-in-Some-clause-missing : goal.returns-in-Some-clause-missing
@@ -19,5 +19,5 @@ returns-in-Some-clause-missing c =
     let starts = c.self.inside.starts.items in
     let found = c.in-Some.ensures.lookup.4 (omega arith) [] ∙ ap (λ l. get_or l c.args.definition []) c.deref.ensures.value in
     subst (λ (graphs : Graphs). IfNone c.way_in.result (slice_get (beginnings_at graphs.definitions c.args.definition) c.args.place ≡ None)) c.self.view_is
-    (at-answer d starts (get_or starts c.args.definition []) (beginnings_at d.definitions c.args.definition) c.args.place c.way_in.result (c.self.invariant.1 c.args.definition)
+    (at-answer d starts c.self.inside.names (get_or starts c.args.definition []) (beginnings_at d.definitions c.args.definition) c.args.place c.way_in.result (c.self.invariant.1 c.args.definition)
     (c.way_in.ensures ∙ ap (λ w. slice_get w c.args.place) found)).1
