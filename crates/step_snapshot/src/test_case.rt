@@ -1,10 +1,10 @@
 //! Test cases that can be run.
-ghost use Rattle.std.specs.Prelude.{◌≡◌, ℕ, ◌<◌, ◌^◌, length};
+ghost use Rattle.std.specs.Prelude.{◌≡◌, ℕ, ◌<◌, ◌^◌, [], get_or, length};
 ghost use Rattle.check_scope.specs.Names.{kind_at};
 ghost use Rattle.step_rules.specs.Snapshots.{mtc_of};
 ghost use Rattle.step_snapshot.specs.Slots.{NoneIsMissing};
 ghost use Rattle.ttcn_config.specs.internal.Stored.{no_cells};
-ghost use Rattle.ttcn_graph.specs.Known.{names_of_kind};
+ghost use Rattle.ttcn_graph.specs.Known.{names_of, names_of_kind};
 
 use names::Names;
 use ttcn_config::Cells;
@@ -29,5 +29,6 @@ pub struct TestCase<'a> {
     ghost main: { mtc_of (record { definitions = definitions; testcase = position }) ≡ mtc },
     ghost none: { nothing ≡ no_cells },
     ghost room: { length names < 2 ^ 32 },
+    ghost items: { (position : ℕ) → NoneIsMissing names (names_of (get_or graphs.lists position [])) },
     ghost known: { (at : ℕ) → NoneIsMissing names (names_of_kind (kind_at definitions at)) },
 }

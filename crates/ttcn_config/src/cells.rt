@@ -81,7 +81,7 @@ impl Cells {
     }
 
     /// A name is declared, without value.
-    pub(crate) fn forget(self, slot: Slot) -> Cells
+    pub fn forget(self, slot: Slot) -> Cells
         ensures { result ≡ spec.forget slot self }
     {
         let Cells { values, timers } = self;
@@ -92,7 +92,7 @@ impl Cells {
     }
 
     /// A name is declared with a value.
-    pub(crate) fn declare(self, slot: Slot, value: Value) -> Result<Cells, AllocError>
+    pub fn declare(self, slot: Slot, value: Value) -> Result<Cells, AllocError>
         ensures { IfOk result (λ cells. cells ≡ spec.declare slot value self) }
     {
         let Cells { values, timers } = self;
@@ -104,7 +104,7 @@ impl Cells {
     }
 
     /// A timer is declared.
-    pub(crate) fn declare_timer(self, slot: Slot) -> Result<Cells, AllocError>
+    pub fn declare_timer(self, slot: Slot) -> Result<Cells, AllocError>
         ensures { IfOk result (λ cells. cells ≡ spec.declare_timer slot self) }
     {
         let Cells { values, timers } = self;
