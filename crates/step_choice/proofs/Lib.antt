@@ -1,0 +1,16 @@
+pub mod Firsts
+pub mod Redirected
+pub mod Found
+pub mod Tried
+pub mod Chosen
+pub mod Guarded
+pub mod Received
+pub mod Argued
+pub mod Ported
+pub mod Through
+pub mod Choosing
+pub mod Alternatives
+pub mod Altsteps
+pub mod Defaulted
+pub mod KnownEffects
+pub mod KnownBranches

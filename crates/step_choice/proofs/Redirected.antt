@@ -1,0 +1,70 @@
+-- What is stored of a message goes where the redirects say.
+use Rattle.std.proofs.Common.{◌≡◌, Bool, true, false, List, [], ◌∷◌, ◌++◌, map, Option, Some, None, cond, refl, sym, ap, ◌∙◌}
+use Rattle.std.proofs.lemmas.List.{map-append}
+use Rattle.ttcn_syntax.specs.declared.tree.expression.Reference.{Reference}
+use Rattle.step_rules.specs.Events.{Redirect, fits_sender, redirected_sender, redirected_value}
+use Rattle.step_rules.specs.Items.{Target}
+use Rattle.step_rules.specs.Sites.{Site, scope_at}
+use Rattle.step_rules.specs.Snapshots.{Test}
+use Rattle.step_rules.specs.Storing.{target_meant}
+use Rattle.step_choice.specs.Deeds.{stored_by, stored_of}
+use Rattle.step_choice.specs.declared.taken.Stored.{Stored}
+use Rattle.ttcn_graph.specs.Facts.{goal_at, goal_by, goal_if_any}
+use Rattle.ttcn_graph.specs.Standing.{target_of}
+use Rattle.ttcn_graph.specs.declared.facts.Goal.{Goal}
+use Rattle.ttcn_values.specs.Outcomes.{DynamicError, Fails, Outcome, Yields, outcome_map}
+use Rattle.ttcn_values.specs.declared.value.ComponentId.{ComponentId}
+use Rattle.ttcn_values.specs.declared.value.Value.{Value}
+use Rattle.ttcn_values.specs.declared.value.Value.TheVariants as value
+
+-- what goes to targets at a site, as the rules have it
+abbrev pub AreStored : Test → Site → List (Target × Value) → List Redirect → Type 0
+AreStored test site stored redirects = stored ≡ map (stored_of test site) redirects
+
+-- ---- the value
+
+pub no-value : (test : Test) (site : Site) (reference : Option Reference) (v : Value) → None ≡ goal_if_any test.definitions site reference
+    → AreStored test site [] (redirected_value reference v)
+no-value test site None v is = refl
+no-value test site (Some reference) v is = absurd (let e = is in cc)
+
+pub one-value : (test : Test) (site : Site) (reference : Option Reference) (v : Value) (goal : Goal) → Some (goal_by goal) ≡ goal_if_any test.definitions site reference
+    → AreStored test site ((target_of goal.target, v) ∷ []) (redirected_value reference v)
+one-value test site None v goal is = absurd (let e = is in cc)
+one-value test site (Some reference) v goal is =
+    let same : goal_by goal ≡ goal_at test.definitions site reference = cc in
+    ap (λ g. (g.target, v) ∷ []) same
+
+-- ---- the sender
+
+pub no-sender : (test : Test) (site : Site) (reference : Option Reference) (sender : ComponentId) → None ≡ goal_if_any test.definitions site reference
+    → redirected_sender (scope_at test.definitions site) reference sender ≡ Yields []
+no-sender test site None sender is = refl
+no-sender test site (Some reference) sender is = absurd (let e = is in cc)
+
+pub sender-refused : (test : Test) (site : Site) (reference : Option Reference) (sender : ComponentId) (goal : Goal) → Some (goal_by goal) ≡ goal_if_any test.definitions site reference
+    → fits_sender sender goal.wanted ≡ false → redirected_sender (scope_at test.definitions site) reference sender ≡ Fails DynamicError
+sender-refused test site None sender goal is not = absurd (let e = is in cc)
+sender-refused test site (Some reference) sender goal is not =
+    let same : goal_by goal ≡ goal_at test.definitions site reference = cc in
+    ap (λ b. cond b (Yields (record { reference = reference; value = value.Component sender } ∷ [])) (Fails DynamicError)) (ap (λ g. fits_sender sender g.wanted) (sym same) ∙ not)
+
+pub one-sender : (test : Test) (site : Site) (reference : Option Reference) (sender : ComponentId) (goal : Goal) → Some (goal_by goal) ≡ goal_if_any test.definitions site reference
+    → fits_sender sender goal.wanted ≡ true
+    → (stored : List Redirect) × ((redirected_sender (scope_at test.definitions site) reference sender ≡ Yields stored) × AreStored test site ((target_of goal.target, value.Component sender) ∷ []) stored)
+one-sender test site None sender goal is fits = absurd (let e = is in cc)
+one-sender test site (Some reference) sender goal is fits =
+    let same : goal_by goal ≡ goal_at test.definitions site reference = cc in (
+      record { reference = reference; value = value.Component sender } ∷ [],
+      (
+        ap (λ b. cond b (Yields (record { reference = reference; value = value.Component sender } ∷ [])) (Fails DynamicError)) (ap (λ g. fits_sender sender g.wanted) (sym same) ∙ fits),
+        ap (λ g. (g.target, value.Component sender) ∷ []) same,
+      ),
+    )
+
+-- ---- both
+
+pub both-stored : (test : Test) (site : Site) (xs ys : List Stored) (us vs : List Redirect) → AreStored test site (map stored_by xs) us → AreStored test site (map stored_by ys) vs
+    → AreStored test site (map stored_by (xs ++ ys)) (us ++ vs)
+both-stored test site xs ys us vs one other =
+    map-append stored_by xs ys ∙ ap (λ zs. zs ++ map stored_by ys) one ∙ ap (λ zs. map (stored_of test site) us ++ zs) other ∙ sym (map-append (stored_of test site) us vs)

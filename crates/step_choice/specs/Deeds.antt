@@ -1,0 +1,50 @@
+-- What taking a branch does beside what it leaves to be done, with what is known of the names in it (ES 201 873-1, 20.2, 22.2 and 23).
+use Rattle.std.specs.Prelude.{ℕ, Bool, List, map}
+use Rattle.std.specs.List.{All}
+use Rattle.step_rules.specs.Events as events
+use Rattle.step_rules.specs.Events.{Effect, Redirect}
+use Rattle.step_rules.specs.Items.{Target}
+use Rattle.step_rules.specs.Sites.{Site, is_own}
+use Rattle.step_rules.specs.Snapshots.{Test}
+use Rattle.step_rules.specs.Storing.{target_meant}
+use Rattle.step_choice.specs.declared.taken.Deed as code_deed
+use Rattle.step_choice.specs.declared.taken.Deed.TheVariants as code
+use Rattle.step_choice.specs.declared.taken.Stored as code_stored
+use Rattle.step_snapshot.specs.Slots.{IsKnown}
+use Rattle.ttcn_config.specs.Legend.{Legend}
+use Rattle.ttcn_graph.specs.Standing.{target_of}
+use Rattle.ttcn_values.specs.declared.value.Value.{Value}
+
+pub data Deed : Type 0 where
+  -- nothing more
+  Nothing : Deed
+  -- the first message of a port is removed, and values go to targets
+  Receives : List ℕ → List (Target × Value) → Deed
+  -- a timer becomes inactive: whether it is the frame's own
+  Elapses : List ℕ → Bool → Deed
+
+-- where a redirect at a site stores its value
+abbrev pub stored_of : Test → Site → Redirect → Target × Value
+stored_of test site redirect = (target_meant test site redirect.reference, redirect.value)
+
+-- the effect of a branch that is judged at a site
+abbrev pub deed_of : Test → Site → Effect → Deed
+deed_of test site events.Plain = Nothing
+deed_of test site (events.Receives port redirects) = Receives port (map (stored_of test site) redirects)
+deed_of test site (events.Elapses name) = Elapses name (is_own test.definitions site name)
+
+-- ---- what code keeps of it
+
+abbrev pub stored_by : code_stored.Stored → Target × Value
+stored_by stored = (target_of stored.target.now, stored.value)
+
+abbrev pub deed_by : Legend → code_deed.Deed → Deed
+deed_by legend code.Nothing = Nothing
+deed_by legend (code.Receives port stored) = Receives (legend.names port) (map stored_by stored.items)
+deed_by legend (code.Elapses name own) = Elapses name.now own
+
+-- the names that it changes have slots, where these names have
+abbrev pub HasKnownNames : List (List ℕ) → code_deed.Deed → Type 0
+HasKnownNames names code.Nothing = Unit {0}
+HasKnownNames names (code.Receives port stored) = All (λ one. IsKnown names one.target.now.reference.name) stored.items
+HasKnownNames names (code.Elapses name own) = IsKnown names name.now

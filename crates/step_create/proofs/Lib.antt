@@ -1,0 +1,4 @@
+pub mod Added
+pub mod Alone
+pub mod Declared
+pub mod Turns

@@ -1,0 +1,24 @@
+-- Where a test case starts, as code makes it.
+use Rattle.std.specs.Prelude.{ℕ, [], ◌∷◌}
+use Rattle.ttcn_syntax.specs.declared.tree.statement.Verdict.TheVariants as verdict
+use Rattle.step_rules.specs.Configurations as rules
+use Rattle.step_rules.specs.Creating.{new_component}
+use Rattle.step_rules.specs.Snapshots.{mtc_of}
+use Rattle.step_rules.specs.Steps.{begin}
+use Rattle.step_snapshot.specs.Tests.{legend_by, test_by}
+use Rattle.step_snapshot.specs.declared.test_case.TestCase.{TestCase}
+use Rattle.ttcn_config.specs.Legend.{frame_with}
+use Rattle.ttcn_config.specs.declared.component.Component.{Component}
+use Rattle.ttcn_config.specs.declared.config.Config.{Config}
+use Rattle.ttcn_config.specs.declared.config.Config.TheVariants as config
+use Rattle.ttcn_config.specs.declared.frame.Cells.{Cells}
+
+-- the MTC, with the list at a position as frame 1, and these names in frame 0
+abbrev pub mtc_at : TestCase → ℕ → Cells → rules.Component
+mtc_at t position members =
+    begin (record { remaining = (legend_by t).lists position; values = []; timers = [] })
+    (new_component (test_by t) (mtc_of (test_by t)) (frame_with (legend_by t) [] members))
+
+-- a test case with one component
+abbrev pub going_alone : Component → Config
+going_alone mtc = config.Going (record { components = mtc ∷ []; connections = []; forgotten = verdict.None })

@@ -1,0 +1,39 @@
+//! New components (ES 201 873-1, 21.3.1).
+ghost use Rattle.std.specs.Prelude.{◌≡◌, [], IfOk, length};
+ghost use Rattle.step_rules.specs.Creating as rules;
+ghost use Rattle.step_snapshot.specs.Tests.{legend_by, test_by};
+ghost use Rattle.ttcn_config.specs.Legend.{component_by, frame_with};
+ghost use Rattle.ttcn_config.specs.Views.{HasSlotsWithin, IsWithin};
+
+use crate::ports::empty_queues;
+use std::alloc::{AllocError, Global};
+use step_snapshot::TestCase;
+use ttcn_config::{Cells, Component, Data, State};
+use ttcn_syntax::{Seq, Verdict};
+use ttcn_values::ComponentId;
+
+/// A new component with these names in frame 0, which is created and doesn't run yet.
+pub fn new_component(
+    alloc: Global,
+    test: &TestCase<'_>,
+    itself: ComponentId,
+    members: Cells,
+) -> Result<Component, AllocError>
+    ensures made { IfOk result (λ new. component_by (legend_by test.now) new ≡ rules.new_component (test_by test.now) itself (frame_with (legend_by test.now) [] members)) }
+    ensures within { HasSlotsWithin (length test.now.names) members → IfOk result (λ new. IsWithin (length test.now.names) new.own) }
+{
+    let queues = empty_queues(alloc, test, itself.component_type)?;
+    Ok(Component {
+        itself,
+        own: Data {
+            members,
+            calls: Seq::new(alloc),
+            defaults: Seq::new(alloc),
+            activations: 0,
+            children: 0,
+        },
+        state: State::Created,
+        verdict: Verdict::None,
+        queues,
+    })
+}
