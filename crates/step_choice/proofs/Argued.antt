@@ -11,7 +11,7 @@ use Rattle.step_rules.specs.Branches.{with_arguments}
 use Rattle.step_rules.specs.Entries.{Entries, put, without}
 use Rattle.step_rules.specs.Snapshots.{View, view_of_arguments}
 use Rattle.step_choice.specs.internal.Arguments.{with_argument}
-use Rattle.step_snapshot.specs.Slots.{NoneIsMissing}
+use Rattle.step_snapshot.specs.Slots.{IsKnown, NoneIsMissing}
 use Rattle.ttcn_config.proofs.Stored.{put-by, without-by}
 use Rattle.ttcn_config.specs.Legend.{IsLegend, Legend, entries_by}
 use Rattle.ttcn_config.specs.Views.{view_by}
@@ -95,10 +95,6 @@ first-view legend cells parameters all items none is =
 
 -- ---- names that have slots
 
-single : {A : Type 0} (a b : A) → Contains (a ∷ []) b → a ≡ b
-single a b (zero, within, is) = is
-single a b (suc k, within, is) = absurd (omega (arith, within))
-
 name-at : (parameters : List Parameter) (k : ℕ) (p : Parameter) → slice_get parameters k ≡ Some p → Contains (map (λ parameter. parameter.name) parameters) p.name
 name-at [] k p is = absurd (let e = is in cc)
 name-at (q ∷ parameters) zero p is = (0, omega arith, ap (λ (x : Parameter). x.name) (let same : q ≡ p = cc in same))
@@ -106,8 +102,6 @@ name-at (q ∷ parameters) (suc k) p is =
     let behind = name-at parameters k p is in (suc behind.0, omega (arith, behind.1), behind.2)
 
 pub one-known : (names : List (List ℕ)) (parameters : List Parameter) (k : ℕ) (r : Option (Bor Parameter)) → option_map (λ p. p.now) r ≡ slice_get parameters k
-    → NoneIsMissing names (map (λ parameter. parameter.name) parameters) → IfSome r (λ p. NoneIsMissing names (p.now.name ∷ []))
+    → NoneIsMissing names (map (λ parameter. parameter.name) parameters) → IfSome r (λ p. IsKnown names p.now.name)
 one-known names parameters k None is known = tt
-one-known names parameters k (Some p) is known = λ name there.
-    let P : List ℕ → Type 0 = λ n. ¬ (¬ Contains names n) in
-    subst P (single p.now.name name there) (known p.now.name (name-at parameters k p.now (sym is)))
+one-known names parameters k (Some p) is known = known p.now.name (name-at parameters k p.now (sym is))

@@ -14,7 +14,9 @@ use Rattle.step_rules.specs.Events as events
 use Rattle.step_rules.specs.Events.{Choice, Effect, Passed, Refused, Trial, chosen_by, try_event}
 use Rattle.step_rules.specs.Items.{Item}
 use Rattle.step_rules.specs.Sites.{Site}
-use Rattle.step_choice.specs.Choices.{Finds, IsFrameWithin, IsTaken}
+use Rattle.step_choice.specs.Choices.{Finds, IsTaken}
+use Rattle.step_snapshot.specs.Tests.{extent_of}
+use Rattle.ttcn_config.specs.Views.{IsFrameWithin}
 use Rattle.step_choice.specs.declared.taken.Deed.{Deed}
 use Rattle.step_choice.specs.declared.taken.Deed.TheVariants as code
 use Rattle.step_choice.specs.declared.taken.Taken.{Taken}
@@ -59,7 +61,7 @@ open-taken s judge place way e block deed (effect, (is, same)) =
         effect,
         (
           ap (λ t. chosen_by chance t events.Nothing) is,
-          record { place = refl; way = (refl, refl); frames = refl; within = All-nil (IsFrameWithin s.test.now); deed = same },
+          record { place = refl; way = (refl, refl); frames = refl; within = All-nil (IsFrameWithin (extent_of s.test.now)); deed = same },
         ),
       ),
     )
@@ -86,7 +88,7 @@ else-taken s judge place way block = (
     events.Plain,
     (
       refl,
-      record { place = refl; way = (refl, refl); frames = refl; within = All-nil (IsFrameWithin s.test.now); deed = refl },
+      record { place = refl; way = (refl, refl); frames = refl; within = All-nil (IsFrameWithin (extent_of s.test.now)); deed = refl },
     ),
   ),
 )

@@ -11,14 +11,14 @@ use Rattle.step_rules.specs.Entries.{Entries}
 use Rattle.step_rules.specs.Events.{Effect}
 use Rattle.step_rules.specs.Items.{Item}
 use Rattle.step_rules.specs.Snapshots.{View, view_of_arguments}
-use Rattle.step_choice.specs.Choices.{IsFrameWithin, IsTaken}
+use Rattle.step_choice.specs.Choices.{IsTaken}
 use Rattle.step_choice.specs.declared.taken.Taken.{Taken}
 use Rattle.step_choice.specs.internal.Judged.{Is, IsAmong, test_of}
 use Rattle.step_choice.specs.internal.Later.{chance_through}
-use Rattle.step_snapshot.specs.Tests.{legend_by}
+use Rattle.step_snapshot.specs.Tests.{extent_of, legend_by}
 use Rattle.step_snapshot.specs.declared.snapshot.Snapshot.{Snapshot}
 use Rattle.ttcn_config.specs.Legend.{Legend, entries_by, frame_by}
-use Rattle.ttcn_config.specs.Views.{HasSlotsWithin, view_by}
+use Rattle.ttcn_config.specs.Views.{HasSlotsWithin, IsFrameWithin, view_by}
 use Rattle.ttcn_config.specs.declared.frame.Cells.{Cells}
 use Rattle.ttcn_config.specs.declared.frame.Frame.{Frame}
 use Rattle.ttcn_graph.specs.Graphs.{IsAt, beginnings_at}
@@ -63,6 +63,6 @@ taken-through s way at remaining inner taken frames chance effect values block s
       frames = ap (map (frame_by legend)) more ∙ map-append (frame_by legend) taken.frames (frame-at remaining inner ∷ [])
           ∙ ap (λ fs. fs ++ frame_by legend (frame-at remaining inner) ∷ []) so.frames
           ∙ ap (λ f. chance.way.frames ++ f ∷ []) (frame-by s at remaining inner values chance.way.block (same-block s at remaining taken.way chance.way.block is so.way) seen);
-      within = subst (All (IsFrameWithin s.test.now)) (sym more) (All-push (IsFrameWithin s.test.now) taken.frames (frame-at remaining inner) so.within (record { remaining = is.within; cells = slots }));
+      within = subst (All (IsFrameWithin (extent_of s.test.now))) (sym more) (All-push (IsFrameWithin (extent_of s.test.now)) taken.frames (frame-at remaining inner) so.within (record { remaining = is.within; cells = slots }));
       deed = so.deed;
     }

@@ -16,11 +16,11 @@ use Rattle.step_rules.specs.Storing.{last_values}
 use Rattle.step_choice.specs.Deeds.{deed_by, deed_of}
 use Rattle.step_choice.specs.declared.taken.Taken.{Taken}
 use Rattle.step_snapshot.specs.Seen.{own_by, seen_by}
-use Rattle.step_snapshot.specs.Tests.{legend_by, test_by}
+use Rattle.step_snapshot.specs.Tests.{extent_of, legend_by, test_by}
 use Rattle.step_snapshot.specs.declared.snapshot.Snapshot.{Snapshot}
 use Rattle.step_snapshot.specs.declared.test_case.TestCase.{TestCase}
 use Rattle.ttcn_config.specs.Legend.{frame_by}
-use Rattle.ttcn_config.specs.Views.{HasSlotsWithin}
+use Rattle.ttcn_config.specs.Views.{IsFrameWithin}
 use Rattle.ttcn_config.specs.declared.frame.Frame.{Frame}
 use Rattle.ttcn_graph.specs.Ways.{ways_of}
 use Rattle.ttcn_values.specs.Outcomes.{Failure}
@@ -49,17 +49,12 @@ abbrev pub IsWayOf : List Definition → Site → Statement → ℕ → List Ite
 IsWayOf definitions site s way block =
     (rest : List Item) → slice_get (ways_of definitions (Doing site s Whole ∷ rest)) way ≡ Some (block ++ Mark site s ∷ rest)
 
--- a frame is at a position of the graphs, and each of its slots has a name
-pub record IsFrameWithin (test : TestCase) (frame : Frame) : Type 0 where
-  pub remaining : frame.remaining < length test.graphs.lists
-  pub cells : HasSlotsWithin (length test.names) frame.cells
-
 -- a branch is taken, and its way is such
 pub record IsTaken (s : Snapshot) (IsWay : ℕ → List Item → Type 0) (chance : Chance) (effect : Effect) (taken : Taken) : Type 0 where
   pub place : taken.place ≡ chance.place
   pub way : IsWay taken.way chance.way.block
   pub frames : map (frame_by (legend_by s.test.now)) taken.frames ≡ chance.way.frames
-  pub within : All (IsFrameWithin s.test.now) taken.frames
+  pub within : All (IsFrameWithin (extent_of s.test.now)) taken.frames
   pub deed : deed_by (legend_by s.test.now) taken.deed ≡ deed_of (test_by s.test.now) chance.judge.site effect
 
 -- ---- calls

@@ -35,7 +35,7 @@ use ttcn_syntax::{Alternative, Altstep, Branch, Call, DefinitionKind, Event, Exp
 use ttcn_values::{Fault, Value, eval_condition};
 
 /// A branch that is taken, without the frames of altsteps.
-fn taken<'a>(alloc: Global, place: Span, way: usize, deed: Deed<'a>) -> Taken<'a>
+fn taken<'t, 'a>(alloc: Global, place: Span, way: usize, deed: Deed<'t, 'a>) -> Taken<'t, 'a>
     ensures { result ≡ record { place = place; way = way; frames = []; deed = deed.entry } }
 {
     Taken {
@@ -49,7 +49,7 @@ fn taken<'a>(alloc: Global, place: Span, way: usize, deed: Deed<'a>) -> Taken<'a
 /// What a guard gives: one that isn't there is true.
 fn holds(
     alloc: Global,
-    snapshot: &Snapshot<'_>,
+    snapshot: &Snapshot<'_, '_>,
     behaviour: usize,
     inner: &Cells,
     guard: &Option<Expr>,
@@ -65,16 +65,16 @@ fn holds(
 }
 
 /// A branch with an event.
-pub(crate) fn choose_open<'a>(
+pub(crate) fn choose_open<'t, 'a>(
     alloc: Global,
-    snapshot: &Snapshot<'a>,
+    snapshot: &Snapshot<'t, 'a>,
     behaviour: usize,
     inner: &Cells,
     place: Span,
     way: usize,
     event: &'a Event,
-    facts: &'a EventFacts<'a>,
-) -> Result<Option<Taken<'a>>, Fault>
+    facts: &'a EventFacts<'t>,
+) -> Result<Option<Taken<'t, 'a>>, Fault>
     requires { HasSlotsWithin (length snapshot.now.test.now.names) inner.now }
     ensures { (site : Site) (block : List Item) → site.behaviour ≡ behaviour → event_by facts.now ≡ event_facts (test_of snapshot.now).definitions site event.now
         → Finds snapshot.now (Is way block) (first_of snapshot.now (rules.open_branch (test_of snapshot.now) (judge_of snapshot.now site inner.now) place (Some event.now) block ∷ [])) result }
@@ -87,7 +87,7 @@ pub(crate) fn choose_open<'a>(
 }
 
 /// The position of the altstep that is called.
-fn altstep_called(snapshot: &Snapshot<'_>, call: &Call) -> Option<usize>
+fn altstep_called(snapshot: &Snapshot<'_, '_>, call: &Call) -> Option<usize>
     ensures { result ≡ altstep_meant (module_names (test_of snapshot.now).definitions call.now.name) }
 {
     match snapshot.test.definitions.meaning(call.name.as_bytes()) {
@@ -97,7 +97,7 @@ fn altstep_called(snapshot: &Snapshot<'_>, call: &Call) -> Option<usize>
 }
 
 /// The altstep at a position, where one is defined.
-fn altstep_at<'a>(test: &TestCase<'a>, at: usize) -> Option<&'a Altstep>
+fn altstep_at<'t>(test: &TestCase<'t>, at: usize) -> Option<&'t Altstep>
     ensures { option_map (λ altstep. altstep.now) result ≡ altstep_of (kind_at test.now.definitions at) }
 {
     match test.definitions.kind(at) {
@@ -107,7 +107,7 @@ fn altstep_at<'a>(test: &TestCase<'a>, at: usize) -> Option<&'a Altstep>
 }
 
 /// What is known of the branches of the altstep at a position.
-fn altstep_facts<'a>(test: &'a TestCase<'a>, at: usize) -> &'a [EventFacts<'a>]
+fn altstep_facts<'t, 'a>(test: &'a TestCase<'t>, at: usize) -> &'a [EventFacts<'t>]
     ensures { map event_by result.now ≡ altstep_facts test.now.definitions at }
 {
     test.graphs.altstep_facts(at)
@@ -116,15 +116,15 @@ fn altstep_facts<'a>(test: &'a TestCase<'a>, at: usize) -> &'a [EventFacts<'a>]
 /// Branches in the behaviour at a position, where the names of a frame have these values and timers: the first one that can
 /// be taken. Altsteps call each other in chains of less than so many.
 #[cycle(choosing)]
-pub(crate) fn choose_branches<'a>(
+pub(crate) fn choose_branches<'t, 'a>(
     alloc: Global,
-    snapshot: &Snapshot<'a>,
+    snapshot: &Snapshot<'t, 'a>,
     behaviour: usize,
     inner: &Cells,
     branches: &'a [Branch],
-    facts: &'a [EventFacts<'a>],
+    facts: &'a [EventFacts<'t>],
     levels: usize,
-) -> Result<Option<Taken<'a>>, Fault>
+) -> Result<Option<Taken<'t, 'a>>, Fault>
     requires within { HasSlotsWithin (length snapshot.now.test.now.names) inner.now }
     requires known { length facts.now ≡ length branches.now }
     ensures { (site : Site) → site.behaviour ≡ behaviour → map event_by facts.now ≡ map (branch_facts (test_of snapshot.now).definitions site) branches.now
@@ -146,16 +146,16 @@ pub(crate) fn choose_branches<'a>(
 
 /// One branch.
 #[cycle(choosing)]
-fn choose_branch<'a>(
+fn choose_branch<'t, 'a>(
     alloc: Global,
-    snapshot: &Snapshot<'a>,
+    snapshot: &Snapshot<'t, 'a>,
     behaviour: usize,
     inner: &Cells,
     way: usize,
     branch: &'a Branch,
-    facts: &'a EventFacts<'a>,
+    facts: &'a EventFacts<'t>,
     levels: usize,
-) -> Result<Option<Taken<'a>>, Fault>
+) -> Result<Option<Taken<'t, 'a>>, Fault>
     requires { HasSlotsWithin (length snapshot.now.test.now.names) inner.now }
     ensures { (site : Site) → site.behaviour ≡ behaviour → event_by facts.now ≡ branch_facts (test_of snapshot.now).definitions site branch.now
         → Finds snapshot.now (Is way (items_of_branch (test_of snapshot.now).definitions site branch.now))
@@ -185,15 +185,15 @@ fn choose_branch<'a>(
 
 /// A call as a branch.
 #[cycle(choosing)]
-fn choose_call<'a>(
+fn choose_call<'t, 'a>(
     alloc: Global,
-    snapshot: &Snapshot<'a>,
+    snapshot: &Snapshot<'t, 'a>,
     behaviour: usize,
     inner: &Cells,
     way: usize,
     call: &'a Call,
     levels: usize,
-) -> Result<Option<Taken<'a>>, Fault>
+) -> Result<Option<Taken<'t, 'a>>, Fault>
     requires { HasSlotsWithin (length snapshot.now.test.now.names) inner.now }
     ensures { (site : Site) (block : List Item) → site.behaviour ≡ behaviour
         → Finds snapshot.now (Is way block)
@@ -207,16 +207,16 @@ fn choose_call<'a>(
 
 /// A call of the altstep at a position: its arguments are evaluated first.
 #[cycle(choosing)]
-pub(crate) fn choose_called<'a>(
+pub(crate) fn choose_called<'t, 'a>(
     alloc: Global,
-    snapshot: &Snapshot<'a>,
+    snapshot: &Snapshot<'t, 'a>,
     behaviour: usize,
     inner: &Cells,
     way: usize,
     call: &'a Call,
     at: usize,
     levels: usize,
-) -> Result<Option<Taken<'a>>, Fault>
+) -> Result<Option<Taken<'t, 'a>>, Fault>
     requires { HasSlotsWithin (length snapshot.now.test.now.names) inner.now }
     ensures { (site : Site) (block : List Item) → site.behaviour ≡ behaviour
         → Finds snapshot.now (Is way block)
@@ -230,14 +230,14 @@ pub(crate) fn choose_called<'a>(
 
 /// The branches of the altstep at a position with these arguments.
 #[cycle(choosing)]
-pub(crate) fn choose_altstep<'a>(
+pub(crate) fn choose_altstep<'t, 'a>(
     alloc: Global,
-    snapshot: &Snapshot<'a>,
+    snapshot: &Snapshot<'t, 'a>,
     way: usize,
     at: usize,
     values: Seq<Value>,
     levels: usize,
-) -> Result<Option<Taken<'a>>, Fault>
+) -> Result<Option<Taken<'t, 'a>>, Fault>
     ensures { (block : List Item) → Finds snapshot.now (Is way block)
         (first_of snapshot.now (rules.written_with (below levels snapshot.now) (test_of snapshot.now) (seen_by snapshot.now) (own_by snapshot.now) at block (Yields values))) result }
 {
@@ -258,13 +258,13 @@ pub(crate) fn choose_altstep<'a>(
 }
 
 /// A branch that is taken of the altstep at a position, from a call of the altstep: there is one more frame.
-fn through<'a>(
-    snapshot: &Snapshot<'a>,
+fn through<'t, 'a>(
+    snapshot: &Snapshot<'t, 'a>,
     way: usize,
     at: usize,
     inner: Cells,
-    taken: Taken<'a>,
-) -> Result<Option<Taken<'a>>, Fault>
+    taken: Taken<'t, 'a>,
+) -> Result<Option<Taken<'t, 'a>>, Fault>
     requires within { HasSlotsWithin (length snapshot.now.test.now.names) inner }
     requires start { IsSome (slice_get (beginnings_at (test_of snapshot.now).definitions at) taken.way) }
     ensures { (chance : Chance) (effect : Effect) (values : List AValue) (block : List Item) → IsTaken snapshot.now (IsAmong (beginnings_at (test_of snapshot.now).definitions at)) chance effect taken.entry

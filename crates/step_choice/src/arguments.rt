@@ -1,6 +1,6 @@
 //! Arguments of behaviours (ES 201 873-1, 5.4.2 and 16).
-ghost use Rattle.std.specs.Prelude.{◌≡◌, ◌∷◌, [], IfOk, IfSome, Some, length, map};
-ghost use Rattle.std.specs.List.{slice_get, zip};
+ghost use Rattle.std.specs.Prelude.{◌≡◌, IfOk, IfSome, length, map};
+ghost use Rattle.std.specs.List.{zip};
 ghost use Rattle.std.specs.Option.{option_map};
 ghost use Rattle.check_expressions.specs.Calls.{parameters_of};
 ghost use Rattle.check_scope.specs.Names.{kind_at};
@@ -10,7 +10,7 @@ ghost use Rattle.step_rules.specs.Branches as rules;
 ghost use Rattle.step_rules.specs.Entries.{Entries};
 ghost use Rattle.step_rules.specs.Sites.{Site};
 ghost use Rattle.step_rules.specs.Snapshots.{view_of_arguments};
-ghost use Rattle.step_snapshot.specs.Slots.{NoneIsMissing};
+ghost use Rattle.step_snapshot.specs.Slots.{IsKnown, NoneIsMissing};
 ghost use Rattle.step_snapshot.specs.Tests.{legend_by};
 ghost use Rattle.ttcn_config.specs.Views.{HasSlotsWithin, view_by};
 ghost use Rattle.ttcn_values.specs.Outcomes.{Gives};
@@ -21,13 +21,13 @@ use check_expressions::call::parameters_of;
 use std::alloc::{AllocError, Global};
 use step_snapshot::{Snapshot, TestCase};
 use ttcn_config::{Cells, names_make_legends};
-use ttcn_syntax::{Call, Name, Parameter, Seq};
-use ttcn_values::{Fault, Slot, Value, eval_arguments};
+use ttcn_syntax::{Call, Parameter, Seq};
+use ttcn_values::{Fault, Value, eval_arguments};
 
 /// What a call gives the parameters of the behaviour at a position.
 pub(crate) fn call_arguments(
     alloc: Global,
-    snapshot: &Snapshot<'_>,
+    snapshot: &Snapshot<'_, '_>,
     behaviour: usize,
     inner: &Cells,
     call: &Call,
@@ -42,17 +42,6 @@ pub(crate) fn call_arguments(
     eval_arguments(alloc, parameters, call.arguments.as_slice(), &frame)
 }
 
-/// The slot of a name that has one.
-fn slot_of(test: &TestCase<'_>, name: &Name) -> Slot
-    requires { NoneIsMissing test.now.names (name.now ∷ []) }
-    ensures { slice_get test.now.names result ≡ Some name.now }
-{
-    match test.slot(name) {
-        Some(slot) => slot,
-        None => unreachable!(),
-    }
-}
-
 /// A parameter has a value among those of a frame's names. A value without parameter goes nowhere.
 fn with_argument(
     test: &TestCase<'_>,
@@ -60,7 +49,7 @@ fn with_argument(
     parameter: Option<&Parameter>,
     value: Value,
 ) -> Result<Cells, AllocError>
-    requires { IfSome parameter (λ parameter. NoneIsMissing test.now.names (parameter.now.name ∷ [])) }
+    requires { IfSome parameter (λ parameter. IsKnown test.now.names parameter.now.name) }
     ensures within { HasSlotsWithin (length test.now.names) cells → IfOk result (HasSlotsWithin (length test.now.names)) }
     ensures said { (values : Entries AValue) → view_by (legend_by test.now) cells ≡ view_of_arguments values
         → IfOk result (λ more. view_by (legend_by test.now) more ≡ view_of_arguments (with_argument (option_map (λ parameter. parameter.now) parameter.entry) value values)) }
@@ -70,7 +59,7 @@ fn with_argument(
     };
     test.names.are_in_order();
     names_make_legends();
-    cells.declare(slot_of(test, &parameter.name), value)
+    cells.declare(test.slot_of(&parameter.name), value)
 }
 
 /// Parameters have values, in their order, among those of a frame's names.

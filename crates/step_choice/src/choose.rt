@@ -33,11 +33,11 @@ fn longest_chain() -> usize
 }
 
 /// The branches of a component's defaults: the first one that can be taken, in this way.
-fn choose_default<'a>(
+fn choose_default<'t, 'a>(
     alloc: Global,
-    snapshot: &Snapshot<'a>,
+    snapshot: &Snapshot<'t, 'a>,
     way: usize,
-) -> Result<Option<Taken<'a>>, Fault>
+) -> Result<Option<Taken<'t, 'a>>, Fault>
     ensures { Finds snapshot.now (Is way []) (first_of snapshot.now (written_defaults (test_of snapshot.now) (seen_by snapshot.now) (own_by snapshot.now))) result }
 {
     for default in snapshot.component.own.defaults.as_slice() {
@@ -54,14 +54,14 @@ fn choose_default<'a>(
 
 /// What a component chooses at an `alt` in the behaviour at a position: the first of the branches, and then of the branches
 /// of its defaults, that can be taken.
-pub fn choose_alt<'a>(
+pub fn choose_alt<'t, 'a>(
     alloc: Global,
-    snapshot: &Snapshot<'a>,
+    snapshot: &Snapshot<'t, 'a>,
     behaviour: usize,
     statement: &'a Statement,
     branches: &'a [Branch],
-    facts: &'a [EventFacts<'a>],
-) -> Result<Option<Taken<'a>>, Fault>
+    facts: &'a [EventFacts<'t>],
+) -> Result<Option<Taken<'t, 'a>>, Fault>
     requires form { Does statement.now (form.Alt branches.now) }
     requires as_many { length facts.now ≡ length branches.now }
     requires named { NoneIsMissing snapshot.now.test.now.names (flat_map names_of_branch branches.now) }
@@ -80,14 +80,14 @@ pub fn choose_alt<'a>(
 }
 
 /// What a component chooses at an event, which is an `alt` of its own.
-pub fn choose_event<'a>(
+pub fn choose_event<'t, 'a>(
     alloc: Global,
-    snapshot: &Snapshot<'a>,
+    snapshot: &Snapshot<'t, 'a>,
     behaviour: usize,
     statement: &'a Statement,
     event: &'a Event,
-    facts: &'a EventFacts<'a>,
-) -> Result<Option<Taken<'a>>, Fault>
+    facts: &'a EventFacts<'t>,
+) -> Result<Option<Taken<'t, 'a>>, Fault>
     requires form { Does statement.now (form.Event event.now) }
     requires named { NoneIsMissing snapshot.now.test.now.names (names_of_event event.now) }
     ensures chosen { (site : Site) → site.behaviour ≡ behaviour → event_by facts.now ≡ event_facts (test_of snapshot.now).definitions site event.now
@@ -113,14 +113,14 @@ pub fn choose_event<'a>(
 }
 
 /// What a component chooses at a call of an altstep, which is an `alt` of its own.
-pub fn choose_call<'a>(
+pub fn choose_call<'t, 'a>(
     alloc: Global,
-    snapshot: &Snapshot<'a>,
+    snapshot: &Snapshot<'t, 'a>,
     behaviour: usize,
     statement: &'a Statement,
     call: &'a Call,
     at: usize,
-) -> Result<Option<Taken<'a>>, Fault>
+) -> Result<Option<Taken<'t, 'a>>, Fault>
     requires form { Does statement.now (form.Call call.now) }
     requires altstep { altstep_meant (module_names (test_of snapshot.now).definitions call.now.name) ≡ Some at }
     ensures chosen { (site : Site) → site.behaviour ≡ behaviour → Chooses snapshot.now site statement.now result }

@@ -20,20 +20,20 @@ use ttcn_syntax::{ComponentRef, Event, Name};
 use ttcn_values::{Fault, Frame, TimerState, eval_component};
 
 /// An event that happens where something is true, and does nothing more.
-fn happened_if<'a>(truth: bool) -> Option<Deed<'a>>
+fn happened_if<'t, 'a>(truth: bool) -> Option<Deed<'t, 'a>>
     ensures { result ≡ spec.deed_if truth }
 {
     if truth { Some(Deed::Nothing) } else { None }
 }
 
 /// `t.timeout`
-fn try_timeout<'a>(
-    snapshot: &Snapshot<'a>,
+fn try_timeout<'t, 'a>(
+    snapshot: &Snapshot<'t, 'a>,
     behaviour: usize,
     inner: &Cells,
     name: &'a Name,
     own: bool,
-) -> Result<Option<Deed<'a>>, Fault>
+) -> Result<Option<Deed<'t, 'a>>, Fault>
     ensures { (site : Site) → site.behaviour ≡ behaviour → own ≡ is_own (test_of snapshot.now).definitions site name.now
         → Tries snapshot.now site (rules.try_timeout name.now (rules.timer_seen (test_of snapshot.now) (seen_by snapshot.now) (own_by snapshot.now) (judge_of snapshot.now site inner.now) name.now)) result }
 {
@@ -45,12 +45,12 @@ fn try_timeout<'a>(
 }
 
 /// `c.done`: `null` is a dynamic error.
-fn try_done<'a>(
+fn try_done<'t, 'a>(
     alloc: Global,
-    snapshot: &Snapshot<'a>,
+    snapshot: &Snapshot<'t, 'a>,
     reference: &ComponentRef,
     frame: &Frame<'_>,
-) -> Result<Option<Deed<'a>>, Fault>
+) -> Result<Option<Deed<'t, 'a>>, Fault>
     ensures { (site : Site) → Tries snapshot.now site (rules.try_done (seen_by snapshot.now) (reading frame.now) reference.now) result }
 {
     match eval_component(alloc, reference, frame) {
@@ -60,7 +60,7 @@ fn try_done<'a>(
 }
 
 /// `all component.done`: a dynamic error elsewhere than on the MTC.
-fn try_all_done<'a>(snapshot: &Snapshot<'a>) -> Result<Option<Deed<'a>>, Fault>
+fn try_all_done<'t, 'a>(snapshot: &Snapshot<'t, 'a>) -> Result<Option<Deed<'t, 'a>>, Fault>
     ensures { (site : Site) (inner : View) → Tries snapshot.now site (rules.try_all_done (test_of snapshot.now) (seen_by snapshot.now) (reading_in (test_of snapshot.now) (seen_by snapshot.now) (own_by snapshot.now) site inner)) result }
 {
     if snapshot.component.itself.path == snapshot.test.mtc.path {
@@ -72,14 +72,14 @@ fn try_all_done<'a>(snapshot: &Snapshot<'a>) -> Result<Option<Deed<'a>>, Fault>
 
 /// Whether an event has happened in the behaviour at a position, where the names of a frame have these values and timers,
 /// and what taking its branch does then.
-pub(crate) fn try_event<'a>(
+pub(crate) fn try_event<'t, 'a>(
     alloc: Global,
-    snapshot: &Snapshot<'a>,
+    snapshot: &Snapshot<'t, 'a>,
     behaviour: usize,
     inner: &Cells,
     event: &'a Event,
-    facts: &'a EventFacts<'a>,
-) -> Result<Option<Deed<'a>>, Fault>
+    facts: &'a EventFacts<'t>,
+) -> Result<Option<Deed<'t, 'a>>, Fault>
     requires { HasSlotsWithin (length snapshot.now.test.now.names) inner.now }
     ensures { (site : Site) → site.behaviour ≡ behaviour → event_by facts.now ≡ event_facts (test_of snapshot.now).definitions site event.now
         → Tries snapshot.now site (rules.try_event (test_of snapshot.now) (seen_by snapshot.now) (own_by snapshot.now) (judge_of snapshot.now site inner.now) event.now) result }

@@ -79,16 +79,16 @@ fn fits_template(
 }
 
 /// A message of the right type in front of a port: the sender is judged first, then the template.
-fn try_typed<'a>(
+fn try_typed<'t, 'a>(
     alloc: Global,
-    snapshot: &Snapshot<'a>,
+    snapshot: &Snapshot<'t, 'a>,
     receive: &'a Receive,
-    facts: &'a EventFacts<'a>,
+    facts: &'a EventFacts<'t>,
     frame: &Frame<'_>,
     port: Slot,
     message: &Message,
     of: DataType,
-) -> Result<Option<Deed<'a>>, Fault>
+) -> Result<Option<Deed<'t, 'a>>, Fault>
     ensures { (site : Site) → event_by facts.now ≡ event_facts (test_of snapshot.now).definitions site (event.Receive receive.now)
         → Tries snapshot.now site (rules.try_typed (test_of snapshot.now) site (reading frame.now) receive.now (names_of snapshot.now port) (message_by message.now) of) result }
 {
@@ -126,15 +126,15 @@ fn fits_type(
 }
 
 /// A message in front of a port: its type is judged first.
-fn try_message<'a>(
+fn try_message<'t, 'a>(
     alloc: Global,
-    snapshot: &Snapshot<'a>,
+    snapshot: &Snapshot<'t, 'a>,
     receive: &'a Receive,
-    facts: &'a EventFacts<'a>,
+    facts: &'a EventFacts<'t>,
     frame: &Frame<'_>,
     port: Slot,
     message: &Message,
-) -> Result<Option<Deed<'a>>, Fault>
+) -> Result<Option<Deed<'t, 'a>>, Fault>
     ensures { (site : Site) → event_by facts.now ≡ event_facts (test_of snapshot.now).definitions site (event.Receive receive.now)
         → Tries snapshot.now site (rules.try_front (test_of snapshot.now) site (reading frame.now) receive.now (names_of snapshot.now port) (Some (message_by message.now))) result }
 {
@@ -149,14 +149,14 @@ fn try_message<'a>(
 }
 
 /// The first message of a port, if there is one.
-fn try_front<'a>(
+fn try_front<'t, 'a>(
     alloc: Global,
-    snapshot: &Snapshot<'a>,
+    snapshot: &Snapshot<'t, 'a>,
     receive: &'a Receive,
-    facts: &'a EventFacts<'a>,
+    facts: &'a EventFacts<'t>,
     frame: &Frame<'_>,
     queue: &Queue,
-) -> Result<Option<Deed<'a>>, Fault>
+) -> Result<Option<Deed<'t, 'a>>, Fault>
     ensures { (site : Site) → event_by facts.now ≡ event_facts (test_of snapshot.now).definitions site (event.Receive receive.now)
         → Tries snapshot.now site (rules.try_front (test_of snapshot.now) site (reading frame.now) receive.now (names_of snapshot.now queue.now.port) (front_of (map message_by queue.now.messages))) result }
 {
@@ -167,13 +167,13 @@ fn try_front<'a>(
 }
 
 /// `any port`: the ports in their order.
-fn try_any<'a>(
+fn try_any<'t, 'a>(
     alloc: Global,
-    snapshot: &Snapshot<'a>,
+    snapshot: &Snapshot<'t, 'a>,
     receive: &'a Receive,
-    facts: &'a EventFacts<'a>,
+    facts: &'a EventFacts<'t>,
     frame: &Frame<'_>,
-) -> Result<Option<Deed<'a>>, Fault>
+) -> Result<Option<Deed<'t, 'a>>, Fault>
     ensures { (site : Site) → event_by facts.now ≡ event_facts (test_of snapshot.now).definitions site (event.Receive receive.now)
         → Tries snapshot.now site (rules.try_fronts (test_of snapshot.now) site (reading frame.now) receive.now (seen_by snapshot.now).fronts) result }
 {
@@ -188,14 +188,14 @@ fn try_any<'a>(
 }
 
 /// The port of a name.
-fn try_named<'a>(
+fn try_named<'t, 'a>(
     alloc: Global,
-    snapshot: &Snapshot<'a>,
+    snapshot: &Snapshot<'t, 'a>,
     receive: &'a Receive,
-    facts: &'a EventFacts<'a>,
+    facts: &'a EventFacts<'t>,
     frame: &Frame<'_>,
     name: &Name,
-) -> Result<Option<Deed<'a>>, Fault>
+) -> Result<Option<Deed<'t, 'a>>, Fault>
     ensures { (site : Site) → event_by facts.now ≡ event_facts (test_of snapshot.now).definitions site (event.Receive receive.now)
         → Tries snapshot.now site (rules.try_port (test_of snapshot.now) site (reading frame.now) receive.now (find (λ front. bytes_eq front.0 name.now) (seen_by snapshot.now).fronts)) result }
 {
@@ -206,13 +206,13 @@ fn try_named<'a>(
 }
 
 /// Whether a message can be received in the behaviour of a frame, and what is stored then.
-pub(crate) fn try_receive<'a>(
+pub(crate) fn try_receive<'t, 'a>(
     alloc: Global,
-    snapshot: &Snapshot<'a>,
+    snapshot: &Snapshot<'t, 'a>,
     receive: &'a Receive,
-    facts: &'a EventFacts<'a>,
+    facts: &'a EventFacts<'t>,
     frame: &Frame<'_>,
-) -> Result<Option<Deed<'a>>, Fault>
+) -> Result<Option<Deed<'t, 'a>>, Fault>
     ensures { (site : Site) → event_by facts.now ≡ event_facts (test_of snapshot.now).definitions site (event.Receive receive.now)
         → Tries snapshot.now site (rules.try_receive (test_of snapshot.now) (seen_by snapshot.now) site (reading frame.now) receive.now receive.now.port) result }
 {

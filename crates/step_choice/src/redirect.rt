@@ -30,11 +30,11 @@ fn fits_sender(sender: &ComponentId, wanted: Option<DataType>) -> bool
 }
 
 /// What is stored of the value of a message.
-fn redirected_value<'a>(
+fn redirected_value<'t, 'a>(
     alloc: Global,
-    goal: &'a Option<Goal<'a>>,
+    goal: &'a Option<Goal<'t>>,
     value: &Value,
-) -> Result<Vec<Stored<'a>>, AllocError>
+) -> Result<Vec<Stored<'t, 'a>>, AllocError>
     ensures { IfOk result (λ stored. (test : Test) (site : Site) (reference : Option AReference) → option_map goal_by goal.now ≡ goal_if_any test.definitions site reference
         → map stored_by stored.items ≡ map (stored_of test site) (rules.redirected_value reference value.now)) }
 {
@@ -51,11 +51,11 @@ fn redirected_value<'a>(
 }
 
 /// What a receive stores of a message.
-pub(crate) fn redirects<'a>(
+pub(crate) fn redirects<'t, 'a>(
     alloc: Global,
-    facts: &'a EventFacts<'a>,
+    facts: &'a EventFacts<'t>,
     message: &Message,
-) -> Result<Vec<Stored<'a>>, Fault>
+) -> Result<Vec<Stored<'t, 'a>>, Fault>
     ensures { (test : Test) (site : Site) (receive : AReceive) → event_by facts.now ≡ event_facts test.definitions site (event.Receive receive)
         → Stores test site (rules.redirects (scope_at test.definitions site) receive (message_by message.now)) result }
 {

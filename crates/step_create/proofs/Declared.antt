@@ -1,5 +1,5 @@
 -- The names of members have slots, and what is declared by slots is declared by names.
-use Rattle.std.proofs.Common.{◌≡◌, ℕ, zero, suc, ◌<◌, List, [], ◌∷◌, map, length, get_or, Contains, Option, Some, slice_get, sym, ap, subst, ◌∙◌, arith}
+use Rattle.std.proofs.Common.{◌≡◌, ℕ, zero, suc, ◌<◌, List, [], ◌∷◌, map, length, get_or, Contains, Option, Some, sym, ap, subst, ◌∙◌, arith}
 use Rattle.std.proofs.Math.ListN.{length-map}
 use Rattle.std.proofs.lemmas.List.{get_or-map}
 use Rattle.std.proofs.lemmas.List.Elements.{All-nil, Contains-append_left, Contains-append_right}
@@ -8,7 +8,6 @@ use Rattle.check_scope.specs.Names.{kind_at, members_of}
 use Rattle.step_rules.specs.Items.{Item}
 use Rattle.step_snapshot.specs.Slots.{NoneIsMissing}
 use Rattle.step_snapshot.specs.declared.test_case.TestCase.{TestCase}
-use Rattle.ttcn_config.specs.Names.{legend_of}
 use Rattle.ttcn_config.specs.Views.{HasSlotsWithin}
 use Rattle.ttcn_config.specs.declared.frame.Cells.{Cells}
 use Rattle.check_scope.specs.declared.types.DataType.{DataType}
@@ -24,18 +23,12 @@ use Rattle.ttcn_values.specs.Literals.{value_wanted}
 use Rattle.ttcn_values.specs.Outcomes.{Failure, Fails, Yields, outcome_map}
 use Rattle.ttcn_values.specs.Readings.{Reading}
 use Rattle.ttcn_values.specs.declared.value.ComponentId.{ComponentId}
-use Rattle.ttcn_config.proofs.Naming.{are_names}
 use Rattle.ttcn_graph.specs.Known.{names_of_kind, names_of_member}
 use Rattle.ttcn_syntax.specs.declared.tree.definition.DefinitionKind.{DefinitionKind}
 use Rattle.ttcn_syntax.specs.declared.tree.definition.DefinitionKind.TheVariants as kind
 use Rattle.ttcn_syntax.specs.declared.tree.definition.Member.{Member}
 use Rattle.ttcn_values.specs.declared.frame.TimerState.{TimerState}
 use Rattle.ttcn_values.specs.declared.value.Value.{Value}
-
--- ---- names and slots
-
-pub slot-named : (lists : List (List Item)) (names : List (List ℕ)) (slot : ℕ) (name : List ℕ) → slot < length names → slice_get names slot ≡ Some name → (legend_of lists names).names slot ≡ name
-slot-named lists names slot name within found = let both : Some ((legend_of lists names).names slot) ≡ Some name = sym (are_names lists names slot within) ∙ found in cc
 
 -- no names are within all
 pub none-within : (size : ℕ) (cells : Cells) → cells ≡ no_cells → HasSlotsWithin size cells

@@ -1,7 +1,7 @@
 //! New components (ES 201 873-1, 21.3.1).
 ghost use Rattle.std.specs.Prelude.{◌≡◌, [], IfOk, length};
 ghost use Rattle.step_rules.specs.Creating as rules;
-ghost use Rattle.step_snapshot.specs.Tests.{legend_by, test_by};
+ghost use Rattle.step_snapshot.specs.Tests.{extent_of, legend_by, test_by};
 ghost use Rattle.ttcn_config.specs.Legend.{component_by, frame_with};
 ghost use Rattle.ttcn_config.specs.Views.{HasSlotsWithin, IsWithin};
 
@@ -20,7 +20,7 @@ pub fn new_component(
     members: Cells,
 ) -> Result<Component, AllocError>
     ensures made { IfOk result (λ new. component_by (legend_by test.now) new ≡ rules.new_component (test_by test.now) itself (frame_with (legend_by test.now) [] members)) }
-    ensures within { HasSlotsWithin (length test.now.names) members → IfOk result (λ new. IsWithin (length test.now.names) new.own) }
+    ensures within { HasSlotsWithin (length test.now.names) members → IfOk result (λ new. IsWithin (extent_of test.now) new.own) }
 {
     let queues = empty_queues(alloc, test, itself.component_type)?;
     Ok(Component {

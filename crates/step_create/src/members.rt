@@ -1,19 +1,19 @@
 //! Frame 0 of a new component.
-ghost use Rattle.std.specs.Prelude.{◌≡◌, Contains, IfOk, map};
+ghost use Rattle.std.specs.Prelude.{◌≡◌, IfOk, map};
 ghost use Rattle.std.specs.List.{flat_map};
 ghost use Rattle.check_scope.specs.Names.{module_names, resolved};
 ghost use Rattle.step_create.specs.Makers.{Makes, RunIn, frame_for, size_of};
 ghost use Rattle.step_rules.specs.Creating as rules;
 ghost use Rattle.step_rules.specs.Snapshots.{Snapshot};
 ghost use Rattle.step_rules.specs.Storing as storing;
-ghost use Rattle.step_snapshot.specs.Slots.{NoneIsMissing};
+ghost use Rattle.step_snapshot.specs.Slots.{IsKnown, NoneIsMissing};
 ghost use Rattle.step_snapshot.specs.Tests.{test_by};
 ghost use Rattle.ttcn_config.specs.Views.{HasSlotsWithin};
 ghost use Rattle.ttcn_graph.specs.Known.{names_of_member};
 ghost use Rattle.ttcn_values.specs.Frames.{reading};
 ghost use Rattle.ttcn_values.specs.Outcomes.{Yields};
 
-use crate::types::{declarations_of, slot_of};
+use crate::types::declarations_of;
 use std::alloc::{AllocError, Global};
 use step_snapshot::TestCase;
 use ttcn_config::{Cells, frame_of};
@@ -57,13 +57,13 @@ impl<'t, 'a> Maker<'t, 'a> {
         name: &Name,
         value: &WrittenValue,
     ) -> Result<Cells, Fault>
-        requires known { ¬ (¬ Contains self.now.test.now.names name.now) }
+        requires known { IsKnown self.now.test.now.names name.now }
         requires within { HasSlotsWithin (size_of self.now) cells }
         ensures declared { Makes self.now (λ test itself snapshot. rules.declared_with test itself snapshot of (frame_for self.now cells) name.now value.now) result }
         ensures within { IfOk result (HasSlotsWithin (size_of self.now)) }
     {
         let found = eval_value(alloc, value, of, &self.reads(&cells))?;
-        let slot = slot_of(self.test, name);
+        let slot = self.test.slot_of(name);
         self.test.names.are_in_order();
         Ok(cells.declare(slot, found)?)
     }
@@ -77,7 +77,7 @@ impl<'t, 'a> Maker<'t, 'a> {
         name: &Name,
         value: &Option<WrittenValue>,
     ) -> Result<Cells, Fault>
-        requires known { ¬ (¬ Contains self.now.test.now.names name.now) }
+        requires known { IsKnown self.now.test.now.names name.now }
         requires within { HasSlotsWithin (size_of self.now) cells }
         ensures declared { Makes self.now (λ test itself snapshot. rules.declared_variable test itself snapshot of (frame_for self.now cells) name.now value.now) result }
         ensures within { IfOk result (HasSlotsWithin (size_of self.now)) }
@@ -85,7 +85,7 @@ impl<'t, 'a> Maker<'t, 'a> {
         match value {
             Some(value) => self.declare(alloc, of, cells, name, value),
             None => {
-                let slot = slot_of(self.test, name);
+                let slot = self.test.slot_of(name);
                 self.test.names.are_in_order();
                 Ok(cells.forget(slot))
             }
@@ -94,12 +94,12 @@ impl<'t, 'a> Maker<'t, 'a> {
 
     /// A timer is declared.
     fn declare_timer(&self, cells: Cells, name: &Name) -> Result<Cells, AllocError>
-        requires known { ¬ (¬ Contains self.now.test.now.names name.now) }
+        requires known { IsKnown self.now.test.now.names name.now }
         requires within { HasSlotsWithin (size_of self.now) cells }
         ensures declared { IfOk result (λ new. storing.declare_timer name.now (frame_for self.now cells) ≡ frame_for self.now new) }
         ensures within { IfOk result (HasSlotsWithin (size_of self.now)) }
     {
-        let slot = slot_of(self.test, name);
+        let slot = self.test.slot_of(name);
         self.test.names.are_in_order();
         cells.declare_timer(slot)
     }

@@ -1,5 +1,5 @@
 //! The configuration in which a test case starts (ES 201 873-1, 16.3, ES 201 873-4).
-ghost use Rattle.std.specs.Prelude.{◌≡◌, [], IfOk, length};
+ghost use Rattle.std.specs.Prelude.{◌≡◌, ◌<◌, [], IfOk, IfSome, length};
 ghost use Rattle.std.specs.Option.{option_map};
 ghost use Rattle.check_scope.specs.Names.{kind_at};
 ghost use Rattle.step_create.specs.internal.Starts.{going_alone, mtc_at};
@@ -8,7 +8,7 @@ ghost use Rattle.step_rules.specs.Items.{items};
 ghost use Rattle.step_rules.specs.Runs as rules;
 ghost use Rattle.step_rules.specs.Sites.{beginning};
 ghost use Rattle.step_rules.specs.Snapshots.{mtc_of};
-ghost use Rattle.step_snapshot.specs.Tests.{legend_by, test_by};
+ghost use Rattle.step_snapshot.specs.Tests.{extent_of, legend_by, test_by};
 ghost use Rattle.ttcn_config.specs.Legend.{component_by, config_by, frame_with};
 ghost use Rattle.ttcn_config.specs.Views.{HasSlotsWithin, IsConfigWithin, IsWithin};
 ghost use Rattle.ttcn_values.specs.Outcomes.{GivesBy};
@@ -23,7 +23,8 @@ use ttcn_values::Fault;
 
 /// The position of what the test case does.
 fn body_of(test: &TestCase<'_>) -> Option<usize>
-    ensures { option_map (legend_by test.now).lists result ≡ option_map (items test.now.definitions (beginning test.now.position)) (rules.testcase_body (kind_at test.now.definitions test.now.position)) }
+    ensures said { option_map (legend_by test.now).lists result ≡ option_map (items test.now.definitions (beginning test.now.position)) (rules.testcase_body (kind_at test.now.definitions test.now.position)) }
+    ensures within { IfSome result (λ position. position < length test.now.graphs.lists) }
 {
     match test.definitions.kind(test.position) {
         Some(DefinitionKind::Testcase(_)) => test.graphs.start(test.position, 0),
@@ -53,7 +54,7 @@ fn new_mtc(
     members: Cells,
 ) -> Result<Component, AllocError>
     ensures made { IfOk result (λ mtc. component_by (legend_by test.now) mtc ≡ mtc_at test.now position members) }
-    ensures within { HasSlotsWithin (length test.now.names) members → IfOk result (λ mtc. IsWithin (length test.now.names) mtc.own) }
+    ensures within { position < length test.now.graphs.lists → HasSlotsWithin (length test.now.names) members → IfOk result (λ mtc. IsWithin (extent_of test.now) mtc.own) }
 {
     let mut calls = Seq::new(alloc);
     calls.push(Frame {
@@ -83,7 +84,7 @@ fn alone(alloc: Global, mtc: Component) -> Result<Config, AllocError>
 /// case with verdict error.
 pub fn start(alloc: Global, test: &TestCase<'_>) -> Result<Config, AllocError>
     ensures starts { IfOk result (λ config. config_by (legend_by test.now) config ≡ rules.start (test_by test.now)) }
-    ensures within { IfOk result (IsConfigWithin (length test.now.names)) }
+    ensures within { IfOk result (IsConfigWithin (extent_of test.now)) }
 {
     let Some(position) = body_of(test) else {
         return Ok(Config::Ended(Verdict::Error));

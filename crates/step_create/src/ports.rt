@@ -6,7 +6,7 @@ ghost use Rattle.step_rules.specs.Creating as rules;
 ghost use Rattle.step_snapshot.specs.Slots.{NoneIsMissing};
 ghost use Rattle.ttcn_graph.specs.Known.{names_of_member};
 
-use crate::types::{declarations_of, slot_of};
+use crate::types::declarations_of;
 use std::alloc::{AllocError, Global};
 use step_snapshot::TestCase;
 use ttcn_config::Queue;
@@ -35,7 +35,7 @@ fn add_ports(
     let mut queues = queues;
     for port in ports {
         queues.push(Queue {
-            port: slot_of(test, port),
+            port: test.slot_of(port),
             messages: Seq::new(alloc),
         })?;
     }

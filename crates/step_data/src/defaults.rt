@@ -1,10 +1,10 @@
 //! Defaults are activated and deactivated, and components counted (ES 201 873-1, 20.5 and 21.3.1).
-ghost use Rattle.std.specs.Prelude.{◌≡◌, ◌<◌, ℕ, [], IfOk, nat_eq, not};
+ghost use Rattle.std.specs.Prelude.{◌≡◌, ◌<◌, [], IfOk, nat_eq, not};
 ghost use Rattle.std.specs.List.{filter};
 ghost use Rattle.step_data.specs.Frames.{activated, deactivated};
 ghost use Rattle.step_rules.specs.Statements as rules;
 ghost use Rattle.ttcn_config.specs.Legend.{Legend, data_by};
-ghost use Rattle.ttcn_config.specs.Views.{IsWithin};
+ghost use Rattle.ttcn_config.specs.Views.{Extent, IsWithin};
 ghost use Rattle.ttcn_values.specs.Outcomes.{GivesBy};
 
 use std::alloc::Global;
@@ -21,7 +21,7 @@ pub fn activate(
     arguments: Seq<Value>,
 ) -> Result<Data, Fault>
     ensures activated { (legend : Legend) → GivesBy (data_by legend) (activated altstep (data_by legend own) arguments) result }
-    ensures within { (size : ℕ) → IsWithin size own → IfOk result (IsWithin size) }
+    ensures within { (size : Extent) → IsWithin size own → IfOk result (IsWithin size) }
 {
     let mut own = own;
     if own.activations == u32::MAX {
@@ -51,7 +51,7 @@ fn without(defaults: Seq<ActiveDefault>, number: u32) -> Seq<ActiveDefault>
 /// The default of a number goes.
 pub fn deactivate(alloc: Global, own: Data, number: u32) -> Data
     ensures gone { (legend : Legend) → data_by legend result ≡ deactivated number (data_by legend own) }
-    ensures within { (size : ℕ) → IsWithin size own → IsWithin size result }
+    ensures within { (size : Extent) → IsWithin size own → IsWithin size result }
 {
     let mut own = own;
     let defaults = mem::replace(&mut own.defaults, Seq::new(alloc));
@@ -62,7 +62,7 @@ pub fn deactivate(alloc: Global, own: Data, number: u32) -> Data
 /// All defaults go.
 pub fn deactivate_all(alloc: Global, own: Data) -> Data
     ensures gone { (legend : Legend) → data_by legend result ≡ rules.with_defaults [] (data_by legend own) }
-    ensures within { (size : ℕ) → IsWithin size own → IsWithin size result }
+    ensures within { (size : Extent) → IsWithin size own → IsWithin size result }
 {
     let mut own = own;
     own.defaults = Seq::new(alloc);
@@ -73,7 +73,7 @@ pub fn deactivate_all(alloc: Global, own: Data) -> Data
 pub fn create_child(own: Data) -> Data
     requires { own.children < rules.most }
     ensures counted { (legend : Legend) → data_by legend result ≡ rules.with_child (data_by legend own) }
-    ensures within { (size : ℕ) → IsWithin size own → IsWithin size result }
+    ensures within { (size : Extent) → IsWithin size own → IsWithin size result }
 {
     let mut own = own;
     own.children += 1;

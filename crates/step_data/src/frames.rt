@@ -1,10 +1,10 @@
 //! Frames of calls come and go (ES 201 873-1, 16).
-ghost use Rattle.std.specs.Prelude.{◌≡◌, ◌<◌, ℕ, map, IfOk};
+ghost use Rattle.std.specs.Prelude.{◌≡◌, ◌<◌, map, IfOk};
 ghost use Rattle.std.specs.List.{All};
 ghost use Rattle.step_rules.specs.Statements as rules;
 ghost use Rattle.step_data.specs.Frames.{entered_all, left};
 ghost use Rattle.ttcn_config.specs.Legend.{Legend, data_by, frame_by};
-ghost use Rattle.ttcn_config.specs.Views.{HasSlotsWithin, IsWithin};
+ghost use Rattle.ttcn_config.specs.Views.{Extent, IsFrameWithin, IsWithin};
 ghost use Rattle.ttcn_values.specs.Outcomes.{GivesBy};
 
 use std::alloc::{AllocError, Global};
@@ -24,7 +24,7 @@ pub fn enter_all(
     frames: Vec<Frame>,
 ) -> Result<Data, AllocError>
     ensures entered { (legend : Legend) → IfOk result (λ new. data_by legend new ≡ entered_all (map (frame_by legend) frames.items) (legend.lists position) (data_by legend own)) }
-    ensures within { (size : ℕ) → IsWithin size own → All (λ frame. HasSlotsWithin size frame.cells) frames.items → IfOk result (IsWithin size) }
+    ensures within { (size : Extent) → position < size.lists → IsWithin size own → All (IsFrameWithin size) frames.items → IfOk result (IsWithin size) }
 {
     let mut own = own;
     own.go_on(alloc, position);
@@ -38,7 +38,7 @@ pub fn enter_all(
 /// Too many frames are a dynamic error.
 pub fn limit_frames(own: Data) -> Result<Data, Fault>
     ensures limited { (legend : Legend) → GivesBy (data_by legend) (rules.with_frames (data_by legend own).calls (data_by legend own)) result }
-    ensures within { (size : ℕ) → IsWithin size own → IfOk result (IsWithin size) }
+    ensures within { (size : Extent) → IsWithin size own → IfOk result (IsWithin size) }
 {
     if own.calls.len() >= MOST_FRAMES {
         return Err(Fault::Dynamic);
@@ -49,7 +49,7 @@ pub fn limit_frames(own: Data) -> Result<Data, Fault>
 /// A frame comes above those that are there.
 pub fn enter(alloc: Global, own: Data, position: usize, frame: Frame) -> Result<Data, Fault>
     ensures entered { (legend : Legend) → GivesBy (data_by legend) (rules.enter (data_by legend own) (legend.lists position) (frame_by legend frame)) result }
-    ensures within { (size : ℕ) → IsWithin size own → HasSlotsWithin size frame.cells → IfOk result (IsWithin size) }
+    ensures within { (size : Extent) → position < size.lists → IsWithin size own → IsFrameWithin size frame → IfOk result (IsWithin size) }
 {
     let mut frames = Vec::new(alloc);
     frames.push(frame)?;
@@ -60,7 +60,7 @@ pub fn enter(alloc: Global, own: Data, position: usize, frame: Frame) -> Result<
 /// The last frame goes.
 pub fn leave(alloc: Global, own: Data) -> Data
     ensures left { (legend : Legend) → data_by legend result ≡ left (data_by legend own) }
-    ensures within { (size : ℕ) → IsWithin size own → IsWithin size result }
+    ensures within { (size : Extent) → IsWithin size own → IsWithin size result }
 {
     let mut own = own;
     let mut calls = mem::replace(&mut own.calls, Seq::new(alloc)).into_vec();

@@ -1,11 +1,11 @@
 //! Values are stored in names, and in fields of records that names hold (ES 201 873-1, 19.1).
-ghost use Rattle.std.specs.Prelude.{◌≡◌, ◌<◌, ℕ, IfOk};
+ghost use Rattle.std.specs.Prelude.{◌≡◌, ◌<◌, IfOk};
 ghost use Rattle.std.specs.Option.{option_map};
 ghost use Rattle.step_rules.specs.Snapshots.{Test};
 ghost use Rattle.step_rules.specs.Storing as rules;
 ghost use Rattle.step_data.specs.internal.Held.{held_in, value_at};
 ghost use Rattle.ttcn_config.specs.Legend.{IsLegend, Legend, data_by};
-ghost use Rattle.ttcn_config.specs.Views.{IsWithin};
+ghost use Rattle.ttcn_config.specs.Views.{Extent, IsWithin};
 ghost use Rattle.ttcn_values.specs.Outcomes.{GivesBy};
 
 use assignment::assign;
@@ -59,7 +59,7 @@ pub fn store(
 ) -> Result<Data, Fault>
     ensures stored { (legend : Legend) (test : Test) → IsLegend legend → test.definitions ≡ definitions.now
         → GivesBy (data_by legend) (rules.store test (record { own = last; reference = record { name = legend.names slot; fields = fields.now }; data_type = data_type }) value (data_by legend own)) result }
-    ensures within { (size : ℕ) → slot < size → IsWithin size own → IfOk result (IsWithin size) }
+    ensures within { (size : Extent) → slot < size.names → IsWithin size own → IfOk result (IsWithin size) }
 {
     let before = held_copy(alloc, &own, last, slot)?;
     let value = assign(alloc, definitions, data_type, before, fields, value)?;

@@ -2,3 +2,4 @@ pub mod Searched
 pub mod Beyond
 pub mod Entries
 pub mod Framed
+pub mod Named

@@ -1,8 +1,10 @@
 -- What test cases and snapshots of code stand for among those of the rules.
+use Rattle.std.specs.Prelude.{length}
 use Rattle.step_rules.specs.Snapshots as snapshots
 use Rattle.step_snapshot.specs.declared.test_case.TestCase.{TestCase}
 use Rattle.ttcn_config.specs.Legend.{Legend}
 use Rattle.ttcn_config.specs.Names.{legend_of}
+use Rattle.ttcn_config.specs.Views.{Extent}
 
 -- the test case
 abbrev pub test_by : TestCase → snapshots.Test
@@ -11,3 +13,7 @@ test_by t = record { definitions = t.definitions; testcase = t.position }
 -- the lists of its positions, and the names of its slots
 abbrev pub legend_by : TestCase → Legend
 legend_by t = legend_of t.graphs.lists t.names
+
+-- how many lists have positions, and how many names have slots
+abbrev pub extent_of : TestCase → Extent
+extent_of t = record { lists = length t.graphs.lists; names = length t.names }

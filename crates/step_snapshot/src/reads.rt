@@ -103,7 +103,7 @@ fn another_runs(components: &[Component], path: &Path) -> bool
     components.iter().any(|component| is_running(component.state) && component.itself.path != *path)
 }
 
-impl<'a> Snapshot<'a> {
+impl<'t, 'a> Snapshot<'t, 'a> {
     /// Whether the behaviour at a position says on what it runs, and so sees the names of the component.
     fn sees_members(&self, behaviour: usize) -> bool
         ensures { result ≡ is_some (sites.runs_on self.now.test.now.definitions behaviour) }

@@ -2,10 +2,13 @@
 ghost use Rattle.std.specs.Prelude.{◌≡◌, ◌&&◌, ◌-◌, ◌<◌, ◌^◌, [], Contains, Some, IfNone, IfSome, bytes_eq, drop, get_or, length, nat_eq};
 ghost use Rattle.std.specs.List.{list_all, slice_get, starts_with};
 ghost use Rattle.names.specs.Names.{AreInOrder};
+ghost use Rattle.step_snapshot.specs.Slots.{IsKnown};
 ghost use Rattle.step_snapshot.specs.Tests.{legend_by};
+ghost use Rattle.ttcn_config.specs.Legend.{IsLegend};
 ghost use Rattle.ttcn_config.specs.Names.{name_of};
 
 use crate::test_case::TestCase;
+use ttcn_config::names_make_legends;
 use ttcn_syntax::Name;
 use ttcn_values::Slot;
 
@@ -75,6 +78,26 @@ impl<'a> TestCase<'a> {
             Some(place) => Some(place as Slot),
             None => None,
         }
+    }
+
+    /// The slot of a name that has one.
+    pub fn slot_of(&self, name: &Name) -> Slot
+        requires { IsKnown self.now.names name.now }
+        ensures within { result < length self.now.names }
+        ensures named { (legend_by self.now).names result ≡ name.now }
+    {
+        match self.slot(name) {
+            Some(slot) => slot,
+            None => unreachable!(),
+        }
+    }
+
+    /// Slots are in the order of the bytes of their names.
+    pub fn slots_are_in_order(&self)
+        ensures { IsLegend (legend_by self.now) }
+    {
+        self.names.are_in_order();
+        names_make_legends();
     }
 
     /// Whether a slot has this name.

@@ -1,8 +1,8 @@
 //! What a component sees when it makes a step.
-ghost use Rattle.std.specs.Prelude.{◌≡◌, length};
+ghost use Rattle.std.specs.Prelude.{◌≡◌};
 ghost use Rattle.std.specs.List.{list_any};
 ghost use Rattle.step_rules.specs.Snapshots.{runs_in, snapshot_of};
-ghost use Rattle.step_snapshot.specs.Tests.{legend_by};
+ghost use Rattle.step_snapshot.specs.Tests.{extent_of, legend_by};
 ghost use Rattle.ttcn_config.specs.Legend.{component_by, going_by};
 ghost use Rattle.ttcn_config.specs.Views.{IsWithin};
 ghost use Rattle.ttcn_values.specs.contracts.path.PathPartialEq.TheImpl as equality;
@@ -13,28 +13,28 @@ use ttcn_config::{Component, Going};
 use ttcn_values::Path;
 
 /// A component, the configuration in which it makes its step, and the components that run there.
-pub struct Snapshot<'a> {
-    pub test: &'a TestCase<'a>,
+pub struct Snapshot<'t, 'a> {
+    pub test: &'a TestCase<'t>,
     pub going: &'a Going,
     pub component: &'a Component,
     pub running: &'a [&'a Path],
     ghost runs: { (path : APath) → list_any (λ other. (equality.ghosts).eq path other.now) running.now ≡ runs_in (snapshot_of (going_by (legend_by test.now) going.now) (component_by (legend_by test.now) component.now)) path },
-    ghost within: { IsWithin (length test.now.names) component.now.own },
+    ghost within: { IsWithin (extent_of test.now) component.now.own },
 }
 
-impl<'a> Snapshot<'a> {
+impl<'t, 'a> Snapshot<'t, 'a> {
     ghost use Rattle.std.specs.Prelude.{map};
     ghost use Rattle.ttcn_config.specs.Acts.{HasPathsInOrder};
 
     /// What a component of a configuration sees, where these are the components that run.
     pub fn new(
-        test: &'a TestCase<'a>,
+        test: &'a TestCase<'t>,
         going: &'a Going,
         component: &'a Component,
         running: &'a [&'a Path],
-    ) -> Snapshot<'a>
+    ) -> Snapshot<'t, 'a>
         requires runs { (path : APath) → list_any (λ other. (equality.ghosts).eq path other.now) running.now ≡ runs_in (snapshot_of (going_by (legend_by test.now) going.now) (component_by (legend_by test.now) component.now)) path }
-        requires within { IsWithin (length test.now.names) component.now.own }
+        requires within { IsWithin (extent_of test.now) component.now.own }
         ensures test { result.test.now ≡ test.now }
         ensures going { result.going.now ≡ going.now }
         ensures component { result.component.now ≡ component.now }

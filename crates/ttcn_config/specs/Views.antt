@@ -10,6 +10,7 @@ use Rattle.ttcn_config.specs.declared.config.Config.{Config}
 use Rattle.ttcn_config.specs.declared.config.Config.TheVariants as config
 use Rattle.ttcn_config.specs.declared.frame.Cells.{Cells}
 use Rattle.ttcn_config.specs.declared.frame.Data.{Data}
+use Rattle.ttcn_config.specs.declared.frame.Frame.{Frame}
 use Rattle.ttcn_config.specs.internal.Expiries.{is_running_state}
 use Rattle.ttcn_values.specs.declared.path.Path.{Path}
 
@@ -25,27 +26,37 @@ pub record HasSlotsWithin (size : ℕ) (cells : Cells) : Type 0 where
   pub values : AreWithin size cells.values
   pub timers : AreWithin size cells.timers
 
--- each slot in a component's own data has a name
-pub record IsWithin (size : ℕ) (own : Data) : Type 0 where
-  pub members : HasSlotsWithin size own.members
-  pub calls : All (λ frame. HasSlotsWithin size frame.cells) own.calls
+-- how many lists have positions, and how many names have slots
+pub record Extent : Type 0 where
+  pub lists : ℕ
+  pub names : ℕ
+
+-- what remains in a frame has a position, and each of its slots a name
+pub record IsFrameWithin (size : Extent) (frame : Frame) : Type 0 where
+  pub remaining : frame.remaining < size.lists
+  pub cells : HasSlotsWithin size.names frame.cells
+
+-- so it is in all frames of a component
+pub record IsWithin (size : Extent) (own : Data) : Type 0 where
+  pub members : HasSlotsWithin size.names own.members
+  pub calls : All (IsFrameWithin size) own.calls
 
 -- so it is in all components
-abbrev pub AreAllWithin : ℕ → List Component → Type 0
+abbrev pub AreAllWithin : Extent → List Component → Type 0
 AreAllWithin size components = All (λ component. IsWithin size component.own) components
 
-abbrev pub IsConfigWithin : ℕ → Config → Type 0
+abbrev pub IsConfigWithin : Extent → Config → Type 0
 IsConfigWithin size (config.Ended v) = Unit {0}
 IsConfigWithin size (config.Going going) = AreAllWithin size going.components
 
 -- so it is in all that is asked for
-abbrev pub IsActWithin : ℕ → Act → Type 0
+abbrev pub IsActWithin : Extent → Act → Type 0
 IsActWithin size (act.Continues own) = IsWithin size own
 IsActWithin size (act.Worsens v own) = IsWithin size own
 IsActWithin size (act.Removes port own) = IsWithin size own
 IsActWithin size (act.Sends port to v own) = IsWithin size own
 IsActWithin size (act.Creates new own) = IsWithin size new.own × IsWithin size own
-IsActWithin size (act.Starts path frame own) = HasSlotsWithin size frame.cells × IsWithin size own
+IsActWithin size (act.Starts path frame own) = IsFrameWithin size frame × IsWithin size own
 IsActWithin size (act.Stops path own) = IsWithin size own
 IsActWithin size (act.Connects one other own) = IsWithin size own
 

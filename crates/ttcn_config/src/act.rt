@@ -1,10 +1,10 @@
 //! What components ask for in their steps, and how it is done among all components (ES 201 873-1, 20 to 24).
-ghost use Rattle.std.specs.Prelude.{◌≡◌, ℕ, IfOk};
+ghost use Rattle.std.specs.Prelude.{◌≡◌, IfOk};
 ghost use Rattle.step_rules.specs.Snapshots.{Test};
 ghost use Rattle.step_rules.specs.Steps as rules;
 ghost use Rattle.ttcn_config.specs.Acts.{HasPathsInOrder, IsUncovered, Leads, act_by};
 ghost use Rattle.ttcn_config.specs.Legend.{IsLegend, Legend, going_by};
-ghost use Rattle.ttcn_config.specs.Views.{AreAllWithin, IsActWithin, IsConfigWithin};
+ghost use Rattle.ttcn_config.specs.Views.{AreAllWithin, Extent, IsActWithin, IsConfigWithin};
 ghost use Rattle.ttcn_config.specs.internal.Done as done;
 
 use crate::change::{remove_first, settle, worsen};
@@ -106,7 +106,7 @@ impl Going {
     /// the data behind the step.
     pub fn apply(self, alloc: Global, itself: &ComponentId, act: Act) -> Result<Config, Fault>
         ensures leads { (legend : Legend) (test : Test) → IsLegend legend → HasPathsInOrder self → IsUncovered (act_by legend act) → Leads legend (rules.apply test (going_by legend self) itself.now (act_by legend act)) result }
-        ensures within { (size : ℕ) → AreAllWithin size self.components → IsActWithin size act → IfOk result (IsConfigWithin size) }
+        ensures within { (size : Extent) → AreAllWithin size self.components → IsActWithin size act → IfOk result (IsConfigWithin size) }
     {
         done(self, alloc, itself, act)
     }

@@ -1,9 +1,9 @@
 //! Changes of a component's own data: of its names, and of what remains (ES 201 873-1, 11, 12, 16 and 19).
-ghost use Rattle.std.specs.Prelude.{◌≡◌, ◌<◌, ℕ, true, IfOk, OnOk};
+ghost use Rattle.std.specs.Prelude.{◌≡◌, ◌<◌, true, IfOk, OnOk};
 ghost use Rattle.step_rules.specs.Entries.{put};
 ghost use Rattle.step_rules.specs.Storing as rules;
 ghost use Rattle.ttcn_config.specs.Legend.{IsLegend, Legend, data_by};
-ghost use Rattle.ttcn_config.specs.Views.{IsWithin};
+ghost use Rattle.ttcn_config.specs.Views.{Extent, IsWithin};
 ghost use Rattle.ttcn_config.specs.internal.Stored as spec;
 
 use crate::frame::{Cells, Data, Frame};
@@ -65,7 +65,7 @@ impl Data {
         value: Value,
     ) -> Result<(), AllocError>
         ensures changed { (legend : Legend) → IsLegend legend → OnOk result (data_by legend self.new ≡ rules.in_frame last (λ frame. rules.with_values (put (legend.names slot) value frame.values) frame) (data_by legend self.old)) }
-        ensures within { (size : ℕ) → slot < size → IsWithin size self.old → OnOk result (IsWithin size self.new) }
+        ensures within { (size : Extent) → slot < size.names → IsWithin size self.old → OnOk result (IsWithin size self.new) }
     {
         let cells = self.take_cells(alloc, last).set_value(slot, value)?;
         self.put_cells(alloc, last, cells);
@@ -81,7 +81,7 @@ impl Data {
         state: TimerState,
     ) -> Result<(), AllocError>
         ensures changed { (legend : Legend) → IsLegend legend → OnOk result (data_by legend self.new ≡ rules.in_frame last (λ frame. rules.with_timers (put (legend.names slot) state frame.timers) frame) (data_by legend self.old)) }
-        ensures within { (size : ℕ) → slot < size → IsWithin size self.old → OnOk result (IsWithin size self.new) }
+        ensures within { (size : Extent) → slot < size.names → IsWithin size self.old → OnOk result (IsWithin size self.new) }
     {
         let cells = self.take_cells(alloc, last).set_timer(slot, state)?;
         self.put_cells(alloc, last, cells);
@@ -91,7 +91,7 @@ impl Data {
     /// A name is declared in the last frame, without value.
     pub fn forget(&mut self, alloc: Global, slot: Slot)
         ensures changed { (legend : Legend) → IsLegend legend → data_by legend self.new ≡ rules.in_frame true (rules.forget (legend.names slot)) (data_by legend self.old) }
-        ensures within { (size : ℕ) → IsWithin size self.old → IsWithin size self.new }
+        ensures within { (size : Extent) → IsWithin size self.old → IsWithin size self.new }
     {
         let cells = self.take_cells(alloc, true).forget(slot);
         self.put_cells(alloc, true, cells);
@@ -100,7 +100,7 @@ impl Data {
     /// A name is declared in the last frame with a value.
     pub fn declare(&mut self, alloc: Global, slot: Slot, value: Value) -> Result<(), AllocError>
         ensures changed { (legend : Legend) → IsLegend legend → OnOk result (data_by legend self.new ≡ rules.in_frame true (rules.declare (legend.names slot) value) (data_by legend self.old)) }
-        ensures within { (size : ℕ) → slot < size → IsWithin size self.old → OnOk result (IsWithin size self.new) }
+        ensures within { (size : Extent) → slot < size.names → IsWithin size self.old → OnOk result (IsWithin size self.new) }
     {
         let cells = self.take_cells(alloc, true).declare(slot, value)?;
         self.put_cells(alloc, true, cells);
@@ -110,7 +110,7 @@ impl Data {
     /// A timer is declared in the last frame.
     pub fn declare_timer(&mut self, alloc: Global, slot: Slot) -> Result<(), AllocError>
         ensures changed { (legend : Legend) → IsLegend legend → OnOk result (data_by legend self.new ≡ rules.in_frame true (rules.declare_timer (legend.names slot)) (data_by legend self.old)) }
-        ensures within { (size : ℕ) → slot < size → IsWithin size self.old → OnOk result (IsWithin size self.new) }
+        ensures within { (size : Extent) → slot < size.names → IsWithin size self.old → OnOk result (IsWithin size self.new) }
     {
         let cells = self.take_cells(alloc, true).declare_timer(slot)?;
         self.put_cells(alloc, true, cells);
@@ -120,7 +120,7 @@ impl Data {
     /// What remains in the last frame is at this position.
     pub fn go_on(&mut self, alloc: Global, position: usize)
         ensures changed { (legend : Legend) → data_by legend self.new ≡ rules.going_on (legend.lists position) (data_by legend self.old) }
-        ensures within { (size : ℕ) → IsWithin size self.old → IsWithin size self.new }
+        ensures within { (size : Extent) → position < size.lists → IsWithin size self.old → IsWithin size self.new }
     {
         let calls = mem::replace(&mut self.calls, Seq::new(alloc));
         self.calls = with_position(calls, position);

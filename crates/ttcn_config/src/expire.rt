@@ -5,7 +5,7 @@ ghost use Rattle.step_rules.specs.Snapshots.{Test};
 ghost use Rattle.step_rules.specs.Steps as rules;
 ghost use Rattle.ttcn_config.specs.Acts.{DoesStep, HasPathsInOrder};
 ghost use Rattle.ttcn_config.specs.Legend.{IsLegend, Legend, going_by};
-ghost use Rattle.ttcn_config.specs.Views.{AreAllWithin};
+ghost use Rattle.ttcn_config.specs.Views.{AreAllWithin, Extent};
 ghost use Rattle.ttcn_config.specs.internal.Expiries as spec;
 ghost use Rattle.ttcn_config.specs.internal.Stored.{with_timer};
 ghost use Rattle.ttcn_values.specs.Frames.{is_running};
@@ -141,7 +141,7 @@ impl Going {
         timer: Slot,
     ) -> Result<bool, AllocError>
         ensures steps { (legend : Legend) (test : Test) → IsLegend legend → HasPathsInOrder self.old → DoesStep legend (rules.step_in test (going_by legend self.old) (rules.Expiry path.now number (legend.names timer))) self.new result }
-        ensures within { (size : ℕ) → timer < size → AreAllWithin size self.old.components → IfOk result (λ expired. expired ≡ true → AreAllWithin size self.new.components) }
+        ensures within { (size : Extent) → timer < size.names → AreAllWithin size self.old.components → IfOk result (λ expired. expired ≡ true → AreAllWithin size self.new.components) }
     {
         let mut components = mem::replace(&mut self.components, Seq::new(alloc)).into_vec();
         let expired = expire_at(alloc, &mut components, path, number, timer)?;

@@ -1,6 +1,5 @@
 use Rattle.std.proofs.Common.{◌≡◌, Bor, Option, length, ap, sym, ◌∙◌}
 use Rattle.std.specs.Option.{option_map}
-use Rattle.std.proofs.lemmas.Option.{slice_get_within}
 use Rattle.ttcn_syntax.specs.declared.tree.definition.Parameter.{Parameter}
 use Rattle.step_rules.specs.Snapshots.{view_of_arguments}
 use Rattle.step_choice.proofs.Argued.{argument-by, only-one}
@@ -16,7 +15,7 @@ pub returns-clause-within : goal.returns-clause-within
 returns-clause-within c within =
     let names = c.args.test.now.names in
     only-one c.declare.result (declare c.slot_of.result c.args.value c.args.cells) (HasSlotsWithin (length names)) c.declare.ensures
-    (declare-keeps (length names) c.slot_of.result c.args.value (slice_get_within names c.slot_of.result c.in-Some.parameter.now.name c.slot_of.ensures) c.args.cells within)
+    (declare-keeps (length names) c.slot_of.result c.args.value c.slot_of.ensures.within c.args.cells within)
 
 pub returns-clause-said : goal.returns-clause-said
 returns-clause-said c values same =
@@ -24,8 +23,6 @@ returns-clause-said c values same =
     let legend = legend_by test in
     let name = c.in-Some.parameter.now.name in
     let P : Cells → Type 0 = λ more. view_by legend more ≡ view_of_arguments (with_argument (option_map (λ parameter. parameter.now) c.args.parameter) c.args.value values) in
-    let at = c.names_make_legends.ensures.names test.graphs.lists test.names c.slot_of.result (slice_get_within test.names c.slot_of.result name c.slot_of.ensures) in
-    let named : legend.names c.slot_of.result ≡ name = cc (at, c.slot_of.ensures) in
     only-one c.declare.result (declare c.slot_of.result c.args.value c.args.cells) P c.declare.ensures
-    (argument-by legend (c.names_make_legends.ensures.legend test.graphs.lists test.names c.are_in_order.ensures) c.slot_of.result name c.args.value c.args.cells values named same
+    (argument-by legend (c.names_make_legends.ensures.legend test.graphs.lists test.names c.are_in_order.ensures) c.slot_of.result name c.args.value c.args.cells values c.slot_of.ensures.named same
     ∙ ap (λ (p : Option (Bor Parameter)). view_of_arguments (with_argument (option_map (λ parameter. parameter.now) p) c.args.value values)) (sym c.in-Some.is))

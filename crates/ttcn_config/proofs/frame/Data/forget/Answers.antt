@@ -10,5 +10,5 @@ returns-clause-changed c legend is =
 
 pub returns-clause-within : goal.returns-clause-within
 returns-clause-within c size all =
-    stored-within size _ (forget-keeps size c.args.slot) true c.args.self.now c.take_cells.new.self c.put_cells.new.self c.take_cells.result c.forget-cells.result
+    stored-within size _ (forget-keeps size.names c.args.slot) true c.args.self.now c.take_cells.new.self c.put_cells.new.self c.take_cells.result c.forget-cells.result
     c.take_cells.ensures.taken c.take_cells.ensures.left c.forget-cells.ensures c.put_cells.ensures all

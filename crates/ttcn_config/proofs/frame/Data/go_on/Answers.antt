@@ -4,7 +4,7 @@ use Rattle.step_rules.specs.Storing as storing
 use Rattle.ttcn_config.proofs.Stored.{last-position}
 use Rattle.ttcn_config.proofs.Within.{position-within}
 use Rattle.ttcn_config.specs.Legend.{data_by, frame_by}
-use Rattle.ttcn_config.specs.Views.{HasSlotsWithin}
+use Rattle.ttcn_config.specs.Views.{IsFrameWithin}
 use Rattle.ttcn_config.specs.declared.frame.Frame.{Frame}
 use Rattle.ttcn_config.specs.internal.Stored.{in_last, with_position}
 use Rattle.ttcn_config.proofs.frame.Data.go_on.Goals as goal
@@ -16,9 +16,9 @@ returns-clause-changed c legend =
     ∙ last-position legend c.args.position c.args.self.now.calls)
 
 pub returns-clause-within : goal.returns-clause-within
-returns-clause-within c size all = record {
+returns-clause-within c size there all = record {
   members = all.members;
-  calls = subst (λ (calls : List Frame). All (λ frame. HasSlotsWithin size frame.cells) calls)
+  calls = subst (λ (calls : List Frame). All (IsFrameWithin size) calls)
       (sym (c.with_position.ensures ∙ ap (in_last (with_position c.args.position)) c.replace-calls.ensures.value))
-      (position-within size c.args.position c.args.self.now.calls all.calls);
+      (position-within size c.args.position c.args.self.now.calls there all.calls);
 }

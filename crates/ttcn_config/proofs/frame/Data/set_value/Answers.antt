@@ -9,5 +9,5 @@ returns-clause-changed c legend is =
 
 pub returns-clause-within : goal.returns-clause-within
 returns-clause-within c size less all =
-    stored-within size _ (value-keeps size c.args.slot c.args.value less) c.args.last c.args.self.now c.take_cells.new.self c.put_cells.new.self c.take_cells.result c.in_ok-cells.cells
+    stored-within size _ (value-keeps size.names c.args.slot c.args.value less) c.args.last c.args.self.now c.take_cells.new.self c.put_cells.new.self c.take_cells.result c.in_ok-cells.cells
     c.take_cells.ensures.taken c.take_cells.ensures.left c.in_ok-cells.ensures c.put_cells.ensures all
