@@ -1,156 +1,194 @@
 //! Names get values and timers states, and timers expire.
-use crate::parts::{data, frame, path, two};
+use crate::parts::{component, data, frame, path, two};
 use std::alloc::{AllocError, Global};
 use std::test::Fail;
-use ttcn_config::{Cells, Data, Going, State};
-use ttcn_syntax::Seq;
+use ttcn_config::{Data, Going, State};
+use ttcn_syntax::{Seq, Verdict};
 use ttcn_values::{Slot, TimerState, Value};
+
+/// A change of the names of the last frame, or of frame 0 where that is said.
+#[derive(Clone, Copy)]
+enum Change {
+    Value(Slot, i64),
+    MemberValue(Slot, i64),
+    Timer(Slot, TimerState),
+    Declare(Slot, i64),
+    DeclareTimer(Slot),
+    Forget(Slot),
+    GoOn(usize),
+}
+
+/// What is done one after another, and what remains in the last frame, its names, and those of frame 0 then.
+const CHANGES: &[(Change, &str)] = &[
+    (Change::Value(5, 50), "2 [(5, Integer(50))] [] []"),
+    (
+        Change::Value(3, 30),
+        "2 [(3, Integer(30)), (5, Integer(50))] [] []",
+    ),
+    (
+        Change::Value(9, 90),
+        "2 [(3, Integer(30)), (5, Integer(50)), (9, Integer(90))] [] []",
+    ),
+    (
+        Change::Value(5, 51),
+        "2 [(3, Integer(30)), (5, Integer(51)), (9, Integer(90))] [] []",
+    ),
+    (
+        Change::MemberValue(5, 7),
+        "2 [(3, Integer(30)), (5, Integer(51)), (9, Integer(90))] [] [(5, Integer(7))]",
+    ),
+    (
+        Change::DeclareTimer(5),
+        "2 [(3, Integer(30)), (9, Integer(90))] [(5, Inactive)] [(5, Integer(7))]",
+    ),
+    (
+        Change::Timer(5, TimerState::Running),
+        "2 [(3, Integer(30)), (9, Integer(90))] [(5, Running)] [(5, Integer(7))]",
+    ),
+    (
+        Change::Declare(5, 60),
+        "2 [(3, Integer(30)), (5, Integer(60)), (9, Integer(90))] [] [(5, Integer(7))]",
+    ),
+    (
+        Change::DeclareTimer(3),
+        "2 [(5, Integer(60)), (9, Integer(90))] [(3, Inactive)] [(5, Integer(7))]",
+    ),
+    (
+        Change::Forget(5),
+        "2 [(9, Integer(90))] [(3, Inactive)] [(5, Integer(7))]",
+    ),
+    (
+        Change::Forget(3),
+        "2 [(9, Integer(90))] [] [(5, Integer(7))]",
+    ),
+    (Change::GoOn(8), "8 [(9, Integer(90))] [] [(5, Integer(7))]"),
+];
+
+fn carry_out(alloc: Global, own: &mut Data, change: Change) -> Result<(), AllocError> {
+    match change {
+        Change::Value(slot, number) => own.set_value(alloc, true, slot, Value::Integer(number))?,
+        Change::MemberValue(slot, number) => {
+            own.set_value(alloc, false, slot, Value::Integer(number))?;
+        }
+        Change::Timer(slot, state) => own.set_timer(alloc, true, slot, state)?,
+        Change::Declare(slot, number) => own.declare(alloc, slot, Value::Integer(number))?,
+        Change::DeclareTimer(slot) => own.declare_timer(alloc, slot)?,
+        Change::Forget(slot) => own.forget(alloc, slot),
+        Change::GoOn(position) => own.go_on(alloc, position),
+    }
+    Ok(())
+}
+
+/// What remains in the last frame, its names, and those of frame 0.
+fn line(alloc: Global, own: &Data) -> Result<String, AllocError> {
+    let members = own.members.values.as_slice();
+    let Some(last) = own.calls.as_slice().first() else {
+        return String::from_str(alloc, "no frame");
+    };
+    let (values, timers) = (last.cells.values.as_slice(), last.cells.timers.as_slice());
+    format!(in alloc; "{} {values:?} {timers:?} {members:?}", last.remaining)
+}
 
 /// Data with two frames above frame 0.
 fn two_frames(alloc: Global) -> Result<Data, AllocError> {
     let mut own = data(alloc, 0);
-    own.calls.push(frame(alloc, 2))?;
-    own.calls.push(frame(alloc, 1))?;
+    for remaining in [2, 1] {
+        own.calls.push(frame(alloc, remaining))?;
+    }
     Ok(own)
 }
 
-/// What the entries of the last frame are, by the places of their slots.
-fn last(own: &Data) -> Option<&Cells> {
-    Some(&own.calls.as_slice().get(0)?.cells)
-}
-
-fn number_at(cells: Option<&Cells>, place: usize) -> Option<(Slot, i64)> {
-    let entry = cells?.values.as_slice().get(place)?;
-    match entry.1 {
-        Value::Integer(number) => Some((entry.0, number)),
-        _ => None,
+#[test]
+fn names(rt: HostRuntime) -> Result<(), Fail> {
+    let alloc = rt.alloc();
+    let mut own = two_frames(alloc)?;
+    for (asked, wanted) in CHANGES {
+        carry_out(alloc, &mut own, *asked)?;
+        assert_eq!(rt; line(alloc, &own)?.as_str(), *wanted);
     }
-}
-
-fn timer_at(cells: Option<&Cells>, place: usize) -> Option<(Slot, TimerState)> {
-    cells?.timers.as_slice().get(place).copied()
-}
-
-#[test]
-fn values_stand_in_the_order_of_their_slots(rt: HostRuntime) -> Result<(), Fail> {
-    let alloc = rt.alloc();
-    let mut own = two_frames(alloc)?;
-    for (slot, number) in [(5, 50), (3, 30), (9, 90), (5, 51), (3, 31)] {
-        own.set_value(alloc, true, slot, Value::Integer(number))?;
-    }
-    assert_eq!(rt; number_at(last(&own), 0), Some((3, 31)));
-    assert_eq!(rt; number_at(last(&own), 1), Some((5, 51)));
-    assert_eq!(rt; number_at(last(&own), 2), Some((9, 90)));
-    own.set_value(alloc, false, 5, Value::Integer(7))?;
-    assert_eq!(rt; number_at(Some(&own.members), 0), Some((5, 7)));
-    assert_eq!(rt; number_at(last(&own), 1), Some((5, 51)));
+    let below = own.calls.as_slice().get(1);
+    assert!(rt; below.is_some_and(|below| *below == frame(alloc, 1)));
     Ok(())
 }
 
-#[test]
-fn declared_names_lose_what_they_had(rt: HostRuntime) -> Result<(), Fail> {
-    let alloc = rt.alloc();
-    let mut own = two_frames(alloc)?;
-    own.declare(alloc, 4, Value::Integer(40))?;
-    own.declare_timer(alloc, 6)?;
-    assert_eq!(rt; number_at(last(&own), 0), Some((4, 40)));
-    assert_eq!(rt; timer_at(last(&own), 0), Some((6, TimerState::Inactive)));
-    own.set_timer(alloc, true, 6, TimerState::Running)?;
-    assert_eq!(rt; timer_at(last(&own), 0), Some((6, TimerState::Running)));
-    own.declare(alloc, 6, Value::Integer(60))?;
-    assert_eq!(rt; timer_at(last(&own), 0), None);
-    own.declare_timer(alloc, 4)?;
-    assert_eq!(rt; number_at(last(&own), 0), Some((6, 60)));
-    own.forget(alloc, 6);
-    own.forget(alloc, 4);
-    assert_eq!(rt; number_at(last(&own), 0), None);
-    assert_eq!(rt; timer_at(last(&own), 0), None);
-    Ok(())
-}
+/// The state of the MTC, the timer that runs, by the number of its frame, the one that is to expire, by its component, frame
+/// and slot, and whether it does.
+type Row = (State, u32, &'static [u32], u32, Slot, bool);
 
-#[test]
-fn the_last_frame_goes_on(rt: HostRuntime) -> Result<(), Fail> {
-    let alloc = rt.alloc();
-    let mut own = two_frames(alloc)?;
-    own.go_on(alloc, 8);
-    let remaining = own.calls.as_slice().get(0).map(|frame| frame.remaining);
-    assert_eq!(rt; remaining, Some(8));
-    let below = own.calls.as_slice().get(1).map(|frame| frame.remaining);
-    assert_eq!(rt; below, Some(1));
-    Ok(())
-}
+const TIMERS: &[Row] = &[
+    (State::Running, 0, &[], 0, 4, true),
+    (State::Running, 0, &[], 1, 4, false),
+    (State::Running, 0, &[], 2, 4, false),
+    (State::Running, 0, &[], 3, 4, false),
+    (State::Running, 1, &[], 0, 4, false),
+    (State::Running, 1, &[], 1, 4, true),
+    (State::Running, 1, &[], 2, 4, false),
+    (State::Running, 1, &[], 3, 4, false),
+    (State::Running, 2, &[], 0, 4, false),
+    (State::Running, 2, &[], 1, 4, false),
+    (State::Running, 2, &[], 2, 4, true),
+    (State::Running, 2, &[], 3, 4, false),
+    (State::Running, 1, &[], 1, 5, false),
+    (State::Running, 1, &[7], 1, 4, false),
+    (State::Terminated, 1, &[], 1, 4, false),
+];
 
-/// The MTC with a timer in each of its frames, of which that of the frame of a number runs.
-fn with_timers(alloc: Global, running: u32) -> Result<Going, AllocError> {
-    let mut calls = Seq::new(alloc);
-    for number in [2, 1] {
+/// The MTC in a state with a timer in each of its frames, of which that of the frame of a number is in a state.
+fn with_timers(
+    alloc: Global,
+    state: State,
+    number: u32,
+    timer: TimerState,
+) -> Result<Going, AllocError> {
+    let mut main = component(alloc, &[])?;
+    main.state = state;
+    main.own
+        .members
+        .timers
+        .push((4, of_frame(0, number, timer)))?;
+    for at in [2, 1] {
         let mut frame = frame(alloc, 0);
-        frame.cells.timers.push((4, state(number, running)))?;
-        calls.push(frame)?;
+        frame.cells.timers.push((4, of_frame(at, number, timer)))?;
+        main.own.calls.push(frame)?;
     }
-    let mut going = two(alloc)?;
-    let mut components = going.components.into_vec();
-    if let Some(main) = components.first_mut() {
-        main.own.calls = calls;
-        main.own.members.timers.push((4, state(0, running)))?;
-    }
-    going.components = Seq::from_vec(components);
-    Ok(going)
+    let mut components = Seq::new(alloc);
+    components.push(main)?;
+    Ok(Going {
+        components,
+        connections: Seq::new(alloc),
+        forgotten: Verdict::None,
+    })
 }
 
-fn state(number: u32, running: u32) -> TimerState {
-    if number == running {
-        TimerState::Running
+fn of_frame(at: u32, number: u32, timer: TimerState) -> TimerState {
+    if at == number {
+        timer
     } else {
         TimerState::Inactive
     }
 }
 
-/// The states of the timers of the MTC's frames, that of frame 0 first.
-fn timers(going: &Going) -> Option<[Option<(Slot, TimerState)>; 3]> {
-    let own = &going.components.as_slice().get(0)?.own;
-    let calls = own.calls.as_slice();
-    Some([
-        timer_at(Some(&own.members), 0),
-        timer_at(Some(&calls.get(1)?.cells), 0),
-        timer_at(Some(&calls.get(0)?.cells), 0),
-    ])
+/// Whether the timer expires as it is told, and no other one.
+fn is_as_told(alloc: Global, row: &Row) -> Result<bool, AllocError> {
+    let (main, running, at, number, slot, expires) = *row;
+    let mut going = with_timers(alloc, main, running, TimerState::Running)?;
+    if going.expire(alloc, &path(alloc, at)?, number, slot)? != expires {
+        return Ok(false);
+    }
+    let state = if expires {
+        TimerState::Expired
+    } else {
+        TimerState::Running
+    };
+    Ok(going == with_timers(alloc, main, running, state)?)
 }
 
 #[test]
-fn running_timers_expire(rt: HostRuntime) -> Result<(), Fail> {
+fn timers(rt: HostRuntime) -> Result<(), Fail> {
     let alloc = rt.alloc();
-    let main = path(alloc, &[])?;
-    for running in 0..3 {
-        for number in 0..4 {
-            let mut going = with_timers(alloc, running)?;
-            let expired = going.expire(alloc, &main, number, 4)?;
-            assert_eq!(rt; expired, number == running);
-            if expired {
-                let mut wanted = [Some((4, TimerState::Inactive)); 3];
-                wanted[running as usize] = Some((4, TimerState::Expired));
-                assert_eq!(rt; timers(&going), Some(wanted));
-            }
-        }
+    for row in TIMERS {
+        assert!(rt; is_as_told(alloc, row)?);
     }
-    Ok(())
-}
-
-#[test]
-fn other_timers_do_not_expire(rt: HostRuntime) -> Result<(), Fail> {
-    let alloc = rt.alloc();
-    let main = path(alloc, &[])?;
-    let mut going = with_timers(alloc, 1)?;
-    assert!(rt; !going.expire(alloc, &main, 1, 5)?);
-    let mut going = with_timers(alloc, 1)?;
-    assert!(rt; !going.expire(alloc, &path(alloc, &[7])?, 1, 4)?);
-    let mut going = with_timers(alloc, 1)?;
-    let mut components = going.components.into_vec();
-    if let Some(main) = components.first_mut() {
-        main.state = State::Terminated;
-    }
-    going.components = Seq::from_vec(components);
-    assert!(rt; !going.expire(alloc, &main, 1, 4)?);
     Ok(())
 }
 

@@ -24,7 +24,7 @@ pub fn name(alloc: Global, numbers: &[u32]) -> Result<ComponentId, AllocError> {
     })
 }
 
-pub fn end(alloc: Global, numbers: &[u32], port: Slot) -> Result<End, AllocError> {
+pub fn end(alloc: Global, (numbers, port): (&[u32], Slot)) -> Result<End, AllocError> {
     Ok(End {
         component: path(alloc, numbers)?,
         port,
@@ -56,7 +56,8 @@ pub fn data(alloc: Global, children: u32) -> Data {
     }
 }
 
-pub fn component(alloc: Global, numbers: &[u32], state: State) -> Result<Component, AllocError> {
+/// A component that is created, without messages.
+pub fn component(alloc: Global, numbers: &[u32]) -> Result<Component, AllocError> {
     let mut queues = Seq::new(alloc);
     for port in [PORT, OTHER_PORT] {
         queues.push(Queue {
@@ -67,7 +68,7 @@ pub fn component(alloc: Global, numbers: &[u32], state: State) -> Result<Compone
     Ok(Component {
         itself: name(alloc, numbers)?,
         own: data(alloc, 0),
-        state,
+        state: State::Created,
         verdict: Verdict::None,
         queues,
     })
@@ -75,9 +76,11 @@ pub fn component(alloc: Global, numbers: &[u32], state: State) -> Result<Compone
 
 /// The MTC, which runs, and its first component, which doesn't yet.
 pub fn two(alloc: Global) -> Result<Going, AllocError> {
+    let mut main = component(alloc, &[])?;
+    main.state = State::Running;
     let mut components = Seq::new(alloc);
-    components.push(component(alloc, &[], State::Running)?)?;
-    components.push(component(alloc, &[1], State::Created)?)?;
+    components.push(main)?;
+    components.push(component(alloc, &[1])?)?;
     Ok(Going {
         components,
         connections: Seq::new(alloc),

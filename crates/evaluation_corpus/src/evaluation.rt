@@ -1,11 +1,13 @@
-//! What a module's `A` gives, and whether its `T` matches that.
+//! What a module's `A` gives, and whether its `T` matches that or which value it is.
 use crate::notation::notation;
 use std::alloc::{AllocError, Global};
 use ttcn_syntax::{Action, DefinitionKind, Seq, Value as Written};
 use ttcn_types::{DataType, Definitions, Meaning};
-use ttcn_values::{ComponentId, Fault, Frame, Path, Value, eval_template, eval_value, matches};
+use ttcn_values::{
+    ComponentId, Fault, Frame, Path, Template, Value, eval_template, eval_value, matches,
+};
 
-/// What is told of a module: what `A` gives, or whether `T` matches that.
+/// What is told of a module: what `A` gives, or whether `T` matches that; where there is no `A`, which value `T` is.
 pub fn told(alloc: Global, definitions: &Definitions<'_>) -> Result<String, AllocError> {
     let itself = component(alloc, &[1])?;
     let mtc = component(alloc, &[])?;
@@ -21,18 +23,33 @@ pub fn told(alloc: Global, definitions: &Definitions<'_>) -> Result<String, Allo
         itself: &itself,
         mtc: &mtc,
     };
-    let Some((written, wanted)) = subject(definitions) else {
-        return String::from_str(alloc, "no A");
+    let template = match definitions.meaning(b"T") {
+        Some(Meaning::Template(at)) => Some(at),
+        _ => None,
     };
-    let value = eval_value(alloc, written, wanted, &frame);
-    match definitions.meaning(b"T") {
-        Some(Meaning::Template(at)) => matched(alloc, &frame, at, value),
-        _ => given(alloc, definitions, value),
+    match (subject(definitions), template) {
+        (Some((written, wanted)), Some(at)) => {
+            matched(
+                alloc,
+                &frame,
+                at,
+                eval_value(alloc, written, wanted, &frame),
+            )
+        }
+        (Some((written, wanted)), None) => {
+            given(
+                alloc,
+                definitions,
+                eval_value(alloc, written, wanted, &frame),
+            )
+        }
+        (None, Some(at)) => specific(alloc, &frame, at),
+        (None, None) => String::from_str(alloc, "no A"),
     }
 }
 
 /// The path of these numbers.
-fn path(alloc: Global, numbers: &[u32]) -> Result<Path, AllocError> {
+pub fn path(alloc: Global, numbers: &[u32]) -> Result<Path, AllocError> {
     let numbers = Vec::from_slice(alloc, numbers)?;
     Ok(Path {
         numbers: Seq::from_vec(numbers),
@@ -40,7 +57,7 @@ fn path(alloc: Global, numbers: &[u32]) -> Result<Path, AllocError> {
 }
 
 /// The MTC, or another component.
-fn component(alloc: Global, numbers: &[u32]) -> Result<ComponentId, AllocError> {
+pub fn component(alloc: Global, numbers: &[u32]) -> Result<ComponentId, AllocError> {
     Ok(ComponentId {
         path: path(alloc, numbers)?,
         component_type: 0,
@@ -80,7 +97,7 @@ fn returned<'a>(
 }
 
 /// What `A` gives.
-fn given(
+pub fn given(
     alloc: Global,
     definitions: &Definitions<'_>,
     value: Result<Value, Fault>,
@@ -104,15 +121,31 @@ fn matched(
         Err(Fault::Dynamic) => return String::from_str(alloc, "A is a dynamic error"),
         Err(Fault::Memory) => return Err(AllocError),
     };
-    let Some(named) = frame.definitions.template(at) else {
-        return String::from_str(alloc, "no T");
-    };
-    let wanted = frame.definitions.resolved(&named.type_name);
-    match eval_template(alloc, &named.template, wanted, frame) {
+    match template(alloc, frame, at) {
         Ok(template) => String::from_str(alloc, match_word(matches(&template, &value))),
         Err(Fault::Dynamic) => String::from_str(alloc, "dynamic error"),
         Err(Fault::Memory) => Err(AllocError),
     }
+}
+
+/// The specific value of the template at a position, as its copy has it.
+fn specific(alloc: Global, frame: &Frame<'_>, at: usize) -> Result<String, AllocError> {
+    let value = specific_value(alloc, frame, at);
+    given(alloc, frame.definitions, value)
+}
+
+fn specific_value(alloc: Global, frame: &Frame<'_>, at: usize) -> Result<Value, Fault> {
+    let template = template(alloc, frame, at)?;
+    template.try_clone(alloc)?.specific_value(alloc)
+}
+
+/// The template at a position.
+fn template(alloc: Global, frame: &Frame<'_>, at: usize) -> Result<Template, Fault> {
+    let Some(named) = frame.definitions.template(at) else {
+        return Err(Fault::Dynamic);
+    };
+    let wanted = frame.definitions.resolved(&named.type_name);
+    eval_template(alloc, &named.template, wanted, frame)
 }
 
 fn match_word(matches: bool) -> &'static str {

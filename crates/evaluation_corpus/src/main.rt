@@ -1,33 +1,69 @@
 //! Answers rows of texts by what the constant `A` of a module gives, or by whether its template `T` matches that.
 #![tactic(auto)]
 
+mod basic_evaluation;
 mod evaluation;
 mod notation;
+mod question;
 
 use anyhow::Result;
+use basic_evaluation::basic_told;
 use corpus::{Settings, Subject, answer_files};
 use evaluation::told;
-use refusals::program;
+use question::answered;
+use refusals::{Refusal, program};
 use std::alloc::{AllocError, Global};
 use std::process::ExitCode;
+use ttcn_parse::parse;
+use ttcn_syntax::{Module, lex};
 
 struct Evaluator;
 
 impl Subject for Evaluator {
     fn keys(&self) -> &'static [&'static str] {
-        &[]
+        &["definitions", "language"]
     }
 
     fn answer(
         &self,
         alloc: Global,
         text: &str,
-        _settings: &Settings<'_>,
+        settings: &Settings<'_>,
     ) -> Result<String, AllocError> {
-        match program(alloc, text) {
-            Ok(program) => told(alloc, &program.definitions(alloc)?),
+        if settings.get("language") == Some("basic") {
+            return of_basic(alloc, text);
+        }
+        let checked = settings.get("definitions");
+        let program = match program(alloc, checked.unwrap_or(text)) {
+            Ok(program) => program,
+            Err(refusal) => return refusal.to_string(alloc),
+        };
+        let definitions = program.definitions(alloc)?;
+        if checked.is_none() {
+            return told(alloc, &definitions);
+        }
+        match module(alloc, text) {
+            Ok(module) => answered(alloc, &definitions, &module),
             Err(refusal) => refusal.to_string(alloc),
         }
+    }
+}
+
+/// The module of a text, which may be ill-typed.
+fn module(alloc: Global, text: &str) -> Result<Module, Refusal> {
+    let tokens = lex(alloc, text.as_bytes())?;
+    Ok(parse(alloc, tokens.as_slice())?)
+}
+
+/// The answer for a text of the part of the language that is run today; it may be ill-typed.
+fn of_basic(alloc: Global, text: &str) -> Result<String, AllocError> {
+    let tokens = match lex(alloc, text.as_bytes()) {
+        Ok(tokens) => tokens,
+        Err(error) => return Refusal::from(error).to_string(alloc),
+    };
+    match basic::parse(alloc, tokens.as_slice()) {
+        Ok(module) => basic_told(alloc, &module),
+        Err(error) => error.to_string(alloc),
     }
 }
 

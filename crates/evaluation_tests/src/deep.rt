@@ -1,56 +1,51 @@
 //! Templates that go as deep as a module can make them, on a thread as on the main one.
-use crate::fault::Fault as TextFault;
-use crate::frames::{Surroundings, program};
+use refusals::program;
 use std::alloc::{AllocError, Global};
 use std::test::Fail;
 use std::thread::join;
+use ttcn_syntax::Seq;
 use ttcn_types::{Definitions, Meaning};
-use ttcn_values::{Frame, Template, Value, eval_template, matches};
+use ttcn_values::{ComponentId, Fault, Frame, Path, Template, Value, eval_template, matches};
 
-/// How many templates refer to the one before.
-const CHAIN: usize = 199;
+/// How many templates refer to the one before: the last one is `t199`.
+const CHAIN: u32 = 199;
 
 /// How many brackets stand round each.
-const BRACKETS: usize = 198;
+const BRACKETS: u32 = 198;
 
-/// A module with a chain of templates, the last one of which is `T`.
+/// A piece of text, so many times.
+fn repeated(alloc: Global, piece: &str, count: u32) -> Result<String, AllocError> {
+    let mut text = String::new(alloc);
+    for _turn in 0..count {
+        text.push_str(piece)?;
+    }
+    Ok(text)
+}
+
+/// A module with a chain of templates.
 fn module(alloc: Global) -> Result<String, AllocError> {
-    let mut text = String::from_str(alloc, "module M {\ntemplate integer t000 := 5;\n")?;
+    let opening = repeated(alloc, "complement(", BRACKETS)?;
+    let closing = repeated(alloc, ")", BRACKETS)?;
+    let mut text = String::from_str(alloc, "module M {\ntemplate integer t0 := 5;\n")?;
     for number in 1..=CHAIN {
-        let name = if number == CHAIN { "T" } else { "t" };
-        text.push_str("template integer ")?;
-        text.push_str(name)?;
-        if number < CHAIN {
-            push_number(&mut text, number)?;
-        }
-        text.push_str(" := ")?;
-        for _bracket in 0..BRACKETS {
-            text.push_str("complement(")?;
-        }
-        text.push_str("t")?;
-        push_number(&mut text, number - 1)?;
-        for _bracket in 0..BRACKETS {
-            text.push_str(")")?;
-        }
-        text.push_str(";\n")?;
+        let before = number.saturating_sub(1);
+        let line = format!(in alloc;
+            "template integer t{number} := {opening}t{before}{closing};\n"
+        )?;
+        text.push_str(line.as_str())?;
     }
     text.push_str("}\n")?;
     Ok(text)
 }
 
-/// A number below 1,000.
-fn push_number(text: &mut String, number: usize) -> Result<(), AllocError> {
-    const DIGITS: [&str; 10] = ["0", "1", "2", "3", "4", "5", "6", "7", "8", "9"];
-    for digit in [number / 100 % 10, number / 10 % 10, number % 10] {
-        text.push_str(DIGITS[digit])?;
-    }
-    Ok(())
-}
-
-/// What the template `T` gives, if anything.
-fn deepest(alloc: Global, definitions: &Definitions<'_>) -> Result<Option<Template>, TextFault> {
-    let around = Surroundings::new(alloc)?;
-    let running = around.running();
+/// What the last template gives.
+fn deepest(alloc: Global, definitions: &Definitions<'_>) -> Result<Template, Fault> {
+    let mtc = ComponentId {
+        path: Path {
+            numbers: Seq::new(alloc),
+        },
+        component_type: 0,
+    };
     let frame = Frame {
         definitions,
         names: &[],
@@ -58,40 +53,35 @@ fn deepest(alloc: Global, definitions: &Definitions<'_>) -> Result<Option<Templa
         members: &[],
         local_timers: &[],
         member_timers: &[],
-        running: &running,
-        itself: &around.itself,
-        mtc: &around.mtc,
+        running: &[],
+        itself: &mtc,
+        mtc: &mtc,
     };
-    let Some(Meaning::Template(at)) = definitions.meaning(b"T") else {
-        return Ok(None);
+    let Some(Meaning::Template(at)) = definitions.meaning(b"t199") else {
+        return Err(Fault::Dynamic);
     };
     let Some(named) = definitions.template(at) else {
-        return Ok(None);
+        return Err(Fault::Dynamic);
     };
     let wanted = definitions.resolved(&named.type_name);
-    match eval_template(alloc, &named.template, wanted, &frame) {
-        Ok(template) => Ok(Some(template)),
-        Err(_) => Ok(None),
-    }
+    eval_template(alloc, &named.template, wanted, &frame)
 }
 
-/// Whether the template `T` equals itself and matches 5, and not 6.
-fn is_as_wanted(alloc: Global) -> Result<bool, TextFault> {
+/// Whether the last template equals itself and matches 5, and not 6.
+fn is_as_wanted(alloc: Global) -> Result<bool, Fault> {
     let text = module(alloc)?;
-    let program = program(alloc, text.as_str())?;
-    let definitions = program.definitions(alloc)?;
-    let Some(template) = deepest(alloc, &definitions)? else {
+    let Ok(program) = program(alloc, text.as_str()) else {
         return Ok(false);
     };
+    let definitions = program.definitions(alloc)?;
+    let template = deepest(alloc, &definitions)?;
     let (five, six) = (Value::Integer(5), Value::Integer(6));
     Ok(template == template && matches(&template, &five) && !matches(&template, &six))
 }
 
 #[test]
-fn deep_templates_on_two_threads(rt: HostRuntime) -> Result<(), Fail> {
+fn deep_templates_on_two_threads(rt: HostRuntime) {
     let alloc = rt.alloc();
     let (there, here) = join(&rt, || is_as_wanted(alloc), || is_as_wanted(alloc));
-    assert!(rt; there?);
-    assert!(rt; here?);
-    Ok(())
+    assert!(rt; there == Ok(true) && here == Ok(true));
 }
