@@ -1,0 +1,4 @@
+pub mod KeySet
+pub mod KeyCode
+pub mod Ascent
+pub mod Ties

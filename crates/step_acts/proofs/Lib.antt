@@ -1,0 +1,17 @@
+pub mod Asking
+pub mod Called
+pub mod Changed
+pub mod Choosing
+pub mod Coming
+pub mod Conditions
+pub mod Creating
+pub mod Ending
+pub mod Evaluated
+pub mod First
+pub mod Forms
+pub mod Marking
+pub mod Parts
+pub mod Standing
+pub mod InTurn
+pub mod Stood
+pub mod Takings

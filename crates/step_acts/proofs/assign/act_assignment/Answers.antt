@@ -1,0 +1,13 @@
+use Rattle.std.proofs.Common.{subst}
+use Rattle.step_acts.proofs.assign.act_assignment.Goals as goal
+use Rattle.step_acts.specs.Asks.{Asks}
+use Rattle.step_acts.specs.Stands.{legend_of, site_of, stand_by}
+use Rattle.step_rules.specs.Configurations.{Data}
+use Rattle.step_rules.specs.Statements as said
+use Rattle.ttcn_graph.specs.Standing.{target_of}
+
+pub returns-clause-asks : goal.returns-clause-asks
+returns-clause-asks c =
+    let s = c.args.stand.now in
+    let to = c.args.goal.now in
+    subst (λ (d : Data). Asks (legend_of s) (said.assign (stand_by s) (site_of s) (target_of to.target) to.wanted d c.args.right.now) c.assign.result) c.in_ok-own.ensures.own c.assign.ensures.asks

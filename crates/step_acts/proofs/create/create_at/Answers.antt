@@ -1,0 +1,14 @@
+use Rattle.std.proofs.Common.{subst}
+use Rattle.step_acts.proofs.create.create_at.Goals as goal
+use Rattle.step_acts.specs.Asks.{Asks}
+use Rattle.step_acts.specs.Stands.{legend_of, stand_by}
+use Rattle.step_rules.specs.Statements as said
+use Rattle.ttcn_config.specs.Legend.{data_by}
+use Rattle.ttcn_graph.specs.Standing.{target_of}
+use Rattle.ttcn_values.specs.declared.path.Path.{Path}
+
+pub returns-clause-asks : goal.returns-clause-asks
+returns-clause-asks c =
+    let s = c.args.stand.now in
+    subst (λ (p : Path). Asks (legend_of s) (said.create (stand_by s) (target_of c.args.target.now) (data_by (legend_of s) c.args.own) (record { path = p; component_type = c.args.component_type })) c.create_as.result)
+    c.in_ok-path.ensures c.create_as.ensures.asks

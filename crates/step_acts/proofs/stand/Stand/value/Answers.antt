@@ -1,0 +1,11 @@
+use Rattle.step_acts.proofs.Evaluated.{gives-read}
+use Rattle.step_acts.proofs.stand.Stand.value.Goals as goal
+use Rattle.step_acts.specs.Stands.{site_of, stand_by}
+use Rattle.step_rules.specs.Statements.{reads}
+use Rattle.ttcn_values.specs.Frames.{reading}
+use Rattle.ttcn_values.specs.Literals.{value_wanted}
+
+pub returns : goal.returns
+returns c =
+    let s = c.args.self.now in
+    gives-read (λ r. value_wanted c.args.value.now r c.args.wanted) (reading c.reads.result) (reads (stand_by s) (site_of s)) c.eval_value.result c.reads.ensures c.eval_value.ensures

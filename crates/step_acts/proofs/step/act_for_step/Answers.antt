@@ -1,0 +1,22 @@
+use Rattle.std.proofs.Common.{[]}
+use Rattle.step_acts.proofs.Parts.{step-asks}
+use Rattle.step_acts.proofs.Standing.{first-known, known-there}
+use Rattle.step_acts.proofs.step.act_for_step.Goals as goal
+use Rattle.step_rules.specs.Items.{Last}
+use Rattle.ttcn_graph.proofs.Forms.{does-For}
+use Rattle.ttcn_syntax.specs.declared.tree.statement.Action.TheOpen.{Action-F}
+
+pub act_assign-requires-clause-known : goal.act_assign-requires-clause-known
+act_assign-requires-clause-known c =
+    let s = c.args.stand.now in
+    let found = c.in-For in
+    first-known ((s.snapshot.now).test.now).names found.step.target.name []
+    (known-there s Last (Action-F.For found.field-0 found.field-1 found.step found.field-3) c.requires
+    (does-For s.statement.now found.field-0 found.field-1 found.step found.field-3 found.is))
+
+pub returns-in-For-clause-asks : goal.returns-in-For-clause-asks
+returns-in-For-clause-asks c =
+    let s = c.args.stand.now in
+    let found = c.in-For in
+    step-asks s c.act_assign.result (Action-F.For found.field-0 found.field-1 found.step found.field-3)
+    (does-For s.statement.now found.field-0 found.field-1 found.step found.field-3 found.is) c.act_assign.ensures.asks

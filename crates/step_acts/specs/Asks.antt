@@ -1,0 +1,49 @@
+-- What calls answer of the step that a component asks for.
+use Rattle.std.specs.Prelude.{◌≡◌, Option, Some, None, Result, Ok, Err}
+use Rattle.step_rules.specs.Statements as said
+use Rattle.step_rules.specs.Taking.{uncovered}
+use Rattle.ttcn_config.specs.Acts.{act_by}
+use Rattle.ttcn_config.specs.Legend.{Legend}
+use Rattle.ttcn_config.specs.Views.{Extent, IsActWithin}
+use Rattle.ttcn_config.specs.declared.act.Act.{Act}
+use Rattle.ttcn_values.specs.declared.fault.Fault.{Fault}
+use Rattle.ttcn_values.specs.declared.fault.Fault.TheVariants.{Dynamic, Memory}
+
+-- a step fails
+abbrev pub IsFault : said.Act → Type 0
+IsFault said.Waits = ⊥
+IsFault (said.Errs why) = Unit {0}
+IsFault (said.Continues own) = ⊥
+IsFault (said.Worsens v own) = ⊥
+IsFault (said.Removes port own) = ⊥
+IsFault (said.Sends port to v own) = ⊥
+IsFault (said.Creates new own) = ⊥
+IsFault (said.Starts path frame own) = ⊥
+IsFault (said.Stops path own) = ⊥
+IsFault (said.Connects d e own) = ⊥
+
+-- a call answers what is asked for, or that there is no step, or that the step fails, unless memory was refused
+abbrev pub Asks : Legend → said.Act → Result (Option Act) Fault → Type 0
+Asks legend asked (Ok None) = asked ≡ said.Waits
+Asks legend asked (Ok (Some a)) = asked ≡ act_by legend a
+Asks legend asked (Err Dynamic) = IsFault asked
+Asks legend asked (Err Memory) = Unit {0}
+
+-- what remains has positions, and each slot a name, in what is asked for
+abbrev pub AsksWithin : Extent → Result (Option Act) Fault → Type 0
+AsksWithin size (Ok None) = Unit {0}
+AsksWithin size (Ok (Some a)) = IsActWithin size a
+AsksWithin size (Err fault) = Unit {0}
+
+-- what is asked for, where the marks go that come first in the data behind the step
+abbrev pub uncovered_act : said.Act → said.Act
+uncovered_act said.Waits = said.Waits
+uncovered_act (said.Errs why) = said.Errs why
+uncovered_act (said.Continues own) = said.Continues (uncovered own)
+uncovered_act (said.Worsens v own) = said.Worsens v (uncovered own)
+uncovered_act (said.Removes port own) = said.Removes port (uncovered own)
+uncovered_act (said.Sends port to v own) = said.Sends port to v (uncovered own)
+uncovered_act (said.Creates new own) = said.Creates new (uncovered own)
+uncovered_act (said.Starts path frame own) = said.Starts path frame (uncovered own)
+uncovered_act (said.Stops path own) = said.Stops path (uncovered own)
+uncovered_act (said.Connects d e own) = said.Connects d e (uncovered own)

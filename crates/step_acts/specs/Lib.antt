@@ -1,0 +1,4 @@
+pub mod Asks
+pub mod Places
+pub mod Stands
+pub mod internal

@@ -1,0 +1,18 @@
+-- What stands at positions.
+use Rattle.std.specs.Prelude.{ℕ, List, [], ◌∷◌, get_or}
+use Rattle.step_rules.specs.Items.{Item}
+use Rattle.step_rules.specs.Sites.{Site}
+use Rattle.step_snapshot.specs.declared.test_case.TestCase.{TestCase}
+use Rattle.ttcn_graph.specs.Graphs.{site_of_list}
+
+-- the list at a position
+abbrev pub list_at : TestCase → ℕ → List Item
+list_at t position = get_or t.graphs.lists position []
+
+-- the site of the first item there
+abbrev pub site_at : TestCase → ℕ → Site
+site_at t position = site_of_list (list_at t position)
+
+abbrev pub behind_first : {A : Type 0} → List A → List A
+behind_first [] = []
+behind_first (x ∷ xs) = xs
