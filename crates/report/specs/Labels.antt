@@ -1,0 +1,28 @@
+-- The texts of components' names and of labels.
+use Rattle.std.specs.Prelude.{ℕ, List, ◌++◌, Option, None, Some, codes}
+use Rattle.std.specs.Char.{encode_utf8}
+use Rattle.std.specs.Fmt.{decimal}
+use Rattle.std.specs.List.{flat_map}
+use Rattle.step_labels.specs.declared.label.Expiry.{Expiry}
+use Rattle.step_labels.specs.declared.label.Label.{Label}
+
+-- a timer's name: each byte is written as the character of its code, so those below 128 stay as they are
+abbrev pub name_text : List ℕ → List ℕ
+name_text name = flat_map encode_utf8 name
+
+-- one number of a path, behind a point
+abbrev pub number_text : ℕ → List ℕ
+number_text number = codes "." ++ decimal number
+
+-- the name of the component with these numbers: `mtc`, `mtc.1.2`
+abbrev pub path_text : List ℕ → List ℕ
+path_text numbers = codes "mtc" ++ flat_map number_text numbers
+
+-- what an expiry adds to its component's name: `/0.t`
+abbrev pub expiry_text : Option Expiry → List ℕ
+expiry_text None = codes ""
+expiry_text (Some expiry) = codes "/" ++ decimal expiry.frame ++ codes "." ++ name_text expiry.timer
+
+-- a label: its component's name, and the frame and the timer of an expiry
+abbrev pub label_text : Label → List ℕ
+label_text label = path_text label.component ++ expiry_text label.expiry

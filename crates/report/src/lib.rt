@@ -1,0 +1,15 @@
+//! Reports on test cases, as text and as JSON, and run files.
+#![tactic(auto)]
+
+mod json;
+mod laws;
+mod reader;
+mod report;
+mod run;
+mod text;
+
+pub use json::to_json;
+pub use laws::{lines_read_one_way, runs_read_one_way, texts_read_back};
+pub use report::{Outcome, Report, Standing};
+pub use run::{RunError, read_run};
+pub use text::{LabelText, PathText, PlaceText, to_text};

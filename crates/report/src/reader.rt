@@ -1,0 +1,136 @@
+//! Labels as run files write them.
+ghost use Rattle.report.specs.Labels.{label_text, number_text};
+ghost use Rattle.report.specs.Runs.{IsNumber, IsProper, IsProperExpiry, IsSmall, is_timer_name};
+ghost use Rattle.report.specs.internal.Reader.{IsCut, IsNoExpiry, IsNoLabel, IsNoNumber, IsNoPath, IsPath, TellsExpiry, lacks};
+ghost use Rattle.ttcn_syntax.specs.Characters.{is_letter, is_word_byte};
+ghost use Rattle.std.specs.Prelude.{◌≡◌, IfOk, MatchOption, None, Some};
+
+use std::alloc::{AllocError, Global};
+use std::str;
+use step_labels::{Expiry, Label};
+use ttcn_syntax::{Name, Seq};
+
+fn is_letter(byte: u8) -> bool
+    ensures { result ≡ is_letter byte }
+{
+    matches!(byte, b'A'..=b'Z' | b'a'..=b'z')
+}
+
+fn is_word_byte(byte: u8) -> bool
+    ensures { result ≡ is_word_byte byte }
+{
+    is_letter(byte) || matches!(byte, b'0'..=b'9' | b'_')
+}
+
+/// Whether these bytes are a timer's name: a letter, and letters, digits and underscores behind it.
+fn is_timer_name(name: &[u8]) -> bool
+    ensures { result ≡ is_timer_name name.now }
+{
+    match name.split_first() {
+        None => false,
+        Some((first, others)) => {
+            is_letter(*first) && others.iter().all(|byte| is_word_byte(*byte))
+        }
+    }
+}
+
+/// What stands before and behind the first such byte, if there is one.
+fn cut_at(bytes: &[u8], mark: u8) -> Option<(&[u8], &[u8])>
+    ensures { MatchOption result (lacks mark bytes.now) (λ parts. IsCut mark bytes.now parts.0.now parts.1.now) }
+{
+    let Some(at) = bytes.iter().position(|byte| *byte == mark) else {
+        return None;
+    };
+    Some((&bytes[..at], &bytes[at + 1..]))
+}
+
+/// The number that these digits write without a leading zero.
+fn number_of(digits: &[u8]) -> Option<u32>
+    ensures { MatchOption result (IsNoNumber digits.now) (IsNumber digits.now) }
+{
+    let Some((first, others)) = digits.split_first() else {
+        return None;
+    };
+    if *first == b'0' {
+        return if others.is_empty() { Some(0) } else { None };
+    }
+    if *first == b'+' {
+        return None;
+    }
+    match str::from_utf8(digits) {
+        Ok(text) => text.parse().ok(),
+        Err(_) => None,
+    }
+}
+
+/// The numbers of a path, each behind a point.
+fn numbers_of(alloc: Global, text: &[u8]) -> Result<Option<Vec<u32>>, AllocError>
+    ensures { IfOk result (λ numbers. MatchOption numbers (IsNoPath text.now) (λ all. IsPath text.now all.items)) }
+{
+    let mut numbers = Vec::new(alloc);
+    let Some((first, others)) = text.split_first() else {
+        return Ok(Some(numbers));
+    };
+    if *first != b'.' {
+        return Ok(None);
+    }
+    for digits in others.split(|byte| *byte == b'.') {
+        let Some(number) = number_of(digits) else {
+            return Ok(None);
+        };
+        numbers.push(number)?;
+    }
+    Ok(Some(numbers))
+}
+
+/// The expiry that a frame's number, a point and a timer's name tell.
+fn expiry_of(alloc: Global, text: &[u8]) -> Result<Option<Expiry>, AllocError>
+    ensures { IfOk result (λ expiry. MatchOption expiry (IsNoExpiry text.now) (TellsExpiry text.now)) }
+{
+    let Some((frame, timer)) = cut_at(text, b'.') else {
+        return Ok(None);
+    };
+    let Some(frame) = number_of(frame) else {
+        return Ok(None);
+    };
+    if !is_timer_name(timer) {
+        return Ok(None);
+    }
+    let timer = Name::new(alloc, timer)?;
+    Ok(Some(Expiry { frame, timer }))
+}
+
+/// The label of a component whose path has these numbers.
+fn label_with(
+    alloc: Global,
+    path: &[u8],
+    expiry: Option<Expiry>,
+) -> Result<Option<Label>, AllocError>
+    ensures { IfOk result (λ label. MatchOption label (IsNoPath path.now)
+        (λ made. IsPath path.now made.component × (made.expiry ≡ expiry))) }
+{
+    let Some(numbers) = numbers_of(alloc, path)? else {
+        return Ok(None);
+    };
+    Ok(Some(Label {
+        component: Seq::from_vec(numbers),
+        expiry,
+    }))
+}
+
+/// The label that is written so.
+pub(crate) fn label_of(alloc: Global, text: &[u8]) -> Result<Option<Label>, AllocError>
+    ensures { IfOk result (λ label. MatchOption label (IsNoLabel text.now)
+        (λ made. (text.now ≡ label_text made) × IsProper made)) }
+{
+    let Some(names) = text.strip_prefix(b"mtc") else {
+        return Ok(None);
+    };
+    let Some((path, timer)) = cut_at(names, b'/') else {
+        return label_with(alloc, names, None);
+    };
+    let Some(expiry) = expiry_of(alloc, timer)? else {
+        return Ok(None);
+    };
+    label_with(alloc, path, Some(expiry))
+}

@@ -1,0 +1,13 @@
+pub mod Enabled
+pub mod Expiring
+pub mod Following
+pub mod Found
+pub mod FrameLimits
+pub mod FramesKept
+pub mod Limits
+pub mod Listed
+pub mod Replaying
+pub mod Slotted
+pub mod Stepping
+pub mod Steps
+pub mod Succeeding

@@ -1,0 +1,89 @@
+-- What single steps answer.
+use Rattle.std.proofs.Common.{◌≡◌, ℕ, Bool, true, false, List, Option, Some, None, Result, Ok, Err, IfOk, option_map, sym, ap, subst, ◌∙◌}
+use Rattle.ttcn_syntax.specs.declared.tree.statement.Verdict.TheVariants as verdict
+use Rattle.step_labels.specs.Labels.{label_with}
+use Rattle.step_labels.specs.declared.label.Expiry.{Expiry as AnExpiry}
+use Rattle.step_rules.specs.Configurations as rules
+use Rattle.step_rules.specs.Snapshots.{Test}
+use Rattle.step_rules.specs.Steps.{Expiry, Label, apply, settled, statement_step, step_in}
+use Rattle.ttcn_config.specs.Acts.{DoesStep, HasPathsInOrder, Leads, act_by}
+use Rattle.ttcn_config.specs.Legend.{Legend, component_by, config_by, going_by}
+use Rattle.ttcn_config.specs.declared.act.Act.{Act as Kept}
+use Rattle.ttcn_config.specs.declared.component.Component.{Component}
+use Rattle.ttcn_config.specs.declared.config.Config.{Config}
+use Rattle.ttcn_config.specs.declared.config.Config.TheVariants as config
+use Rattle.ttcn_config.specs.declared.config.Going.{Going}
+use Rattle.ttcn_step.proofs.Found.{Searched, found-path, found-step, missing-step}
+use Rattle.ttcn_step.proofs.Steps.{behind-failure}
+use Rattle.ttcn_step.specs.internal.Steps.{IsBehind}
+use Rattle.ttcn_values.specs.Outcomes.{Outcome, Yields}
+use Rattle.ttcn_values.specs.declared.fault.Fault.{Fault}
+use Rattle.ttcn_values.specs.declared.fault.Fault.TheVariants.{Dynamic}
+use Rattle.ttcn_values.specs.declared.value.ComponentId.{ComponentId}
+
+-- ---- results
+
+pub ok-more : {A E : Type 0} (P Q : A → Type 0) (r : Result A E) → ((a : A) → P a → Q a) → IfOk r P → IfOk r Q
+ok-more P Q (Ok a) more is = more a is
+ok-more P Q (Err e) more is = tt
+
+pub ok-both : {A E : Type 0} (P Q R : A → Type 0) (r : Result A E) → ((a : A) → P a → Q a → R a) → IfOk r P → IfOk r Q → IfOk r R
+ok-both P Q R (Ok a) more is also = more a is also
+ok-both P Q R (Err e) more is also = tt
+
+-- ---- what is asked for is done, in a copy
+
+module _ (legend : Legend) (test : Test) (copy going : Going) (same : copy ≡ going) where
+  abbrev Done : Going → ComponentId → Kept → Option (Outcome rules.Configuration)
+  Done g itself a = apply test (going_by legend g) itself (act_by legend a)
+
+  pub order-of-copy : HasPathsInOrder going → HasPathsInOrder copy
+  order-of-copy order = subst HasPathsInOrder (sym same) order
+
+  pub copy-behind : (itself : ComponentId) (a : Kept) (after : Config) → Done copy itself a ≡ Some (Yields (config_by legend after)) → IsBehind legend (Done going itself a) (Some after)
+  copy-behind itself a after leads = sym (ap (λ g. option_map settled (Done g itself a)) (sym same) ∙ ap (option_map settled) leads)
+
+  pub copy-fails : (itself : ComponentId) (a : Kept) (fault : Fault) → fault ≡ Dynamic → Leads legend (Done copy itself a) (Err fault) → Some (rules.Ended verdict.Error) ≡ option_map settled (Done going itself a)
+  copy-fails itself a fault is leads =
+      sym (ap (λ g. option_map settled (Done g itself a)) (sym same) ∙ behind-failure legend (Done copy itself a) (subst (λ why. Leads legend (Done copy itself a) (Err why)) is leads))
+
+  -- ---- timers
+
+  abbrev Expired : Going → Label → Option (Outcome rules.Configuration)
+  Expired g label = step_in test (going_by legend g) label
+
+  expires-with : (label : Label) (new : Going) (b : Bool) → b ≡ true → DoesStep {E = ℕ} legend (Expired copy label) new (Ok b) → Expired copy label ≡ Some (Yields (rules.Goes (going_by legend new)))
+  expires-with label new true is does = does
+  expires-with label new false is does = absurd (let no = is in cc)
+
+  rests-with : (label : Label) (new : Going) (b : Bool) → b ≡ false → DoesStep {E = ℕ} legend (Expired copy label) new (Ok b) → Expired copy label ≡ None
+  rests-with label new true is does = absurd (let no = is in cc)
+  rests-with label new false is does = does
+
+  pub copy-expires : (label : Label) (new : Going) (b : Bool) → b ≡ true → DoesStep {E = ℕ} legend (Expired copy label) new (Ok b) → IsBehind legend (Expired going label) (Some (config.Going new))
+  copy-expires label new b is does =
+      sym (ap (λ g. option_map settled (Expired g label)) (sym same) ∙ ap (option_map settled) (expires-with label new b is does))
+
+  pub copy-rests : (label : Label) (new : Going) (b : Bool) → b ≡ false → DoesStep {E = ℕ} legend (Expired copy label) new (Ok b) → IsBehind legend (Expired going label) None
+  copy-rests label new b is does = sym (ap (λ g. option_map settled (Expired g label)) (sym same) ∙ ap (option_map settled) (rests-with label new b is does))
+
+-- ---- labels
+
+module _ (legend : Legend) (test : Test) (going : Going) (numbers : List ℕ) (e : Option AnExpiry) where
+  abbrev pub Stepped : Option Config → Type 0
+  Stepped after = IsBehind legend (step_in test (going_by legend going) (label_with numbers e)) after
+
+  pub behind-missing : Searched numbers going.components ≡ None → Stepped None
+  behind-missing none = sym (ap (option_map settled) (missing-step legend test going numbers e none))
+
+  pub behind-statement : (x : Component) → Searched numbers going.components ≡ Some x → e ≡ None → (after : Option Config)
+      → IsBehind legend (statement_step test (going_by legend going) (component_by legend x)) after → Stepped after
+  behind-statement x found is after behind =
+      behind ∙ ap (option_map settled) (sym (found-step legend test going numbers x found) ∙ ap (λ o. step_in test (going_by legend going) (label_with numbers o)) (sym is))
+
+  pub behind-expiry : (x : Component) (expires : AnExpiry) → Searched numbers going.components ≡ Some x → e ≡ Some expires → (after : Option Config)
+      → IsBehind legend (step_in test (going_by legend going) (Expiry x.itself.path expires.frame expires.timer)) after → Stepped after
+  behind-expiry x expires found is after behind =
+      behind
+      ∙ ap (option_map settled) (ap (λ p. step_in test (going_by legend going) (Expiry p expires.frame expires.timer)) (found-path numbers going.components x found)
+      ∙ ap (λ o. step_in test (going_by legend going) (label_with numbers o)) (sym is))

@@ -1,0 +1,16 @@
+use Rattle.std.proofs.Common.{◌∙◌, List, subst, sym}
+use Rattle.ttcn_syntax.specs.declared.tree.definition.Definition.{Definition}
+use Rattle.check_scope.specs.Names.{kind_at}
+use Rattle.step_snapshot.specs.Slots.{NoneIsMissing}
+use Rattle.ttcn_graph.specs.Known.{names_of_kind}
+use Rattle.ttcn_step.proofs.testcases.testcase_at.Goals as goal
+
+pub invariant_of-result : goal.invariant_of-result
+invariant_of-result c = record {
+  same = c.in_ok-graphs.ensures ∙ sym c.in_ok-definitions.ensures;
+  main = sym c.mtc_of-mtc.ensures;
+  none = c.new.ensures;
+  room = c.in_ok-names.ensures.room;
+  items = c.in_ok-names.ensures.items;
+  known = λ at. subst (λ (definitions : List Definition). NoneIsMissing c.in_ok-names.names (names_of_kind (kind_at definitions at))) (c.in_ok-graphs.ensures ∙ sym c.in_ok-definitions.ensures) (c.in_ok-names.ensures.known at);
+}

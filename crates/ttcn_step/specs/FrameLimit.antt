@@ -1,0 +1,14 @@
+-- How many frames a component may have: a limit of this tool.
+use Rattle.std.specs.Prelude.{◌<◌, length}
+use Rattle.std.specs.List.{All}
+use Rattle.step_rules.specs.Configurations.{Configuration, Data, Ended, Goes}
+use Rattle.step_rules.specs.Statements.{most}
+
+-- a component has no more frames than the limit, frame 0 among them
+abbrev pub KeepsFrameLimit : Data → Type 0
+KeepsFrameLimit own = length own.calls < most
+
+-- so has each component of a configuration
+abbrev pub AllKeepFrameLimit : Configuration → Type 0
+AllKeepFrameLimit (Ended v) = Unit {0}
+AllKeepFrameLimit (Goes c) = All (λ component. KeepsFrameLimit component.own) c.components

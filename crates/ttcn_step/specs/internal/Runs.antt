@@ -1,0 +1,13 @@
+-- Runs, as the private functions know them.
+use Rattle.std.specs.Prelude.{◌≡◌, ℕ, Option, Some, None, Result, Ok, Err}
+use Rattle.step_rules.specs.Configurations as rules
+use Rattle.ttcn_config.specs.declared.config.Config.{Config}
+use Rattle.ttcn_step.specs.Machines.{Machine, said}
+use Rattle.ttcn_step.specs.declared.error.ReplayError.{ReplayError}
+use Rattle.ttcn_step.specs.declared.error.ReplayError.TheVariants as replay
+
+-- a call gives the configuration to which the label of a number leads, or says that it is not enabled, unless memory was refused
+abbrev pub Follows : Machine → ℕ → Option rules.Configuration → Result Config ReplayError → Type 0
+Follows machine number next (Ok config) = next ≡ Some (said machine config)
+Follows machine number next (Err (replay.NotEnabled k)) = (next ≡ None) × (k ≡ number)
+Follows machine number next (Err replay.Memory) = Unit {0}

@@ -1,0 +1,23 @@
+//! Runs of a test case (ES 201 873-4).
+#![tactic(auto)]
+
+mod error;
+mod labels;
+mod laws;
+mod limit;
+mod machine;
+mod places;
+mod replay;
+mod standing;
+mod start;
+mod step;
+mod successor;
+mod successors;
+mod testcases;
+
+pub use error::{ReplayError, StepError};
+pub use laws::labels_are_enabled;
+pub use limit::frames_keep_the_limit;
+pub use machine::Machine;
+pub use standing::Standing;
+pub use successor::Successor;

@@ -1,0 +1,118 @@
+//! Machines, which run test cases (ES 201 873-4).
+ghost use Rattle.std.specs.Prelude.{◌≡◌, IfOk, map};
+ghost use Rattle.std.specs.List.{All};
+ghost use Rattle.step_labels.specs.Labels.{label_by};
+ghost use Rattle.step_rules.specs.Labels as rules;
+ghost use Rattle.step_rules.specs.Places.{blocked};
+ghost use Rattle.step_rules.specs.Runs as runs;
+ghost use Rattle.step_rules.specs.Steps as steps;
+ghost use Rattle.ttcn_step.specs.Answers.{Ends, IsSuccessor, Leads};
+ghost use Rattle.ttcn_step.specs.Machines.{Fits, said};
+ghost use Rattle.ttcn_step.specs.Standing.{standing_by, standing_of};
+
+use crate::error::{ReplayError, StepError};
+use crate::standing::Standing;
+use crate::successor::Successor;
+use crate::{labels, places, replay, start, step, successors, testcases};
+use std::alloc::{AllocError, Global};
+use std::marker::Model;
+use step_labels::Label;
+use step_snapshot::TestCase;
+use ttcn_config::Config;
+use ttcn_types::{Program, TestId};
+
+/// What runs a test case. A contract sees the test case, the lists that positions stand for, and the names that have slots.
+#[derive(Drop)]
+pub struct Machine<'a> {
+    test: TestCase<'a>,
+}
+
+impl<'a> Model for Machine<'a> {
+    ghost use Rattle.std.specs.Coded.{codes};
+    ghost use Rattle.ttcn_syntax.specs.contracts.tree.statement.Action as action;
+    ghost use Rattle.ttcn_syntax.specs.contracts.tree.statement.Branch as branch;
+    ghost use Rattle.ttcn_syntax.specs.contracts.tree.statement.Statement as statement;
+    ghost use Rattle.ttcn_syntax.specs.contracts.tree.template.Template as template;
+    ghost use Rattle.ttcn_syntax.specs.contracts.tree.value.Value as value;
+    ghost use Rattle.ttcn_step.specs.Machines as definition;
+
+    ghost Value = { definition.Machine };
+
+    ghost coded = { Prim.hlevel (codes, action.the_row.coded, branch.the_row.coded, statement.the_row.coded, template.the_row.coded, value.the_row.coded) };
+
+    ghost view = { λ machine. definition.machine_of machine.test };
+}
+
+impl<'a> Machine<'a> {
+    /// What runs a test case of a program. A program with more names than 32 bits can count is refused like want of memory.
+    pub fn new(
+        alloc: Global,
+        program: &'a Program,
+        testcase: TestId,
+    ) -> Result<Machine<'a>, AllocError>
+        ensures { IfOk result (λ machine. machine.test ≡ record { definitions = program.now.definitions; testcase = testcase }) }
+    {
+        let test = testcases::testcase_at(alloc, program, testcase.position())?;
+        Ok(Machine { test })
+    }
+
+    /// The configuration in which runs start.
+    pub fn start(&self, alloc: Global) -> Result<Config, AllocError>
+        ensures start { IfOk result (λ config. said self.now config ≡ runs.start self.now.test) }
+        ensures fits { IfOk result (Fits self.now) }
+    {
+        start::start(alloc, &self.test)
+    }
+
+    /// The enabled labels of a configuration, ascending.
+    pub fn labels(&self, alloc: Global, config: &Config) -> Result<Vec<Label>, AllocError>
+        requires { Fits self.now config.now }
+        ensures { IfOk result (λ found. map label_by found.items ≡ rules.labels self.now.test (said self.now config.now)) }
+    {
+        labels::labels(alloc, &self.test, config)
+    }
+
+    /// The configuration to which a label leads.
+    pub fn next(&self, alloc: Global, config: &Config, label: &Label) -> Result<Config, StepError>
+        requires { Fits self.now config.now }
+        ensures leads { Leads self.now (steps.next self.now.test (said self.now config.now) (label_by label.now)) result }
+        ensures fits { IfOk result (Fits self.now) }
+    {
+        step::next(alloc, &self.test, config, label)
+    }
+
+    /// The enabled labels of a configuration, ascending, each with the configuration to which it leads. No `alt` is
+    /// evaluated twice.
+    pub fn successors(&self, alloc: Global, config: &Config) -> Result<Vec<Successor>, AllocError>
+        requires { Fits self.now config.now }
+        ensures labels { IfOk result (λ found. map (λ s. label_by s.label) found.items ≡ rules.labels self.now.test (said self.now config.now)) }
+        ensures leads { IfOk result (λ found. All (IsSuccessor self.now config.now) found.items) }
+        ensures fits { IfOk result (λ found. All (λ s. Fits self.now s.config) found.items) }
+    {
+        successors::successors(alloc, &self.test, config)
+    }
+
+    /// The configuration in which a run ends, or the number of its first label that is not enabled where it stands.
+    pub fn replay(&self, alloc: Global, run: &[Label]) -> Result<Config, ReplayError>
+        ensures ends { Ends self.now (runs.replay self.now.test (map label_by run.now)) result }
+        ensures fits { IfOk result (Fits self.now) }
+    {
+        replay::replay(alloc, &self.test, run)
+    }
+
+    /// The components that run, each with the place of its first remaining statement.
+    pub fn standing(&self, alloc: Global, config: &Config) -> Result<Vec<Standing>, AllocError>
+        ensures { IfOk result (λ found. map standing_by found.items ≡ standing_of (said self.now config.now)) }
+    {
+        places::standing(alloc, &self.test, config)
+    }
+
+    /// The components that are blocked: where no label is enabled, all that run, each with the place of its first remaining
+    /// statement.
+    pub fn blocked(&self, alloc: Global, config: &Config) -> Result<Vec<Standing>, AllocError>
+        requires { Fits self.now config.now }
+        ensures { IfOk result (λ found. map standing_by found.items ≡ blocked self.now.test (said self.now config.now)) }
+    {
+        places::blocked(alloc, &self.test, config)
+    }
+}
