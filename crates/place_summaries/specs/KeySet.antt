@@ -3,7 +3,8 @@ use Rattle.std.specs.Prelude.{◌≡◌, List, [], ◌∷◌, ◌++◌, Option, 
 use Rattle.std.proofs.Common.{inl, inr, refl, append_assoc}
 use Rattle.std.proofs.lemmas.List.Elements.{Contains-append_left, Contains-append_right, Contains-append_cases}
 use Rattle.summary.specs.Reading.{Join, IsSemilattice}
-use std.Quotient.{◌/◌, cls, eq/, /_set, /_rec, /_rec₂, /_elim_prop, /_elim_prop₂, /_elim_prop₃}
+use std.Quotient as quotient
+use std.Quotient.{cls, eq/, /_set, /_rec, /_rec₂, /_elim_prop, /_elim_prop₂, /_elim_prop₃}
 
 -- each key of the first list is one of the second
 abbrev pub Within : {K : Type 0} → List K → List K → Type 0
@@ -15,7 +16,7 @@ SameKeys xs ys = Within xs ys × Within ys xs
 
 -- a list, where lists of the same keys are one
 abbrev pub KeySet : Type 0 → Type 0
-KeySet K = List K / SameKeys
+KeySet K = quotient.◌/◌ (List K) SameKeys
 
 abbrev pub from_list : {K : Type 0} → List K → KeySet K
 from_list keys = cls keys
