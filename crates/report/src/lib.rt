@@ -12,4 +12,4 @@ pub use json::to_json;
 pub use laws::{lines_read_one_way, runs_read_one_way, texts_read_back};
 pub use report::{Outcome, Report, Standing};
 pub use run::{RunError, read_run};
-pub use text::{LabelText, PathText, PlaceText, to_text};
+pub use text::{LabelText, PathText, PlaceText, to_text, word_of};

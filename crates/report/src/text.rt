@@ -76,7 +76,7 @@ impl fmt::Display for PlaceText {
 }
 
 /// A verdict as the language spells it.
-pub(crate) fn word_of(verdict: Verdict) -> &'static str
+pub fn word_of(verdict: Verdict) -> &'static str
     ensures { result.now ≡ word_of verdict }
 {
     match verdict {

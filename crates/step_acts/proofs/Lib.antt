@@ -11,6 +11,7 @@ pub mod First
 pub mod Forms
 pub mod Marking
 pub mod Parts
+pub mod Placing
 pub mod Standing
 pub mod InTurn
 pub mod Stood

@@ -3,6 +3,7 @@
 
 mod assign;
 mod call;
+mod choice;
 mod condition;
 mod connect;
 mod create;
@@ -10,6 +11,7 @@ mod end;
 mod evaluate;
 mod facts;
 mod marks;
+mod place;
 mod port_types;
 mod position;
 mod send;
@@ -19,4 +21,5 @@ mod step;
 mod storing;
 mod waiting;
 
+pub use place::branch;
 pub use step::act;

@@ -394,7 +394,7 @@ fn act_part(alloc: Global, stand: &Stand<'_, '_>) -> Result<Option<Act>, Fault>
 }
 
 /// What stands first in the last frame.
-fn act_at<'t, 'a>(
+pub(crate) fn act_at<'t, 'a>(
     alloc: Global,
     snapshot: &'a Snapshot<'t, 'a>,
     frame: &'a Frame,

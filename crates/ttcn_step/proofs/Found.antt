@@ -1,5 +1,5 @@
 -- Components by their paths.
-use Rattle.std.proofs.Common.{◌≡◌, ℕ, Bool, true, false, List, [], ◌∷◌, Option, Some, None, IfSome, option_map, bytes_eq, refl, ap, subst, ◌∙◌, if◌then◌else◌}
+use Rattle.std.proofs.Common.{◌≡◌, ℕ, Bool, true, false, Bor, List, [], ◌∷◌, Option, Some, None, IfSome, option_map, bytes_eq, refl, sym, ap, subst, ◌∙◌, if◌then◌else◌}
 use Rattle.std.specs.List.{find}
 use Rattle.std.specs.Option.{option_and_then}
 use Rattle.std.proofs.lemmas.Option.{none-some, same_Some}
@@ -20,6 +20,11 @@ use Rattle.ttcn_config.specs.declared.config.Going.{Going}
 -- the components of a path
 abbrev pub Searched : List ℕ → List Component → Option Component
 Searched numbers components = find (λ component. bytes_eq component.itself.path.numbers numbers) components
+
+-- what the search for a component answers
+pub searched : (numbers : List ℕ) (all components : List Component) (result found : Option (Bor Component)) → option_map (λ x. x.now) result ≡ Searched numbers all → all ≡ components → result ≡ found
+    → Searched numbers components ≡ option_map (λ x. x.now) found
+searched numbers all components result found e same is = ap (Searched numbers) (sym same) ∙ sym e ∙ ap (option_map (λ x. x.now)) is
 
 passes-first : {A : Type 0} (p : A → Bool) (x a : A) (b : Bool) (others : Option A) → (others ≡ Some a → p a ≡ true) → p x ≡ b → (if b then Some x else others) ≡ Some a → p a ≡ true
 passes-first p x a true others rest is e = subst (λ y. p y ≡ true) (same_Some x a e) is
@@ -44,7 +49,7 @@ found-within size numbers components x all e =
 
 -- what is found among components of the code is found among those of the rules
 module _ (legend : Legend) (test : Test) (going : Going) (numbers : List ℕ) where
-  said-found : (o : Option Component) → Searched numbers going.components ≡ o → component_at (going_by legend going) (record { numbers = numbers }) ≡ option_map (component_by legend) o
+  pub said-found : (o : Option Component) → Searched numbers going.components ≡ o → component_at (going_by legend going) (record { numbers = numbers }) ≡ option_map (component_by legend) o
   said-found o e = find-by legend (record { numbers = numbers }) going.components ∙ ap (option_map (component_by legend)) e
 
   missing-with : (c : rules.Going) (e : Option AnExpiry) → component_at c (record { numbers = numbers }) ≡ None → step_in test c (label_with numbers e) ≡ None

@@ -1,3 +1,4 @@
+pub mod Branching
 pub mod Enabled
 pub mod Expiring
 pub mod Following

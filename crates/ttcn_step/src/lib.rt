@@ -1,6 +1,7 @@
 //! Runs of a test case (ES 201 873-4).
 #![tactic(auto)]
 
+mod branches;
 mod error;
 mod labels;
 mod laws;

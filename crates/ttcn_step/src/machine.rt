@@ -1,11 +1,13 @@
 //! Machines, which run test cases (ES 201 873-4).
 ghost use Rattle.std.specs.Prelude.{◌≡◌, IfOk, map};
 ghost use Rattle.std.specs.List.{All};
+ghost use Rattle.interner.specs.Lists.{AreDifferent};
 ghost use Rattle.step_labels.specs.Labels.{label_by};
 ghost use Rattle.step_rules.specs.Labels as rules;
-ghost use Rattle.step_rules.specs.Places.{blocked};
+ghost use Rattle.step_rules.specs.Places.{blocked, branch_of};
 ghost use Rattle.step_rules.specs.Runs as runs;
 ghost use Rattle.step_rules.specs.Steps as steps;
+ghost use Rattle.ttcn_config.specs.Names.{AreInOrder};
 ghost use Rattle.ttcn_step.specs.Answers.{Ends, IsSuccessor, Leads};
 ghost use Rattle.ttcn_step.specs.Machines.{Fits, said};
 ghost use Rattle.ttcn_step.specs.Standing.{standing_by, standing_of};
@@ -13,12 +15,13 @@ ghost use Rattle.ttcn_step.specs.Standing.{standing_by, standing_of};
 use crate::error::{ReplayError, StepError};
 use crate::standing::Standing;
 use crate::successor::Successor;
-use crate::{labels, places, replay, start, step, successors, testcases};
+use crate::{branches, labels, places, replay, start, step, successors, testcases};
 use std::alloc::{AllocError, Global};
 use std::marker::Model;
 use step_labels::Label;
 use step_snapshot::TestCase;
 use ttcn_config::Config;
+use ttcn_syntax::Span;
 use ttcn_types::{Program, TestId};
 
 /// What runs a test case. A contract sees the test case, the lists that positions stand for, and the names that have slots.
@@ -54,6 +57,15 @@ impl<'a> Machine<'a> {
     {
         let test = testcases::testcase_at(alloc, program, testcase.position())?;
         Ok(Machine { test })
+    }
+
+    /// No list has two positions, and slots are in the order of their names.
+    pub fn is_apart(&self)
+        ensures lists { AreDifferent self.now.lists }
+        ensures names { AreInOrder self.now.names }
+    {
+        self.test.graphs.lists_differ();
+        self.test.names.are_in_order();
     }
 
     /// The configuration in which runs start.
@@ -98,6 +110,19 @@ impl<'a> Machine<'a> {
         ensures fits { IfOk result (Fits self.now) }
     {
         replay::replay(alloc, &self.test, run)
+    }
+
+    /// The place of the branch that the step of a label takes, if it takes one.
+    pub fn branch(
+        &self,
+        alloc: Global,
+        config: &Config,
+        label: &Label,
+    ) -> Result<Option<Span>, AllocError>
+        requires { Fits self.now config.now }
+        ensures { IfOk result (λ place. place ≡ branch_of self.now.test (said self.now config.now) (label_by label.now)) }
+    {
+        branches::branch(alloc, &self.test, config, label)
     }
 
     /// The components that run, each with the place of its first remaining statement.

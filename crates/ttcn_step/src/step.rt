@@ -44,7 +44,10 @@ pub(crate) fn is_running(state: State) -> bool
 }
 
 /// The component of a path, where there is one.
-fn component_of<'b>(components: &'b [Component], path: &Seq<u32>) -> Option<&'b Component>
+pub(crate) fn component_of<'b>(
+    components: &'b [Component],
+    path: &Seq<u32>,
+) -> Option<&'b Component>
     ensures { option_map (λ component. component.now) result ≡ find (λ component. bytes_eq component.itself.path.numbers path.now) components.now }
 {
     components

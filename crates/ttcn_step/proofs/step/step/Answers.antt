@@ -1,24 +1,18 @@
-use Rattle.std.proofs.Common.{◌≡◌, ℕ, Bor, List, Option, Some, None, IfSome, ap, sym, option_map, ◌∙◌}
+use Rattle.std.proofs.Common.{Option, Some, None, IfSome}
 use Rattle.step_labels.specs.Labels.{label_by}
 use Rattle.step_rules.specs.Steps.{Expiry, statement_step, step_in}
 use Rattle.step_snapshot.specs.Tests.{extent_of, legend_by, test_by}
 use Rattle.ttcn_config.specs.Legend.{component_by, going_by}
 use Rattle.ttcn_config.specs.Views.{IsConfigWithin}
-use Rattle.ttcn_config.specs.declared.component.Component.{Component}
 use Rattle.ttcn_config.specs.declared.config.Config.{Config}
 use Rattle.ttcn_config.specs.declared.config.Config.TheVariants as config
 use Rattle.ttcn_step.proofs.Following.{fits-behind}
-use Rattle.ttcn_step.proofs.Found.{Searched, found-within}
+use Rattle.ttcn_step.proofs.Found.{found-within, searched}
 use Rattle.ttcn_step.proofs.Stepping.{Stepped, behind-expiry, behind-missing, behind-statement, ok-both, ok-more}
 use Rattle.ttcn_step.proofs.Steps.{paths-in-order}
 use Rattle.ttcn_step.specs.Machines.{Fits, machine_of}
 use Rattle.ttcn_step.specs.internal.Steps.{IsBehind}
 use Rattle.ttcn_step.proofs.step.step.Goals as goal
-
--- what the search for a component answers
-searched : (numbers : List ℕ) (all components : List Component) (result found : Option (Bor Component)) → option_map (λ x. x.now) result ≡ Searched numbers all → all ≡ components → result ≡ found
-    → Searched numbers components ≡ option_map (λ x. x.now) found
-searched numbers all components result found e same is = ap (Searched numbers) (sym same) ∙ sym e ∙ ap (option_map (λ x. x.now)) is
 
 pub returns-in_default-clause-behind : goal.returns-in_default-clause-behind
 returns-in_default-clause-behind c =

@@ -1,0 +1,56 @@
+//! The branches and blocked components of a test case, where summaries ask for them.
+ghost use Rattle.std.specs.Prelude.{◌≡◌, IfOk, map};
+ghost use Rattle.step_rules.specs.Places as rules;
+ghost use Rattle.ttcn_step.specs.Standing.{standing_by};
+
+use crate::keys::{BlockedComponent, BranchPlace};
+use crate::label::StepLabel;
+use crate::runs::Runs;
+use crate::scheme::Scheme;
+use crate::state::State;
+use place_summaries::Located;
+use std::alloc::{AllocError, Global};
+use ttcn_step::Standing;
+
+/// Components with the places where they stand, as summaries keep them.
+fn blocked_components(
+    alloc: Global,
+    standings: Vec<Standing>,
+) -> Result<Vec<BlockedComponent>, AllocError>
+    ensures { IfOk result (λ found. found.items ≡ map standing_by standings.items) }
+{
+    let mut found = Vec::with_capacity(alloc, standings.len())?;
+    for Standing { component, place } in standings {
+        found.push(BlockedComponent::new(component, place))?;
+    }
+    Ok(found)
+}
+
+impl<'t, 'a, K: Scheme + Send + Sync> Located for Runs<'t, 'a, K> {
+    type Branch = BranchPlace;
+
+    type Standing = BlockedComponent;
+
+    ghost branch = { λ _ state label. rules.branch_of K.machine.test state label };
+
+    ghost blocked = { λ _ state. rules.blocked K.machine.test state };
+
+    fn branch(
+        &self,
+        alloc: Global,
+        state: &State<K>,
+        label: &StepLabel,
+    ) -> Result<Option<BranchPlace>, AllocError> {
+        let place = self.machine.branch(alloc, &state.config, label.as_label())?;
+        Ok(place.map(BranchPlace::new))
+    }
+
+    fn blocked(
+        &self,
+        alloc: Global,
+        state: &State<K>,
+    ) -> Result<Vec<BlockedComponent>, AllocError> {
+        let standings = self.machine.blocked(alloc, &state.config)?;
+        blocked_components(alloc, standings)
+    }
+}

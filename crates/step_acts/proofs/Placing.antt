@@ -1,0 +1,86 @@
+-- The place of the branch that a step takes.
+use Rattle.std.proofs.Common.{◌≡◌, List, ◌∷◌, map, refl, sym, ap, subst, ◌∙◌, Option, Some, None, Result, Ok, Err}
+use Rattle.ttcn_syntax.specs.declared.place.Span.{Span}
+use Rattle.std.specs.Prelude.{IfOk}
+use Rattle.step_acts.proofs.Choosing.{choice-there}
+use Rattle.step_acts.specs.Asks.{Asks, IsFault}
+use Rattle.step_acts.specs.Places.{behind_first, list_at}
+use Rattle.step_acts.specs.Stands.{site_of, stand_by}
+use Rattle.step_acts.specs.declared.stand.Stand.{Stand}
+use Rattle.step_choice.specs.Choices.{choice_of}
+use Rattle.step_rules.specs.Events.{Choice}
+use Rattle.step_rules.specs.Items.{Item}
+use Rattle.step_snapshot.specs.Seen.{own_by, seen_by}
+use Rattle.step_snapshot.specs.Tests.{legend_by, test_by}
+use Rattle.step_snapshot.specs.declared.snapshot.Snapshot.{Snapshot}
+use Rattle.std.specs.declared.alloc.AllocError.{AllocError}
+use Rattle.ttcn_config.specs.Legend.{frame_by}
+use Rattle.ttcn_config.specs.declared.frame.Frame.{Frame}
+use Rattle.step_rules.specs.Places.{place_chosen, place_in_frames, place_in_list, unless_fault}
+use Rattle.step_rules.specs.Statements as said
+use Rattle.ttcn_config.specs.Acts.{act_by}
+use Rattle.ttcn_config.specs.Legend.{Legend}
+use Rattle.ttcn_config.specs.declared.act.Act.{Act}
+use Rattle.ttcn_config.specs.declared.act.Act.TheVariants as act
+use Rattle.ttcn_values.specs.declared.fault.Fault.{Fault}
+use Rattle.ttcn_values.specs.declared.fault.Fault.TheVariants.{Dynamic, Memory}
+
+no_place : (asked : said.Act) → unless_fault asked None ≡ None
+no_place said.Waits = refl
+no_place (said.Errs why) = refl
+no_place (said.Continues own) = refl
+no_place (said.Worsens v own) = refl
+no_place (said.Removes port own) = refl
+no_place (said.Sends port to v own) = refl
+no_place (said.Creates new own) = refl
+no_place (said.Starts path frame own) = refl
+no_place (said.Stops path own) = refl
+no_place (said.Connects d e own) = refl
+
+act_place : (legend : Legend) (a : Act) (place : Option Span) → unless_fault (act_by legend a) place ≡ place
+act_place legend (act.Continues own) place = refl
+act_place legend (act.Worsens v own) place = refl
+act_place legend (act.Removes port own) place = refl
+act_place legend (act.Sends port to v own) place = refl
+act_place legend (act.Creates new own) place = refl
+act_place legend (act.Starts path frame own) place = refl
+act_place legend (act.Stops path own) place = refl
+act_place legend (act.Connects d e own) place = refl
+
+-- where no branch is chosen, none is taken
+pub none_taken : (asked : said.Act) (place : Option Span) → place ≡ None → None ≡ unless_fault asked place
+none_taken asked place none = sym (ap (unless_fault asked) none ∙ no_place asked)
+
+pub asked_place : (legend : Legend) (asked : said.Act) (answer : Option Act) (place : Option Span) → Asks legend asked (Ok answer) → place ≡ unless_fault asked place
+asked_place legend asked None place asks = sym (ap (λ a. unless_fault a place) asks)
+asked_place legend asked (Some a) place asks = sym (ap (λ b. unless_fault b place) asks ∙ act_place legend a place)
+
+pub fault_place : (asked : said.Act) (place : Option Span) → IsFault asked → None ≡ unless_fault asked place
+fault_place said.Waits place is = absurd is
+fault_place (said.Errs why) place is = refl
+fault_place (said.Continues own) place is = absurd is
+fault_place (said.Worsens v own) place is = absurd is
+fault_place (said.Removes port own) place is = absurd is
+fault_place (said.Sends port to v own) place is = absurd is
+fault_place (said.Creates new own) place is = absurd is
+fault_place (said.Starts path frame own) place is = absurd is
+fault_place (said.Stops path own) place is = absurd is
+fault_place (said.Connects d e own) place is = absurd is
+
+-- what is chosen in the words of choices is what is chosen in those of statements
+pub chosen-place : (s : Stand) (r : Result (Option Span) AllocError)
+    → IfOk r (λ place. place ≡ place_chosen (choice_of (test_by (s.snapshot.now).test.now) (seen_by s.snapshot.now) (own_by s.snapshot.now) (site_of s) s.statement.now))
+    → IfOk r (λ place. place ≡ place_chosen (said.choice_at (stand_by s) (site_of s) s.statement.now))
+chosen-place s r found = subst (λ (choice : Option Choice). IfOk r (λ place. place ≡ place_chosen choice)) (sym (choice-there s s.statement.now)) found
+
+-- the last frame tells the place
+pub place-first : (s : Snapshot) (frame : Frame) (last : (s.component.now).own.calls ≡ frame ∷ behind_first (s.component.now).own.calls) (r : Result (Option Span) AllocError)
+    (remaining : List Item) → list_at s.test.now frame.remaining ≡ remaining
+    → IfOk r (λ place. place ≡ place_in_list (test_by s.test.now) (seen_by s) (own_by s) (frame_by (legend_by s.test.now) frame) (map (frame_by (legend_by s.test.now)) (behind_first (s.component.now).own.calls)) remaining)
+    → IfOk r (λ place. place ≡ place_in_frames (test_by s.test.now) (seen_by s) (own_by s) (own_by s).calls)
+place-first s frame last r remaining is found =
+    let t = s.test.now in
+    let legend = legend_by t in
+    let below = map (frame_by legend) (behind_first (s.component.now).own.calls) in
+    subst (λ (calls : List Frame). IfOk r (λ place. place ≡ place_in_frames (test_by t) (seen_by s) (own_by s) (map (frame_by legend) calls))) (sym last)
+    (subst (λ (items : List Item). IfOk r (λ place. place ≡ place_in_list (test_by t) (seen_by s) (own_by s) (frame_by legend frame) below items)) (sym is) found)

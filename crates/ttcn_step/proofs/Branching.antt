@@ -1,0 +1,61 @@
+-- The branches that steps take.
+use Rattle.std.proofs.Common.{◌≡◌, ℕ, Bool, true, List, Option, Some, None, Result, IfOk, sym, ap, subst, ◌∙◌, if◌then◌else◌}
+use Rattle.std.specs.Option.{option_and_then}
+use Rattle.std.specs.declared.alloc.AllocError.{AllocError}
+use Rattle.ttcn_syntax.specs.declared.place.Span.{Span}
+use Rattle.step_labels.specs.Labels.{label_with}
+use Rattle.step_labels.specs.declared.label.Expiry.{Expiry as AnExpiry}
+use Rattle.step_rules.specs.Configurations as rules
+use Rattle.step_rules.specs.Configurations.{is_running_state}
+use Rattle.step_rules.specs.Places.{branch_in, branch_of_component, place_in_frames, unless_fault}
+use Rattle.step_rules.specs.Snapshots.{Test, snapshot_of}
+use Rattle.step_rules.specs.Statements.{act}
+use Rattle.step_snapshot.specs.Tests.{legend_by, test_by}
+use Rattle.step_snapshot.specs.declared.test_case.TestCase.{TestCase}
+use Rattle.ttcn_config.specs.Legend.{Legend, component_by, going_by}
+use Rattle.ttcn_config.specs.declared.component.Component.{Component}
+use Rattle.ttcn_config.specs.declared.config.Going.{Going}
+use Rattle.ttcn_step.proofs.Found.{Searched, said-found}
+
+-- ---- of a component that runs
+
+-- the place of the branch that the statement of a component takes
+abbrev Taken : Test → rules.Going → rules.Component → Option Span
+Taken test c component = unless_fault (act test (snapshot_of c component) component.own) (place_in_frames test (snapshot_of c component) component.own component.own.calls)
+
+abbrev TakenBy : TestCase → Going → Component → Option Span
+TakenBy t going component = Taken (test_by t) (going_by (legend_by t) going) (component_by (legend_by t) component)
+
+taken-for : (t test : TestCase) (g going : Going) (x component : Component) (r : Result (Option Span) AllocError) → t ≡ test → g ≡ going → x ≡ component
+    → IfOk r (λ place. place ≡ TakenBy t g x) → IfOk r (λ place. place ≡ TakenBy test going component)
+taken-for t test g going x component r same also its is =
+    subst (λ (y : Component). IfOk r (λ place. place ≡ TakenBy test going y)) its
+    (subst (λ (h : Going). IfOk r (λ place. place ≡ TakenBy test h x)) also
+    (subst (λ (u : TestCase). IfOk r (λ place. place ≡ TakenBy u g x)) same is))
+
+if-true : (b : Bool) (r : Result (Option Span) AllocError) (taken : Option Span) → b ≡ true → IfOk r (λ place. place ≡ taken) → IfOk r (λ place. place ≡ (if b then taken else None))
+if-true b r taken is found = subst (λ (x : Bool). IfOk r (λ place. place ≡ (if x then taken else None))) (sym is) found
+
+pub branch-taken : (t test : TestCase) (g going : Going) (x component : Component) (r : Result (Option Span) AllocError) → t ≡ test → g ≡ going → x ≡ component
+    → is_running_state (component_by (legend_by test) component).state ≡ true → IfOk r (λ place. place ≡ TakenBy t g x)
+    → IfOk r (λ place. place ≡ branch_of_component (test_by test) (going_by (legend_by test) going) (component_by (legend_by test) component))
+branch-taken t test g going x component r same also its runs is =
+    if-true (is_running_state (component_by (legend_by test) component).state) r (TakenBy test going component) runs (taken-for t test g going x component r same also its is)
+
+-- ---- of a label
+
+module _ (legend : Legend) (test : Test) (going : Going) (numbers : List ℕ) (e : Option AnExpiry) where
+  abbrev Branch : Option AnExpiry → Option Span
+  Branch o = branch_in test (going_by legend going) (label_with numbers o)
+
+  pub expiry-takes-none : (expires : AnExpiry) → e ≡ Some expires → None ≡ Branch e
+  expiry-takes-none expires is = sym (ap Branch is)
+
+  pub missing-takes-none : e ≡ None → Searched numbers going.components ≡ None → None ≡ Branch e
+  missing-takes-none is none = sym (ap Branch is ∙ ap (option_and_then (branch_of_component test (going_by legend going))) (said-found legend test going numbers None none))
+
+  pub found-takes : (x : Component) (r : Result (Option Span) AllocError) → e ≡ None → Searched numbers going.components ≡ Some x
+      → IfOk r (λ place. place ≡ branch_of_component test (going_by legend going) (component_by legend x)) → IfOk r (λ place. place ≡ Branch e)
+  found-takes x r is found taken =
+      subst (λ (to : Option Span). IfOk r (λ place. place ≡ to))
+      (sym (ap Branch is ∙ ap (option_and_then (branch_of_component test (going_by legend going))) (said-found legend test going numbers (Some x) found))) taken

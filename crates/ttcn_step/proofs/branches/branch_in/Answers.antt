@@ -1,0 +1,36 @@
+use Rattle.std.proofs.Common.{Some, None}
+use Rattle.step_snapshot.specs.Tests.{extent_of, legend_by, test_by}
+use Rattle.ttcn_step.proofs.Branching.{expiry-takes-none, found-takes, missing-takes-none}
+use Rattle.ttcn_step.proofs.Found.{found-within, searched}
+use Rattle.ttcn_step.proofs.Steps.{paths-in-order}
+use Rattle.ttcn_step.proofs.branches.branch_in.Goals as goal
+
+pub branch_of-requires-clause-ordered : goal.branch_of-requires-clause-ordered
+branch_of-requires-clause-ordered c = paths-in-order (legend_by c.args.test.now) c.args.going.now c.requires.ordered.ordered
+
+pub branch_of-requires-clause-within : goal.branch_of-requires-clause-within
+branch_of-requires-clause-within c =
+    let label = c.args.label.now in
+    found-within (extent_of c.args.test.now) label.component c.args.going.now.components c.in-Some-component_of.component.now c.requires.within
+    (searched label.component c.as_slice.result.now c.args.going.now.components c.component_of.result (Some c.in-Some-component_of.component) c.component_of.ensures c.as_slice.ensures c.in-Some-component_of.is)
+
+pub returns-in-Some : goal.returns-in-Some
+returns-in-Some c =
+    let t = c.args.test.now in
+    let label = c.args.label.now in
+    expiry-takes-none (legend_by t) (test_by t) c.args.going.now label.component label.expiry c.in-Some.field-0 c.in-Some.is
+
+pub returns-in-Some-component_of : goal.returns-in-Some-component_of
+returns-in-Some-component_of c =
+    let t = c.args.test.now in
+    let label = c.args.label.now in
+    found-takes (legend_by t) (test_by t) c.args.going.now label.component label.expiry c.in-Some-component_of.component.now c.branch_of.result c.in-None.is
+    (searched label.component c.as_slice.result.now c.args.going.now.components c.component_of.result (Some c.in-Some-component_of.component) c.component_of.ensures c.as_slice.ensures c.in-Some-component_of.is)
+    c.branch_of.ensures
+
+pub returns-in-None-component_of : goal.returns-in-None-component_of
+returns-in-None-component_of c =
+    let t = c.args.test.now in
+    let label = c.args.label.now in
+    missing-takes-none (legend_by t) (test_by t) c.args.going.now label.component label.expiry c.in-None.is
+    (searched label.component c.as_slice.result.now c.args.going.now.components c.component_of.result None c.component_of.ensures c.as_slice.ensures c.in-None-component_of.is)
