@@ -1,0 +1,62 @@
+//! Answers rows of modules by whether the calls of a machine say the same behind every short run of a test case.
+#![tactic(auto)]
+
+mod agreement;
+mod runs;
+mod spelled;
+
+use anyhow::Result;
+use corpus::{Settings, Subject, answer_files};
+use refusals::program;
+use runs::compared;
+use std::alloc::{AllocError, Global};
+use std::process::ExitCode;
+use ttcn_step::Machine;
+use ttcn_syntax::Name;
+
+struct Comparison;
+
+impl Subject for Comparison {
+    fn keys(&self) -> &'static [&'static str] {
+        &["steps", "testcase", "timers"]
+    }
+
+    fn answer(
+        &self,
+        alloc: Global,
+        text: &str,
+        settings: &Settings<'_>,
+    ) -> Result<String, AllocError> {
+        let program = match program(alloc, text) {
+            Ok(program) => program,
+            Err(refusal) => return refusal.to_string(alloc),
+        };
+        let Some(testcase) = program.testcase(settings.get("testcase").unwrap_or("T")) else {
+            return String::from_str(alloc, "no test case");
+        };
+        let Some(steps) = steps(settings) else {
+            return String::from_str(alloc, "no steps");
+        };
+        let timers = names(alloc, settings.get("timers").unwrap_or(""))?;
+        let machine = Machine::new(alloc, &program, testcase)?;
+        compared(alloc, &machine, steps, timers.as_slice())
+    }
+}
+
+/// How long runs may be, unless that isn't set or is no number.
+fn steps(settings: &Settings<'_>) -> Option<u64> {
+    settings.get("steps")?.parse::<u64>().ok()
+}
+
+/// The names that stand between blanks.
+fn names(alloc: Global, words: &str) -> Result<Vec<Name>, AllocError> {
+    let mut names = Vec::new(alloc);
+    for word in words.split_whitespace() {
+        names.push(Name::new(alloc, word.as_bytes())?)?;
+    }
+    Ok(names)
+}
+
+fn main(rt: HostRuntime) -> Result<ExitCode> {
+    Ok(answer_files(&rt, &Comparison)?)
+}

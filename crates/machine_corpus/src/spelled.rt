@@ -1,0 +1,69 @@
+//! The labels that can be spelled, enabled or not.
+use std::alloc::{AllocError, Global};
+use step_labels::{Expiry, Label};
+use ttcn_config::{Component, Config};
+use ttcn_syntax::{Name, Seq};
+
+/// The labels that can be spelled with these names of timers: those of each component and of a child that it hasn't created
+/// yet, with a frame more than the component has. Where the test case has ended, those of an MTC without frames.
+pub fn spelled(alloc: Global, config: &Config, timers: &[Name]) -> Result<Vec<Label>, AllocError> {
+    let mut labels = Vec::new(alloc);
+    match config {
+        Config::Ended(_) => push_labels(alloc, &[], 0, timers, &mut labels)?,
+        Config::Going(going) => {
+            for component in going.components.as_slice() {
+                push_component(alloc, component, timers, &mut labels)?;
+            }
+        }
+    }
+    Ok(labels)
+}
+
+/// The labels of a component, and those of its next child.
+fn push_component(
+    alloc: Global,
+    component: &Component,
+    timers: &[Name],
+    labels: &mut Vec<Label>,
+) -> Result<(), AllocError> {
+    let path = component.itself.path.numbers.as_slice();
+    let child = next_child(alloc, path, component.own.children)?;
+    let calls = component.own.calls.len();
+    push_labels(alloc, path, calls, timers, labels)?;
+    push_labels(alloc, child.as_slice(), calls, timers, labels)
+}
+
+/// The path of the child that a component creates next, where it has created so many.
+fn next_child(alloc: Global, path: &[u32], children: u32) -> Result<Vec<u32>, AllocError> {
+    let mut child = Vec::from_slice(alloc, path)?;
+    child.push(children.saturating_add(1))?;
+    Ok(child)
+}
+
+/// The label of the statement of a path, and those of its timers in each frame up to the one above so many calls.
+fn push_labels(
+    alloc: Global,
+    path: &[u32],
+    calls: usize,
+    timers: &[Name],
+    labels: &mut Vec<Label>,
+) -> Result<(), AllocError> {
+    labels.push(label_of(alloc, path, None)?)?;
+    let calls = u32::try_from(calls).unwrap_or(u32::MAX);
+    for frame in 0..calls.saturating_add(2) {
+        for timer in timers {
+            let timer = timer.try_clone(alloc)?;
+            labels.push(label_of(alloc, path, Some(Expiry { frame, timer }))?)?;
+        }
+    }
+    Ok(())
+}
+
+/// The label of a path.
+fn label_of(alloc: Global, path: &[u32], expiry: Option<Expiry>) -> Result<Label, AllocError> {
+    let component = Vec::from_slice(alloc, path)?;
+    Ok(Label {
+        component: Seq::from_vec(component),
+        expiry,
+    })
+}
