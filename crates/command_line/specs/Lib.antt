@@ -1,0 +1,3 @@
+pub mod App
+pub mod Command
+pub mod internal

@@ -1,0 +1,45 @@
+-- What clap's matches hold where `ttcnx` takes the words.
+use Rattle.std.specs.Prelude.{◌≡◌, ◌⊎◌, ◌||◌, ℕ, true, List, Some, Option, IsSomeAnd, codes}
+use Rattle.std.specs.Str.{bytes_eq}
+use Rattle.clap.specs.Values.{IsUnsignedIn}
+use Rattle.clap.specs.Walk.{Row, Text, first_of, one_of}
+
+-- the argument has a text
+abbrev pub GivesText : List Row → Text → Type 0
+GivesText matches id = (text : Text) × (first_of id matches ≡ Some text)
+
+-- the argument has a number from `low` to `high`
+abbrev pub GivesNumber : List Row → Text → ℕ → ℕ → Type 0
+GivesNumber matches id low high =
+    (text : Text) × (one_of id matches ≡ Some text) × IsUnsignedIn low high text
+
+-- the flag has a value
+abbrev pub GivesFlag : List Row → Text → Type 0
+GivesFlag matches id = (text : Text) × (one_of id matches ≡ Some text)
+    × ((bytes_eq text (codes "true") || bytes_eq text (codes "false")) ≡ true)
+
+-- the numbers of a plan are there
+pub record GivesPlan (matches : List Row) : Type 0 where
+  pub steps : GivesNumber matches (codes "steps") 0 100000
+  pub limit : GivesNumber matches (codes "limit") 1 10000000
+  pub workers : GivesNumber matches (codes "workers") 1 64
+  pub piece : GivesNumber matches (codes "piece") 1 65536
+
+-- and all that `run` takes
+pub record GivesRun (matches : List Row) : Type 0 where
+  pub file : GivesText matches (codes "FILE")
+  pub testcase : GivesText matches (codes "testcase")
+  pub plan : GivesPlan matches
+  pub json : GivesFlag matches (codes "json")
+
+-- and all that `replay` takes
+pub record GivesReplay (matches : List Row) : Type 0 where
+  pub file : GivesText matches (codes "FILE")
+  pub testcase : GivesText matches (codes "testcase")
+  pub run : GivesText matches (codes "run")
+
+-- one of the three subcommands was given, with all that it takes
+abbrev pub GivesCommand : Option (Text × List Row) → Type 0
+GivesCommand given = IsSomeAnd given (λ p.
+    ((p.0 ≡ codes "check") × GivesText p.1 (codes "FILE"))
+    ⊎ (((p.0 ≡ codes "run") × GivesRun p.1) ⊎ ((p.0 ≡ codes "replay") × GivesReplay p.1)))

@@ -1,0 +1,7 @@
+//! The command line of `ttcnx`: what it takes, and what is asked for by words.
+#![tactic(auto)]
+
+mod command;
+mod definition;
+
+pub use command::{Line, LineError, read_line};
