@@ -1,13 +1,11 @@
 //! Answers rows of texts by what the constant `A` of a module gives, or by whether its template `T` matches that.
 #![tactic(auto)]
 
-mod basic_evaluation;
 mod evaluation;
 mod notation;
 mod question;
 
 use anyhow::Result;
-use basic_evaluation::basic_told;
 use corpus::{Settings, Subject, answer_files};
 use evaluation::told;
 use question::answered;
@@ -21,7 +19,7 @@ struct Evaluator;
 
 impl Subject for Evaluator {
     fn keys(&self) -> &'static [&'static str] {
-        &["definitions", "language"]
+        &["definitions"]
     }
 
     fn answer(
@@ -30,9 +28,6 @@ impl Subject for Evaluator {
         text: &str,
         settings: &Settings<'_>,
     ) -> Result<String, AllocError> {
-        if settings.get("language") == Some("basic") {
-            return of_basic(alloc, text);
-        }
         let checked = settings.get("definitions");
         let program = match program(alloc, checked.unwrap_or(text)) {
             Ok(program) => program,
@@ -53,18 +48,6 @@ impl Subject for Evaluator {
 fn module(alloc: Global, text: &str) -> Result<Module, Refusal> {
     let tokens = lex(alloc, text.as_bytes())?;
     Ok(parse(alloc, tokens.as_slice())?)
-}
-
-/// The answer for a text of the part of the language that is run today; it may be ill-typed.
-fn of_basic(alloc: Global, text: &str) -> Result<String, AllocError> {
-    let tokens = match lex(alloc, text.as_bytes()) {
-        Ok(tokens) => tokens,
-        Err(error) => return Refusal::from(error).to_string(alloc),
-    };
-    match basic::parse(alloc, tokens.as_slice()) {
-        Ok(module) => basic_told(alloc, &module),
-        Err(error) => error.to_string(alloc),
-    }
 }
 
 fn main(rt: HostRuntime) -> Result<ExitCode> {

@@ -1,6 +1,6 @@
 -- A text is accepted, or refused in one way.
 use Rattle.std.proofs.Common.{◌≡◌, ℕ, ◌<◌, ◌≤◌, List, [], ◌∷◌, length, refl, sym, ap, subst, ◌∙◌, arith, inl, inr}
-use Rattle.std.specs.Prelude.{◌⊎◌, ◌↔◌, Some, Result, Ok, Err}
+use Rattle.std.specs.Prelude.{◌⊎◌, ◌↔◌, Option, Some, None, Result, Ok, Err}
 use Rattle.std.specs.List.{slice_get}
 use Rattle.ttcn_syntax.specs.Cut.{IsCut, IsLeftmostFault}
 use Rattle.ttcn_syntax.specs.Limits.{longest_text}
@@ -20,14 +20,11 @@ use Rattle.ttcn_types.specs.declared.error.CheckError.{CheckError}
 use Rattle.ttcn_types.specs.declared.error.CheckError.TheVariants as typing
 use Rattle.check_scope.specs.declared.rule.Rule.{Rule}
 use Rattle.check_scope.specs.declared.rule.Rule.TheVariants as rule
-use Rattle.ttcnx.specs.Answer.{SameFault}
 use Rattle.ttcnx.specs.Checked.{AreRefused, HasOneJudgement, IsAccepted, IsRefusedWith, broken, cut, left_out, too_deep, too_long, uncut, unexpected}
-use Rattle.ttcnx.specs.Fault.{grammar_fault, lexical_fault, typing_fault}
+use Rattle.ttcnx.specs.Fault.{SameFault, grammar_fault, lexical_fault, typing_fault}
 use Rattle.ttcnx.specs.declared.fault.Fault.{Fault}
 use Rattle.ttcnx.specs.declared.fault.Fault.TheVariants as fault
 use Rattle.ttcnx.specs.declared.fault.Refusal.TheVariants as refusal
-use Rattle.ttcnx.proofs.OneAnswer.{same_fault}
-use Rattle.basic.proofs.Sound.{some_is}
 use Rattle.ttcnx.proofs.Stages.{no_stop, short}
 
 -- the fault is want of memory, or why the text is refused
@@ -87,6 +84,10 @@ stands_there rule.RepeatPlace = refl
 stands_there rule.VerdictError = refl
 stands_there rule.MtcPlace = refl
 
+pub some_is : {A : Type 0} {a b : A} → Some a ≡ Some b → a ≡ b
+some_is {A = A} {a = a} h =
+    let the : Option A → A = λ o. elim o as (λ _. A) [ Some r ↦ r | None ↦ a ] in ap the h
+
 one_least : (definitions : List Definition) (a b : Rule) → IsLeast definitions a → IsLeast definitions b → a ≡ b
 one_least definitions a b h k =
     let below = h.least b k.broken in
@@ -114,6 +115,17 @@ one_of_tokens tokens a b (broken {tree = tree} {rule = r} is least) (broken {tre
     let same = one_tree tokens tree other is.is_module also.is_module in
     ap refusal.Broken (one_least other.definitions r s (subst (λ tree. IsLeast tree.definitions r) same least) too)
 
+same_fault : (f : Fault) → SameFault f f
+same_fault (fault.Refused why place) = refl
+same_fault fault.NoSuchTestCase = refl
+same_fault (fault.BadLabel line) = refl
+same_fault (fault.NotEnabled label) = refl
+same_fault fault.TooMany = refl
+same_fault fault.BadPlan = refl
+same_fault fault.Memory = refl
+same_fault (fault.CannotRead file) = refl
+same_fault fault.CannotWrite = refl
+
 one_of_text : (text : List ℕ) (a b : Fault) → IsRefusedWith text a → IsRefusedWith text b → SameFault a b
 one_of_text text a b (too_long long) (too_long also) = refl
 one_of_text text a b (too_long long) (uncut fine stops) = absurd (omega (arith, long, fine))
@@ -138,11 +150,11 @@ never_of_tokens tokens tree why is well (broken {tree = other} {rule = r} also l
     subst (λ tree. AreWellTyped tree.definitions) same well r least.broken
 
 never_both : (text : List ℕ) (why : Fault) → IsAccepted text → IsRefusedWith text why → ⊥
-never_both text why fine (too_long long) = let short = fine.short in omega (arith, long, short)
-never_both text why fine (uncut {error = e} short stops) = (reads_once text).not_both fine.tokens e fine.is_cut stops
-never_both text why fine (cut {tokens = others} short is more) =
+never_both text why (tree, fine) (too_long long) = let short = fine.short in omega (arith, long, short)
+never_both text why (tree, fine) (uncut {error = e} short stops) = (reads_once text).not_both fine.tokens e fine.is_cut stops
+never_both text why (tree, fine) (cut {tokens = others} short is more) =
     let same = (reads_once text).one_cut others fine.tokens is fine.is_cut in
-    never_of_tokens fine.tokens fine.tree why fine.is_read fine.well_typed (subst (λ tokens. AreRefused tokens why) same more)
+    never_of_tokens fine.tokens tree why fine.is_read fine.well_typed (subst (λ tokens. AreRefused tokens why) same more)
 
 pub one_judgement : (text : List ℕ) → HasOneJudgement text
 one_judgement text = record {

@@ -1,6 +1,8 @@
 pub mod Checks
+pub mod Following
 pub mod OneAnswer
+pub mod OneReplay
+pub mod OneReport
 pub mod Outcomes
-pub mod Positions
 pub mod Stages
-pub mod Texts
+pub mod Told

@@ -12,20 +12,22 @@ use Rattle.ttcn_parse.specs.LeftOut.{HasLeftOut}
 use Rattle.ttcn_parse.specs.Refused.{IsRead, IsUnread}
 use Rattle.ttcn_types.specs.Rules.{AreWellTyped, IsLeast}
 use Rattle.check_scope.specs.declared.rule.Rule.{Rule}
-use Rattle.ttcnx.specs.Answer.{SameFault}
-use Rattle.ttcnx.specs.Fault.{lexical_fault}
+use Rattle.ttcnx.specs.Fault.{SameFault, lexical_fault}
 use Rattle.ttcnx.specs.declared.fault.Fault.{Fault}
 use Rattle.ttcnx.specs.declared.fault.Fault.TheVariants as fault
 use Rattle.ttcnx.specs.declared.fault.Refusal.TheVariants as refusal
 
--- a text of a well-typed module: it isn't too long, is cut into tokens, and these are read as a module that breaks no rule
-pub record IsAccepted (text : List ℕ) : Type 0 where
+-- the text of a well-typed module: it isn't too long, is cut into tokens, and these are read as this module, which breaks no rule
+pub record IsTextOf (text : List ℕ) (tree : Module) : Type 0 where
   pub tokens : List Spanned
-  pub tree : Module
   pub short : length text ≤ longest_text
   pub is_cut : IsCut text tokens
   pub is_read : IsRead tokens tree
   pub well_typed : AreWellTyped tree.definitions
+
+-- a text of some well-typed module
+abbrev pub IsAccepted : List ℕ → Type 0
+IsAccepted text = (tree : Module) × IsTextOf text tree
 
 -- why tokens are no well-typed module, with any place
 pub data AreRefused (tokens : List Spanned) : Fault → Type 0 where

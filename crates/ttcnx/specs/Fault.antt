@@ -1,28 +1,24 @@
 -- Refusals and faults: what is printed of them, and the status that they lead to.
-use Rattle.std.specs.Prelude.{ℕ, List, ◌++◌, codes, string_bytes}
+use Rattle.std.specs.Prelude.{◌≡◌, ℕ, List, ◌++◌, codes, string_bytes}
 use Rattle.std.specs.Fmt.{decimal}
 use Rattle.ttcn_syntax.specs.declared.place.Span.{Span}
 use Rattle.ttcn_syntax.specs.declared.error.LexError.{LexError}
 use Rattle.ttcn_syntax.specs.declared.error.LexError.TheVariants as lexical
 use Rattle.explore.specs.declared.plan.ExploreError.{ExploreError}
 use Rattle.explore.specs.declared.plan.ExploreError.TheVariants as searching
-use Rattle.ttcn_parse.specs.ParseError as whole
+use Rattle.report.specs.declared.run.RunError.{RunError}
+use Rattle.report.specs.declared.run.RunError.TheVariants as listing
+use Rattle.ttcn_parse.specs.ParseError.{ParseError}
 use Rattle.ttcn_parse.specs.ParseError.TheVariants as reading
-use Rattle.ttcn_types.specs.declared.error.CheckError as typed
+use Rattle.ttcn_step.specs.declared.error.ReplayError.{ReplayError}
+use Rattle.ttcn_step.specs.declared.error.ReplayError.TheVariants as replaying
+use Rattle.ttcn_types.specs.declared.error.CheckError.{CheckError}
 use Rattle.ttcn_types.specs.declared.error.CheckError.TheVariants as typing
 use Rattle.check_scope.specs.Numbers.{name_of, number_of}
-use Rattle.check_scope.specs.declared.rule.Rule.{Rule}
-use Rattle.check_scope.specs.declared.rule.Rule.TheVariants as rule
-use Rattle.basic.specs.declared.reader.ParseError.{ParseError}
-use Rattle.basic.specs.declared.reader.ParseError.TheVariants as parsing
-use Rattle.basic.specs.declared.rules.CheckError.{CheckError}
-use Rattle.basic.specs.declared.rules.CheckError.TheVariants as checking
-use Rattle.basic.specs.declared.rules.Rule as part
-use Rattle.basic.specs.declared.rules.Rule.TheVariants as rules
 use Rattle.ttcnx.specs.declared.fault.Refusal.{Refusal}
 use Rattle.ttcnx.specs.declared.fault.Refusal.TheVariants.{BadByte, OpenComment, OpenText, IntegerTooLarge, TextTooLong, Unexpected, TooDeep, LeftOut, Broken}
 use Rattle.ttcnx.specs.declared.fault.Fault.{Fault}
-use Rattle.ttcnx.specs.declared.fault.Fault.TheVariants.{Refused, NoSuchTestCase, TooMany, BadPlan, Memory, CannotRead, CannotWrite}
+use Rattle.ttcnx.specs.declared.fault.Fault.TheVariants.{Refused, NoSuchTestCase, BadLabel, NotEnabled, TooMany, BadPlan, Memory, CannotRead, CannotWrite}
 
 -- number and name of a refusal
 abbrev pub refusal_text : Refusal → List ℕ
@@ -44,6 +40,8 @@ place_text place = decimal place.line ++ codes ":" ++ decimal place.column
 abbrev pub fault_text : Fault → List ℕ
 fault_text (Refused refusal place) = codes "refused " ++ refusal_text refusal ++ codes " at " ++ place_text place
 fault_text NoSuchTestCase = codes "refused U1 NoSuchTestCase"
+fault_text (BadLabel line) = codes "refused N1 BadLabel at line " ++ decimal line
+fault_text (NotEnabled label) = codes "refused N2 NotEnabled at label " ++ decimal label
 fault_text TooMany = codes "refused E1 TooMany"
 fault_text BadPlan = codes "refused E2 BadPlan"
 fault_text Memory = codes "out of memory"
@@ -54,11 +52,20 @@ fault_text CannotWrite = codes "cannot write"
 abbrev pub status_of : Fault → ℕ
 status_of (Refused refusal place) = 1
 status_of NoSuchTestCase = 1
+status_of (BadLabel line) = 1
+status_of (NotEnabled label) = 1
 status_of BadPlan = 2
 status_of TooMany = 3
 status_of Memory = 4
 status_of (CannotRead file) = 5
 status_of CannotWrite = 5
+
+-- faults that tell the same, wherever in a module they stand
+abbrev pub SameFault : Fault → Fault → Type 0
+SameFault (Refused why place) (Refused other there) = why ≡ other
+SameFault (Refused why place) other = ⊥
+SameFault one (Refused why place) = ⊥
+SameFault one other = one ≡ other
 
 -- the fault of a text that can't be cut into tokens; a text that is too long is at fault as a whole
 abbrev pub lexical_fault : LexError → Fault
@@ -70,34 +77,14 @@ lexical_fault (lexical.IntegerTooLarge place) = Refused IntegerTooLarge place
 lexical_fault lexical.Memory = Memory
 
 -- the fault of tokens that spell no module
-abbrev pub parse_fault : ParseError → Fault
-parse_fault (parsing.TooDeep place) = Refused TooDeep place
-parse_fault (parsing.LeftOut place) = Refused LeftOut place
-parse_fault (parsing.Unexpected place) = Refused Unexpected place
-parse_fault parsing.Memory = Memory
-
--- the rule of the whole language that a rule of its part is
-abbrev pub whole_rule : part.Rule → Rule
-whole_rule rules.DuplicateName = rule.DuplicateName
-whole_rule rules.UnknownName = rule.UnknownName
-whole_rule rules.OperandType = rule.OperandType
-whole_rule rules.ValueType = rule.ValueType
-whole_rule rules.VerdictError = rule.VerdictError
-
--- the fault of a module that isn't well typed
-abbrev pub check_fault : CheckError → Fault
-check_fault (checking.Broken rule place) = Refused (Broken (whole_rule rule)) place
-check_fault (checking.Memory error) = Memory
-
--- the fault of tokens that spell no module of the whole language
-abbrev pub grammar_fault : whole.ParseError → Fault
+abbrev pub grammar_fault : ParseError → Fault
 grammar_fault (reading.TooDeep place) = Refused TooDeep place
 grammar_fault (reading.LeftOut place) = Refused LeftOut place
 grammar_fault (reading.Unexpected place) = Refused Unexpected place
 grammar_fault reading.Memory = Memory
 
--- the fault of a module of the whole language that isn't well typed
-abbrev pub typing_fault : typed.CheckError → Fault
+-- the fault of a module that isn't well typed
+abbrev pub typing_fault : CheckError → Fault
 typing_fault (typing.Broken rule place) = Refused (Broken rule) place
 typing_fault (typing.Memory error) = Memory
 
@@ -106,3 +93,13 @@ abbrev pub explore_fault : ExploreError → Fault
 explore_fault searching.BadPlan = BadPlan
 explore_fault searching.TooMany = TooMany
 explore_fault searching.Memory = Memory
+
+-- the fault of a run file that is no list of labels
+abbrev pub listing_fault : RunError → Fault
+listing_fault (listing.BadLabel line) = BadLabel line
+listing_fault listing.Memory = Memory
+
+-- the fault of labels that are no run
+abbrev pub replay_fault : ReplayError → Fault
+replay_fault (replaying.NotEnabled label) = NotEnabled label
+replay_fault replaying.Memory = Memory

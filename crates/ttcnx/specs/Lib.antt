@@ -1,9 +1,6 @@
 pub mod Answer
 pub mod Checked
-pub mod Command
 pub mod Fault
-pub mod Machine
-pub mod Report
-pub mod Same
-pub mod Steps
+pub mod Named
+pub mod Replayed
 pub mod Tells

@@ -1,24 +1,25 @@
--- What a report says about the runs of a test case.
-use Rattle.std.specs.Prelude.{◌≡◌, ◌≤◌, ◌↔◌, ℕ, List, [], ◌∷◌, Option, None, Some, IsTrue, string_bytes}
+-- What a report says about the runs of a test case (ES 201 873-4).
+use Rattle.std.specs.Prelude.{◌≡◌, ◌≤◌, ◌↔◌, ℕ, List, [], ◌∷◌, Option, None, Some, IsTrue, map, string_bytes}
 use Rattle.std.specs.List.{filter_map}
+use Rattle.std.specs.Option.{option_map}
 use Rattle.std.specs.declared.alloc.Global.{Global}
 use Rattle.std.specs.declared.vec.Vec.{Vec}
-use Rattle.summary.specs.Graph.{Graph}
-use Rattle.summary.specs.Exploration.{Counts, IsComplete}
-use Rattle.explore.specs.Best.{IsBestOf}
+use Rattle.ttcn_syntax.specs.declared.place.Span.{Span}
+use Rattle.ttcn_syntax.specs.declared.tree.statement.Verdict.{Verdict}
+use Rattle.ttcn_syntax.specs.declared.tree.statement.Verdict.TheVariants as verdict
+use Rattle.ttcn_values.specs.declared.path.Path.{Path}
+use Rattle.step_rules.specs.Snapshots.{Test}
+use Rattle.step_labels.specs.declared.label.Label.{Label}
+use Rattle.live_laws.specs.Parts.{CountsParts, IsCompleteByParts}
 use Rattle.explore.specs.declared.plan.Plan.{Plan}
-use Rattle.basic.specs.Verdict.{mark_of}
-use Rattle.ttcnx.specs.contracts.label.LabelOrd.TheImpl as label
-use Rattle.ttcnx.specs.Steps.{Situation}
-use Rattle.ttcnx.specs.declared.label.Label.{Label}
-use Rattle.ttcnx.specs.declared.report.Outcome.{Outcome}
-use Rattle.ttcnx.specs.declared.report.Report.{Report}
-use Rattle.basic.specs.declared.verdict.Verdict.{Verdict}
-use Rattle.basic.specs.declared.verdict.Verdict.TheVariants as verdicts
+use Rattle.exploration.specs.Found.{AreBlocked, AreBranches, IsBestRun}
+use Rattle.report.specs.declared.report.Outcome.{Outcome}
+use Rattle.report.specs.declared.report.Report.{Report}
+use Rattle.report.specs.declared.report.Standing.{Standing}
 
 -- all verdicts, from the best on
 abbrev pub all_verdicts : List Verdict
-all_verdicts = verdicts.None ∷ verdicts.Pass ∷ verdicts.Inconc ∷ verdicts.Fail ∷ verdicts.Error ∷ []
+all_verdicts = verdict.None ∷ verdict.Pass ∷ verdict.Inconc ∷ verdict.Fail ∷ verdict.Error ∷ []
 
 -- a verdict with its run, if it has one
 abbrev pub outcome_of : Verdict → Option (Vec Label Global) → Option Outcome
@@ -29,14 +30,30 @@ outcome_of verdict (Some run) = Some (record { verdict = verdict; run = run })
 abbrev pub outcomes_of : (Verdict → Option (Vec Label Global)) → List Outcome
 outcomes_of run_of = filter_map (λ verdict. outcome_of verdict (run_of verdict)) all_verdicts
 
--- the report tells of the runs of at most the plan's steps: how many configurations they reach, whether there are no
--- others, and for each verdict that a run ends with the least of the shortest such runs
-pub record Tells (g : Graph Situation Label) (name : List ℕ) (plan : Plan) (report : Report) : Type 0 where
+-- the labels of a run, if there is one
+abbrev pub labels_in : Option (Vec Label Global) → Option (List Label)
+labels_in run = option_map (λ run. run.items) run
+
+-- a component and the place where it stands
+abbrev pub standing_in : Standing → Path × Span
+standing_in standing = (standing.component, standing.place)
+
+-- the report is true of the runs of at most n steps: how many configurations with different live parts they reach, for each
+-- verdict that a run ends with the least of the shortest such runs, the branches that are taken, and the components that are
+-- blocked
+pub record TellsOfRuns (test : Test) (n : ℕ) (report : Report) : Type 0 where
+  pub configurations : CountsParts test n report.configurations
+  pub run_of : Verdict → Option (Vec Label Global)
+  pub best : (verdict : Verdict) → IsBestRun test n verdict (labels_in (run_of verdict))
+  pub outcomes : report.outcomes.items ≡ outcomes_of run_of
+  pub branches : AreBranches test n report.branches.items
+  pub blocked : AreBlocked test n (map standing_in report.blocked.items)
+
+-- the report has the test case's name and the plan's steps, is true of the runs of at most so many steps, and says whether
+-- longer runs reach no other configuration
+pub record Tells (test : Test) (name : List ℕ) (plan : Plan) (report : Report) : Type 0 where
   pub testcase : string_bytes report.testcase ≡ name
   pub steps : report.steps ≡ plan.steps
-  pub configurations : Counts g plan.steps report.configurations
   pub within : report.configurations ≤ plan.limit
-  pub complete : IsTrue report.complete ↔ IsComplete g plan.steps
-  pub run_of : Verdict → Option (Vec Label Global)
-  pub best : (verdict : Verdict) → IsBestOf g (label.ghosts).cmp plan.steps (mark_of verdict) (run_of verdict)
-  pub outcomes : report.outcomes.items ≡ outcomes_of run_of
+  pub runs : TellsOfRuns test plan.steps report
+  pub complete : IsTrue report.complete ↔ IsCompleteByParts test plan.steps

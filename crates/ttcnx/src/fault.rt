@@ -1,13 +1,15 @@
 //! Why there is no answer: the line that tells it, and the status that the program exits with.
 ghost use Rattle.std.specs.Prelude.{◌≡◌, Some, IfOk, string_bytes};
-ghost use Rattle.ttcnx.specs.Fault.{fault_text, refusal_text, status_of, whole_rule};
+ghost use Rattle.ttcnx.specs.Fault.{fault_text, refusal_text, status_of};
 
-use basic::{CheckError, ParseError};
 use explore::ExploreError;
+use report::RunError;
 use std::alloc::{AllocError, AllocFailed, Global};
 use std::fmt;
+use ttcn_parse::ParseError;
+use ttcn_step::ReplayError;
 use ttcn_syntax::{LexError, Span};
-use ttcn_types::Rule;
+use ttcn_types::{CheckError, Rule};
 
 /// Why a text is no module.
 #[derive(Clone, Copy, Debug, PartialEq, Eq)]
@@ -30,6 +32,10 @@ pub enum Fault {
     /// The text is no module; the place is that of the fault.
     Refused(Refusal, Span),
     NoSuchTestCase,
+    /// The line of a run file of this number, counted from 1, is no label.
+    BadLabel(usize),
+    /// The label of a run of this number, counted from 1, is not enabled where it stands.
+    NotEnabled(usize),
     TooMany,
     BadPlan,
     Memory,
@@ -69,6 +75,8 @@ impl fmt::Display for Fault {
                 write!(f, "refused {refusal} at {line}:{column}")
             }
             Fault::NoSuchTestCase => f.write_str("refused U1 NoSuchTestCase"),
+            Fault::BadLabel(line) => write!(f, "refused N1 BadLabel at line {line}"),
+            Fault::NotEnabled(label) => write!(f, "refused N2 NotEnabled at label {label}"),
             Fault::TooMany => f.write_str("refused E1 TooMany"),
             Fault::BadPlan => f.write_str("refused E2 BadPlan"),
             Fault::Memory => f.write_str("out of memory"),
@@ -92,7 +100,7 @@ pub fn status(fault: &Fault) -> u8
     ensures { result ≡ status_of fault.now }
 {
     match fault {
-        Fault::Refused(..) | Fault::NoSuchTestCase => 1,
+        Fault::Refused(..) | Fault::NoSuchTestCase | Fault::BadLabel(_) | Fault::NotEnabled(_) => 1,
         Fault::BadPlan => 2,
         Fault::TooMany => 3,
         Fault::Memory => 4,
@@ -154,9 +162,9 @@ impl From<ExploreError> for Fault {
 }
 
 impl From<ParseError> for Fault {
-    ghost use Rattle.ttcnx.specs.Fault.{parse_fault};
+    ghost use Rattle.ttcnx.specs.Fault.{grammar_fault};
 
-    ghost from_gives = { λ error fault. fault ≡ parse_fault error };
+    ghost from_gives = { λ error fault. fault ≡ grammar_fault error };
 
     fn from(error: ParseError) -> Fault {
         match error {
@@ -169,59 +177,40 @@ impl From<ParseError> for Fault {
 }
 
 impl From<CheckError> for Fault {
-    ghost use Rattle.ttcnx.specs.Fault.{check_fault};
+    ghost use Rattle.ttcnx.specs.Fault.{typing_fault};
 
-    ghost from_gives = { λ error fault. fault ≡ check_fault error };
+    ghost from_gives = { λ error fault. fault ≡ typing_fault error };
 
     fn from(error: CheckError) -> Fault {
         match error {
-            CheckError::Broken(rule, place) => {
-                Fault::Refused(Refusal::Broken(whole_rule(rule)), place)
-            }
+            CheckError::Broken(rule, place) => Fault::Refused(Refusal::Broken(rule), place),
             CheckError::Memory(_) => Fault::Memory,
         }
     }
 }
 
-/// The rule of the whole language that a rule of its part is.
-fn whole_rule(rule: basic::Rule) -> Rule
-    ensures { result ≡ whole_rule rule }
-{
-    match rule {
-        basic::Rule::DuplicateName => Rule::DuplicateName,
-        basic::Rule::UnknownName => Rule::UnknownName,
-        basic::Rule::OperandType => Rule::OperandType,
-        basic::Rule::ValueType => Rule::ValueType,
-        basic::Rule::VerdictError => Rule::VerdictError,
-    }
-}
+impl From<RunError> for Fault {
+    ghost use Rattle.ttcnx.specs.Fault.{listing_fault};
 
-impl From<ttcn_parse::ParseError> for Fault {
-    ghost use Rattle.ttcnx.specs.Fault.{grammar_fault};
+    ghost from_gives = { λ error fault. fault ≡ listing_fault error };
 
-    ghost from_gives = { λ error fault. fault ≡ grammar_fault error };
-
-    fn from(error: ttcn_parse::ParseError) -> Fault {
+    fn from(error: RunError) -> Fault {
         match error {
-            ttcn_parse::ParseError::TooDeep(place) => Fault::Refused(Refusal::TooDeep, place),
-            ttcn_parse::ParseError::LeftOut(place) => Fault::Refused(Refusal::LeftOut, place),
-            ttcn_parse::ParseError::Unexpected(place) => Fault::Refused(Refusal::Unexpected, place),
-            ttcn_parse::ParseError::Memory => Fault::Memory,
+            RunError::BadLabel(line) => Fault::BadLabel(line),
+            RunError::Memory => Fault::Memory,
         }
     }
 }
 
-impl From<ttcn_types::CheckError> for Fault {
-    ghost use Rattle.ttcnx.specs.Fault.{typing_fault};
+impl From<ReplayError> for Fault {
+    ghost use Rattle.ttcnx.specs.Fault.{replay_fault};
 
-    ghost from_gives = { λ error fault. fault ≡ typing_fault error };
+    ghost from_gives = { λ error fault. fault ≡ replay_fault error };
 
-    fn from(error: ttcn_types::CheckError) -> Fault {
+    fn from(error: ReplayError) -> Fault {
         match error {
-            ttcn_types::CheckError::Broken(rule, place) => {
-                Fault::Refused(Refusal::Broken(rule), place)
-            }
-            ttcn_types::CheckError::Memory(_) => Fault::Memory,
+            ReplayError::NotEnabled(label) => Fault::NotEnabled(label),
+            ReplayError::Memory => Fault::Memory,
         }
     }
 }

@@ -2,18 +2,15 @@
 #![tactic(auto)]
 
 mod check;
-mod command;
-mod configuration;
 mod fault;
-mod label;
-mod machine;
-mod report;
+mod replay;
 mod run;
+mod testcase;
 
 pub use check::{check_answer, check_text};
-pub use command::{Line, LineError, read_line};
+pub use command_line::{Line, LineError, read_line};
 pub use fault::{Fault, Refusal, fault_line, status};
-pub use label::Label;
-pub use report::{Outcome, Report, to_text};
+pub use replay::replay_text;
+pub use report::{Outcome, Report, Standing, to_json, to_text};
 pub use run::run_text;
 pub use ttcn_types::Rule;

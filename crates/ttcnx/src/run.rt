@@ -1,22 +1,34 @@
 //! From the text of a module to the report on one of its test cases.
-ghost use Rattle.std.specs.Prelude.{◌≡◌, ◌<◌, ◌⊎◌, ◌↔◌, length, Result, Err, IfOk, IfErr, IsErrOf, string_bytes};
+ghost use Rattle.std.specs.Prelude.{◌≡◌, ℕ, ◌<◌, ◌≤◌, ◌⊎◌, ◌↔◌, length, Err, IfOk, IsErrOf, IsTrue, map, string_bytes};
 ghost use Rattle.std.specs.List.{filter_map, zip};
 ghost use Rattle.explore.specs.Limits.{IsWithinLimits};
+ghost use Rattle.step_rules.specs.Snapshots.{Test};
+ghost use Rattle.ttcn_step.specs.Standing.{standing_by};
 ghost use Rattle.ttcn_syntax.specs.Limits.{longest_text};
-ghost use Rattle.ttcnx.specs.Answer.{HasOneAnswer, IsAnswer, OfTestCase, OfText, body_of};
+ghost use Rattle.ttcnx.specs.Answer.{HasOneAnswer, IsAnswer};
 ghost use Rattle.ttcnx.specs.Fault.{lexical_fault};
-ghost use Rattle.ttcnx.specs.Tells.{all_verdicts, outcome_of};
+ghost use Rattle.ttcnx.specs.Named.{IsTestOf};
+ghost use Rattle.ttcnx.specs.Tells.{TellsOfRuns, all_verdicts, outcome_of, standing_in};
 
 use crate::fault::Fault;
-use crate::label::Label;
-use crate::machine::Machine;
-use crate::report::{Outcome, Report};
-use basic::{Definition, Kind, Module, Statement, Verdict, check, parse};
-use explore::{Answer, Gate, Plan, explore};
+use crate::testcase::testcase_of;
+use exploration::{Exploration, explore_runs};
+use explore::{Gate, Plan};
+use report::{Outcome, Report, Standing};
 use std::alloc::{AllocError, Global};
 use std::thread::Threads;
-use summary::Verdicts;
-use ttcn_syntax::{LexError, Seq, lex};
+use step_labels::Label;
+use ttcn_step::Machine;
+use ttcn_syntax::{LexError, Verdict};
+
+/// The verdicts, from the best on.
+const VERDICTS: [Verdict; 5] = [
+    Verdict::None,
+    Verdict::Pass,
+    Verdict::Inconc,
+    Verdict::Fail,
+    Verdict::Error,
+];
 
 /// Explores the runs of the test case of this name. Refusals come in the order of the work: the plan, the text, its
 /// tokens, its module, the name, the number of configurations.
@@ -34,6 +46,10 @@ pub fn run_text<G: Gate, R: Threads + Sync>(
     // A text, a name and a plan have one answer: so each answer is given exactly where it is said to be.
     ensures one { HasOneAnswer text.now name.now plan.now }
 
+    // Where it is complete, the report is true of the runs of every greater bound.
+    ensures every_bound { IfOk result (λ report. IsTrue report.complete → (test : Test) → IsTestOf text.now name.now test
+        → (bound : ℕ) → plan.now.steps ≤ bound → TellsOfRuns test bound report) }
+
     // These two are decided before memory is asked for.
     ensures bad_plan { IsErrOf result Fault.BadPlan ↔ (IsWithinLimits plan.now → ⊥) }
     ensures too_long { IsWithinLimits plan.now → longest_text < length text.now
@@ -42,74 +58,43 @@ pub fn run_text<G: Gate, R: Threads + Sync>(
     if !plan.is_within_limits() {
         return Err(Fault::BadPlan);
     }
-    let machine = machine_of(alloc, text, name)?;
-    let answer: Answer<Verdicts, Label> = explore(rt, alloc, &machine, plan, gate)?;
-    Ok(report_of(alloc, name, plan.steps, answer)?)
+    let (program, testcase) = testcase_of(alloc, text, name)?;
+    let machine = Machine::new(alloc, &program, testcase)?;
+    let found = explore_runs(rt, alloc, &machine, plan, gate)?;
+    Ok(report_of(alloc, name, plan.steps, found)?)
 }
 
-/// The steps of the test case of this name.
-fn machine_of(alloc: Global, text: &[u8], name: &str) -> Result<Machine, Fault>
-    // What is answered for the test case's statements is answered for the text.
-    ensures machine { IfOk result (λ machine. (plan : Plan) (answer : Result Report Fault)
-        → OfTestCase machine.body name.now plan answer → OfText text.now name.now plan answer) }
-    ensures refused { IfErr result (λ fault. (fault ≡ Fault.Memory) ⊎ ((plan : Plan) → OfText text.now name.now plan (Err fault))) }
-    ensures planned { IsErrOf result Fault.BadPlan → ⊥ }
-    ensures too_long { longest_text < length text.now → result ≡ Err (lexical_fault LexError.TextTooLong) }
-{
-    let tokens = lex(alloc, text)?;
-    let module = parse(alloc, tokens.as_slice())?;
-    check(alloc, &module)?;
-    match body_of(module, name) {
-        Some(body) => Ok(Machine { body }),
-        None => Err(Fault::NoSuchTestCase),
-    }
-}
-
-/// The statements of the test case of this name.
-fn body_of(module: Module, name: &str) -> Option<Seq<Statement>>
-    ensures { result ≡ body_of «module».definitions name.now }
-{
-    let Module { definitions } = module;
-    for definition in definitions.into_vec() {
-        let Definition {
-            name: found,
-            kind,
-            ..
-        } = definition;
-        if found.as_bytes() == name.as_bytes() {
-            if let Kind::Testcase(behaviour) = kind {
-                return Some(behaviour.body);
-            }
-        }
-    }
-    None
-}
-
+/// The report on what was found.
 fn report_of(
     alloc: Global,
     name: &str,
     steps: u64,
-    answer: Answer<Verdicts, Label>,
+    found: Exploration,
 ) -> Result<Report, AllocError>
     ensures testcase { IfOk result (λ report. string_bytes report.testcase ≡ name.now) }
     ensures steps { IfOk result (λ report. report.steps ≡ steps) }
-    ensures configurations { IfOk result (λ report. report.configurations ≡ answer.count) }
-    ensures complete { IfOk result (λ report. report.complete ≡ answer.complete) }
+    ensures configurations { IfOk result (λ report. report.configurations ≡ found.configurations) }
+    ensures complete { IfOk result (λ report. report.complete ≡ found.complete) }
     ensures outcomes { IfOk result (λ report. report.outcomes.items
-        ≡ filter_map (λ pair. outcome_of pair.0 pair.1) (zip all_verdicts answer.best.items)) }
+        ≡ filter_map (λ pair. outcome_of pair.0 pair.1) (zip all_verdicts found.best.items)) }
+    ensures branches { IfOk result (λ report. report.branches.items ≡ found.branches.items) }
+    ensures blocked { IfOk result (λ report. map standing_in report.blocked.items ≡ map standing_by found.blocked.items) }
 {
-    let Answer {
-        summary: _,
-        count,
+    let Exploration {
+        configurations,
         complete,
         best,
-    } = answer;
+        branches,
+        blocked,
+    } = found;
     Ok(Report {
         testcase: String::from_str(alloc, name)?,
         steps,
-        configurations: count,
+        configurations,
         complete,
         outcomes: outcomes_of(alloc, best)?,
+        branches,
+        blocked: standings_of(alloc, blocked)?,
     })
 }
 
@@ -118,7 +103,7 @@ fn outcomes_of(alloc: Global, best: Vec<Option<Vec<Label>>>) -> Result<Vec<Outco
     ensures { IfOk result (λ outcomes. outcomes.items
         ≡ filter_map (λ pair. outcome_of pair.0 pair.1) (zip all_verdicts best.items)) }
 {
-    Verdict::ALL
+    VERDICTS
         .iter()
         .zip(best)
         .filter_map(|(verdict, run)| outcome_of(*verdict, run))
@@ -129,4 +114,19 @@ fn outcome_of(verdict: Verdict, run: Option<Vec<Label>>) -> Option<Outcome>
     ensures { result ≡ outcome_of verdict run }
 {
     Some(Outcome { verdict, run: run? })
+}
+
+/// The blocked components, as a report has them.
+fn standings_of(
+    alloc: Global,
+    blocked: Vec<ttcn_step::Standing>,
+) -> Result<Vec<Standing>, AllocError>
+    ensures { IfOk result (λ standings. map standing_in standings.items ≡ map standing_by blocked.items) }
+{
+    let mut standings = Vec::new(alloc);
+    for standing in blocked {
+        let ttcn_step::Standing { component, place } = standing;
+        standings.push(Standing { component, place })?;
+    }
+    Ok(standings)
 }

@@ -7,10 +7,11 @@ use std::thread::Threads;
 use std::{env, fs};
 use ttcn_syntax::LONGEST_TEXT;
 use ttcnx::{
-    Fault, Line, LineError, check_answer, fault_line, read_line, run_text, status, to_text,
+    Fault, Line, LineError, check_answer, fault_line, read_line, replay_text, run_text, status,
+    to_json, to_text,
 };
 
-/// How many bytes of a file are read: a text that has them all is refused as too long.
+/// How many bytes of a module are read: a text that has them all is refused as too long.
 const ENOUGH: u64 = LONGEST_TEXT as u64 + 1;
 
 /// Why there is nothing to write to the standard output.
@@ -40,7 +41,7 @@ where
     R: Env + Files + Print + Eprint + AllocGlobal + Threads + Sync,
 {
     match answer(rt) {
-        Ok(text) => match rt.print(&text) {
+        Ok(bytes) => match Print::write_all(rt, &bytes) {
             Ok(()) => 0,
             Err(_) => tell(rt, &Fault::CannotWrite),
         },
@@ -66,8 +67,8 @@ fn tell<R: Eprint + AllocGlobal>(rt: &R, fault: &Fault) -> u8 {
     }
 }
 
-/// The text for the standard output.
-fn answer<R>(rt: &R) -> Result<String, Stop>
+/// The bytes for the standard output.
+fn answer<R>(rt: &R) -> Result<Vec<u8>, Stop>
 where
     R: Env + Files + AllocGlobal + Threads + Sync,
 {
@@ -76,23 +77,38 @@ where
     let texts: Vec<&str> = words.iter().map(|word| word.as_str()).collect(alloc)?;
     let line = match read_line(alloc, texts.get(1..).unwrap_or(&[])) {
         Ok(line) => line,
-        Err(LineError::Help(text)) => return Ok(text),
+        Err(LineError::Help(text)) => return Ok(text.into_bytes()),
         Err(LineError::Bad(text)) => return Err(Stop::Words(text)),
         Err(LineError::Memory(_)) => return Err(Stop::Fault(Fault::Memory)),
     };
     match line {
         Line::Check { file } => {
-            let text = read_text(rt, file)?;
-            Ok(check_answer(alloc, &text)?)
+            let text = read_bytes(rt, file, ENOUGH)?;
+            Ok(check_answer(alloc, &text)?.into_bytes())
         }
         Line::Run {
             file,
             testcase,
             plan,
+            json,
         } => {
-            let text = read_text(rt, file)?;
+            let text = read_bytes(rt, file, ENOUGH)?;
             let report = run_text(rt, alloc, &text, testcase.as_str(), &plan, &NoGate)?;
-            Ok(to_text(alloc, &report)?)
+            let told = if json {
+                to_json(alloc, &report)?
+            } else {
+                to_text(alloc, &report)?
+            };
+            Ok(told.into_bytes())
+        }
+        Line::Replay {
+            file,
+            testcase,
+            run,
+        } => {
+            let text = read_bytes(rt, file, ENOUGH)?;
+            let run = read_bytes(rt, run, u64::MAX)?;
+            Ok(replay_text(alloc, &text, testcase.as_str(), &run)?)
         }
     }
 }
@@ -109,17 +125,17 @@ fn words<R: Env + AllocGlobal>(rt: &R) -> Result<Vec<String>, Stop> {
     }
 }
 
-/// The bytes of a file, as many as a text may have and one more.
-fn read_text<R: Files + AllocGlobal>(rt: &R, file: String) -> Result<Vec<u8>, Fault> {
-    match read_bytes(rt, file.as_str()) {
-        Ok(text) => Ok(text),
+/// The bytes of a file, or so many of them where it has more.
+fn read_bytes<R: Files + AllocGlobal>(rt: &R, file: String, most: u64) -> Result<Vec<u8>, Fault> {
+    match bytes_of(rt, file.as_str(), most) {
+        Ok(bytes) => Ok(bytes),
         Err(error) if error.kind() == ErrorKind::OutOfMemory => Err(Fault::Memory),
         Err(_) => Err(Fault::CannotRead(file)),
     }
 }
 
-fn read_bytes<R: Files + AllocGlobal>(rt: &R, file: &str) -> io::Result<Vec<u8>> {
-    let mut text = Vec::new(rt.alloc());
-    fs::open(rt, file)?.take(ENOUGH).read_to_end(&mut text)?;
-    Ok(text)
+fn bytes_of<R: Files + AllocGlobal>(rt: &R, file: &str, most: u64) -> io::Result<Vec<u8>> {
+    let mut bytes = Vec::new(rt.alloc());
+    fs::open(rt, file)?.take(most).read_to_end(&mut bytes)?;
+    Ok(bytes)
 }

@@ -1,16 +1,9 @@
-//! Tests of the way from texts to what the program prints, in a crate of their own, since a crate with tests is proved
-//! twice.
+//! Tests of what no row of texts shows: lines of faults, plans beyond their limits, and workers that work at once.
 #![tactic(auto)]
 
 #[cfg(test)]
-mod checks;
+mod faults;
 #[cfg(test)]
-mod large;
+mod gate;
 #[cfg(test)]
-mod lines;
-#[cfg(test)]
-mod refusals;
-#[cfg(test)]
-mod rows;
-#[cfg(test)]
-mod texts;
+mod plans;

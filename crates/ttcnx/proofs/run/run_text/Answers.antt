@@ -1,66 +1,72 @@
-use Rattle.std.proofs.Common.{◌≡◌, ◌≤◌, ℕ, Bool, ◌∙◌, sym, subst, ap, inr, rules}
-use Rattle.std.specs.Prelude.{◌⊎◌, IsTrue, ◌↔◌, Ok, Err}
+use Rattle.std.proofs.Common.{◌≡◌, inl, inr, refl, sym, ap, subst}
+use Rattle.std.specs.Prelude.{◌⊎◌, Err}
 use Rattle.explore.specs.Limits.{IsWithinLimits}
-use Rattle.summary.specs.Exploration.{Counts, IsComplete}
-use Rattle.ttcnx.specs.Answer.{IsAnswer, beyond, told, within}
-use Rattle.ttcnx.specs.Fault.{explore_fault}
-use Rattle.ttcnx.specs.Steps.{graph_of}
-use Rattle.ttcnx.specs.Tells.{Tells}
-use Rattle.basic.specs.Verdict.{mark_of}
-use Rattle.ttcnx.specs.declared.fault.Fault.TheVariants.{Memory}
-use Rattle.ttcnx.proofs.Outcomes.{kept, mark_below_8, outcomes_of-kept}
-use Rattle.ttcnx.proofs.Positions.{best_there, complete_there, counts_there}
-use Rattle.ttcnx.specs.contracts.label.LabelOrd.TheImpl as label
-use Rattle.ttcnx.proofs.Stages.{as_error, refusal_answers, search_answers}
+use Rattle.step_rules.specs.Snapshots.{Test}
+use Rattle.ttcnx.proofs.OneAnswer.{one_test}
+use Rattle.ttcnx.proofs.Stages.{as_error, name_answers, search_answers}
+use Rattle.ttcnx.proofs.Told.{IsMadeOf, complete_found, tells, tells_of_runs}
 use Rattle.ttcnx.proofs.run.run_text.Goals as goal
-
-complete_so : {P Q R : Type 0} → (P ↔ Q) → (Q ↔ R) → P ↔ R
-complete_so h k = ((λ p. k.0 (h.0 p)), (λ r. h.1 (k.1 r)))
+use Rattle.ttcnx.specs.Answer.{IsAnswer, beyond, named, told}
+use Rattle.ttcnx.specs.Fault.{explore_fault}
+use Rattle.ttcnx.specs.Named.{IsTestOf}
+use Rattle.ttcnx.specs.Tells.{TellsOfRuns}
+use Rattle.ttcnx.specs.declared.fault.Fault.TheVariants.{Memory}
 
 pub returns-then-not-is_within_limits-clause-answer : goal.returns-then-not-is_within_limits-clause-answer
-returns-then-not-is_within_limits-clause-answer g c =
-    let out : IsWithinLimits c.args.plan.now → ⊥ = search rules in
-    inr (beyond out)
+returns-then-not-is_within_limits-clause-answer g c = inr (beyond (λ fine. let off = c.if-not-is_within_limits.ensures.1 fine in cc))
 
-pub returns-in_err-machine-clause-answer : goal.returns-in_err-machine-clause-answer
-returns-in_err-machine-clause-answer g c =
-    let fine : IsWithinLimits c.args.plan.now = search rules in
-    let why = c.in_err-machine.field-0.0 in
+pub returns-in_err-program-clause-answer : goal.returns-in_err-program-clause-answer
+returns-in_err-program-clause-answer g c =
+    let why = c.in_err-program.field-0.0 in
+    let fine = c.if-not-is_within_limits.ensures.0 refl in
     as_error c.from_residual.result why (λ r. (r ≡ Err Memory) ⊎ IsAnswer c.args.text.now c.args.name.now c.args.plan.now r)
-    c.from_residual.ensures.0 c.from_residual.ensures.1
-    (refusal_answers c.args.text.now c.args.name.now c.args.plan.now why fine c.in_err-machine.ensures.refused)
+    c.from_residual.ensures.0 c.from_residual.ensures.1 (name_answers c.args.text.now c.args.name.now c.args.plan.now why fine c.in_err-program.ensures.lacking)
 
-pub returns-in_err-answer-clause-answer : goal.returns-in_err-answer-clause-answer
-returns-in_err-answer-clause-answer g c =
-    let fine : IsWithinLimits c.args.plan.now = search rules in
-    let error = c.in_err-answer.field-0.0 in
-    let found = c.in_err-answer.ensures in
-    let body = c.in_ok-machine.machine.body in
-    as_error c.from_residual-in_err-answer.result (explore_fault error) (λ r. (r ≡ Err Memory) ⊎ IsAnswer c.args.text.now c.args.name.now c.args.plan.now r)
-    c.from_residual-in_err-answer.ensures.0 c.from_residual-in_err-answer.ensures.1
-    (search_answers c.args.text.now c.args.name.now c.args.plan.now body error fine
-    (λ is. found.bad_plan.0 (ap Err is))
-    (λ is. let more = found.too_many (ap Err is) in (more.0, counts_there body c.args.plan.now.steps more.0 more.1, more.2))
-    (λ answer. c.in_ok-machine.ensures.machine c.args.plan.now answer))
+pub returns-in_err-found-clause-answer : goal.returns-in_err-found-clause-answer
+returns-in_err-found-clause-answer g c =
+    let error = c.in_err-found.field-0.0 in
+    let fine = c.if-not-is_within_limits.ensures.0 refl in
+    let machine = c.in_ok-machine.machine in
+    let is = subst (λ (t : Test). IsTestOf c.args.text.now c.args.name.now t) (sym c.in_ok-machine.ensures) c.in_ok-program.ensures.named in
+    as_error c.from_residual-in_err-found.result (explore_fault error) (λ r. (r ≡ Err Memory) ⊎ IsAnswer c.args.text.now c.args.name.now c.args.plan.now r)
+    c.from_residual-in_err-found.ensures.0 c.from_residual-in_err-found.ensures.1
+    (search_answers c.args.text.now c.args.name.now c.args.plan.now machine.test error fine is (λ same. c.in_err-found.ensures.bad_plan.0 (ap Err same)) (λ same. c.in_err-found.ensures.too_many (ap Err same)))
+
+pub returns-in_err-report_of-clause-answer : goal.returns-in_err-report_of-clause-answer
+returns-in_err-report_of-clause-answer g c =
+    as_error c.from_residual-in_err-report_of.result Memory (λ r. (r ≡ Err Memory) ⊎ IsAnswer c.args.text.now c.args.name.now c.args.plan.now r)
+    c.from_residual-in_err-report_of.ensures.0 c.from_residual-in_err-report_of.ensures.1 (inl refl)
 
 pub returns-clause-answer : goal.returns-clause-answer
 returns-clause-answer g c =
-    let fine : IsWithinLimits c.args.plan.now = search rules in
-    let body = c.in_ok-machine.machine.body in
-    let report = c.in_ok-report_of.ensures in
-    let found = c.in_ok-answer.ensures in
-    let answer = c.in_ok-answer.answer in
-    let tells : Tells (graph_of body) c.args.name.now c.args.plan.now c.in_ok-report_of.field-0 = record {
-      testcase = report.testcase;
-      steps = report.steps;
-      configurations = subst (λ (n : ℕ). Counts (graph_of body) c.args.plan.now.steps n) (sym report.configurations)
-          (counts_there body c.args.plan.now.steps answer.count found.count.0);
-      within = subst (λ (n : ℕ). n ≤ c.args.plan.now.limit) (sym report.configurations) found.count.1;
-      complete = subst (λ (b : Bool). IsTrue b ↔ IsComplete (graph_of body) c.args.plan.now.steps) (sym report.complete)
-          (complete_so found.complete (complete_there body c.args.plan.now.steps));
-      run_of = kept answer.best.items;
-      best = λ verdict. best_there body (label.ghosts).cmp c.args.plan.now.steps (mark_of verdict) (kept answer.best.items verdict)
-          (found.best.each (mark_of verdict) (mark_below_8 verdict));
-      outcomes = report.outcomes ∙ outcomes_of-kept answer.best.items found.best.eight;
+    let fine = c.if-not-is_within_limits.ensures.0 refl in
+    let machine = c.in_ok-machine.machine in
+    let is = subst (λ (t : Test). IsTestOf c.args.text.now c.args.name.now t) (sym c.in_ok-machine.ensures) c.in_ok-program.ensures.named in
+    let found = c.in_ok-found.found in
+    let report = c.in_ok-report_of.field-0 in
+    let made : IsMadeOf found report = record {
+      configurations = c.in_ok-report_of.ensures.configurations;
+      complete = c.in_ok-report_of.ensures.complete;
+      outcomes = c.in_ok-report_of.ensures.outcomes;
+      branches = c.in_ok-report_of.ensures.branches;
+      blocked = c.in_ok-report_of.ensures.blocked;
     } in
-    inr (within fine (c.in_ok-machine.ensures.machine c.args.plan.now (Ok c.in_ok-report_of.field-0) (told tells)))
+    inr (named fine is (told (tells machine.test c.args.name.now c.args.plan.now found report made c.in_ok-report_of.ensures.testcase c.in_ok-report_of.ensures.steps
+    c.in_ok-found.ensures.found c.in_ok-found.ensures.within c.in_ok-found.ensures.complete)))
+
+pub returns-clause-every_bound : goal.returns-clause-every_bound
+returns-clause-every_bound g c =
+    let machine = c.in_ok-machine.machine in
+    let is = subst (λ (t : Test). IsTestOf c.args.text.now c.args.name.now t) (sym c.in_ok-machine.ensures) c.in_ok-program.ensures.named in
+    let found = c.in_ok-found.found in
+    let report = c.in_ok-report_of.field-0 in
+    let made : IsMadeOf found report = record {
+      configurations = c.in_ok-report_of.ensures.configurations;
+      complete = c.in_ok-report_of.ensures.complete;
+      outcomes = c.in_ok-report_of.ensures.outcomes;
+      branches = c.in_ok-report_of.ensures.branches;
+      blocked = c.in_ok-report_of.ensures.blocked;
+    } in
+    λ complete test is_test bound above.
+    subst (λ (t : Test). TellsOfRuns t bound report) (one_test c.args.text.now c.args.name.now machine.test test is is_test)
+    (tells_of_runs machine.test bound found report made (c.in_ok-found.ensures.every_bound (complete_found found report made complete) bound above))

@@ -1,9 +1,0 @@
-pub mod Checking
-pub mod Grammar
-pub mod Level
-pub mod Reader
-pub mod Refused
-pub mod Rules
-pub mod Scopes
-pub mod Types
-pub mod Verdict

@@ -1,0 +1,7 @@
+pub mod Graphs
+pub mod Interned
+pub mod Machines
+pub mod Scopes
+pub mod States
+pub mod Systems
+pub mod Trees

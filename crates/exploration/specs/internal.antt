@@ -1,0 +1,3 @@
+pub mod Explored
+pub mod Kept
+pub mod Sums

@@ -1,0 +1,52 @@
+-- A text, the name of a test case and a run file have one answer.
+use Rattle.std.proofs.Common.{◌≡◌, ℕ, List, refl, sym, ap, subst, ◌∙◌}
+use Rattle.std.specs.Prelude.{Result, Ok, Err, map}
+use Rattle.report.proofs.Lines.{first_bad_same, run_has_no_bad, run_same}
+use Rattle.report.specs.Runs.{ReadsRun, lines_of}
+use Rattle.step_labels.specs.Labels.{label_by}
+use Rattle.step_labels.specs.declared.label.Label.{Label}
+use Rattle.step_rules.specs.Configurations.{Configuration}
+use Rattle.step_rules.specs.Runs.{replay}
+use Rattle.step_rules.specs.Snapshots.{Test}
+use Rattle.ttcnx.specs.Replayed.{Answer, HasOneReplay, IsReplay, OfRun, SameReplay, bad_label, lacking, named, not_enabled, replayed, replayed_text}
+use Rattle.ttcnx.specs.declared.fault.Fault.TheVariants as fault
+use Rattle.ttcnx.proofs.OneAnswer.{not_both, one_reason, one_test}
+
+ok_is : {A E : Type 0} {a b : A} → ◌≡◌ {A = Result A E} (Ok a) (Ok b) → a ≡ b
+ok_is {A = A} {E = E} {a = a} h =
+    let the : Result A E → A = λ r. elim r as (λ _. A) [ Ok x ↦ x | Err e ↦ a ] in ap the h
+
+err_is : {A E : Type 0} {a b : E} → ◌≡◌ {A = Result A E} (Err a) (Err b) → a ≡ b
+err_is {A = A} {E = E} {a = a} h =
+    let the : Result A E → E = λ r. elim r as (λ _. E) [ Ok x ↦ a | Err e ↦ e ] in ap the h
+
+module _ (test : Test) (run : List ℕ) where
+  -- labels that were read from one file lead to one end
+  one_end : (labels others : List Label) (a b : Result Configuration ℕ) → ReadsRun (lines_of run) labels → ReadsRun (lines_of run) others
+      → replay test (map label_by labels) ≡ a → replay test (map label_by others) ≡ b → a ≡ b
+  one_end labels others a b reads also ends too =
+      sym ends ∙ ap (λ labels. replay test (map label_by labels)) (run_same (lines_of run) labels others reads also) ∙ too
+
+  one_of_run : (a b : Answer) → OfRun test run a → OfRun test run b → SameReplay a b
+  one_of_run a b (bad_label {number = m} bad) (bad_label {number = n} also) = ap fault.BadLabel (first_bad_same (lines_of run) m n bad also)
+  one_of_run a b (bad_label {number = m} bad) (not_enabled labels reads ends) = absurd (run_has_no_bad (lines_of run) labels m reads bad)
+  one_of_run a b (bad_label {number = m} bad) (replayed labels c reads ends told) = absurd (run_has_no_bad (lines_of run) labels m reads bad)
+  one_of_run a b (not_enabled labels reads ends) (bad_label {number = m} bad) = absurd (run_has_no_bad (lines_of run) labels m reads bad)
+  one_of_run a b (not_enabled {number = m} labels reads ends) (not_enabled {number = n} others also too) =
+      ap fault.NotEnabled (err_is (one_end labels others (Err m) (Err n) reads also ends too))
+  one_of_run a b (not_enabled {number = m} labels reads ends) (replayed others c also too told) =
+      let same = one_end labels others (Err m) (Ok c) reads also ends too in cc
+  one_of_run a b (replayed labels c reads ends told) (bad_label {number = m} bad) = absurd (run_has_no_bad (lines_of run) labels m reads bad)
+  one_of_run a b (replayed labels c reads ends told) (not_enabled {number = n} others also too) =
+      let same = one_end labels others (Ok c) (Err n) reads also ends too in cc
+  one_of_run a b (replayed labels c reads ends told) (replayed others d also too told_too) =
+      told ∙ ap (λ labels. replayed_text test labels c) (run_same (lines_of run) labels others reads also)
+      ∙ ap (replayed_text test others) (ok_is (one_end labels others (Ok c) (Ok d) reads also ends too)) ∙ sym told_too
+
+pub one_replay : (text name run : List ℕ) → HasOneReplay text name run
+one_replay text name run a b (lacking {why = one} why) (lacking {why = other} too) = one_reason text name one other why too
+one_replay text name run a b (lacking {why = one} why) (named {test = test} is more) = absurd (not_both text name test one is why)
+one_replay text name run a b (named {test = test} is more) (lacking {why = one} why) = absurd (not_both text name test one is why)
+one_replay text name run a b (named {test = test} is more) (named {test = other} too more_too) =
+    let same = one_test text name test other is too in
+    one_of_run other run a b (subst (λ test. OfRun test run a) same more) more_too

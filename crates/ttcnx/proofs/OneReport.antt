@@ -1,0 +1,196 @@
+-- A test case has one report.
+use Rattle.std.proofs.Common.{◌≡◌, ℕ, ◌≤◌, Bool, true, false, List, [], ◌∷◌, ◌++◌, length, map, refl, sym, ap, ◌∙◌, arith, inl, inr}
+use Rattle.std.specs.Prelude.{◌↔◌, Option, Some, None, IsTrue, codes, string_bytes}
+use Rattle.std.specs.List.{cons_option, filter_map, flat_map}
+use Rattle.std.specs.Fmt.{decimal}
+use Rattle.std.specs.Cmp.{IsTotalOrder}
+use Rattle.std.specs.Coded.{Coded, code_by, coded_ℕ, coded_list, coded×}
+use Rattle.std.specs.declared.cmp.Ordering.{Ordering}
+use Rattle.std.specs.declared.alloc.Global.{Global}
+use Rattle.std.specs.declared.vec.Vec.{Vec}
+use Rattle.std.proofs.lemmas.Cmp.{lists_total, tied_itself}
+use Rattle.summary.specs.Graph.{Graph}
+use Rattle.summary.specs.Run.{Run, Before, NoLater, labels_of}
+use Rattle.summary.specs.Exploration.{IsBest}
+use Rattle.explore.proofs.RunOrder.{before_trans}
+use Rattle.explore.specs.declared.plan.Plan.{Plan}
+use Rattle.exploration.specs.Found.{AreBlocked, AreBranches, IsBestRun, place_cmp, standing_cmp}
+use Rattle.live_laws.proofs.PartCounts.{counts_once}
+use Rattle.place_summaries.proofs.OneAscent.{one_ascent}
+use Rattle.place_summaries.specs.Ascent.{Ascends}
+use Rattle.place_summaries.specs.KeyCode.{same_keys}
+use Rattle.place_summaries.specs.KeySet.{from_list}
+use Rattle.report.specs.Texts.{blocked_line, branch_line, header_text, line, outcome_text, report_text, step_line, word_of, yes_or_no}
+use Rattle.report.specs.declared.report.Outcome.{Outcome}
+use Rattle.report.specs.declared.report.Report.{Report}
+use Rattle.report.specs.declared.report.Standing.{Standing}
+use Rattle.step_labels.specs.Labels.{label_by, label_with}
+use Rattle.step_labels.specs.declared.label.Expiry.{Expiry}
+use Rattle.step_labels.specs.declared.label.Label.{Label}
+use Rattle.step_rules.specs.Configurations.{badness}
+use Rattle.step_rules.specs.Labels.{label_cmp}
+use Rattle.step_rules.specs.Runs.{graph_of}
+use Rattle.step_rules.specs.Snapshots.{Test}
+use Rattle.step_rules.specs.Steps as rules
+use Rattle.ttcn_syntax.specs.declared.place.Span.{Span}
+use Rattle.ttcn_syntax.specs.declared.tree.statement.Verdict.{Verdict}
+use Rattle.ttcn_values.specs.declared.path.Path.{Path}
+use Rattle.ttcnx.specs.Tells.{Tells, all_verdicts, labels_in, outcome_of, standing_in}
+use Rattle.canonical_runs.specs.Labels.{label_total}
+use Rattle.canonical_runs.specs.Orders.{place_total, standing_total}
+
+-- ---- a mark has one best run
+
+module _ {C L : Type 0} (g : Graph C L) (cmp : L → L → Ordering) (total : IsTotalOrder cmp) where
+  never_before : (r : Run L) → Before cmp r r → ⊥
+  never_before r (inl h) = omega (arith, h)
+  never_before r (inr h) = let tied = tied_itself (lists_total total) (labels_of r) in let less = h.1 in cc
+
+  same_run : (r s : Run L) → NoLater cmp r s → NoLater cmp s r → r ≡ s
+  same_run r s (inr e) other = e
+  same_run r s (inl h) (inr e) = sym e
+  same_run r s (inl h) (inl k) = absurd (never_before r (before_trans cmp total r s r h k))
+
+  one_best : (n mark : ℕ) (r s : Run L) → IsBest g cmp n mark r → IsBest g cmp n mark s → r ≡ s
+  one_best n mark r s a b = same_run r s (a.least s b.has) (b.least r a.has)
+
+-- ---- labels and standings are told by what they stand for
+
+numbers_of : rules.Label → List ℕ
+numbers_of (rules.Statement path) = path.numbers
+numbers_of (rules.Expiry path frame timer) = path.numbers
+
+expiry_of : rules.Label → Option Expiry
+expiry_of (rules.Statement path) = None
+expiry_of (rules.Expiry path frame timer) = Some (record { frame = frame; timer = timer })
+
+label_of : rules.Label → Label
+label_of label = record { component = numbers_of label; expiry = expiry_of label }
+
+read_back : (numbers : List ℕ) (expiry : Option Expiry) → label_of (label_with numbers expiry) ≡ record { component = numbers; expiry = expiry }
+unfolding label_of numbers_of expiry_of
+read_back numbers None = refl
+read_back numbers (Some expiry) = refl
+
+labels_back : (labels : List Label) → map label_of (map label_by labels) ≡ labels
+labels_back [] = refl
+labels_back (label ∷ labels) = λ i. read_back label.component label.expiry i ∷ labels_back labels i
+
+labels_alike : (labels others : List Label) → map label_by labels ≡ map label_by others → labels ≡ others
+labels_alike labels others e = sym (labels_back labels) ∙ ap (map label_of) e ∙ labels_back others
+
+standing_of : Path × Span → Standing
+standing_of pair = record { component = pair.0; place = pair.1 }
+
+standings_back : (standings : List Standing) → map standing_of (map standing_in standings) ≡ standings
+unfolding standing_of
+standings_back [] = refl
+standings_back (standing ∷ standings) = λ i. standing ∷ standings_back standings i
+
+standings_alike : (standings others : List Standing) → map standing_in standings ≡ map standing_in others → standings ≡ others
+standings_alike standings others e = sym (standings_back standings) ∙ ap (map standing_of) e ∙ standings_back others
+
+-- ---- a set has one ascending list
+
+place_coded : Coded Span
+place_coded = code_by (ℕ × ℕ) (coded× coded_ℕ coded_ℕ) (λ p. (p.line, p.column)) (λ q. record { line = q.0; column = q.1 }) (λ p. refl)
+
+path_coded : Coded Path
+path_coded = code_by (List ℕ) (coded_list coded_ℕ) (λ p. p.numbers) (λ q. record { numbers = q }) (λ p. refl)
+
+module _ {K : Type 0} (coded : Coded K) {cmp : K → K → Ordering} (total : IsTotalOrder cmp) where
+  one_list : (keys others : List K) → from_list keys ≡ from_list others → Ascends cmp keys → Ascends cmp others → keys ≡ others
+  one_list keys others same up also = one_ascent total keys others up also (same_keys coded keys others same)
+
+module _ (test : Test) (n : ℕ) where
+  branches_alike : (places others : List Span) → AreBranches test n places → AreBranches test n others → places ≡ others
+  branches_alike places others h k = one_list place_coded place_total places others (h.summed ∙ sym k.summed) h.ascend k.ascend
+
+  blocked_alike : (standings others : List (Path × Span)) → AreBlocked test n standings → AreBlocked test n others → standings ≡ others
+  blocked_alike standings others h k =
+      one_list (coded× path_coded place_coded) standing_total standings others (h.summed ∙ sym k.summed) h.ascend k.ascend
+
+-- ---- a report has one text
+
+same_answer : {P : Type 0} (a b : Bool) → (IsTrue a ↔ P) → (IsTrue b ↔ P) → a ≡ b
+same_answer true true h k = refl
+same_answer false false h k = refl
+same_answer true false h k = sym (k.1 (h.0 refl))
+same_answer false true h k = h.1 (k.0 refl)
+
+-- what a report tells of a verdict
+abbrev told_of : Verdict → Option (Vec Label Global) → List ℕ
+told_of verdict None = []
+told_of verdict (Some run) = outcome_text (record { verdict = verdict; run = run })
+
+told_step : (verdict : Verdict) (run : Option (Vec Label Global)) (rest : List Outcome)
+    → flat_map outcome_text (cons_option (outcome_of verdict run) rest) ≡ told_of verdict run ++ flat_map outcome_text rest
+told_step verdict None rest = refl
+told_step verdict (Some run) rest = refl
+
+told_each : (run_of : Verdict → Option (Vec Label Global)) (verdicts : List Verdict)
+    → flat_map outcome_text (filter_map (λ verdict. outcome_of verdict (run_of verdict)) verdicts) ≡ flat_map (λ verdict. told_of verdict (run_of verdict)) verdicts
+told_each run_of [] = refl
+told_each run_of (verdict ∷ verdicts) =
+    told_step verdict (run_of verdict) (filter_map (λ verdict. outcome_of verdict (run_of verdict)) verdicts)
+    ∙ ap (λ rest. told_of verdict (run_of verdict) ++ rest) (told_each run_of verdicts)
+
+each_alike : (f g : Verdict → List ℕ) → ((verdict : Verdict) → f verdict ≡ g verdict) → (verdicts : List Verdict) → flat_map f verdicts ≡ flat_map g verdicts
+each_alike f g same [] = refl
+each_alike f g same (verdict ∷ verdicts) =
+    ap (λ first. first ++ flat_map f verdicts) (same verdict) ∙ ap (λ rest. g verdict ++ rest) (each_alike f g same verdicts)
+
+text_of_run : Verdict → List Label → List ℕ
+text_of_run verdict labels = line (codes "verdict " ++ word_of verdict ++ codes " " ++ decimal (length labels)) ++ flat_map step_line labels
+
+module _ (test : Test) (n : ℕ) where
+  best_alike : (verdict : Verdict) (a b : Option (Vec Label Global)) → IsBestRun test n verdict (labels_in a) → IsBestRun test n verdict (labels_in b)
+      → told_of verdict a ≡ told_of verdict b
+  unfolding text_of_run
+  best_alike verdict None None h k = refl
+  best_alike verdict None (Some b) h k = absurd (h k.0 k.1.has)
+  best_alike verdict (Some a) None h k = absurd (k h.0 h.1.has)
+  best_alike verdict (Some a) (Some b) h k =
+      let same = one_best (graph_of test) label_cmp label_total n (badness verdict) h.0 k.0 h.1 k.1 in
+      let labels : a.items ≡ b.items = labels_alike a.items b.items (h.2 ∙ ap labels_of same ∙ sym k.2) in
+      ap (text_of_run verdict) labels
+
+header_of : List ℕ → ℕ → ℕ → Bool → List ℕ
+header_of name steps configurations complete =
+    line (codes "testcase " ++ name) ++ line (codes "steps " ++ decimal steps) ++ line (codes "configurations " ++ decimal configurations)
+    ++ line (codes "complete " ++ yes_or_no complete)
+
+headers_alike : (a b : Report) → string_bytes a.testcase ≡ string_bytes b.testcase → a.steps ≡ b.steps → a.configurations ≡ b.configurations
+    → a.complete ≡ b.complete → header_text a ≡ header_text b
+unfolding header_of
+headers_alike a b name steps configurations complete =
+    ap (λ x. header_of x a.steps a.configurations a.complete) name
+    ∙ ap (λ x. header_of (string_bytes b.testcase) x a.configurations a.complete) steps
+    ∙ ap (λ x. header_of (string_bytes b.testcase) b.steps x a.complete) configurations
+    ∙ ap (λ x. header_of (string_bytes b.testcase) b.steps b.configurations x) complete
+
+whole_text : List ℕ → List ℕ → List Span → List Standing → List ℕ
+whole_text header outcomes branches blocked = header ++ outcomes ++ flat_map branch_line branches ++ flat_map blocked_line blocked
+
+wholes_alike : (a b : Report) → header_text a ≡ header_text b → flat_map outcome_text a.outcomes.items ≡ flat_map outcome_text b.outcomes.items
+    → a.branches.items ≡ b.branches.items → a.blocked.items ≡ b.blocked.items → report_text a ≡ report_text b
+unfolding whole_text
+wholes_alike a b header outcomes branches blocked =
+    ap (λ x. whole_text x (flat_map outcome_text a.outcomes.items) a.branches.items a.blocked.items) header
+    ∙ ap (λ x. whole_text (header_text b) x a.branches.items a.blocked.items) outcomes
+    ∙ ap (λ x. whole_text (header_text b) (flat_map outcome_text b.outcomes.items) x a.blocked.items) branches
+    ∙ ap (λ x. whole_text (header_text b) (flat_map outcome_text b.outcomes.items) b.branches.items x) blocked
+
+pub one_report : (test : Test) (name : List ℕ) (plan : Plan) (a b : Report) → Tells test name plan a → Tells test name plan b → report_text a ≡ report_text b
+one_report test name plan a b h k =
+    let header = headers_alike a b (h.testcase ∙ sym k.testcase) (h.steps ∙ sym k.steps)
+    (counts_once test plan.steps a.configurations b.configurations (h.runs).configurations (k.runs).configurations) (same_answer a.complete b.complete h.complete k.complete) in
+    let outcomes : flat_map outcome_text a.outcomes.items ≡ flat_map outcome_text b.outcomes.items =
+    ap (λ items. flat_map outcome_text items) (h.runs).outcomes ∙ told_each (h.runs).run_of all_verdicts
+    ∙ each_alike (λ verdict. told_of verdict ((h.runs).run_of verdict)) (λ verdict. told_of verdict ((k.runs).run_of verdict))
+    (λ verdict. best_alike test plan.steps verdict ((h.runs).run_of verdict) ((k.runs).run_of verdict) ((h.runs).best verdict) ((k.runs).best verdict)) all_verdicts
+    ∙ sym (told_each (k.runs).run_of all_verdicts) ∙ ap (λ items. flat_map outcome_text items) (sym (k.runs).outcomes) in
+    let branches = branches_alike test plan.steps a.branches.items b.branches.items (h.runs).branches (k.runs).branches in
+    let blocked = standings_alike a.blocked.items b.blocked.items
+    (blocked_alike test plan.steps (map standing_in a.blocked.items) (map standing_in b.blocked.items) (h.runs).blocked (k.runs).blocked) in
+    wholes_alike a b header outcomes branches blocked

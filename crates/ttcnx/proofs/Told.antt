@@ -1,0 +1,48 @@
+-- What a report tells, from what was found.
+use Rattle.std.proofs.Common.{◌≡◌, ◌≤◌, ℕ, Bool, List, map, sym, subst, ◌∙◌}
+use Rattle.std.specs.Prelude.{◌↔◌, IsTrue, string_bytes}
+use Rattle.std.specs.List.{filter_map, zip}
+use Rattle.explore.specs.declared.plan.Plan.{Plan}
+use Rattle.exploration.specs.Found.{AreBlocked, AreBranches, AreFound}
+use Rattle.exploration.specs.declared.exploration.Exploration.{Exploration}
+use Rattle.live_laws.specs.Parts.{CountsParts, IsCompleteByParts}
+use Rattle.report.specs.declared.report.Report.{Report}
+use Rattle.step_rules.specs.Snapshots.{Test}
+use Rattle.ttcn_step.specs.Standing.{standing_by}
+use Rattle.ttcn_syntax.specs.declared.place.Span.{Span}
+use Rattle.ttcn_values.specs.declared.path.Path.{Path}
+use Rattle.ttcnx.proofs.Outcomes.{kept, outcomes_of-kept}
+use Rattle.ttcnx.specs.Tells.{Tells, TellsOfRuns, all_verdicts, outcome_of, standing_in}
+
+-- a report is made of what was found
+pub record IsMadeOf (found : Exploration) (report : Report) : Type 0 where
+  pub configurations : report.configurations ≡ found.configurations
+  pub complete : report.complete ≡ found.complete
+  pub outcomes : report.outcomes.items ≡ filter_map (λ pair. outcome_of pair.0 pair.1) (zip all_verdicts found.best.items)
+  pub branches : report.branches.items ≡ found.branches.items
+  pub blocked : map standing_in report.blocked.items ≡ map standing_by found.blocked.items
+
+pub tells_of_runs : (test : Test) (n : ℕ) (found : Exploration) (report : Report) → IsMadeOf found report → AreFound test n found → TellsOfRuns test n report
+tells_of_runs test n found report made are = record {
+  configurations = subst (λ (count : ℕ). CountsParts test n count) (sym made.configurations) are.configurations;
+  run_of = kept found.best.items;
+  best = are.best;
+  outcomes = made.outcomes ∙ outcomes_of-kept found.best.items are.eight;
+  branches = subst (λ (places : List Span). AreBranches test n places) (sym made.branches) are.branches;
+  blocked = subst (λ (standings : List (Path × Span)). AreBlocked test n standings) (sym made.blocked) are.blocked;
+}
+
+pub tells : (test : Test) (name : List ℕ) (plan : Plan) (found : Exploration) (report : Report) → IsMadeOf found report
+    → string_bytes report.testcase ≡ name → report.steps ≡ plan.steps → AreFound test plan.steps found → found.configurations ≤ plan.limit
+    → (IsTrue found.complete ↔ IsCompleteByParts test plan.steps) → Tells test name plan report
+tells test name plan found report made testcase steps are within complete = record {
+  testcase = testcase;
+  steps = steps;
+  within = subst (λ (count : ℕ). count ≤ plan.limit) (sym made.configurations) within;
+  runs = tells_of_runs test plan.steps found report made are;
+  complete = subst (λ (b : Bool). IsTrue b ↔ IsCompleteByParts test plan.steps) (sym made.complete) complete;
+}
+
+-- where a report is complete, so is what was found
+pub complete_found : (found : Exploration) (report : Report) → IsMadeOf found report → IsTrue report.complete → IsTrue found.complete
+complete_found found report made is = subst (λ (b : Bool). IsTrue b) made.complete is

@@ -1,0 +1,66 @@
+-- What is answered for a text, the name of a test case and a run file, want of memory aside. Stage by stage: the text and
+-- its module, the lines of the run file, their labels.
+use Rattle.std.specs.Prelude.{◌≡◌, ℕ, List, [], ◌∷◌, ◌++◌, codes, length, map, Result, Ok, Err}
+use Rattle.std.specs.Fmt.{decimal}
+use Rattle.std.specs.declared.alloc.Global.{Global}
+use Rattle.std.specs.declared.vec.Vec.{Vec}
+use Rattle.report.specs.Runs.{IsFirstBad, ReadsRun, lines_of}
+use Rattle.report.specs.Texts.{line, word_of}
+use Rattle.step_labels.specs.Labels.{label_by}
+use Rattle.step_labels.specs.declared.label.Label.{Label}
+use Rattle.step_rules.specs.Configurations.{Configuration, Ended, Goes}
+use Rattle.step_rules.specs.Labels.{labels}
+use Rattle.step_rules.specs.Runs.{replay}
+use Rattle.step_rules.specs.Snapshots.{Test}
+use Rattle.step_rules.specs.Steps as rules
+use Rattle.ttcnx.specs.Fault.{SameFault}
+use Rattle.ttcnx.specs.Named.{HasNoTest, IsTestOf}
+use Rattle.ttcnx.specs.declared.fault.Fault.{Fault}
+use Rattle.ttcnx.specs.declared.fault.Fault.TheVariants as fault
+
+-- the bytes that are printed, or why there are none
+abbrev pub Answer : Type 0
+Answer = Result (Vec ℕ Global) Fault
+
+-- whether some label is enabled
+abbrev pub open_or_blocked : List rules.Label → List ℕ
+open_or_blocked [] = codes "blocked"
+open_or_blocked (label ∷ others) = codes "open"
+
+-- where a run ends: the test case has ended with a verdict, some label is enabled, or none is
+abbrev pub ending_text : Test → Configuration → List ℕ
+ending_text test (Ended verdict) = codes "ended " ++ word_of verdict
+ending_text test (Goes c) = open_or_blocked (labels test (Goes c))
+
+-- how many labels were followed, and where they lead
+abbrev pub replayed_text : Test → List Label → Configuration → List ℕ
+replayed_text test labels c = line (codes "replayed " ++ decimal (length labels)) ++ line (ending_text test c)
+
+-- what is answered for a test case
+pub data OfRun (test : Test) (run : List ℕ) : Answer → Type 0 where
+  -- the first line that is no label
+  bad_label : {number : ℕ} → IsFirstBad (lines_of run) number → OfRun test run (Err (fault.BadLabel number))
+  -- or else the first label that is not enabled where it stands
+  not_enabled : {number : ℕ} (labels : List Label) → ReadsRun (lines_of run) labels → replay test (map label_by labels) ≡ Err number
+      → OfRun test run (Err (fault.NotEnabled number))
+  -- or else where the labels lead
+  replayed : {text : Vec ℕ Global} (labels : List Label) (c : Configuration) → ReadsRun (lines_of run) labels → replay test (map label_by labels) ≡ Ok c
+      → text.items ≡ replayed_text test labels c → OfRun test run (Ok text)
+
+-- what is answered
+pub data IsReplay (text name run : List ℕ) : Answer → Type 0 where
+  -- why the text has no test case of the name
+  lacking : {why : Fault} → HasNoTest text name why → IsReplay text name run (Err why)
+  -- or else the answer for this test case
+  named : {test : Test} {answer : Answer} → IsTestOf text name test → OfRun test run answer → IsReplay text name run answer
+
+-- answers that tell the same
+abbrev pub SameReplay : Answer → Answer → Type 0
+SameReplay (Ok text) (Ok other) = text.items ≡ other.items
+SameReplay (Ok text) (Err other) = ⊥
+SameReplay (Err one) (Ok other) = ⊥
+SameReplay (Err one) (Err other) = SameFault one other
+
+-- a text, a name and a run file have one answer at most
+abbrev pub HasOneReplay : List ℕ → List ℕ → List ℕ → Type 0
+HasOneReplay text name run = (answer other : Answer) → IsReplay text name run answer → IsReplay text name run other → SameReplay answer other
