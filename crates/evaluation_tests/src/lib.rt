@@ -3,8 +3,6 @@
 #![tactic(auto)]
 
 #[cfg(test)]
-mod basic;
-#[cfg(test)]
 mod deep;
 #[cfg(test)]
 mod matching;

@@ -2,7 +2,7 @@
 #![tactic(auto)]
 
 #[cfg(test)]
-mod basic_expressions;
+mod expressions;
 #[cfg(test)]
 mod lexer;
 #[cfg(test)]

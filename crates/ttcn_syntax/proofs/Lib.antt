@@ -1,7 +1,6 @@
 pub mod Cuts
 pub mod Decimals
 pub mod Ends
-pub mod ExpressionLemmas
 pub mod Found
 pub mod Fronts
 pub mod Insides

@@ -1,6 +1,5 @@
 pub mod Characters
 pub mod Cut
-pub mod Expression
 pub mod Front
 pub mod Limits
 pub mod Operators

@@ -1,7 +1,6 @@
 //! The language: its tokens and where they stand in a text, and the tree that they spell.
 #![tactic(auto)]
 
-mod basic;
 mod boxed;
 mod error;
 mod lexer;
@@ -15,7 +14,6 @@ mod token;
 mod tree;
 mod words;
 
-pub use basic::{BasicExpr, BasicLink};
 pub use boxed::Boxed;
 pub use error::LexError;
 pub use lexer::{LONGEST_TEXT, lex};

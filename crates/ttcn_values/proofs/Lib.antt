@@ -1,5 +1,3 @@
-pub mod BasicEntriesLemmas
-pub mod BasicEvaluationLemmas
 pub mod Bounds
 pub mod BuildingLemmas
 pub mod Chained

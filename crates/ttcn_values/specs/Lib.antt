@@ -1,10 +1,3 @@
-pub mod BasicEntries
-pub mod BasicEvaluation
-pub mod BasicOperators
-pub mod BasicPlace
-pub mod BasicSame
-pub mod BasicValues
-pub mod BasicWhole
 pub mod Chains
 pub mod Evaluation
 pub mod Frames

@@ -1,7 +1,6 @@
 //! Values and templates, and what expressions give.
 #![tactic(auto)]
 
-mod basic;
 mod entries;
 mod evaluation;
 mod fault;
@@ -15,7 +14,6 @@ mod reader;
 mod template;
 mod value;
 
-pub use basic::{BasicFrame, BasicValue, eval_basic};
 pub use entries::Slot;
 pub use evaluation::{
     eval, eval_arguments, eval_component, eval_component_reference, eval_condition, eval_reference,

@@ -1,27 +1,35 @@
-//! Trees of the expressions that are run today, and the lists and boxes that trees are made of.
+//! Trees of expressions, and the lists and boxes that trees are made of.
 use std::alloc::Global;
 use std::hash::{DefaultHasher, Hash, Hasher};
 use std::test::Fail;
-use ttcn_syntax::{BasicExpr, BasicLink, Boxed, Memory, Name, Operator, Seq, Sign};
+use ttcn_syntax::{Boxed, ComponentRef, Expr, Link, Memory, Name, Operator, Reference, Seq, Sign};
+
+/// A name as an expression.
+fn named(alloc: Global, name: &[u8]) -> Result<Expr, Memory> {
+    Ok(Expr::Reference(ComponentRef::Named(Reference {
+        name: Name::new(alloc, name)?,
+        fields: Seq::new(alloc),
+    })))
+}
 
 /// `1 + x - 1 + x ..`, of this many links.
-fn chain(alloc: Global, links: u32) -> Result<BasicExpr, Memory> {
+fn chain(alloc: Global, links: u32) -> Result<Expr, Memory> {
     let mut all = Seq::new(alloc);
     for place in 0..links {
         let link = if place % 2 == 0 {
-            BasicLink {
+            Link {
                 operator: Operator::Add,
-                operand: BasicExpr::Name(Name::new(alloc, b"x")?),
+                operand: named(alloc, b"x")?,
             }
         } else {
-            BasicLink {
+            Link {
                 operator: Operator::Subtract,
-                operand: BasicExpr::Int(1),
+                operand: Expr::Int(1),
             }
         };
         all.push(link)?;
     }
-    Ok(BasicExpr::Chain(Boxed::new(alloc, BasicExpr::Int(1))?, all))
+    Ok(Expr::Chain(Boxed::new(alloc, Expr::Int(1))?, all))
 }
 
 #[test]
@@ -37,16 +45,14 @@ fn a_long_chain_is_built_compared_and_dropped(rt: HostRuntime) -> Result<(), Fai
 #[test]
 fn trees_are_equal_by_their_parts(rt: HostRuntime) -> Result<(), Fail> {
     let alloc = rt.alloc();
-    let minus_one = BasicExpr::Signed(Sign::Minus, Boxed::new(alloc, BasicExpr::Int(1))?);
-    let plus_one = BasicExpr::Signed(Sign::Plus, Boxed::new(alloc, BasicExpr::Int(1))?);
+    let minus_one = Expr::Signed(Sign::Minus, Boxed::new(alloc, Expr::Int(1))?);
+    let plus_one = Expr::Signed(Sign::Plus, Boxed::new(alloc, Expr::Int(1))?);
     assert!(rt; minus_one != plus_one);
-    let not_true = BasicExpr::Not(Boxed::new(alloc, BasicExpr::Bool(true))?);
-    let not_false = BasicExpr::Not(Boxed::new(alloc, BasicExpr::Bool(false))?);
+    let not_true = Expr::Not(Boxed::new(alloc, Expr::Bool(true))?);
+    let not_false = Expr::Not(Boxed::new(alloc, Expr::Bool(false))?);
     assert!(rt; not_true != not_false);
-    assert!(rt; not_true == BasicExpr::Not(Boxed::new(alloc, BasicExpr::Bool(true))?));
-    assert!(rt;
-        BasicExpr::Name(Name::new(alloc, b"x")?) != BasicExpr::Name(Name::new(alloc, b"y")?)
-    );
+    assert!(rt; not_true == Expr::Not(Boxed::new(alloc, Expr::Bool(true))?));
+    assert!(rt; named(alloc, b"x")? != named(alloc, b"y")?);
     Ok(())
 }
 
