@@ -11,7 +11,7 @@ use Rattle.check_scope.specs.contracts.types.DataTypeEq.TheImpl.Laws as type_law
 use Rattle.check_scope.specs.contracts.types.DataTypePartialEq.TheImpl as types
 use Rattle.tree_equality.specs.Equality.{boolean_one, list_one, number_one, option_one}
 use Rattle.tree_equality.specs.Statements.{statement_one}
-use Rattle.ttcn_graph.specs.Equality.{entry_one, reference_is, same_entry, same_entry_equiv, same_reference, same_reference_equiv, type_one}
+use Rattle.graph_items.specs.Equality.{entry_one, reference_is, same_entry, same_entry_equiv, same_reference, same_reference_equiv, type_one}
 use Rattle.step_rules.specs.Items.{Doing, From, Item, Last, Loop, Mark, Name, Part, Start, Target, Waiting, Whole}
 use Rattle.step_rules.specs.Sites.{Site}
 

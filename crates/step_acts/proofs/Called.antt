@@ -18,7 +18,7 @@ use Rattle.step_snapshot.specs.Slots.{NoneIsMissing}
 use Rattle.ttcn_config.specs.Legend.{Legend, frame_by}
 use Rattle.ttcn_config.specs.Views.{view_by}
 use Rattle.ttcn_config.specs.declared.frame.Cells.{Cells}
-use Rattle.ttcn_graph.specs.Known.{names_of_kind}
+use Rattle.graph_names.specs.Known.{names_of_kind}
 use Rattle.ttcn_values.specs.Outcomes.{Failure, Fails, Yields, outcome_and_then, outcome_map, value_in}
 use Rattle.ttcn_values.specs.Templates.{arguments}
 use Rattle.ttcn_values.specs.declared.value.Value.{Value}

@@ -22,7 +22,7 @@ use Rattle.step_snapshot.specs.Tests.{test_by}
 use Rattle.ttcn_config.specs.Legend.{frame_by}
 use Rattle.ttcn_config.specs.declared.act.Act.{Act}
 use Rattle.ttcn_config.specs.declared.frame.Frame.{Frame}
-use Rattle.ttcn_graph.specs.Standing.{part_of}
+use Rattle.graph_items.specs.Standing.{part_of}
 use Rattle.ttcn_graph.specs.Ways.{ways_of}
 use Rattle.ttcn_values.specs.declared.fault.Fault.{Fault}
 use Rattle.ttcn_values.specs.declared.fault.Fault.TheVariants.{Dynamic, Memory}

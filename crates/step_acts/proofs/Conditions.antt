@@ -15,7 +15,7 @@ use Rattle.step_acts.specs.declared.stand.Stand.{Stand}
 use Rattle.step_rules.specs.Items.{Does, Doing, Item, Last, Loop, Whole, action_of, items, items_if_any}
 use Rattle.step_rules.specs.Statements as said
 use Rattle.ttcn_config.specs.declared.act.Act.{Act}
-use Rattle.ttcn_graph.specs.Standing.{part_of}
+use Rattle.graph_items.specs.Standing.{part_of}
 use Rattle.ttcn_graph.specs.Ways.{items_otherwise, ways_from, ways_of, ways_of_conditional}
 use Rattle.ttcn_values.specs.declared.fault.Fault.{Fault}
 

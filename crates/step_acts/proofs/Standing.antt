@@ -8,10 +8,10 @@ use Rattle.step_acts.specs.Stands.{site_of}
 use Rattle.step_acts.specs.declared.stand.Stand.{Stand}
 use Rattle.step_rules.specs.Items.{Does, Doing, Part, action_of}
 use Rattle.step_snapshot.specs.Slots.{IsKnown, NoneIsMissing}
-use Rattle.ttcn_graph.specs.declared.facts.EventFacts.{EventFacts as CodeFacts}
-use Rattle.ttcn_graph.specs.Facts.{event_by, Declares, EventFacts, Goal, Sends, Sets, Stores, Waits, facts_by, facts_of, facts_of_part}
-use Rattle.ttcn_graph.specs.Known.{Known, names_if_any, names_of, names_of_part}
-use Rattle.ttcn_graph.specs.Standing.{part_of}
+use Rattle.graph_items.specs.Standing.{part_of}
+use Rattle.graph_sites.specs.declared.facts.EventFacts.{EventFacts as CodeFacts}
+use Rattle.graph_sites.specs.Facts.{event_by, Declares, EventFacts, Goal, Sends, Sets, Stores, Waits, facts_by, facts_of, facts_of_part}
+use Rattle.graph_names.specs.Known.{Known, names_if_any, names_of, names_of_part}
 use Rattle.ttcn_graph.specs.Ways.{ways_of, ways_of_part}
 
 module _ (s : Stand) (part : Part) (does : Does) (same : part_of s.part ≡ part) (what : action_of s.statement.now ≡ does) where

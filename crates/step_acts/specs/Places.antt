@@ -3,7 +3,7 @@ use Rattle.std.specs.Prelude.{ℕ, List, [], ◌∷◌, get_or}
 use Rattle.step_rules.specs.Items.{Item}
 use Rattle.step_rules.specs.Sites.{Site}
 use Rattle.step_snapshot.specs.declared.test_case.TestCase.{TestCase}
-use Rattle.ttcn_graph.specs.Graphs.{site_of_list}
+use Rattle.graph_items.specs.Begun.{site_of_list}
 
 -- the list at a position
 abbrev pub list_at : TestCase → ℕ → List Item

@@ -10,7 +10,7 @@ ghost use Rattle.step_rules.specs.Storing as storing;
 ghost use Rattle.step_snapshot.specs.Tests.{extent_of, legend_by, test_by};
 ghost use Rattle.ttcn_config.specs.Legend.{data_by};
 ghost use Rattle.ttcn_config.specs.Views.{IsWithin};
-ghost use Rattle.ttcn_graph.specs.Standing.{target_of};
+ghost use Rattle.graph_items.specs.Standing.{target_of};
 ghost use Rattle.ttcn_graph.specs.Ways.{ways_of, ways_of_initial, ways_of_right};
 ghost use Rattle.ttcn_values.specs.Outcomes.{GivesBy};
 

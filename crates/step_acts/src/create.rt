@@ -8,7 +8,7 @@ ghost use Rattle.step_rules.specs.Creating.{child_of, new_members};
 ghost use Rattle.step_rules.specs.Statements as said;
 ghost use Rattle.ttcn_config.specs.Legend.{data_by, frame_with};
 ghost use Rattle.ttcn_config.specs.Views.{HasSlotsWithin, IsWithin};
-ghost use Rattle.ttcn_graph.specs.Standing.{target_of};
+ghost use Rattle.graph_items.specs.Standing.{target_of};
 ghost use Rattle.ttcn_values.specs.Outcomes.{GivesBy};
 ghost use Rattle.step_snapshot.specs.Tests.{extent_of};
 

@@ -6,7 +6,7 @@ ghost use Rattle.check_scope.specs.Names.{kind_at, module_names, resolved};
 ghost use Rattle.step_acts.specs.Asks.{Asks, AsksWithin};
 ghost use Rattle.step_acts.specs.Places.{behind_first, list_at};
 ghost use Rattle.step_rules.specs.Items as rules;
-ghost use Rattle.ttcn_graph.specs.Standing.{target_of};
+ghost use Rattle.graph_items.specs.Standing.{target_of};
 ghost use Rattle.step_acts.specs.Stands.{legend_of, site_of, stand_by};
 ghost use Rattle.step_data.specs.Frames.{left};
 ghost use Rattle.step_rules.specs.Statements as said;

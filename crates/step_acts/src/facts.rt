@@ -2,8 +2,8 @@
 ghost use Rattle.std.specs.Prelude.{◌≡◌, List, map, Option};
 ghost use Rattle.check_scope.specs.declared.types.DataType.{DataType as ADataType};
 ghost use Rattle.std.specs.Prelude.{Bool};
-ghost use Rattle.ttcn_graph.specs.Facts as spec;
-ghost use Rattle.ttcn_graph.specs.Facts.{event_by, facts_by, goal_by};
+ghost use Rattle.graph_sites.specs.Facts as spec;
+ghost use Rattle.graph_sites.specs.Facts.{event_by, facts_by, goal_by};
 
 use ttcn_graph::{EventFacts, Facts, Goal};
 use ttcn_types::DataType;

@@ -12,7 +12,7 @@ ghost use Rattle.step_snapshot.specs.Seen.{own_by, seen_by};
 ghost use Rattle.step_snapshot.specs.Tests.{test_by};
 ghost use Rattle.step_snapshot.specs.declared.snapshot.Snapshot.{Snapshot as ASnapshot};
 ghost use Rattle.ttcn_config.specs.Legend.{Legend};
-ghost use Rattle.ttcn_graph.specs.Standing.{part_of};
+ghost use Rattle.graph_items.specs.Standing.{part_of};
 ghost use Rattle.ttcn_syntax.specs.declared.tree.statement.Statement.{Statement as AStatement};
 
 use crate::call::altstep_called;

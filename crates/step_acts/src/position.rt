@@ -6,7 +6,7 @@ ghost use Rattle.step_acts.specs.Stands.{legend_of, site_of, stand_by};
 ghost use Rattle.step_rules.specs.Statements as said;
 ghost use Rattle.ttcn_config.specs.Legend.{data_by};
 ghost use Rattle.ttcn_config.specs.Views.{IsWithin};
-ghost use Rattle.ttcn_graph.specs.Graphs.{IsBegunBy};
+ghost use Rattle.graph_items.specs.Begun.{IsBegunBy};
 ghost use Rattle.ttcn_graph.specs.Ways.{ways_of};
 ghost use Rattle.step_snapshot.specs.Tests.{extent_of};
 

@@ -2,10 +2,10 @@
 ghost use Rattle.std.specs.Prelude.{◌≡◌, ◌<◌, ◌∷◌, length};
 ghost use Rattle.step_acts.specs.Places.{behind_first, list_at, site_at};
 ghost use Rattle.step_rules.specs.Items as rules;
-ghost use Rattle.ttcn_graph.specs.Facts.{facts_by, facts_of};
+ghost use Rattle.graph_sites.specs.Facts.{facts_by, facts_of};
 ghost use Rattle.step_snapshot.specs.Slots.{NoneIsMissing};
-ghost use Rattle.ttcn_graph.specs.Known.{names_of};
-ghost use Rattle.ttcn_graph.specs.Standing.{part_of};
+ghost use Rattle.graph_items.specs.Standing.{part_of};
+ghost use Rattle.graph_names.specs.Known.{names_of};
 
 use step_snapshot::Snapshot;
 use ttcn_config::Frame;

@@ -17,7 +17,7 @@ ghost use Rattle.step_snapshot.specs.Slots.{IsKnown};
 ghost use Rattle.step_snapshot.specs.Tests.{extent_of, legend_by, test_by};
 ghost use Rattle.ttcn_config.specs.Legend.{data_by};
 ghost use Rattle.ttcn_config.specs.Views.{IsWithin};
-ghost use Rattle.ttcn_graph.specs.Standing.{part_of};
+ghost use Rattle.graph_items.specs.Standing.{part_of};
 ghost use Rattle.ttcn_graph.specs.Ways.{ways_of};
 ghost use Rattle.ttcn_values.specs.Outcomes.{GivesBy};
 

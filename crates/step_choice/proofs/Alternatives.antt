@@ -22,7 +22,7 @@ use Rattle.step_choice.specs.internal.Judged.{Is, below, first_of, judge_of, rea
 use Rattle.step_snapshot.specs.Seen.{own_by, seen_by}
 use Rattle.step_snapshot.specs.declared.snapshot.Snapshot.{Snapshot}
 use Rattle.ttcn_config.specs.declared.frame.Cells.{Cells}
-use Rattle.ttcn_graph.specs.Facts.{EventFacts, alternative_facts, branch_facts, event_facts}
+use Rattle.graph_sites.specs.Facts.{EventFacts, alternative_facts, branch_facts, event_facts}
 use Rattle.ttcn_graph.specs.Ways.{items_of_alternative, items_of_branch}
 use Rattle.ttcn_values.specs.declared.fault.Fault.{Fault}
 

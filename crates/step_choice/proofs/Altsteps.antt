@@ -29,8 +29,8 @@ use Rattle.step_snapshot.specs.Tests.{legend_by}
 use Rattle.step_snapshot.specs.declared.snapshot.Snapshot.{Snapshot}
 use Rattle.ttcn_config.specs.Views.{view_by}
 use Rattle.ttcn_config.specs.declared.frame.Cells.{Cells}
+use Rattle.graph_names.specs.Known.{names_of_branch, names_of_kind}
 use Rattle.ttcn_graph.specs.Graphs.{beginnings}
-use Rattle.ttcn_graph.specs.Known.{names_of_branch, names_of_kind}
 use Rattle.ttcn_graph.specs.Ways.{items_of_branch}
 use Rattle.ttcn_values.specs.Outcomes.{Failure, Unmet}
 use Rattle.ttcn_values.specs.declared.fault.Fault.{Fault}

@@ -33,7 +33,7 @@ use Rattle.step_snapshot.specs.Seen.{own_by, seen_by}
 use Rattle.step_snapshot.specs.Slots.{NoneIsMissing}
 use Rattle.step_snapshot.specs.Tests.{legend_by}
 use Rattle.step_snapshot.specs.declared.snapshot.Snapshot.{Snapshot}
-use Rattle.ttcn_graph.specs.Known.{names_of_alternative, names_of_branch, names_of_event, names_of_kind}
+use Rattle.graph_names.specs.Known.{names_of_alternative, names_of_branch, names_of_event, names_of_kind}
 use Rattle.ttcn_types.specs.Limits.{longest_chain}
 use Rattle.ttcn_values.specs.Outcomes.{Fails, Outcome, Unmet, Yields}
 use Rattle.ttcn_values.specs.Templates.{arguments}

@@ -27,7 +27,7 @@ use Rattle.step_choice.specs.declared.taken.Deed.TheVariants as code
 use Rattle.step_choice.specs.declared.taken.Stored.{Stored}
 use Rattle.step_snapshot.specs.Slots.{IsKnown, NoneIsMissing}
 use Rattle.ttcn_config.specs.Legend.{Legend}
-use Rattle.ttcn_graph.specs.Known.{names_of_event, names_of_references}
+use Rattle.graph_names.specs.Known.{names_of_event, names_of_references}
 use Rattle.ttcn_values.specs.Outcomes.{DynamicError, Fails, Outcome, Yields, dynamic_error, outcome_map}
 use Rattle.ttcn_values.specs.Readings.{Reading, component_referred}
 use Rattle.ttcn_values.specs.declared.frame.TimerState.{TimerState}

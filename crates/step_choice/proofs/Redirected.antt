@@ -9,9 +9,9 @@ use Rattle.step_rules.specs.Snapshots.{Test}
 use Rattle.step_rules.specs.Storing.{target_meant}
 use Rattle.step_choice.specs.Deeds.{stored_by, stored_of}
 use Rattle.step_choice.specs.declared.taken.Stored.{Stored}
-use Rattle.ttcn_graph.specs.Facts.{goal_at, goal_by, goal_if_any}
-use Rattle.ttcn_graph.specs.Standing.{target_of}
-use Rattle.ttcn_graph.specs.declared.facts.Goal.{Goal}
+use Rattle.graph_items.specs.Standing.{target_of}
+use Rattle.graph_sites.specs.Facts.{goal_at, goal_by, goal_if_any}
+use Rattle.graph_sites.specs.declared.facts.Goal.{Goal}
 use Rattle.ttcn_values.specs.Outcomes.{DynamicError, Fails, Outcome, Yields, outcome_map}
 use Rattle.ttcn_values.specs.declared.value.ComponentId.{ComponentId}
 use Rattle.ttcn_values.specs.declared.value.Value.{Value}

@@ -12,7 +12,7 @@ use Rattle.step_choice.specs.declared.taken.Deed.TheVariants as code
 use Rattle.step_choice.specs.declared.taken.Stored as code_stored
 use Rattle.step_snapshot.specs.Slots.{IsKnown}
 use Rattle.ttcn_config.specs.Legend.{Legend}
-use Rattle.ttcn_graph.specs.Standing.{target_of}
+use Rattle.graph_items.specs.Standing.{target_of}
 use Rattle.ttcn_values.specs.declared.value.Value.{Value}
 
 pub data Deed : Type 0 where

@@ -17,7 +17,7 @@ ghost use Rattle.step_choice.specs.internal.Later.{chance_through};
 ghost use Rattle.step_snapshot.specs.Seen.{own_by, seen_by};
 ghost use Rattle.step_snapshot.specs.Tests.{legend_by};
 ghost use Rattle.ttcn_config.specs.Views.{HasSlotsWithin, view_by};
-ghost use Rattle.ttcn_graph.specs.Facts.{altstep_facts, branch_facts, event_by, event_facts};
+ghost use Rattle.graph_sites.specs.Facts.{altstep_facts, branch_facts, event_by, event_facts};
 ghost use Rattle.ttcn_graph.specs.Graphs.{beginnings_at};
 ghost use Rattle.ttcn_graph.specs.Ways.{items_of_branch};
 ghost use Rattle.ttcn_values.specs.Outcomes.{Gives, Yields};

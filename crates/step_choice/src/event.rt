@@ -7,7 +7,7 @@ ghost use Rattle.step_rules.specs.Sites.{Site, is_own};
 ghost use Rattle.step_rules.specs.Snapshots.{View, reading_in};
 ghost use Rattle.step_snapshot.specs.Seen.{own_by, seen_by};
 ghost use Rattle.ttcn_config.specs.Views.{HasSlotsWithin};
-ghost use Rattle.ttcn_graph.specs.Facts.{event_by, event_facts};
+ghost use Rattle.graph_sites.specs.Facts.{event_by, event_facts};
 ghost use Rattle.ttcn_values.specs.Frames.{reading};
 
 use crate::receive::try_receive;

@@ -7,7 +7,7 @@ ghost use Rattle.step_rules.specs.Sites.{Site};
 ghost use Rattle.step_rules.specs.Snapshots.{front_of};
 ghost use Rattle.step_snapshot.specs.Seen.{seen_by};
 ghost use Rattle.ttcn_config.specs.Legend.{message_by};
-ghost use Rattle.ttcn_graph.specs.Facts.{event_by, event_facts};
+ghost use Rattle.graph_sites.specs.Facts.{event_by, event_facts};
 ghost use Rattle.ttcn_syntax.specs.declared.tree.statement.Event.TheVariants as event;
 ghost use Rattle.ttcn_values.specs.Frames.{reading};
 ghost use Rattle.ttcn_values.specs.Outcomes.{Gives};

@@ -7,7 +7,7 @@ ghost use Rattle.step_rules.specs.Events as rules;
 ghost use Rattle.step_rules.specs.Sites.{Site, scope_at};
 ghost use Rattle.step_rules.specs.Snapshots.{Test};
 ghost use Rattle.ttcn_config.specs.Legend.{message_by};
-ghost use Rattle.ttcn_graph.specs.Facts.{event_by, event_facts, goal_by, goal_if_any};
+ghost use Rattle.graph_sites.specs.Facts.{event_by, event_facts, goal_by, goal_if_any};
 ghost use Rattle.ttcn_syntax.specs.declared.tree.expression.Reference.{Reference as AReference};
 ghost use Rattle.ttcn_syntax.specs.declared.tree.statement.Event.TheVariants as event;
 ghost use Rattle.ttcn_syntax.specs.declared.tree.statement.Receive.{Receive as AReceive};

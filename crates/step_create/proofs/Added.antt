@@ -7,7 +7,7 @@ use Rattle.step_create.specs.internal.Queues.{no_messages}
 use Rattle.step_rules.specs.Configurations.{Queue}
 use Rattle.step_rules.specs.Creating.{ports_of}
 use Rattle.step_snapshot.specs.Slots.{NoneIsMissing}
-use Rattle.ttcn_graph.specs.Known.{names_of_member}
+use Rattle.graph_names.specs.Known.{names_of_member}
 use Rattle.ttcn_syntax.specs.declared.tree.definition.Member.{Member}
 use Rattle.ttcn_syntax.specs.declared.tree.definition.Member.TheVariants as member
 

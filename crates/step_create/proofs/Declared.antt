@@ -23,7 +23,7 @@ use Rattle.ttcn_values.specs.Literals.{value_wanted}
 use Rattle.ttcn_values.specs.Outcomes.{Failure, Fails, Yields, outcome_map}
 use Rattle.ttcn_values.specs.Readings.{Reading}
 use Rattle.ttcn_values.specs.declared.value.ComponentId.{ComponentId}
-use Rattle.ttcn_graph.specs.Known.{names_of_kind, names_of_member}
+use Rattle.graph_names.specs.Known.{names_of_kind, names_of_member}
 use Rattle.ttcn_syntax.specs.declared.tree.definition.DefinitionKind.{DefinitionKind}
 use Rattle.ttcn_syntax.specs.declared.tree.definition.DefinitionKind.TheVariants as kind
 use Rattle.ttcn_syntax.specs.declared.tree.definition.Member.{Member}

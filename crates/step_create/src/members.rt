@@ -9,7 +9,7 @@ ghost use Rattle.step_rules.specs.Storing as storing;
 ghost use Rattle.step_snapshot.specs.Slots.{IsKnown, NoneIsMissing};
 ghost use Rattle.step_snapshot.specs.Tests.{test_by};
 ghost use Rattle.ttcn_config.specs.Views.{HasSlotsWithin};
-ghost use Rattle.ttcn_graph.specs.Known.{names_of_member};
+ghost use Rattle.graph_names.specs.Known.{names_of_member};
 ghost use Rattle.ttcn_values.specs.Frames.{reading};
 ghost use Rattle.ttcn_values.specs.Outcomes.{Yields};
 

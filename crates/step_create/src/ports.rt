@@ -4,7 +4,7 @@ ghost use Rattle.std.specs.List.{flat_map};
 ghost use Rattle.step_create.specs.internal.Queues.{no_messages, queues_for};
 ghost use Rattle.step_rules.specs.Creating as rules;
 ghost use Rattle.step_snapshot.specs.Slots.{NoneIsMissing};
-ghost use Rattle.ttcn_graph.specs.Known.{names_of_member};
+ghost use Rattle.graph_names.specs.Known.{names_of_member};
 
 use crate::types::declarations_of;
 use std::alloc::{AllocError, Global};

@@ -4,7 +4,7 @@ ghost use Rattle.check_scope.specs.Names.{kind_at};
 ghost use Rattle.step_rules.specs.Snapshots.{mtc_of};
 ghost use Rattle.step_snapshot.specs.Slots.{NoneIsMissing};
 ghost use Rattle.ttcn_config.specs.internal.Stored.{no_cells};
-ghost use Rattle.ttcn_graph.specs.Known.{names_of, names_of_kind};
+ghost use Rattle.graph_names.specs.Known.{names_of, names_of_kind};
 
 use names::Names;
 use ttcn_config::Cells;
@@ -13,7 +13,6 @@ use ttcn_types::Definitions;
 use ttcn_values::ComponentId;
 
 /// A test case, with all that its steps need of its module.
-#[derive(Drop)]
 pub struct TestCase<'a> {
     /// The definitions of the module, by their names.
     pub definitions: Definitions<'a>,
@@ -31,4 +30,17 @@ pub struct TestCase<'a> {
     ghost room: { length names < 2 ^ 32 },
     ghost items: { (position : ℕ) → NoneIsMissing names (names_of (get_or graphs.lists position [])) },
     ghost known: { (at : ℕ) → NoneIsMissing names (names_of_kind (kind_at definitions at)) },
+}
+
+impl<'a> Drop for TestCase<'a> {
+    fn drop(self) {
+        let TestCase {
+            definitions: _definitions,
+            graphs: _graphs,
+            names: _names,
+            position: _position,
+            mtc: _mtc,
+            nothing: _nothing,
+        } = self;
+    }
 }

@@ -5,11 +5,11 @@ use Rattle.interner.specs.Lists.{AreDifferent}
 use Rattle.step_rules.specs.Items as rules
 use Rattle.step_rules.specs.Sites as sites
 use Rattle.ttcn_syntax.specs.declared.tree.statement.Statement.{Statement}
-use Rattle.ttcn_graph.specs.Standing.{item_of, part_of, remaining_of, target_of}
-use Rattle.ttcn_graph.specs.declared.item.Item.{Item}
-use Rattle.ttcn_graph.specs.declared.item.Item.TheVariants as item
-use Rattle.ttcn_graph.specs.declared.item.Part.{Part}
-use Rattle.ttcn_graph.specs.declared.item.Part.TheVariants as part
+use Rattle.graph_items.specs.Standing.{item_of, part_of, remaining_of, target_of}
+use Rattle.graph_items.specs.declared.item.Item.{Item}
+use Rattle.graph_items.specs.declared.item.Item.TheVariants as item
+use Rattle.graph_items.specs.declared.item.Part.{Part}
+use Rattle.graph_items.specs.declared.item.Part.TheVariants as part
 use Rattle.ttcn_graph.specs.internal.Within.{AreAllWithin, AreWithin, IsWithin}
 use Rattle.ttcn_graph.proofs.ListsKept.{get-map, length-map}
 

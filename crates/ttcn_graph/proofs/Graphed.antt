@@ -10,12 +10,12 @@ use Rattle.ttcn_syntax.specs.declared.tree.statement.Statement.{Statement}
 use Rattle.step_rules.specs.Branches.{branches_of}
 use Rattle.step_rules.specs.Items.{Item, items}
 use Rattle.step_rules.specs.Sites.{beginning}
+use Rattle.graph_sites.specs.Facts.{altstep_facts, branch_facts, event_by}
+use Rattle.graph_sites.specs.declared.facts.EventFacts.{EventFacts}
+use Rattle.graph_names.specs.Known.{Known}
 use Rattle.ttcn_graph.specs.Drafts.{AreAt, AreDrawn, Draft, HasWays, IsDrawn, at_site, empty_draft}
-use Rattle.ttcn_graph.specs.Facts.{altstep_facts, branch_facts, event_by}
 use Rattle.ttcn_graph.specs.Graphs.{AllHaveWays, IsAt, beginnings, beginnings_at, body_alone, graphs_of}
-use Rattle.ttcn_graph.specs.Known.{Known}
 use Rattle.ttcn_graph.specs.Ways.{Lists, items_of_branch}
-use Rattle.ttcn_graph.specs.declared.facts.EventFacts.{EventFacts}
 use Rattle.ttcn_graph.proofs.Drafted.{at-more, way-found, way-missing}
 use Rattle.ttcn_graph.proofs.Drawing.{not-found}
 use Rattle.ttcn_graph.proofs.ListsKept.{get-append, get-past}

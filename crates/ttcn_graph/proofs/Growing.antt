@@ -12,10 +12,10 @@ use Rattle.check_scope.specs.Names.{Entry, resolved}
 use Rattle.check_scope.specs.declared.names.Meaning.TheVariants as meaning
 use Rattle.step_rules.specs.Items.{Doing, Item, Name, Part, declarations, items, items_of_statement, site_after, site_in_for, start_items}
 use Rattle.step_rules.specs.Sites.{Site, scope_at, site_behind, site_with, variable_entries}
+use Rattle.graph_sites.specs.internal.OwnNames.{retracted}
 use Rattle.ttcn_graph.specs.Drafts.{AreAt, AreDrawn, Draft, Grows, IsBegun, IsDrawn, at_site}
 use Rattle.ttcn_graph.specs.Ways.{Lists, items_otherwise, ways_of}
 use Rattle.ttcn_graph.specs.internal.Drawing.{declared_before, site_before, site_behind_all}
-use Rattle.ttcn_graph.specs.internal.OwnNames.{retracted}
 use Rattle.ttcn_graph.proofs.Behind.{before-behind, behind-next, declared-behind}
 use Rattle.ttcn_graph.proofs.Drafted.{at-more, drawn, extends-more, grows-more, grows-not}
 use Rattle.ttcn_graph.proofs.ListsKept.{get-kept, length-map, longer}

@@ -6,9 +6,4 @@ pub mod FactsKept
 pub mod Forms
 pub mod Graphed
 pub mod Growing
-pub mod Learned
 pub mod ListsKept
-pub mod MembersBehind
-pub mod Owned
-pub mod Sites
-pub mod Typed

@@ -5,9 +5,9 @@ use Rattle.std.proofs.lemmas.List.{length-append}
 use Rattle.check_scope.specs.Names.{Entry}
 use Rattle.interner.specs.Lists.{Extends, IsPut}
 use Rattle.step_rules.specs.Items as rules
-use Rattle.ttcn_graph.specs.Standing.{item_of, part_of, remaining_of}
-use Rattle.ttcn_graph.specs.declared.item.Item.{Item}
-use Rattle.ttcn_graph.specs.declared.item.Item.TheVariants as item
+use Rattle.graph_items.specs.Standing.{item_of, part_of, remaining_of}
+use Rattle.graph_items.specs.declared.item.Item.{Item}
+use Rattle.graph_items.specs.declared.item.Item.TheVariants as item
 use Rattle.ttcn_graph.specs.internal.Within.{AreAllWithin, AreWithin, IsWithin}
 
 pub map-append : {A B : Type 0} (f : A → B) (xs ys : List A) → map f (xs ++ ys) ≡ map f xs ++ map f ys

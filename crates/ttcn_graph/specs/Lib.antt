@@ -1,11 +1,4 @@
 pub mod Drafts
-pub mod Equality
-pub mod Facts
 pub mod Graphs
-pub mod ItemEquality
-pub mod ItemFeeding
-pub mod ItemHash
-pub mod Known
-pub mod Standing
 pub mod Ways
 pub mod internal

@@ -2,7 +2,6 @@
 use Rattle.std.specs.Prelude.{ℕ, ◌+◌, List, [], ◌∷◌, ◌++◌, length, map, nat_lt, Option, Some, None, if◌then◌else◌}
 use Rattle.std.specs.List.{slice_get}
 use Rattle.ttcn_syntax.specs.declared.tree.definition.Definition.{Definition}
-use Rattle.ttcn_syntax.specs.declared.tree.expression.Reference.{Reference}
 use Rattle.ttcn_syntax.specs.declared.tree.statement.Action.{Action}
 use Rattle.ttcn_syntax.specs.declared.tree.statement.Action.TheOpen.{Action-F, Alternative-F}
 use Rattle.ttcn_syntax.specs.declared.tree.statement.Alternative.{Alternative, out-Alternative}
@@ -18,23 +17,15 @@ use Rattle.ttcn_syntax.specs.declared.tree.value.Rhs.TheVariants as rhs
 use Rattle.check_expressions.specs.Calls.{altstep_meant}
 use Rattle.check_scope.specs.Names.{module_names}
 use Rattle.step_rules.specs.Items.{Does, Doing, From, Item, Last, Loop, Mark, Name, Part, Start, Target, Waiting, Whole, action_of, items, items_if_any, site_in_for, start_items}
-use Rattle.step_rules.specs.Sites.{Site, is_own, scope_at}
+use Rattle.step_rules.specs.Sites.{Site}
 use Rattle.step_rules.specs.Statements.{declared_target}
-use Rattle.step_rules.specs.Storing.{type_for, type_of_name}
+use Rattle.graph_sites.specs.Facts.{target_in}
 
 -- lists of what remains
 abbrev pub Lists : Type 0
 Lists = List (List Item)
 
 -- ---- assignments: a call on the right leaves its target waiting for the result
-
--- what a reference at a site means as a target
-abbrev pub target_in : List Definition → Site → Reference → Target
-target_in definitions site reference = record {
-  own = is_own definitions site reference.name;
-  reference = reference;
-  data_type = type_for reference.fields (type_of_name (scope_at definitions site) reference.name);
-}
 
 abbrev pub ways_of_right : Target → List Item → Rhs → Lists
 ways_of_right target rest (rhs.Value v) = []

@@ -5,14 +5,14 @@ ghost use Rattle.step_rules.specs.Items as rules;
 ghost use Rattle.step_rules.specs.Sites as sites;
 ghost use Rattle.check_expressions.specs.Calls.{altstep_meant};
 ghost use Rattle.check_scope.specs.Names.{module_names};
+ghost use Rattle.graph_items.specs.Standing.{part_of};
 ghost use Rattle.ttcn_graph.specs.Drafts.{AreDrawn, IsDrawn, at_site};
-ghost use Rattle.ttcn_graph.specs.Standing.{part_of};
 ghost use Rattle.ttcn_graph.specs.Ways.{items_of_branch, ways_of, ways_of_assignment, ways_of_call};
 ghost use Rattle.ttcn_graph.specs.internal.Drawing.{Does, ways_of_condition};
 
 use crate::draft::Draft;
-use crate::item::Part;
 use crate::names::{declare_start, draw_names, go_behind_all};
+use graph_items::Part;
 use std::alloc::AllocError;
 use ttcn_syntax::{
     Action, Alternative, Assignment, Branch, Conditional, Expr, ForStart, Name, Seq, Statement,

@@ -4,26 +4,34 @@ ghost use Rattle.std.specs.Option.{option_map};
 ghost use Rattle.check_scope.specs.Names.{Entry};
 ghost use Rattle.interner.specs.Lists.{AreDifferent, IsPut};
 ghost use Rattle.step_rules.specs.Items as rules;
-ghost use Rattle.ttcn_graph.specs.Facts as spec;
-ghost use Rattle.ttcn_graph.specs.Standing.{item_of};
-ghost use Rattle.ttcn_graph.specs.declared.facts.Facts.TheVariants as facts;
-ghost use Rattle.ttcn_graph.specs.internal.OwnNames.{without_first};
+ghost use Rattle.graph_items.specs.Standing.{item_of};
+ghost use Rattle.graph_sites.specs.Facts as spec;
+ghost use Rattle.graph_sites.specs.declared.facts.Facts.TheVariants as facts;
+ghost use Rattle.graph_sites.specs.internal.OwnNames.{without_first};
 ghost use Rattle.ttcn_graph.specs.internal.Within.{IsWithin};
 
-use crate::declared::Declared;
-use crate::facts::Facts;
-use crate::item::Item;
+use graph_items::{Declared, Item};
+use graph_sites::Facts;
 use interner::Lists;
 use std::alloc::{AllocError, Global};
 use std::marker::Model;
 
 /// Lists of items by positions. A contract sees the lists of declared names, the lists of items of the rules, and what is
 /// known at each of these.
-#[derive(Drop)]
 pub(crate) struct Cells<'a> {
     sites: Lists<Declared<'a>>,
     items: Lists<Item<'a>>,
     facts: Vec<Facts<'a>>,
+}
+
+impl<'a> Drop for Cells<'a> {
+    fn drop(self) {
+        let Cells {
+            sites: _sites,
+            items: _items,
+            facts: _facts,
+        } = self;
+    }
 }
 
 impl<'a> Model for Cells<'a> {
@@ -37,8 +45,8 @@ impl<'a> Model for Cells<'a> {
     ghost use Rattle.check_scope.specs.Names.{Entry};
     ghost use Rattle.interner.specs.Lists.{lists_of};
     ghost use Rattle.step_rules.specs.Items as rules;
-    ghost use Rattle.ttcn_graph.specs.Standing.{remaining_of};
-    ghost use Rattle.ttcn_graph.specs.declared.facts.Facts.{Facts};
+    ghost use Rattle.graph_items.specs.Standing.{remaining_of};
+    ghost use Rattle.graph_sites.specs.declared.facts.Facts.{Facts};
     ghost use Rattle.ttcn_graph.specs.internal.Within.{AreAllWithin};
 
     ghost Value = { List (List Entry) × List (List rules.Item) × List Facts };

@@ -6,30 +6,23 @@ ghost use Rattle.check_statements.specs.Messages.{port_meant};
 ghost use Rattle.interner.specs.Lists.{AreDifferent};
 ghost use Rattle.step_rules.specs.Items as rules;
 ghost use Rattle.step_rules.specs.Sites as sites;
+ghost use Rattle.graph_items.specs.Begun.{IsBegunBy};
+ghost use Rattle.graph_items.specs.Standing.{part_of, target_of};
+ghost use Rattle.graph_sites.specs.Facts.{branch_facts, event_by, facts_by, facts_of, target_in};
+ghost use Rattle.graph_sites.specs.internal.OwnNames.{retracted};
 ghost use Rattle.ttcn_graph.specs.Drafts.{AreAt, AreDrawn, HasWays, IsBegun, IsDrawn, IsFinished, IsWay, at_site, empty_draft};
-ghost use Rattle.ttcn_graph.specs.Facts.{branch_facts, event_by, facts_by, facts_of};
-ghost use Rattle.ttcn_graph.specs.Graphs.{IsBegunBy};
-ghost use Rattle.ttcn_graph.specs.Standing.{part_of, target_of};
-ghost use Rattle.ttcn_graph.specs.Ways.{target_in, ways_of, ways_of_assignment, ways_of_right};
-ghost use Rattle.ttcn_graph.specs.internal.OwnNames.{retracted};
+ghost use Rattle.ttcn_graph.specs.Ways.{ways_of, ways_of_assignment, ways_of_right};
 
-use crate::at::At;
 use crate::cells::Cells;
-use crate::declared::Declared;
-use crate::facts::{EventFacts, Facts};
-use crate::facts_at::{facts_of_branches, facts_of_part};
-use crate::first::{First, first_of};
-use crate::here::Here;
-use crate::item::{Item, Part, Site, Target};
-use crate::ports::port_type;
 use check_scope::names::Meaning;
 use check_scope::types::DataType;
+use graph_items::{At, Declared, First, Item, Part, Site, Target, first_of};
+use graph_sites::{EventFacts, Facts, Here, facts_of_branches, facts_of_part, port_type};
 use std::alloc::{AllocError, Global};
 use std::marker::Model;
 use ttcn_syntax::{Assignment, Branch, Definition, Name, Reference, Rhs, Seq, Statement, TypeName};
 
 /// A graph that is being drawn. A contract sees it as the definitions say.
-#[derive(Drop)]
 pub struct Draft<'a> {
     alloc: Global,
     here: Here<'a>,
@@ -37,6 +30,18 @@ pub struct Draft<'a> {
     declared: usize,
     cells: Cells<'a>,
     ways: Vec<Seq<usize>>,
+}
+
+impl<'a> Drop for Draft<'a> {
+    fn drop(self) {
+        let Draft {
+            alloc: _alloc,
+            here: _here,
+            declared: _declared,
+            cells: _cells,
+            ways: _ways,
+        } = self;
+    }
 }
 
 impl<'a> Model for Draft<'a> {
@@ -47,8 +52,8 @@ impl<'a> Model for Draft<'a> {
     ghost use Rattle.ttcn_syntax.specs.contracts.tree.statement.Statement as statement;
     ghost use Rattle.ttcn_syntax.specs.contracts.tree.template.Template as template;
     ghost use Rattle.ttcn_syntax.specs.contracts.tree.value.Value as value;
+    ghost use Rattle.graph_sites.specs.Facts.{facts_by, facts_of};
     ghost use Rattle.ttcn_graph.specs.Drafts as drafts;
-    ghost use Rattle.ttcn_graph.specs.Facts.{facts_by, facts_of};
 
     ghost Value = { drafts.Draft };
 

@@ -7,24 +7,25 @@ ghost use Rattle.interner.specs.Lists.{AreDifferent};
 ghost use Rattle.ttcn_graph.specs.Drafts.{AreDrawn, at_site};
 ghost use Rattle.step_rules.specs.Branches.{branches_of};
 ghost use Rattle.step_rules.specs.Sites.{beginning};
-ghost use Rattle.ttcn_graph.specs.Facts.{altstep_facts, event_by, facts_by, facts_of};
-ghost use Rattle.ttcn_graph.specs.Graphs.{IsAt, IsBegunBy, beginnings, beginnings_at, body_alone};
-ghost use Rattle.ttcn_graph.specs.Known.{AreKnown, names_of, names_of_kind};
+ghost use Rattle.graph_items.specs.Begun.{IsBegunBy};
+ghost use Rattle.graph_sites.specs.Facts.{altstep_facts, event_by, facts_by, facts_of};
+ghost use Rattle.graph_names.specs.Known.{AreKnown, names_of, names_of_kind};
+ghost use Rattle.ttcn_graph.specs.Graphs.{IsAt, beginnings, beginnings_at, body_alone};
 ghost use Rattle.ttcn_graph.specs.Ways.{ways_of};
 
 use crate::block::{draw_block, draw_branches};
 use crate::draft::{Draft, way_in};
-use crate::facts::{EventFacts, Facts};
-use crate::first::First;
-use crate::known::{Names, all_names};
+use crate::known::all_names;
 use check_scope::scope::kind_at;
+use graph_items::First;
+use graph_names::Names;
+use graph_sites::{EventFacts, Facts};
 use std::alloc::{AllocError, Global};
 use std::marker::Model;
 use ttcn_syntax::{Branch, Definition, DefinitionKind, Name, Seq, Statement};
 use ttcn_types::Program;
 
 /// The graphs of a module. A contract sees the lists that positions stand for, and where they lead.
-#[derive(Drop)]
 pub struct Graphs<'a> {
     draft: Draft<'a>,
     starts: Vec<Seq<usize>>,
@@ -32,6 +33,17 @@ pub struct Graphs<'a> {
     /// altstep.
     altsteps: Vec<Seq<EventFacts<'a>>>,
     names: Names<'a>,
+}
+
+impl<'a> Drop for Graphs<'a> {
+    fn drop(self) {
+        let Graphs {
+            draft: _draft,
+            starts: _starts,
+            altsteps: _altsteps,
+            names: _names,
+        } = self;
+    }
 }
 
 impl<'a> Model for Graphs<'a> {
@@ -42,10 +54,10 @@ impl<'a> Model for Graphs<'a> {
     ghost use Rattle.ttcn_syntax.specs.contracts.tree.statement.Statement as statement;
     ghost use Rattle.ttcn_syntax.specs.contracts.tree.template.Template as template;
     ghost use Rattle.ttcn_syntax.specs.contracts.tree.value.Value as value;
+    ghost use Rattle.graph_sites.specs.Facts.{altstep_facts, event_by};
+    ghost use Rattle.graph_names.specs.internal.Learning.{all_names};
     ghost use Rattle.ttcn_graph.specs.Drafts.{AreAt};
-    ghost use Rattle.ttcn_graph.specs.Facts.{altstep_facts, event_by};
     ghost use Rattle.ttcn_graph.specs.Graphs as definition;
-    ghost use Rattle.ttcn_graph.specs.internal.Learning.{all_names};
 
     ghost Value = { definition.Graphs };
 

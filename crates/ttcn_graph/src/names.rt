@@ -1,19 +1,18 @@
 //! Declarations: the sites behind them, and the positions of their names.
-ghost use Rattle.std.specs.Prelude.{◌≡◌, ◌<◌, ◌∷◌, [], ◌++◌, length, get_or, slice_get, IfOk, OnOk};
+ghost use Rattle.std.specs.Prelude.{◌≡◌, ◌<◌, ◌∷◌, [], length, get_or, IfOk, OnOk};
 ghost use Rattle.std.specs.Option.{option_map};
 ghost use Rattle.step_rules.specs.Items as rules;
 ghost use Rattle.step_rules.specs.Sites as sites;
 ghost use Rattle.step_rules.specs.Statements.{declared_target};
+ghost use Rattle.graph_items.specs.Standing.{target_of};
+ghost use Rattle.graph_sites.specs.internal.OwnNames.{retracted};
 ghost use Rattle.ttcn_graph.specs.Drafts.{AreDrawn, IsDrawn, at_site};
-ghost use Rattle.ttcn_graph.specs.Standing.{target_of};
 ghost use Rattle.ttcn_graph.specs.Ways.{ways_of_variable};
 ghost use Rattle.ttcn_graph.specs.internal.Drawing.{AreNames, declared_before, site_before, site_behind_all};
-ghost use Rattle.ttcn_graph.specs.internal.OwnNames.{retracted};
 
 use crate::draft::Draft;
-use crate::item::{Part, Target};
-use crate::referred::Referred;
 use check_scope::names::Meaning;
+use graph_items::{Part, Referred, Target};
 use std::alloc::AllocError;
 use ttcn_syntax::{Action, Constants, ForStart, Seq, Statement, Timer, Variable, Variables};
 

@@ -4,7 +4,7 @@ use Rattle.std.specs.List.{Contains}
 use Rattle.std.proofs.lemmas.List.{get_or_past}
 use Rattle.step_rules.specs.Items.{Item}
 use Rattle.step_snapshot.specs.Slots.{NoneIsMissing}
-use Rattle.ttcn_graph.specs.Known.{AreKnown, names_of}
+use Rattle.graph_names.specs.Known.{AreKnown, names_of}
 
 module _ (names given all : List (List ℕ)) (same : given ≡ names) (taken : (name : List ℕ) → Contains given name → Contains all name) where
   -- what is known has slots

@@ -25,9 +25,14 @@ use ttcn_syntax::Span;
 use ttcn_types::{Program, TestId};
 
 /// What runs a test case. A contract sees the test case, the lists that positions stand for, and the names that have slots.
-#[derive(Drop)]
 pub struct Machine<'a> {
     test: TestCase<'a>,
+}
+
+impl<'a> Drop for Machine<'a> {
+    fn drop(self) {
+        let Machine { test: _test } = self;
+    }
 }
 
 impl<'a> Model for Machine<'a> {

@@ -5,7 +5,7 @@ ghost use Rattle.step_rules.specs.Places as rules;
 ghost use Rattle.step_rules.specs.Sites.{Site};
 ghost use Rattle.step_snapshot.specs.Tests.{legend_by, test_by};
 ghost use Rattle.ttcn_config.specs.Legend.{component_by, frame_by, going_by};
-ghost use Rattle.ttcn_graph.specs.Graphs.{item_at};
+ghost use Rattle.graph_items.specs.Begun.{item_at};
 ghost use Rattle.ttcn_step.specs.Machines.{Fits, machine_of, said};
 ghost use Rattle.ttcn_step.specs.Standing.{standing_by, standing_of};
 

@@ -6,7 +6,7 @@ ghost use Rattle.step_rules.specs.Sites as sites;
 ghost use Rattle.step_rules.specs.Snapshots as rules;
 ghost use Rattle.step_snapshot.specs.Slots.{NoneIsMissing};
 ghost use Rattle.step_snapshot.specs.Tests.{test_by};
-ghost use Rattle.ttcn_graph.specs.Known.{names_of, names_of_kind};
+ghost use Rattle.graph_names.specs.Known.{names_of, names_of_kind};
 
 use check_expressions::call::runs_on_of;
 use names::Names;

@@ -6,18 +6,18 @@ use Rattle.std.proofs.MapsCrossing as maps
 use Rattle.exploration.proofs.crossing.Interned.{lists-sync}
 use Rattle.exploration.proofs.crossing.Scopes.{names-sync, scope-sync}
 use Rattle.exploration.proofs.crossing.Trees.{name-sync, seq-sync, statement-sync}
+use Rattle.graph_items.specs.contracts.declared.Declared as declared
+use Rattle.graph_items.specs.contracts.item.Item as item
+use Rattle.graph_items.specs.contracts.item.Target as target
+use Rattle.graph_items.specs.contracts.referred.Referred as referred
+use Rattle.graph_sites.specs.contracts.facts.EventFacts as event_facts
+use Rattle.graph_sites.specs.contracts.facts.Facts as facts
+use Rattle.graph_sites.specs.contracts.here.Here as here
+use Rattle.graph_sites.specs.contracts.own.Own as own
+use Rattle.graph_names.specs.contracts.known.Names as known
 use Rattle.ttcn_graph.specs.contracts.cells.Cells as cells
-use Rattle.ttcn_graph.specs.contracts.declared.Declared as declared
 use Rattle.ttcn_graph.specs.contracts.draft.Draft as draft
-use Rattle.ttcn_graph.specs.contracts.facts.EventFacts as event_facts
-use Rattle.ttcn_graph.specs.contracts.facts.Facts as facts
 use Rattle.ttcn_graph.specs.contracts.graphs.Graphs as graphs
-use Rattle.ttcn_graph.specs.contracts.here.Here as here
-use Rattle.ttcn_graph.specs.contracts.item.Item as item
-use Rattle.ttcn_graph.specs.contracts.item.Target as target
-use Rattle.ttcn_graph.specs.contracts.known.Names as known
-use Rattle.ttcn_graph.specs.contracts.own.Own as own
-use Rattle.ttcn_graph.specs.contracts.referred.Referred as referred
 
 referred-sync : (l : NamedLft) → IsSync (referred.the_field l).row
 referred-sync l = search (name-sync, crosses, sendable) depth 60 fits 20000

@@ -8,8 +8,8 @@ use Rattle.ttcn_syntax.specs.declared.tree.statement.Statement.{Statement, out-S
 use Rattle.ttcn_syntax.specs.declared.tree.statement.Variable.{Variable}
 use Rattle.step_rules.specs.Items.{Doing, Item, Name, items, site_after}
 use Rattle.step_rules.specs.Sites.{Site}
+use Rattle.graph_sites.specs.internal.OwnNames.{retracted}
 use Rattle.ttcn_graph.specs.Ways.{Lists, ways_of, ways_of_variable}
-use Rattle.ttcn_graph.specs.internal.OwnNames.{retracted}
 
 -- what a statement does
 abbrev pub Does : Statement → Action → Type 0

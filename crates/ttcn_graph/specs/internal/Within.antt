@@ -1,7 +1,7 @@
 -- Items whose sites have a position among so many lists of declared names.
 use Rattle.std.specs.Prelude.{ℕ, ◌<◌, List, [], ◌∷◌, get_or}
-use Rattle.ttcn_graph.specs.declared.item.Item.{Item}
-use Rattle.ttcn_graph.specs.declared.item.Item.TheVariants as item
+use Rattle.graph_items.specs.declared.item.Item.{Item}
+use Rattle.graph_items.specs.declared.item.Item.TheVariants as item
 
 abbrev pub IsWithin : ℕ → Item → Type 0
 IsWithin n (item.Doing site s part) = site.declared < n

@@ -4,7 +4,7 @@ use Rattle.step_acts.specs.Asks.{Asks}
 use Rattle.step_acts.specs.Stands.{legend_of, site_of, stand_by}
 use Rattle.step_rules.specs.Configurations.{Data}
 use Rattle.step_rules.specs.Statements as said
-use Rattle.ttcn_graph.specs.Standing.{target_of}
+use Rattle.graph_items.specs.Standing.{target_of}
 
 pub returns-clause-asks : goal.returns-clause-asks
 returns-clause-asks c =

@@ -6,7 +6,7 @@ use Rattle.step_rules.specs.Configurations.{Data}
 use Rattle.step_rules.specs.Items.{Target}
 use Rattle.step_rules.specs.Statements as said
 use Rattle.step_rules.specs.Storing.{forget, in_frame}
-use Rattle.ttcn_graph.specs.Standing.{target_of}
+use Rattle.graph_items.specs.Standing.{target_of}
 use Rattle.ttcn_syntax.specs.declared.tree.value.Rhs.{Rhs}
 
 pub returns-in-Some-clause-asks : goal.returns-in-Some-clause-asks

@@ -3,8 +3,8 @@ use Rattle.step_acts.proofs.Standing.{facts-kept, first-event, known-there, one-
 use Rattle.step_acts.proofs.choice.chosen_at_event.Goals as goal
 use Rattle.step_acts.specs.Stands.{site_of}
 use Rattle.step_rules.specs.Items.{Whole}
+use Rattle.graph_sites.specs.Facts.{event_by, event_facts}
 use Rattle.ttcn_graph.proofs.Forms.{does-Event}
-use Rattle.ttcn_graph.specs.Facts.{event_by, event_facts}
 use Rattle.ttcn_syntax.specs.declared.tree.statement.Action.TheOpen.{Action-F}
 
 pub choose_event-requires-clause-named : goal.choose_event-requires-clause-named

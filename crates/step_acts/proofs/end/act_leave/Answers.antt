@@ -12,7 +12,7 @@ use Rattle.step_rules.specs.Statements as said
 use Rattle.step_snapshot.specs.Seen.{own_by}
 use Rattle.step_snapshot.specs.Slots.{NoneIsMissing}
 use Rattle.ttcn_config.specs.declared.frame.Frame.{Frame}
-use Rattle.ttcn_graph.specs.Known.{names_of}
+use Rattle.graph_names.specs.Known.{names_of}
 
 pub give_back-requires-clause-known : goal.give_back-requires-clause-known
 give_back-requires-clause-known c =

@@ -3,10 +3,10 @@ use Rattle.step_acts.proofs.Placing.{place-first}
 use Rattle.step_acts.proofs.place.place_at.Goals as goal
 use Rattle.step_acts.specs.Places.{list_at, site_at}
 use Rattle.step_rules.specs.Items.{Doing}
-use Rattle.ttcn_graph.specs.Facts.{facts_of}
-use Rattle.ttcn_graph.specs.Graphs.{StandsIn, item_at}
-use Rattle.ttcn_graph.specs.Standing.{part_of}
-use Rattle.ttcn_graph.specs.declared.first.First.{First}
+use Rattle.graph_items.specs.Begun.{StandsIn, item_at}
+use Rattle.graph_items.specs.Standing.{part_of}
+use Rattle.graph_items.specs.declared.first.First.{First}
+use Rattle.graph_sites.specs.Facts.{facts_of}
 
 pub invariant_of-stand : goal.invariant_of-stand
 invariant_of-stand c =

@@ -2,7 +2,7 @@ use Rattle.std.proofs.Common.{[], subst}
 use Rattle.step_acts.proofs.Standing.{first-known}
 use Rattle.step_acts.proofs.send.act_stop_of.Goals as goal
 use Rattle.step_snapshot.specs.Slots.{NoneIsMissing}
-use Rattle.ttcn_graph.specs.Known.{names_of_component}
+use Rattle.graph_names.specs.Known.{names_of_component}
 use Rattle.ttcn_syntax.specs.declared.tree.expression.ComponentRef.{ComponentRef}
 
 pub act_stop_named-requires-clause-known : goal.act_stop_named-requires-clause-known

@@ -6,10 +6,10 @@ use Rattle.step_rules.specs.Items.{Doing}
 use Rattle.step_snapshot.specs.Seen.{own_by, seen_by}
 use Rattle.step_snapshot.specs.Tests.{legend_by, test_by}
 use Rattle.ttcn_config.specs.Legend.{frame_by}
-use Rattle.ttcn_graph.specs.Facts.{facts_of}
-use Rattle.ttcn_graph.specs.Graphs.{StandsIn, item_at}
-use Rattle.ttcn_graph.specs.Standing.{part_of}
-use Rattle.ttcn_graph.specs.declared.first.First.{First}
+use Rattle.graph_items.specs.Begun.{StandsIn, item_at}
+use Rattle.graph_items.specs.Standing.{part_of}
+use Rattle.graph_items.specs.declared.first.First.{First}
+use Rattle.graph_sites.specs.Facts.{facts_of}
 
 pub invariant_of-stand : goal.invariant_of-stand
 invariant_of-stand c =

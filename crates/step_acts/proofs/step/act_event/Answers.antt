@@ -5,8 +5,8 @@ use Rattle.step_acts.proofs.step.act_event.Goals as goal
 use Rattle.step_acts.specs.Stands.{legend_of, site_of, stand_by}
 use Rattle.step_rules.specs.Items.{Whole}
 use Rattle.step_rules.specs.Statements as said
+use Rattle.graph_sites.specs.Facts.{event_by, event_facts}
 use Rattle.ttcn_graph.proofs.Forms.{does-Event}
-use Rattle.ttcn_graph.specs.Facts.{event_by, event_facts}
 use Rattle.ttcn_syntax.specs.declared.tree.statement.Action.TheOpen.{Action-F}
 use Rattle.ttcn_values.specs.Outcomes.{Unmet}
 

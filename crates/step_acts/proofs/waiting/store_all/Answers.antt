@@ -8,7 +8,7 @@ use Rattle.step_snapshot.specs.Slots.{IsKnown}
 use Rattle.step_snapshot.specs.Tests.{legend_by, test_by}
 use Rattle.std.proofs.Common.{map}
 use Rattle.ttcn_config.specs.Legend.{data_by}
-use Rattle.ttcn_graph.specs.Standing.{target_of}
+use Rattle.graph_items.specs.Standing.{target_of}
 use Rattle.ttcn_values.proofs.Faults.{given_by, handed_on_by}
 
 pub store_at-requires-clause-known : goal.store_at-requires-clause-known

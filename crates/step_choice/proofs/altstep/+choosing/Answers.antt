@@ -21,7 +21,7 @@ use Rattle.step_choice.specs.internal.Judged.{Is, IsAmong, altstep_of, below, fi
 use Rattle.step_choice.specs.internal.Later.{chance_through, choice_through, or_later}
 use Rattle.step_choice.proofs.altstep.+choosing.Goals as goal
 use Rattle.step_snapshot.specs.Seen.{own_by, seen_by}
-use Rattle.ttcn_graph.specs.Facts.{branch_facts, event_by}
+use Rattle.graph_sites.specs.Facts.{branch_facts, event_by}
 use Rattle.ttcn_graph.specs.Graphs.{beginnings_at}
 use Rattle.ttcn_graph.specs.Ways.{items_of_branch}
 use Rattle.ttcn_values.specs.Outcomes.{Unmet, Yields}

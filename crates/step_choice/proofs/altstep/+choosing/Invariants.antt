@@ -3,7 +3,7 @@ use Rattle.step_rules.specs.Sites.{Site}
 use Rattle.step_choice.proofs.Choosing.{first_of_branches}
 use Rattle.step_choice.specs.internal.Judged.{test_of}
 use Rattle.step_choice.proofs.altstep.+choosing.Given as goal
-use Rattle.ttcn_graph.specs.Facts.{branch_facts, event_by}
+use Rattle.graph_sites.specs.Facts.{branch_facts, event_by}
 
 -- altsteps are left to go through, and functions to call until the next one
 abbrev pub decreases-choose_branches : goal.decreases-choose_branches

@@ -1,6 +1,6 @@
 use Rattle.std.proofs.Common.{List, ap, ◌∙◌}
 use Rattle.ttcn_syntax.specs.declared.tree.definition.Definition.{Definition}
-use Rattle.ttcn_graph.specs.Facts.{altstep_facts}
+use Rattle.graph_sites.specs.Facts.{altstep_facts}
 use Rattle.step_choice.proofs.altstep.altstep_facts.Goals as goal
 
 pub returns : goal.returns

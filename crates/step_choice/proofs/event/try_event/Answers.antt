@@ -6,7 +6,7 @@ use Rattle.step_choice.proofs.event.try_event.Goals as goal
 use Rattle.step_snapshot.specs.Seen.{own_by, seen_by}
 use Rattle.step_snapshot.specs.Tests.{legend_by}
 use Rattle.ttcn_config.specs.Views.{view_by}
-use Rattle.ttcn_graph.specs.Facts.{event_facts}
+use Rattle.graph_sites.specs.Facts.{event_facts}
 use Rattle.ttcn_values.specs.Frames.{reading}
 
 pub returns-in-Receive : goal.returns-in-Receive

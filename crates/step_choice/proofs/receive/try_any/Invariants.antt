@@ -6,7 +6,7 @@ use Rattle.step_choice.specs.internal.Judged.{test_of}
 use Rattle.step_choice.proofs.receive.try_any.Given as goal
 use Rattle.step_snapshot.specs.Seen.{seen_by}
 use Rattle.step_snapshot.specs.Tests.{legend_by}
-use Rattle.ttcn_graph.specs.Facts.{event_by, event_facts}
+use Rattle.graph_sites.specs.Facts.{event_by, event_facts}
 use Rattle.ttcn_syntax.specs.declared.tree.statement.Event.TheVariants as event
 use Rattle.ttcn_values.specs.Frames.{reading}
 

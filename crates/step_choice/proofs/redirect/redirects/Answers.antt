@@ -3,8 +3,8 @@ use Rattle.std.specs.Option.{option_map}
 use Rattle.step_rules.specs.Events.{redirected_value}
 use Rattle.step_choice.proofs.Redirected.{both-stored, one-sender}
 use Rattle.step_choice.specs.Deeds.{stored_by}
-use Rattle.ttcn_graph.specs.Facts.{goal_by}
-use Rattle.ttcn_graph.specs.Standing.{target_of}
+use Rattle.graph_items.specs.Standing.{target_of}
+use Rattle.graph_sites.specs.Facts.{goal_by}
 use Rattle.ttcn_values.specs.Outcomes.{outcome_map}
 use Rattle.ttcn_values.specs.declared.value.Value.TheVariants as value
 use Rattle.step_choice.proofs.redirect.redirects.Goals as goal

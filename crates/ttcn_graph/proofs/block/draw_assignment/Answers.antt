@@ -1,5 +1,5 @@
 use Rattle.std.proofs.Common.{[], get_or}
-use Rattle.ttcn_graph.specs.Standing.{part_of}
+use Rattle.graph_items.specs.Standing.{part_of}
 use Rattle.ttcn_graph.specs.Ways.{ways_of_assignment}
 use Rattle.ttcn_graph.proofs.Growing.{put-drawn}
 use Rattle.ttcn_graph.proofs.block.draw_assignment.Goals as goal

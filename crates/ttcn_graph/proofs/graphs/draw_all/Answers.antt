@@ -1,7 +1,7 @@
 use Rattle.std.proofs.Common.{List, ap, arith, get_or, length, map, subst, sym, ◌≡◌, ◌<◌, ◌∙◌, ℕ, []}
 use Rattle.ttcn_syntax.specs.declared.tree.definition.Definition.{Definition}
-use Rattle.ttcn_graph.specs.Facts.{altstep_facts, event_by}
-use Rattle.ttcn_graph.specs.internal.Learning.{all_names}
+use Rattle.graph_sites.specs.Facts.{altstep_facts, event_by}
+use Rattle.graph_names.specs.internal.Learning.{all_names}
 use Rattle.ttcn_graph.proofs.Graphed.{facts-end, facts-first, facts-more, facts-next, graphed-end, graphed-first, graphed-next, more-than}
 use Rattle.ttcn_graph.proofs.graphs.draw_all.Goals as goal
 

@@ -1,6 +1,6 @@
 use Rattle.std.proofs.Common.{map}
 use Rattle.check_scope.specs.Names.{kind_at}
-use Rattle.ttcn_graph.specs.Known.{names_of_kind}
+use Rattle.graph_names.specs.Known.{names_of_kind}
 use Rattle.ttcn_step.proofs.Slotted.{items-slots, known-slots}
 use Rattle.ttcn_step.proofs.testcases.slots_of.Goals as goal
 

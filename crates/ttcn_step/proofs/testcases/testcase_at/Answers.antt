@@ -2,7 +2,7 @@ use Rattle.std.proofs.Common.{◌∙◌, List, subst, sym}
 use Rattle.ttcn_syntax.specs.declared.tree.definition.Definition.{Definition}
 use Rattle.check_scope.specs.Names.{kind_at}
 use Rattle.step_snapshot.specs.Slots.{NoneIsMissing}
-use Rattle.ttcn_graph.specs.Known.{names_of_kind}
+use Rattle.graph_names.specs.Known.{names_of_kind}
 use Rattle.ttcn_step.proofs.testcases.testcase_at.Goals as goal
 
 pub invariant_of-result : goal.invariant_of-result

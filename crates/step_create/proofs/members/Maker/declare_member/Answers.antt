@@ -1,7 +1,7 @@
 use Rattle.std.proofs.Common.{List, map, subst, sym}
 use Rattle.step_create.proofs.members.Maker.declare_member.Goals as goal
 use Rattle.step_snapshot.specs.Slots.{NoneIsMissing}
-use Rattle.ttcn_graph.specs.Known.{names_of_member}
+use Rattle.graph_names.specs.Known.{names_of_member}
 use Rattle.ttcn_syntax.specs.declared.tree.definition.Member.{Member}
 use Rattle.ttcn_syntax.specs.declared.tree.definition.MemberVariable.{MemberVariable}
 use Rattle.ttcn_syntax.specs.declared.tree.statement.Constant.{Constant}

@@ -1,7 +1,7 @@
 use Rattle.std.proofs.Common.{◌≡◌, [], ◌∷◌, ◌++◌, sym, ap, subst, ◌∙◌, map, length, get_or, take}
 use Rattle.interner.specs.Lists.{IsPut, lists_of}
-use Rattle.ttcn_graph.specs.Facts.{facts_by}
-use Rattle.ttcn_graph.specs.Standing.{item_of, remaining_of}
+use Rattle.graph_items.specs.Standing.{item_of, remaining_of}
+use Rattle.graph_sites.specs.Facts.{facts_by}
 use Rattle.ttcn_graph.specs.internal.Within.{IsWithin}
 use Rattle.ttcn_graph.proofs.FactsKept.{known-put}
 use Rattle.ttcn_graph.proofs.ListsKept.{all-within-put, length-map, put-remaining}

@@ -1,6 +1,6 @@
 use Rattle.std.proofs.Common.{[], ap, get_or, ◌∙◌}
+use Rattle.graph_sites.specs.Facts.{facts_by, facts_of}
 use Rattle.ttcn_graph.specs.Drafts.{Draft}
-use Rattle.ttcn_graph.specs.Facts.{facts_by, facts_of}
 use Rattle.ttcn_graph.proofs.FactsKept.{known-at}
 use Rattle.ttcn_graph.proofs.draft.Draft.facts.Goals as goal
 

@@ -1,6 +1,6 @@
 use Rattle.std.proofs.Common.{[], get_or, subst, sym}
+use Rattle.graph_items.specs.Begun.{IsBegunBy}
 use Rattle.ttcn_graph.specs.Drafts.{Draft}
-use Rattle.ttcn_graph.specs.Graphs.{IsBegunBy}
 use Rattle.ttcn_graph.proofs.draft.Draft.first.Goals as goal
 
 pub returns-in-Some-clause-found : goal.returns-in-Some-clause-found

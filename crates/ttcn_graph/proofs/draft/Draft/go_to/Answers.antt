@@ -1,7 +1,7 @@
 use Rattle.std.proofs.Common.{List, ap, map, sym, ◌∙◌}
 use Rattle.ttcn_syntax.specs.declared.tree.definition.Definition.{Definition}
 use Rattle.step_rules.specs.Sites.{Site}
-use Rattle.ttcn_graph.specs.Facts.{facts_of}
+use Rattle.graph_sites.specs.Facts.{facts_of}
 use Rattle.ttcn_graph.proofs.draft.Draft.go_to.Goals as goal
 
 pub invariant_of-result : goal.invariant_of-result

@@ -1,8 +1,8 @@
 use Rattle.std.proofs.Common.{ℕ, subst, sym}
 use Rattle.check_scope.specs.Names.{kind_at}
+use Rattle.graph_names.specs.Known.{AreKnown, names_of_kind}
+use Rattle.graph_names.proofs.Learned.{know-definitions}
 use Rattle.ttcn_graph.specs.Graphs.{Graphs}
-use Rattle.ttcn_graph.specs.Known.{AreKnown, names_of_kind}
-use Rattle.ttcn_graph.proofs.Learned.{know-definitions}
 use Rattle.ttcn_graph.proofs.graphs.Graphs.knows_definitions.Goals as goal
 
 pub returns : goal.returns

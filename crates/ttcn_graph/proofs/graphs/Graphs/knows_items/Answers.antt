@@ -1,7 +1,7 @@
 use Rattle.std.proofs.Common.{ℕ, ◌<◌, [], get_or, length, subst, sym}
+use Rattle.graph_names.specs.Known.{AreKnown, names_of}
+use Rattle.graph_names.proofs.Learned.{know-lists}
 use Rattle.ttcn_graph.specs.Graphs.{Graphs}
-use Rattle.ttcn_graph.specs.Known.{AreKnown, names_of}
-use Rattle.ttcn_graph.proofs.Learned.{know-lists}
 use Rattle.ttcn_graph.proofs.graphs.Graphs.knows_items.Goals as goal
 
 pub returns : goal.returns

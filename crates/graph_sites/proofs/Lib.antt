@@ -1,0 +1,4 @@
+pub mod MembersBehind
+pub mod Owned
+pub mod Sites
+pub mod Typed

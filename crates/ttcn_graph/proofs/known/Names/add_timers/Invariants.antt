@@ -1,7 +1,0 @@
-use Rattle.std.proofs.Common.{◌≡◌, map, drop}
-use Rattle.ttcn_syntax.specs.declared.tree.statement.Timer.{Timer}
-use Rattle.ttcn_graph.specs.internal.Learning.{with_names}
-use Rattle.ttcn_graph.proofs.known.Names.add_timers.Given as goal
-
-abbrev pub invariant-loop-timer : goal.invariant-loop-timer
-invariant-loop-timer l = with_names l.self (map (λ (t : Timer). t.name) (drop l.timer-index l.timers)) ≡ with_names l.fn.self (map (λ (t : Timer). t.name) l.fn.timers)
