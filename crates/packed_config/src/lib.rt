@@ -1,0 +1,8 @@
+//! Configurations as bytes.
+#![tactic(auto)]
+
+mod number;
+mod reader;
+mod spelled;
+mod value;
+mod parts;
