@@ -6,3 +6,4 @@ mod reader;
 mod spelled;
 mod value;
 mod parts;
+mod laws;
