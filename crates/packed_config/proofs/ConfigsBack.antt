@@ -1,8 +1,10 @@
 -- Configurations are read back from the bytes that spell them, whatever follows.
-use Rattle.std.proofs.Common.{◌≡◌, ℕ, List, [], ◌∷◌, ◌++◌, refl, sym, ap, ◌∙◌, append_assoc}
+use Rattle.std.proofs.Common.{◌≡◌, ℕ, true, List, [], ◌++◌, refl, sym, ap, ◌∙◌, append_assoc}
 use Rattle.std.proofs.lemmas.List.{append-nil}
-use Rattle.packed_config.specs.Reading.{Reads, config_in, read_byte, read_cells, read_component, read_config, read_connection, read_data, read_default, read_end, read_entry, read_frame, read_going, read_list, read_message, read_number, read_queue, read_state, read_timer, read_value, read_verdict}
-use Rattle.packed_config.specs.Spelling.{spell_cells, spell_component, spell_config, spell_connection, spell_data, spell_default, spell_end, spell_entry, spell_frame, spell_going, spell_list, spell_message, spell_number, spell_queue, spell_state, spell_timer, spell_value, spell_verdict}
+use Rattle.std.specs.Cmp.Lexicographic.{same_text}
+use Rattle.packed_config.specs.Packs.{same_bytes, same_bytes_equiv}
+use Rattle.packed_config.specs.Reading.{Reads, config_in, read_byte, read_cells, read_component, read_config, read_connection, read_data, read_default, read_end, read_entry, read_frame, read_going, read_list, read_message, read_queue, read_state, read_timer, read_value, read_verdict}
+use Rattle.packed_config.specs.Spelling.{spell_cells, spell_component, spell_config, spell_connection, spell_data, spell_default, spell_end, spell_entry, spell_frame, spell_going, spell_list, spell_message, spell_queue, spell_state, spell_timer, spell_value, spell_verdict}
 use Rattle.packed_config.proofs.NumbersBack.{read_list_back, read_long_back, read_number_back}
 use Rattle.packed_config.proofs.ValuesBack.{read_identity_back, read_path_back, read_value_back}
 use Rattle.ttcn_syntax.specs.declared.tree.statement.Verdict.{Verdict}
@@ -111,3 +113,9 @@ config_back c =
 
 pub spelled_once : (a b : Config) → spell_config a ≡ spell_config b → a ≡ b
 spelled_once a b same = sym (config_back a) ∙ ap config_in same ∙ config_back b
+
+pub same_bytes_one : (a b : Config) → same_bytes a b ≡ true → a ≡ b
+same_bytes_one a b same = spelled_once a b (same_text (spell_config a) (spell_config b) (sym same))
+
+pub same_bytes_itself : (a : Config) → same_bytes a a ≡ true
+same_bytes_itself a = same_bytes_equiv.refl a

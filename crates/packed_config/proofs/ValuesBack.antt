@@ -1,10 +1,8 @@
 -- Values are read back from the bytes that spell them, whatever follows.
 use Rattle.std.proofs.Common.{◌≡◌, ℕ, zero, suc, ◌+◌, ◌*◌, ◌/◌, ◌%◌, ◌≤◌, nat_eq, ℤ, pos, negsuc, Bool, true, false, cond, List, [], ◌∷◌, ◌++◌, length, map, Option, Some, None, refl, sym, ap, subst, ◌∙◌, arith, append_assoc, length-append}
-use Rattle.std.specs.Bool.{if◌then◌else◌}
-use Rattle.std.proofs.lemmas.Bool.{eq-eqb}
 use Rattle.std.specs.List.{flat_map}
-use Rattle.packed_config.specs.Reading.{Reads, integer_of, read_byte, read_enumerated, read_field, read_identity, read_integer, read_items, read_list, read_long, read_number, read_path, read_record, read_value, read_value_within, value_from}
-use Rattle.packed_config.specs.Spelling.{number_of, spell_identity, spell_integer, spell_list, spell_long, spell_number, spell_path, spell_value}
+use Rattle.packed_config.specs.Reading.{integer_of, read_byte, read_enumerated, read_field, read_identity, read_integer, read_items, read_list, read_number, read_path, read_record, read_value, read_value_within, value_from}
+use Rattle.packed_config.specs.Spelling.{number_of, spell_identity, spell_integer, spell_long, spell_number, spell_path, spell_value}
 use Rattle.packed_config.proofs.NumbersBack.{item_back, list_from_items, read_list_back, read_long_back, read_number_back}
 use Rattle.packed_config.proofs.Values.{spell_of_boolean, spell_of_component, spell_of_default, spell_of_enumerated, spell_of_field, spell_of_integer, spell_of_null, spell_of_omit, spell_of_record}
 use Rattle.ttcn_values.specs.declared.path.Path.{Path}
@@ -102,8 +100,8 @@ fields_back depth (field ∷ fields) rest h =
     let whole : length (first ++ others) ≤ depth = h in
     let all = length-append first others in
     item_back spell_of_field (read_field (read_value_within depth)) (bare_field field) (map bare_field fields) rest
-      (λ behind. field_back depth field behind (omega arith))
-      (fields_back depth fields rest (omega arith))
+    (λ behind. field_back depth field behind (omega arith))
+    (fields_back depth fields rest (omega arith))
 
 record_back : (depth at : ℕ) (fields : List (Option Held)) (rest : List ℕ)
     → length (spell_long at ++ (spell_long (length (map bare_field fields)) ++ flat_map spell_of_field (map bare_field fields))) ≤ depth

@@ -268,8 +268,8 @@ abbrev pub config_from : ℕ → Reads Config
 config_from tag = if tag == 0 then (do
   v ← read_verdict
   done (config.Ended v)) else (do
-  going ← read_going
-  done (config.Going going))
+    going ← read_going
+    done (config.Going going))
 
 unfoldable pub read_config : Reads Config
 read_config = read_byte >>= config_from

@@ -1,10 +1,14 @@
-//! The parts of configurations as bytes.
+//! Configurations and their parts as bytes.
+ghost use Rattle.std.specs.Prelude.{◌≡◌};
+ghost use Rattle.packed_config.specs.Reading.{read_verdict};
+
 use crate::number::{put_long, put_number, take_long, take_number};
 use crate::reader::Reader;
 use crate::spelled::Spelled;
 use std::alloc::{AllocError, Global};
 use ttcn_config::{
-    ActiveDefault, Cells, Component, Connection, Data, End, Frame, Going, Message, Queue, State,
+    ActiveDefault, Cells, Component, Config, Connection, Data, End, Frame, Going, Message, Queue,
+    State,
 };
 use ttcn_syntax::{Seq, Verdict};
 use ttcn_values::{ComponentId, Path, TimerState, Value};
@@ -147,6 +151,20 @@ impl Spelled for Data {
 
 // ---- components
 
+#[tactic(auto, unfolding(crate::specs::Reading::read_verdict))]
+pub fn take_verdict(reader: &mut Reader<'_>) -> Verdict
+    ensures value { result ≡ (read_verdict reader.old).0 }
+    ensures rest { reader.new ≡ (read_verdict reader.old).1 }
+{
+    match reader.byte() {
+        0 => Verdict::None,
+        1 => Verdict::Pass,
+        2 => Verdict::Inconc,
+        3 => Verdict::Fail,
+        _ => Verdict::Error,
+    }
+}
+
 impl Spelled for Verdict {
     ghost use Rattle.packed_config.specs.Reading.{read_verdict};
     ghost use Rattle.packed_config.specs.Spelling.{spell_verdict};
@@ -167,15 +185,8 @@ impl Spelled for Verdict {
         Ok(())
     }
 
-    #[tactic(auto, unfolding(crate::specs::Reading::read_verdict))]
     fn take(_alloc: Global, reader: &mut Reader<'_>) -> Result<Verdict, AllocError> {
-        match reader.byte() {
-            0 => Ok(Verdict::None),
-            1 => Ok(Verdict::Pass),
-            2 => Ok(Verdict::Inconc),
-            3 => Ok(Verdict::Fail),
-            _ => Ok(Verdict::Error),
-        }
+        Ok(take_verdict(reader))
     }
 }
 
@@ -331,7 +342,7 @@ impl Spelled for Connection {
     }
 }
 
-// ---- test cases that go on
+// ---- configurations
 
 impl Spelled for Going {
     ghost use Rattle.packed_config.specs.Reading.{read_going};
@@ -358,5 +369,36 @@ impl Spelled for Going {
             connections,
             forgotten,
         })
+    }
+}
+
+impl Spelled for Config {
+    ghost use Rattle.packed_config.specs.Reading.{read_config};
+    ghost use Rattle.packed_config.specs.Spelling.{spell_config};
+
+    ghost spell = { spell_config };
+
+    ghost read = { read_config };
+
+    #[tactic(auto, unfolding(crate::specs::Spelling::spell_config))]
+    fn put(&self, bytes: &mut Vec<u8>) -> Result<(), AllocError> {
+        match self {
+            Config::Ended(verdict) => {
+                bytes.push(0)?;
+                verdict.put(bytes)
+            }
+            Config::Going(going) => {
+                bytes.push(1)?;
+                going.put(bytes)
+            }
+        }
+    }
+
+    #[tactic(auto, unfolding(crate::specs::Reading::read_config))]
+    fn take(alloc: Global, reader: &mut Reader<'_>) -> Result<Config, AllocError> {
+        if reader.byte() == 0 {
+            return Ok(Config::Ended(take_verdict(reader)));
+        }
+        Ok(Config::Going(Going::take(alloc, reader)?))
     }
 }
