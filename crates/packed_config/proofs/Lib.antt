@@ -1,0 +1,5 @@
+pub mod Items
+pub mod Values
+pub mod NumbersBack
+pub mod ValuesBack
+pub mod ConfigsBack
