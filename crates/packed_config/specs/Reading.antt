@@ -43,6 +43,7 @@ unfoldable pub read_byte : Reads ℕ
 read_byte [] = (0, [])
 read_byte (byte ∷ bytes) = (byte, bytes)
 
+-- a number in four bytes, the lowest one first
 unfoldable pub read_four : Reads ℕ
 read_four = do
   first ← read_byte
@@ -51,6 +52,7 @@ read_four = do
   fourth ← read_byte
   done (first + 256 * (second + 256 * (third + 256 * fourth)))
 
+-- a number in eight bytes, its lower half first
 unfoldable pub read_eight : Reads ℕ
 read_eight = do
   low ← read_four
@@ -67,9 +69,11 @@ read_short first = if nat_lt first 192 then done first else (do
 abbrev pub number_from : Reads ℕ → ℕ → Reads ℕ
 number_from wide first = if nat_lt first 255 then read_short first else wide
 
+-- a number of 32 bits
 unfoldable pub read_number : Reads ℕ
 read_number = read_byte >>= number_from read_four
 
+-- a number of 64 bits
 unfoldable pub read_long : Reads ℕ
 read_long = read_byte >>= number_from read_eight
 
@@ -77,8 +81,11 @@ read_long = read_byte >>= number_from read_eight
 
 -- this many items
 unfoldable pub read_items : {A : Type 0} → Reads A → ℕ → Reads (List A)
-read_items read zero bytes = ([], bytes)
-read_items read (suc count) bytes = ((read bytes).0 ∷ (read_items read count (read bytes).1).0, (read_items read count (read bytes).1).1)
+read_items read zero = done []
+read_items read (suc count) = do
+  item ← read
+  items ← read_items read count
+  done (item ∷ items)
 
 -- how many items there are, and then the items
 unfoldable pub read_list : {A : Type 0} → Reads A → Reads (List A)
@@ -90,37 +97,43 @@ read_list read = read_long >>= read_items read
 abbrev pub integer_of : ℕ → ℤ
 integer_of n = if n % 2 == 0 then pos (n / 2) else negsuc (n / 2)
 
+-- an integer, by its number
 unfoldable pub read_integer : Reads ℤ
 read_integer = do
   number ← read_long
   done (integer_of number)
 
+-- the name of a component
 unfoldable pub read_path : Reads Path
 read_path = do
   numbers ← read_list read_number
   done (record { numbers = numbers })
 
+-- a component that a reference names
 unfoldable pub read_identity : Reads ComponentId
 read_identity = do
   path ← read_path
   component_type ← read_long
   done (record { path = path; component_type = component_type })
 
--- a field that may have no value
+-- a field that begins with this byte: behind 0 it has no value
 abbrev pub field_from : Reads Value → ℕ → Reads (Option Value)
 field_from read tag = if tag == 0 then done None else (do
   value ← read
   done (Some value))
 
+-- a field of a record, where its value is read in this way
 unfoldable pub read_field : Reads Value → Reads (Option Value)
 read_field read = read_byte >>= field_from read
 
+-- a name of an enumeration, behind the byte of the variant
 unfoldable pub read_enumerated : Reads Value
 read_enumerated = do
   at ← read_long
   name ← read_long
   done (value.Enumerated at name)
 
+-- a record, behind the byte of the variant, where the values of its fields are read in this way
 unfoldable pub read_record : Reads Value → Reads Value
 read_record read = do
   at ← read_long
@@ -156,9 +169,11 @@ read_value bytes = read_value_within (length bytes) bytes
 
 -- ---- what components have of their own
 
+-- the state of a timer that this byte stands for
 abbrev pub timer_of : ℕ → TimerState
 timer_of code = if code == 0 then timer.Inactive else (if code == 1 then timer.Running else timer.Expired)
 
+-- the state of a timer
 unfoldable pub read_timer : Reads TimerState
 read_timer = do
   code ← read_byte
@@ -171,18 +186,21 @@ read_entry read = do
   stored ← read
   done (slot, stored)
 
+-- the values of names, and then the states of timers
 unfoldable pub read_cells : Reads Cells
 read_cells = do
   values ← read_list (read_entry read_value)
   timers ← read_list (read_entry read_timer)
   done (record { values = values; timers = timers })
 
+-- what remains in a frame, and then its names
 unfoldable pub read_frame : Reads Frame
 read_frame = do
   remaining ← read_long
   cells ← read_cells
   done (record { remaining = remaining; cells = cells })
 
+-- an activated default
 unfoldable pub read_default : Reads ActiveDefault
 read_default = do
   number ← read_number
@@ -190,6 +208,7 @@ read_default = do
   arguments ← read_list read_value
   done (record { number = number; altstep = altstep; arguments = arguments })
 
+-- what a component has of its own
 unfoldable pub read_data : Reads Data
 read_data = do
   members ← read_cells
@@ -201,6 +220,7 @@ read_data = do
 
 -- ---- components and connections
 
+-- the verdict that this byte stands for
 abbrev pub verdict_of : ℕ → Verdict
 verdict_of code =
     if code == 0 then verdict.None else (
@@ -208,31 +228,37 @@ verdict_of code =
     if code == 2 then verdict.Inconc else (
     if code == 3 then verdict.Fail else verdict.Error)))
 
+-- a verdict
 unfoldable pub read_verdict : Reads Verdict
 read_verdict = do
   code ← read_byte
   done (verdict_of code)
 
+-- the state of a component that this byte stands for
 abbrev pub state_of : ℕ → State
 state_of code = if code == 0 then state.Created else (if code == 1 then state.Running else state.Terminated)
 
+-- the state of a component
 unfoldable pub read_state : Reads State
 read_state = do
   code ← read_byte
   done (state_of code)
 
+-- a message, and then its sender
 unfoldable pub read_message : Reads Message
 read_message = do
   value ← read_value
   sender ← read_identity
   done (record { value = value; sender = sender })
 
+-- a port, and then the messages that wait there
 unfoldable pub read_queue : Reads Queue
 read_queue = do
   port ← read_number
   messages ← read_list read_message
   done (record { port = port; messages = messages })
 
+-- a component
 unfoldable pub read_component : Reads Component
 read_component = do
   itself ← read_identity
@@ -242,12 +268,14 @@ read_component = do
   queues ← read_list read_queue
   done (record { itself = itself; own = own; state = state; verdict = verdict; queues = queues })
 
+-- a component's port
 unfoldable pub read_end : Reads End
 read_end = do
   component ← read_path
   port ← read_number
   done (record { component = component; port = port })
 
+-- the two ends of a connection
 unfoldable pub read_connection : Reads Connection
 read_connection = do
   one ← read_end
@@ -256,6 +284,7 @@ read_connection = do
 
 -- ---- configurations
 
+-- a test case that goes on
 unfoldable pub read_going : Reads Going
 read_going = do
   components ← read_list read_component
@@ -271,6 +300,7 @@ config_from tag = if tag == 0 then (do
     going ← read_going
     done (config.Going going))
 
+-- a configuration
 unfoldable pub read_config : Reads Config
 read_config = read_byte >>= config_from
 

@@ -63,12 +63,15 @@ abbrev pub number_of : ℤ → ℕ
 number_of (pos n) = 2 * n
 number_of (negsuc n) = 2 * n + 1
 
+-- an integer, by its number
 unfoldable pub spell_integer : ℤ → List ℕ
 spell_integer z = spell_long (number_of z)
 
+-- the name of a component: the numbers of its path
 unfoldable pub spell_path : Path → List ℕ
 spell_path path = spell_list spell_number path.numbers
 
+-- a component that a reference names: its path, and then its type
 unfoldable pub spell_identity : ComponentId → List ℕ
 spell_identity component = spell_path component.path ++ spell_long component.component_type
 
@@ -88,16 +91,19 @@ spell_level (Value-F.Default activation) = 6 ∷ spell_number activation
 spell_level Value-F.Null = 7 ∷ []
 spell_level Value-F.Omit = 8 ∷ []
 
+-- a value, level by level
 unfoldable pub spell_value : Value → List ℕ
 spell_value value = fold-Value (List ℕ) spell_level value
 
 -- ---- what components have of their own
 
+-- a byte for the state of a timer
 abbrev pub timer_code : TimerState → ℕ
 timer_code timer.Inactive = 0
 timer_code timer.Running = 1
 timer_code timer.Expired = 2
 
+-- the state of a timer
 abbrev pub spell_timer : TimerState → List ℕ
 spell_timer state = timer_code state ∷ []
 
@@ -105,20 +111,25 @@ spell_timer state = timer_code state ∷ []
 abbrev pub spell_entry : {A : Type 0} → (A → List ℕ) → ℕ × A → List ℕ
 spell_entry spell entry = spell_number entry.0 ++ spell entry.1
 
+-- the values of names, and then the states of timers
 unfoldable pub spell_cells : Cells → List ℕ
 spell_cells cells = spell_list (spell_entry spell_value) cells.values ++ spell_list (spell_entry spell_timer) cells.timers
 
+-- what remains in a frame, and then its names
 unfoldable pub spell_frame : Frame → List ℕ
 spell_frame frame = spell_long frame.remaining ++ spell_cells frame.cells
 
+-- an activated default: its number, its altstep and its arguments
 unfoldable pub spell_default : ActiveDefault → List ℕ
 spell_default active = spell_number active.number ++ spell_long active.altstep ++ spell_list spell_value active.arguments
 
+-- frame 0, the frames above, the defaults, and how many defaults and components there were so far
 unfoldable pub spell_data : Data → List ℕ
 spell_data own = spell_cells own.members ++ spell_list spell_frame own.calls ++ spell_list spell_default own.defaults ++ spell_number own.activations ++ spell_number own.children
 
 -- ---- components and connections
 
+-- a byte for a verdict
 abbrev pub verdict_code : Verdict → ℕ
 verdict_code verdict.None = 0
 verdict_code verdict.Pass = 1
@@ -126,34 +137,43 @@ verdict_code verdict.Inconc = 2
 verdict_code verdict.Fail = 3
 verdict_code verdict.Error = 4
 
+-- a verdict
 abbrev pub spell_verdict : Verdict → List ℕ
 spell_verdict v = verdict_code v ∷ []
 
+-- a byte for the state of a component
 abbrev pub state_code : State → ℕ
 state_code state.Created = 0
 state_code state.Running = 1
 state_code state.Terminated = 2
 
+-- the state of a component
 abbrev pub spell_state : State → List ℕ
 spell_state s = state_code s ∷ []
 
+-- a message, and then its sender
 unfoldable pub spell_message : Message → List ℕ
 spell_message message = spell_value message.value ++ spell_identity message.sender
 
+-- a port, and then the messages that wait there
 unfoldable pub spell_queue : Queue → List ℕ
 spell_queue queue = spell_number queue.port ++ spell_list spell_message queue.messages
 
+-- a component: its name, its data, its state, its verdict and its queues
 unfoldable pub spell_component : Component → List ℕ
 spell_component component = spell_identity component.itself ++ spell_data component.own ++ spell_state component.state ++ spell_verdict component.verdict ++ spell_list spell_queue component.queues
 
+-- a component's port
 unfoldable pub spell_end : End → List ℕ
 spell_end e = spell_path e.component ++ spell_number e.port
 
+-- the two ends of a connection
 unfoldable pub spell_connection : Connection → List ℕ
 spell_connection connection = spell_end connection.one ++ spell_end connection.other
 
 -- ---- configurations
 
+-- components, connections, and the verdict of those that are forgotten
 unfoldable pub spell_going : Going → List ℕ
 spell_going going = spell_list spell_component going.components ++ spell_list spell_connection going.connections ++ spell_verdict going.forgotten
 

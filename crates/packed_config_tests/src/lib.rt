@@ -1,0 +1,7 @@
+//! Tests of configurations as bytes, in a crate of their own, since a crate with tests is proved twice.
+#![tactic(auto)]
+
+#[cfg(test)]
+mod parts;
+#[cfg(test)]
+mod round;

@@ -1,0 +1,151 @@
+//! Configurations to pack.
+use std::alloc::{AllocError, Global};
+use ttcn_config::{
+    ActiveDefault, Cells, Component, Config, Connection, Data, End, Frame, Going, Message, Queue,
+    State,
+};
+use ttcn_syntax::{Seq, Verdict};
+use ttcn_values::{ComponentId, Path, Slot, TimerState, Value};
+
+fn path(alloc: Global, numbers: &[u32]) -> Result<Path, AllocError> {
+    let numbers = Vec::from_slice(alloc, numbers)?;
+    Ok(Path {
+        numbers: Seq::from_vec(numbers),
+    })
+}
+
+fn name(alloc: Global, numbers: &[u32]) -> Result<ComponentId, AllocError> {
+    Ok(ComponentId {
+        path: path(alloc, numbers)?,
+        component_type: 2,
+    })
+}
+
+fn no_cells(alloc: Global) -> Cells {
+    Cells {
+        values: Seq::new(alloc),
+        timers: Seq::new(alloc),
+    }
+}
+
+/// A variable and a timer.
+fn cells(alloc: Global, value: Value) -> Result<Cells, AllocError> {
+    let mut cells = no_cells(alloc);
+    cells.values.push((3, value))?;
+    cells.timers.push((4, TimerState::Running))?;
+    Ok(cells)
+}
+
+fn queue(alloc: Global, port: Slot) -> Queue {
+    Queue {
+        port,
+        messages: Seq::new(alloc),
+    }
+}
+
+/// A component that runs, with a variable, a timer, a frame of which this remains, and a port.
+fn component(alloc: Global, value: Value, remaining: usize) -> Result<Component, AllocError> {
+    let mut calls = Seq::new(alloc);
+    calls.push(Frame {
+        remaining,
+        cells: no_cells(alloc),
+    })?;
+    let mut queues = Seq::new(alloc);
+    queues.push(queue(alloc, 7))?;
+    Ok(Component {
+        itself: name(alloc, &[])?,
+        own: Data {
+            members: cells(alloc, value)?,
+            calls,
+            defaults: Seq::new(alloc),
+            activations: 0,
+            children: 1,
+        },
+        state: State::Running,
+        verdict: Verdict::Pass,
+        queues,
+    })
+}
+
+fn going(alloc: Global, component: Component) -> Result<Going, AllocError> {
+    let mut components = Seq::new(alloc);
+    components.push(component)?;
+    Ok(Going {
+        components,
+        connections: Seq::new(alloc),
+        forgotten: Verdict::None,
+    })
+}
+
+/// One component, with this value and a frame of which this remains.
+pub fn small(alloc: Global, value: Value, remaining: usize) -> Result<Config, AllocError> {
+    Ok(Config::Going(going(alloc, component(alloc, value, remaining)?)?))
+}
+
+/// A record in a record, with a field of each kind of value, one without value and one that is omitted.
+fn record(alloc: Global) -> Result<Value, AllocError> {
+    let mut inner = Seq::new(alloc);
+    for field in [Value::Null, Value::Omit, Value::Boolean(false)] {
+        inner.push(Some(field))?;
+    }
+    let mut fields = Seq::new(alloc);
+    fields.push(Some(Value::Integer(i64::MIN)))?;
+    fields.push(None)?;
+    fields.push(Some(Value::Boolean(true)))?;
+    fields.push(Some(Value::Enumerated(5, 1)))?;
+    fields.push(Some(Value::Component(name(alloc, &[0, 300, 70_000])?)))?;
+    fields.push(Some(Value::Default(4_000_000_000)))?;
+    fields.push(Some(Value::Record(6, inner)))?;
+    Ok(Value::Record(8, fields))
+}
+
+fn active_default(alloc: Global) -> Result<ActiveDefault, AllocError> {
+    let mut arguments = Seq::new(alloc);
+    arguments.push(Value::Integer(i64::MAX))?;
+    arguments.push(record(alloc)?)?;
+    Ok(ActiveDefault {
+        number: 1,
+        altstep: 20_000,
+        arguments,
+    })
+}
+
+fn message(alloc: Global) -> Result<Message, AllocError> {
+    Ok(Message {
+        value: record(alloc)?,
+        sender: name(alloc, &[1])?,
+    })
+}
+
+fn end(alloc: Global, numbers: &[u32]) -> Result<End, AllocError> {
+    Ok(End {
+        component: path(alloc, numbers)?,
+        port: 7,
+    })
+}
+
+/// All that a configuration can have.
+pub fn large(alloc: Global, forgotten: Verdict) -> Result<Config, AllocError> {
+    let mut main = component(alloc, record(alloc)?, 5)?;
+    main.own.calls.push(Frame {
+        remaining: 17_000,
+        cells: cells(alloc, Value::Integer(-1))?,
+    })?;
+    main.own.defaults.push(active_default(alloc)?)?;
+    main.own.activations = 2;
+    let mut messages = queue(alloc, 8);
+    messages.messages.push(message(alloc)?)?;
+    messages.messages.push(message(alloc)?)?;
+    main.queues.push(messages)?;
+    let mut going = going(alloc, main)?;
+    let mut other = component(alloc, Value::Null, 0)?;
+    other.itself = name(alloc, &[0])?;
+    other.state = State::Created;
+    going.components.push(other)?;
+    going.connections.push(Connection {
+        one: end(alloc, &[])?,
+        other: end(alloc, &[0])?,
+    })?;
+    going.forgotten = forgotten;
+    Ok(Config::Going(going))
+}
