@@ -83,6 +83,7 @@ def build_all(rt, crates):
 
 def main(name):
     rt = toolchain.load()
+    toolchain.remember(rt)
     os.chdir(toolchain.ROOT)
     crates = {it.name: it for it in rt.rtlib.crates_below(toolchain.ROOT)}
     below = crates[name].below()

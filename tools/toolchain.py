@@ -20,3 +20,22 @@ def load():
     # its first call sets the handler of a signal, which only the main thread may
     rt.rtlib.guarded()
     return rt
+
+
+def remember(rt):
+    """Has each crate find the libraries below it, and the sum of what they are made from, once. Sources must not change."""
+    crate = rt.rtlib.Crate
+    below, stamp = crate.below, crate.stamp
+    lists, sums = {}, {}
+
+    def below_once(self):
+        if self.folder not in lists:
+            lists[self.folder] = below(self)
+        return list(lists[self.folder])
+
+    def stamp_once(self):
+        if self.folder not in sums:
+            sums[self.folder] = stamp(self)
+        return sums[self.folder]
+
+    crate.below, crate.stamp = below_once, stamp_once
