@@ -1,11 +1,11 @@
--- What states feed a hasher: the configuration of the code that stands for one of the rules.
+-- What states feed a hasher: the bytes of the configuration of the code that stands for one of the rules.
 use Rattle.std.specs.Prelude.{◌≡◌, true}
 use Rattle.std.proofs.Common.{ap}
 use Rattle.std.specs.Hash.{HashWrites}
 use Rattle.config_equality.specs.Codes.{code_of}
 use Rattle.config_equality.specs.SameConfigurations.{configuration_one, same_configuration}
+use Rattle.packed_config.specs.contracts.packed.PackedHash.TheImpl as hash
 use Rattle.step_rules.specs.Configurations.{Configuration}
-use Rattle.ttcn_config.specs.contracts.config.ConfigHash.TheImpl as hash
 use Rattle.ttcn_step.specs.Machines.{Machine}
 
 abbrev pub fed : Machine → Configuration → HashWrites

@@ -41,7 +41,8 @@ impl<'t, 'a, K: Scheme + Send + Sync> Located for Runs<'t, 'a, K> {
         state: &State<K>,
         label: &StepLabel,
     ) -> Result<Option<BranchPlace>, AllocError> {
-        let place = self.machine.branch(alloc, &state.config, label.as_label())?;
+        let config = state.packed.unpack(alloc)?;
+        let place = self.machine.branch(alloc, &config, label.as_label())?;
         Ok(place.map(BranchPlace::new))
     }
 
@@ -50,7 +51,8 @@ impl<'t, 'a, K: Scheme + Send + Sync> Located for Runs<'t, 'a, K> {
         alloc: Global,
         state: &State<K>,
     ) -> Result<Vec<BlockedComponent>, AllocError> {
-        let standings = self.machine.blocked(alloc, &state.config)?;
+        let config = state.packed.unpack(alloc)?;
+        let standings = self.machine.blocked(alloc, &config)?;
         blocked_components(alloc, standings)
     }
 }

@@ -17,6 +17,7 @@ use crate::label::StepLabel;
 use crate::scheme::Scheme;
 use crate::state::State;
 use canonical::canon_owned;
+use packed_config::pack;
 use std::alloc::{AllocError, Global};
 use std::marker::PhantomData;
 use step_labels::Label;
@@ -70,7 +71,7 @@ fn state_of<K: Scheme>(
     machine.is_apart();
     let config = canon_owned(alloc, config)?;
     Ok(State {
-        config,
+        packed: pack(alloc, &config)?,
         of: PhantomData,
     })
 }
@@ -119,7 +120,8 @@ impl<'t, 'a, K: Scheme + Send + Sync> System for Runs<'t, 'a, K> {
     }
 
     fn labels(&self, alloc: Global, state: &State<K>) -> Result<Vec<StepLabel>, AllocError> {
-        let labels = self.machine.labels(alloc, &state.config)?;
+        let config = state.packed.unpack(alloc)?;
+        let labels = self.machine.labels(alloc, &config)?;
         step_labels(alloc, labels)
     }
 
@@ -129,8 +131,9 @@ impl<'t, 'a, K: Scheme + Send + Sync> System for Runs<'t, 'a, K> {
         state: &State<K>,
         label: &StepLabel,
     ) -> Result<State<K>, AllocError> {
-        match self.machine.next(alloc, &state.config, label.as_label()) {
-            Ok(config) => state_of(alloc, self.machine, config),
+        let config = state.packed.unpack(alloc)?;
+        match self.machine.next(alloc, &config, label.as_label()) {
+            Ok(after) => state_of(alloc, self.machine, after),
             Err(_) => Err(AllocError),
         }
     }
@@ -140,7 +143,8 @@ impl<'t, 'a, K: Scheme + Send + Sync> System for Runs<'t, 'a, K> {
         alloc: Global,
         state: &State<K>,
     ) -> Result<Vec<(StepLabel, State<K>)>, AllocError> {
-        let found = self.machine.successors(alloc, &state.config)?;
+        let config = state.packed.unpack(alloc)?;
+        let found = self.machine.successors(alloc, &config)?;
         pairs_of(alloc, self.machine, found)
     }
 
@@ -149,10 +153,7 @@ impl<'t, 'a, K: Scheme + Send + Sync> System for Runs<'t, 'a, K> {
     }
 
     fn mark(&self, state: &State<K>) -> Option<u8> {
-        match state.config {
-            Config::Ended(verdict) => Some(mark_of(verdict)),
-            Config::Going(_) => None,
-        }
+        state.packed.verdict().map(mark_of)
     }
 
     ghost same = { λ _ s t _ _ equal. configuration_one s t equal };

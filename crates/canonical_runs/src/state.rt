@@ -1,16 +1,16 @@
-//! Canonical configurations, as states.
+//! Canonical configurations, as states, which are kept as bytes.
 ghost use Rattle.canonical_runs.specs.States.{fed, fed_alike};
 ghost use Rattle.config_equality.specs.SameConfigurations.{same_configuration, same_configuration_equiv, same_configuration_laws};
 
 use crate::scheme::Scheme;
+use packed_config::Packed;
 use std::hash::{Hash, Hasher};
 use std::marker::{Model, PhantomData};
-use ttcn_config::Config;
 
 /// A configuration of the machine that `K` names. Contracts see that of the rules for which it stands.
 #[derive(Drop)]
 pub struct State<K: Scheme> {
-    pub(crate) config: Config,
+    pub(crate) packed: Packed,
     pub(crate) of: PhantomData<K>,
 }
 
@@ -31,9 +31,9 @@ impl<K: Scheme> Model for State<K> {
 
     ghost coded = { Prim.hlevel (codes, action.the_row.coded, branch.the_row.coded, statement.the_row.coded, template.the_row.coded, tree_value.the_row.coded, value.the_row.coded) };
 
-    ghost view = { λ state. said K.machine state.config };
+    ghost view = { λ state. said K.machine state.packed };
 
-    ghost invariant = { λ state. IsMachine K.machine × IsConfigWithin (extent K.machine) state.config };
+    ghost invariant = { λ state. IsMachine K.machine × IsConfigWithin (extent K.machine) state.packed };
 }
 
 impl<K: Scheme> PartialEq for State<K> {
@@ -42,7 +42,7 @@ impl<K: Scheme> PartialEq for State<K> {
     ghost laws = { same_configuration_laws };
 
     fn eq(&self, other: &State<K>) -> bool {
-        self.config == other.config
+        self.packed == other.packed
     }
 }
 
@@ -56,6 +56,6 @@ impl<K: Scheme> Hash for State<K> {
     ghost respects_eq = { fed_alike K.machine };
 
     fn hash<H: Hasher>(&self, state: &mut H) {
-        self.config.hash(state);
+        self.packed.hash(state);
     }
 }

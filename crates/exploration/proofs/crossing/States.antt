@@ -7,7 +7,7 @@ use Rattle.std.proofs.marker.PhantomData.TheSendSync as phantom
 use Rattle.canonical_runs.specs.contracts.state.State as state
 use Rattle.canonical_runs.specs.contracts.state.State.TheInside as inside
 use Rattle.canonical_runs.specs.declared.scheme.Scheme.{Ghosts}
-use Rattle.ttcn_config.specs.contracts.config.Config as config
+use Rattle.packed_config.specs.contracts.packed.Packed as packed
 use Rattle.ttcn_config.specs.contracts.frame.Cells as cells
 use Rattle.ttcn_values.proofs.value.Value.TheLaws.TheKnot as values
 use Rattle.ttcn_values.specs.contracts.value.ComponentId as id
@@ -18,16 +18,16 @@ id-sync = search (crosses, sendable) depth 60 fits 20000
 pub cells-sync : IsSync cells.the_field.row
 cells-sync = search (crosses, values.crosses, sendable) depth 60 fits 20000
 
-config-send : IsSend config.the_field.row
-config-send = search (crosses, values.crosses, sendable) depth 60 fits 20000
+packed-send : IsSend packed.the_row
+packed-send = search (crosses, sendable) depth 60 fits 20000
 
-config-sync : IsSync config.the_field.row
-config-sync = search (crosses, values.crosses, sendable) depth 60 fits 20000
+packed-sync : IsSync packed.the_row
+packed-sync = search (crosses, sendable) depth 60 fits 20000
 
 pub state-send : (K : RattleType) (g : Ghosts K.Denot) → IsSend (state.the_row K g)
 state-send K g = view_send (inside.the_row K g) _ _ _ _
-    (recorded_send (inside.the_field K g).row _ _ (inside.the_type K g).to_one (struct_send (shape (inside.the_type K g)) (config-send, (phantom.the_field_send K, tt))))
+    (recorded_send (inside.the_field K g).row _ _ (inside.the_type K g).to_one (struct_send (shape (inside.the_type K g)) (packed-send, (phantom.the_field_send K, tt))))
 
 pub state-sync : (K : RattleType) (g : Ghosts K.Denot) → IsSync (state.the_row K g)
 state-sync K g = view_sync (inside.the_row K g) _ _ _ _
-    (recorded_sync (inside.the_field K g).row _ _ (inside.the_type K g).to_one (struct_sync (shape (inside.the_type K g)) (config-sync, (phantom.the_field_sync K, tt))))
+    (recorded_sync (inside.the_field K g).row _ _ (inside.the_type K g).to_one (struct_sync (shape (inside.the_type K g)) (packed-sync, (phantom.the_field_sync K, tt))))

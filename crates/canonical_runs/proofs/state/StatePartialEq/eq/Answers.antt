@@ -1,4 +1,5 @@
 use Rattle.std.proofs.Common.{ap, ◌∙◌}
+use Rattle.canonical_runs.proofs.Packing.{same_bytes_equal}
 use Rattle.canonical_runs.proofs.state.StatePartialEq.eq.Goals as goal
 use Rattle.config_equality.specs.CodesBack.{eq_is_same}
 use Rattle.config_equality.specs.SameConfigurations.{same_configuration}
@@ -7,7 +8,7 @@ use Rattle.ttcn_step.specs.Machines.{said}
 pub returns : goal.returns
 returns g c =
     let machine = g.K.Scheme.machine in
-    let one = c.self.inside.config in
-    let other = c.other.inside.config in
-    c.eq.ensures ∙ eq_is_same machine.lists machine.names c.self.invariant.0.lists c.self.invariant.0.names one other c.self.invariant.1 c.other.invariant.1
+    let one = c.self.inside.packed in
+    let other = c.other.inside.packed in
+    c.eq.ensures ∙ same_bytes_equal one other ∙ eq_is_same machine.lists machine.names c.self.invariant.0.lists c.self.invariant.0.names one other c.self.invariant.1 c.other.invariant.1
     ∙ ap (λ x. same_configuration x (said machine other)) c.self.view_is ∙ ap (λ y. same_configuration c.args.self.now y) c.other.view_is
