@@ -53,3 +53,35 @@ unfolding read_list
 list_read read start before after count turn xs is behind all e =
     let f : read_items read (read_long start).0 (read_long start).1 ≡ read_items read count before = λ i. read_items read (sym is i) (sym behind i) in
     f ∙ items_all read count turn after (read_items read count before) xs all e
+
+-- ---- going past items
+
+-- one more item is passed
+pub items_passed : {A : Type 0} (read : Reads A) (count turn : ℕ) (before after whole : List ℕ)
+    → turn < count → after ≡ (read before).1
+    → whole ≡ (read_items read (count - turn) before).1
+    → whole ≡ (read_items read (count - (turn + 1)) after).1
+unfolding read_items
+items_passed {A} read count turn before after whole h rest e =
+    let k = count - (turn + 1) in
+    let n : count - turn ≡ suc k = omega arith in
+    let e' : whole ≡ (read_items read (suc k) before).1 = e ∙ ap (λ m. (read_items read m before).1) n in
+    rw rest e'
+
+-- all items are passed
+pub items_behind : {A : Type 0} (read : Reads A) (count turn : ℕ) (bytes whole : List ℕ)
+    → turn ≡ count → whole ≡ (read_items read (count - turn) bytes).1 → whole ≡ bytes
+unfolding read_items
+items_behind {A} read count turn bytes whole h e =
+    let n : count - turn ≡ 0 = omega arith in
+    e ∙ ap (λ m. (read_items read m bytes).1) n
+
+-- a list is passed: how many items it has, and then they
+pub list_passed : {A : Type 0} (read : Reads A) (start before after : List ℕ) (count turn : ℕ)
+    → count ≡ (read_long start).0 → before ≡ (read_long start).1 → turn ≡ count
+    → (read_items read count before).1 ≡ (read_items read (count - turn) after).1
+    → after ≡ (read_list read start).1
+unfolding read_list
+list_passed read start before after count turn is behind all e =
+    let f : read_items read (read_long start).0 (read_long start).1 ≡ read_items read count before = λ i. read_items read (sym is i) (sym behind i) in
+    sym (ap (λ p. p.1) f ∙ items_behind read count turn after (read_items read count before).1 all e)

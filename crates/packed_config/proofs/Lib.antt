@@ -3,3 +3,4 @@ pub mod Values
 pub mod NumbersBack
 pub mod ValuesBack
 pub mod ConfigsBack
+pub mod Positions

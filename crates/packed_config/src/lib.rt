@@ -1,11 +1,13 @@
 //! Configurations as bytes, from which they are read back.
 #![tactic(auto)]
 
+mod byte_reader;
 mod laws;
 mod number;
 mod packed;
 mod parts;
-mod reader;
+mod position;
+mod skip;
 mod spelled;
 mod value;
 

@@ -3,7 +3,7 @@ ghost use Rattle.std.specs.Prelude.{◌≡◌, ◌<◌, ◌++◌, OnOk};
 ghost use Rattle.packed_config.specs.Reading.{read_eight, read_four, read_long, read_number, read_short};
 ghost use Rattle.packed_config.specs.Spelling.{eight, four, short, spell_long, spell_number};
 
-use crate::reader::Reader;
+use crate::byte_reader::ByteReader;
 use std::alloc::AllocError;
 
 // ---- spelling
@@ -69,7 +69,7 @@ pub fn put_long(bytes: &mut Vec<u8>, number: usize) -> Result<(), AllocError>
 // ---- reading
 
 #[tactic(auto, unfolding(crate::specs::Reading::read_four))]
-fn take_four(reader: &mut Reader<'_>) -> u32
+fn take_four(reader: &mut ByteReader<'_>) -> u32
     ensures value { result ≡ (read_four reader.old).0 }
     ensures rest { reader.new ≡ (read_four reader.old).1 }
 {
@@ -81,7 +81,7 @@ fn take_four(reader: &mut Reader<'_>) -> u32
 }
 
 #[tactic(auto, unfolding(crate::specs::Reading::read_eight))]
-fn take_eight(reader: &mut Reader<'_>) -> usize
+fn take_eight(reader: &mut ByteReader<'_>) -> usize
     ensures value { result ≡ (read_eight reader.old).0 }
     ensures rest { reader.new ≡ (read_eight reader.old).1 }
 {
@@ -92,7 +92,7 @@ fn take_eight(reader: &mut Reader<'_>) -> usize
 
 /// A number of one byte or two, of which this is the first.
 #[tactic(auto, unfolding(crate::specs::Reading::read_short))]
-fn take_short(reader: &mut Reader<'_>, first: u8) -> u32
+fn take_short(reader: &mut ByteReader<'_>, first: u8) -> u32
     ensures value { result ≡ (read_short first reader.old).0 }
     ensures rest { reader.new ≡ (read_short first reader.old).1 }
 {
@@ -104,7 +104,7 @@ fn take_short(reader: &mut Reader<'_>, first: u8) -> u32
 }
 
 #[tactic(auto, unfolding(crate::specs::Reading::read_number))]
-pub fn take_number(reader: &mut Reader<'_>) -> u32
+pub fn take_number(reader: &mut ByteReader<'_>) -> u32
     ensures value { result ≡ (read_number reader.old).0 }
     ensures rest { reader.new ≡ (read_number reader.old).1 }
 {
@@ -117,7 +117,7 @@ pub fn take_number(reader: &mut Reader<'_>) -> u32
 }
 
 #[tactic(auto, unfolding(crate::specs::Reading::read_long))]
-pub fn take_long(reader: &mut Reader<'_>) -> usize
+pub fn take_long(reader: &mut ByteReader<'_>) -> usize
     ensures value { result ≡ (read_long reader.old).0 }
     ensures rest { reader.new ≡ (read_long reader.old).1 }
 {

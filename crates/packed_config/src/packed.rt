@@ -1,16 +1,17 @@
 //! Configurations that are kept as bytes.
 ghost use Rattle.std.specs.Prelude.{◌≡◌, IfOk};
-ghost use Rattle.packed_config.specs.Packs.{fed, fed_alike, same_bytes, same_bytes_equiv, same_bytes_laws, verdict_in};
+ghost use Rattle.packed_config.specs.Packs.{fed, fed_alike, position_in, same_bytes, same_bytes_equiv, same_bytes_laws, verdict_in};
 ghost use Rattle.packed_config.specs.Spelling.{spell_config};
 
+use crate::byte_reader::ByteReader;
 use crate::parts::take_verdict;
-use crate::reader::Reader;
+use crate::position::take_position_of;
 use crate::spelled::Spelled;
 use std::alloc::{AllocError, Global};
 use std::hash::{Hash, Hasher};
 use std::marker::Model;
 use ttcn_config::Config;
-use ttcn_syntax::Verdict;
+use ttcn_syntax::{Seq, Verdict};
 
 /// How many bytes are asked for before a configuration is spelled: few need more.
 const ROOM: usize = 512;
@@ -60,7 +61,7 @@ impl Packed {
     pub fn unpack(&self, alloc: Global) -> Result<Config, AllocError>
         ensures { IfOk result (λ config. config ≡ self.now) }
     {
-        let mut reader = Reader::new(self.bytes.as_slice());
+        let mut reader = ByteReader::new(self.bytes.as_slice());
         let config = Config::take(alloc, &mut reader)?;
         Ok(config)
     }
@@ -76,11 +77,23 @@ impl Packed {
     pub fn verdict(&self) -> Option<Verdict>
         ensures { result ≡ verdict_in self.now }
     {
-        let mut reader = Reader::new(self.bytes.as_slice());
+        let mut reader = ByteReader::new(self.bytes.as_slice());
         if reader.byte() == 0 {
             return Some(take_verdict(&mut reader));
         }
         None
+    }
+
+    /// The position of the last frame of the component of this path, where there is one. Nothing else is unpacked.
+    #[tactic(auto, unfolding(crate::specs::Reading::read_config, crate::specs::Reading::read_going))]
+    pub fn position(&self, alloc: Global, component: &Seq<u32>) -> Result<Option<usize>, AllocError>
+        ensures { IfOk result (λ found. found ≡ position_in self.now component.now) }
+    {
+        let mut reader = ByteReader::new(self.bytes.as_slice());
+        if reader.byte() == 0 {
+            return Ok(None);
+        }
+        take_position_of(alloc, &mut reader, component)
     }
 }
 

@@ -2,8 +2,8 @@
 ghost use Rattle.std.specs.Prelude.{◌≡◌};
 ghost use Rattle.packed_config.specs.Reading.{read_verdict};
 
+use crate::byte_reader::ByteReader;
 use crate::number::{put_long, put_number, take_long, take_number};
-use crate::reader::Reader;
 use crate::spelled::Spelled;
 use std::alloc::{AllocError, Global};
 use ttcn_config::{
@@ -34,7 +34,7 @@ impl Spelled for TimerState {
     }
 
     #[tactic(auto, unfolding(crate::specs::Reading::read_timer))]
-    fn take(_alloc: Global, reader: &mut Reader<'_>) -> Result<TimerState, AllocError> {
+    fn take(_alloc: Global, reader: &mut ByteReader<'_>) -> Result<TimerState, AllocError> {
         match reader.byte() {
             0 => Ok(TimerState::Inactive),
             1 => Ok(TimerState::Running),
@@ -58,7 +58,7 @@ impl Spelled for Cells {
     }
 
     #[tactic(auto, unfolding(crate::specs::Reading::read_cells))]
-    fn take(alloc: Global, reader: &mut Reader<'_>) -> Result<Cells, AllocError> {
+    fn take(alloc: Global, reader: &mut ByteReader<'_>) -> Result<Cells, AllocError> {
         let values = Seq::take(alloc, reader)?;
         let timers = Seq::take(alloc, reader)?;
         Ok(Cells { values, timers })
@@ -80,7 +80,7 @@ impl Spelled for Frame {
     }
 
     #[tactic(auto, unfolding(crate::specs::Reading::read_frame))]
-    fn take(alloc: Global, reader: &mut Reader<'_>) -> Result<Frame, AllocError> {
+    fn take(alloc: Global, reader: &mut ByteReader<'_>) -> Result<Frame, AllocError> {
         let remaining = take_long(reader);
         let cells = Cells::take(alloc, reader)?;
         Ok(Frame { remaining, cells })
@@ -103,7 +103,7 @@ impl Spelled for ActiveDefault {
     }
 
     #[tactic(auto, unfolding(crate::specs::Reading::read_default))]
-    fn take(alloc: Global, reader: &mut Reader<'_>) -> Result<ActiveDefault, AllocError> {
+    fn take(alloc: Global, reader: &mut ByteReader<'_>) -> Result<ActiveDefault, AllocError> {
         let number = take_number(reader);
         let altstep = take_long(reader);
         let arguments = Seq::take(alloc, reader)?;
@@ -133,7 +133,7 @@ impl Spelled for Data {
     }
 
     #[tactic(auto, unfolding(crate::specs::Reading::read_data))]
-    fn take(alloc: Global, reader: &mut Reader<'_>) -> Result<Data, AllocError> {
+    fn take(alloc: Global, reader: &mut ByteReader<'_>) -> Result<Data, AllocError> {
         let members = Cells::take(alloc, reader)?;
         let calls = Seq::take(alloc, reader)?;
         let defaults = Seq::take(alloc, reader)?;
@@ -152,7 +152,7 @@ impl Spelled for Data {
 // ---- components
 
 #[tactic(auto, unfolding(crate::specs::Reading::read_verdict))]
-pub fn take_verdict(reader: &mut Reader<'_>) -> Verdict
+pub fn take_verdict(reader: &mut ByteReader<'_>) -> Verdict
     ensures value { result ≡ (read_verdict reader.old).0 }
     ensures rest { reader.new ≡ (read_verdict reader.old).1 }
 {
@@ -185,7 +185,7 @@ impl Spelled for Verdict {
         Ok(())
     }
 
-    fn take(_alloc: Global, reader: &mut Reader<'_>) -> Result<Verdict, AllocError> {
+    fn take(_alloc: Global, reader: &mut ByteReader<'_>) -> Result<Verdict, AllocError> {
         Ok(take_verdict(reader))
     }
 }
@@ -209,7 +209,7 @@ impl Spelled for State {
     }
 
     #[tactic(auto, unfolding(crate::specs::Reading::read_state))]
-    fn take(_alloc: Global, reader: &mut Reader<'_>) -> Result<State, AllocError> {
+    fn take(_alloc: Global, reader: &mut ByteReader<'_>) -> Result<State, AllocError> {
         match reader.byte() {
             0 => Ok(State::Created),
             1 => Ok(State::Running),
@@ -233,7 +233,7 @@ impl Spelled for Message {
     }
 
     #[tactic(auto, unfolding(crate::specs::Reading::read_message))]
-    fn take(alloc: Global, reader: &mut Reader<'_>) -> Result<Message, AllocError> {
+    fn take(alloc: Global, reader: &mut ByteReader<'_>) -> Result<Message, AllocError> {
         let value = Value::take(alloc, reader)?;
         let sender = ComponentId::take(alloc, reader)?;
         Ok(Message { value, sender })
@@ -255,7 +255,7 @@ impl Spelled for Queue {
     }
 
     #[tactic(auto, unfolding(crate::specs::Reading::read_queue))]
-    fn take(alloc: Global, reader: &mut Reader<'_>) -> Result<Queue, AllocError> {
+    fn take(alloc: Global, reader: &mut ByteReader<'_>) -> Result<Queue, AllocError> {
         let port = take_number(reader);
         let messages = Seq::take(alloc, reader)?;
         Ok(Queue { port, messages })
@@ -280,7 +280,7 @@ impl Spelled for Component {
     }
 
     #[tactic(auto, unfolding(crate::specs::Reading::read_component))]
-    fn take(alloc: Global, reader: &mut Reader<'_>) -> Result<Component, AllocError> {
+    fn take(alloc: Global, reader: &mut ByteReader<'_>) -> Result<Component, AllocError> {
         let itself = ComponentId::take(alloc, reader)?;
         let own = Data::take(alloc, reader)?;
         let state = State::take(alloc, reader)?;
@@ -313,7 +313,7 @@ impl Spelled for End {
     }
 
     #[tactic(auto, unfolding(crate::specs::Reading::read_end))]
-    fn take(alloc: Global, reader: &mut Reader<'_>) -> Result<End, AllocError> {
+    fn take(alloc: Global, reader: &mut ByteReader<'_>) -> Result<End, AllocError> {
         let component = Path::take(alloc, reader)?;
         let port = take_number(reader);
         Ok(End { component, port })
@@ -335,7 +335,7 @@ impl Spelled for Connection {
     }
 
     #[tactic(auto, unfolding(crate::specs::Reading::read_connection))]
-    fn take(alloc: Global, reader: &mut Reader<'_>) -> Result<Connection, AllocError> {
+    fn take(alloc: Global, reader: &mut ByteReader<'_>) -> Result<Connection, AllocError> {
         let one = End::take(alloc, reader)?;
         let other = End::take(alloc, reader)?;
         Ok(Connection { one, other })
@@ -360,7 +360,7 @@ impl Spelled for Going {
     }
 
     #[tactic(auto, unfolding(crate::specs::Reading::read_going))]
-    fn take(alloc: Global, reader: &mut Reader<'_>) -> Result<Going, AllocError> {
+    fn take(alloc: Global, reader: &mut ByteReader<'_>) -> Result<Going, AllocError> {
         let components = Seq::take(alloc, reader)?;
         let connections = Seq::take(alloc, reader)?;
         let forgotten = Verdict::take(alloc, reader)?;
@@ -395,7 +395,7 @@ impl Spelled for Config {
     }
 
     #[tactic(auto, unfolding(crate::specs::Reading::read_config))]
-    fn take(alloc: Global, reader: &mut Reader<'_>) -> Result<Config, AllocError> {
+    fn take(alloc: Global, reader: &mut ByteReader<'_>) -> Result<Config, AllocError> {
         if reader.byte() == 0 {
             return Ok(Config::Ended(take_verdict(reader)));
         }

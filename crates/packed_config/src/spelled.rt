@@ -1,8 +1,8 @@
 //! What can be spelled as bytes.
 ghost use Rattle.std.specs.Prelude.{◌≡◌, ◌++◌, IfOk, OnOk};
 
+use crate::byte_reader::ByteReader;
 use crate::number::{put_long, put_number, take_long, take_number};
-use crate::reader::Reader;
 use std::alloc::{AllocError, Global};
 use ttcn_syntax::Seq;
 use ttcn_values::Slot;
@@ -18,7 +18,7 @@ pub trait Spelled: Drop {
     fn put(&self, bytes: &mut Vec<u8>) -> Result<(), AllocError>
         ensures { OnOk result (bytes.new.items ≡ bytes.old.items ++ spell self.now) };
 
-    fn take(alloc: Global, reader: &mut Reader<'_>) -> Result<Self, AllocError>
+    fn take(alloc: Global, reader: &mut ByteReader<'_>) -> Result<Self, AllocError>
         ensures value { IfOk result (λ thing. thing ≡ (read reader.old).0) }
         ensures rest { OnOk result (reader.new ≡ (read reader.old).1) };
 }
@@ -35,7 +35,7 @@ impl Spelled for u32 {
         put_number(bytes, *self)
     }
 
-    fn take(_alloc: Global, reader: &mut Reader<'_>) -> Result<u32, AllocError> {
+    fn take(_alloc: Global, reader: &mut ByteReader<'_>) -> Result<u32, AllocError> {
         Ok(take_number(reader))
     }
 }
@@ -57,7 +57,7 @@ impl<T: Spelled> Spelled for Seq<T> {
         Ok(())
     }
 
-    fn take(alloc: Global, reader: &mut Reader<'_>) -> Result<Seq<T>, AllocError> {
+    fn take(alloc: Global, reader: &mut ByteReader<'_>) -> Result<Seq<T>, AllocError> {
         let count = take_long(reader);
         let mut items = Vec::with_capacity(alloc, count.min(reader.left()))?;
         for _turn in 0..count {
@@ -82,7 +82,7 @@ impl<T: Spelled> Spelled for (Slot, T) {
     }
 
     #[tactic(auto, unfolding(crate::specs::Reading::read_entry))]
-    fn take(alloc: Global, reader: &mut Reader<'_>) -> Result<(Slot, T), AllocError> {
+    fn take(alloc: Global, reader: &mut ByteReader<'_>) -> Result<(Slot, T), AllocError> {
         let slot = take_number(reader);
         let stored = T::take(alloc, reader)?;
         Ok((slot, stored))

@@ -3,8 +3,8 @@ ghost use Rattle.std.specs.Prelude.{◌≡◌, ◌++◌, IfOk, OnOk};
 ghost use Rattle.packed_config.specs.Reading.{integer_of, read_enumerated, read_field, read_integer, read_record, read_value_within};
 ghost use Rattle.packed_config.specs.Spelling.{number_of, spell_integer, spell_value};
 
+use crate::byte_reader::ByteReader;
 use crate::number::{put_long, put_number, take_long, take_number};
-use crate::reader::Reader;
 use crate::spelled::Spelled;
 use std::alloc::{AllocError, Global};
 use ttcn_syntax::Seq;
@@ -38,7 +38,7 @@ fn put_integer(bytes: &mut Vec<u8>, integer: i64) -> Result<(), AllocError>
 }
 
 #[tactic(auto, unfolding(crate::specs::Reading::read_integer))]
-fn take_integer(reader: &mut Reader<'_>) -> i64
+fn take_integer(reader: &mut ByteReader<'_>) -> i64
     ensures value { result ≡ (read_integer reader.old).0 }
     ensures rest { reader.new ≡ (read_integer reader.old).1 }
 {
@@ -61,7 +61,7 @@ impl Spelled for Path {
     }
 
     #[tactic(auto, unfolding(crate::specs::Reading::read_path))]
-    fn take(alloc: Global, reader: &mut Reader<'_>) -> Result<Path, AllocError> {
+    fn take(alloc: Global, reader: &mut ByteReader<'_>) -> Result<Path, AllocError> {
         Ok(Path {
             numbers: Seq::take(alloc, reader)?,
         })
@@ -83,7 +83,7 @@ impl Spelled for ComponentId {
     }
 
     #[tactic(auto, unfolding(crate::specs::Reading::read_identity))]
-    fn take(alloc: Global, reader: &mut Reader<'_>) -> Result<ComponentId, AllocError> {
+    fn take(alloc: Global, reader: &mut ByteReader<'_>) -> Result<ComponentId, AllocError> {
         let path = Path::take(alloc, reader)?;
         let component_type = take_long(reader);
         Ok(ComponentId {
@@ -151,7 +151,7 @@ fn put_value(bytes: &mut Vec<u8>, value: &Value) -> Result<(), AllocError>
 }
 
 #[tactic(auto, unfolding(crate::specs::Reading::read_enumerated))]
-fn take_enumerated(reader: &mut Reader<'_>) -> Value
+fn take_enumerated(reader: &mut ByteReader<'_>) -> Value
     ensures value { result ≡ (read_enumerated reader.old).0 }
     ensures rest { reader.new ≡ (read_enumerated reader.old).1 }
 {
@@ -165,7 +165,7 @@ fn take_enumerated(reader: &mut Reader<'_>) -> Value
 #[tactic(auto, unfolding(crate::specs::Reading::read_field))]
 fn take_field(
     alloc: Global,
-    reader: &mut Reader<'_>,
+    reader: &mut ByteReader<'_>,
     depth: usize,
 ) -> Result<Option<Value>, AllocError>
     ensures value { IfOk result (λ field. field ≡ (read_field (read_value_within depth) reader.old).0) }
@@ -179,7 +179,11 @@ fn take_field(
 
 #[cycle(value)]
 #[tactic(auto, unfolding(crate::specs::Reading::read_record, crate::specs::Reading::read_list))]
-fn take_record(alloc: Global, reader: &mut Reader<'_>, depth: usize) -> Result<Value, AllocError>
+fn take_record(
+    alloc: Global,
+    reader: &mut ByteReader<'_>,
+    depth: usize,
+) -> Result<Value, AllocError>
     ensures value { IfOk result (λ thing. thing ≡ (read_record (read_value_within depth) reader.old).0) }
     ensures rest { OnOk result (reader.new ≡ (read_record (read_value_within depth) reader.old).1) }
 {
@@ -195,7 +199,7 @@ fn take_record(alloc: Global, reader: &mut Reader<'_>, depth: usize) -> Result<V
 /// A value whose records nest less deep than this.
 #[cycle(value)]
 #[tactic(auto, unfolding(crate::specs::Reading::read_value_within))]
-fn take_value(alloc: Global, reader: &mut Reader<'_>, depth: usize) -> Result<Value, AllocError>
+fn take_value(alloc: Global, reader: &mut ByteReader<'_>, depth: usize) -> Result<Value, AllocError>
     ensures value { IfOk result (λ thing. thing ≡ (read_value_within depth reader.old).0) }
     ensures rest { OnOk result (reader.new ≡ (read_value_within depth reader.old).1) }
 {
@@ -228,7 +232,7 @@ impl Spelled for Value {
     }
 
     #[tactic(auto, unfolding(crate::specs::Reading::read_value))]
-    fn take(alloc: Global, reader: &mut Reader<'_>) -> Result<Value, AllocError> {
+    fn take(alloc: Global, reader: &mut ByteReader<'_>) -> Result<Value, AllocError> {
         take_value(alloc, reader, reader.left())
     }
 }

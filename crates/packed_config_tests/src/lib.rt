@@ -2,6 +2,8 @@
 #![tactic(auto)]
 
 #[cfg(test)]
+mod long;
+#[cfg(test)]
 mod parts;
 #[cfg(test)]
 mod round;

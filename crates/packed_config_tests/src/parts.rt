@@ -149,3 +149,23 @@ pub fn large(alloc: Global, forgotten: Verdict) -> Result<Config, AllocError> {
     going.forgotten = forgotten;
     Ok(Config::Going(going))
 }
+
+/// A component with 10,000 frames more, and a queue of 100,000 messages.
+pub fn long(alloc: Global) -> Result<Config, AllocError> {
+    let mut main = component(alloc, Value::Null, 0)?;
+    for remaining in 0..10_000 {
+        main.own.calls.push(Frame {
+            remaining,
+            cells: no_cells(alloc),
+        })?;
+    }
+    let mut messages = queue(alloc, 8);
+    for number in 0..100_000 {
+        messages.messages.push(Message {
+            value: Value::Integer(number),
+            sender: name(alloc, &[1])?,
+        })?;
+    }
+    main.queues.push(messages)?;
+    Ok(Config::Going(going(alloc, main)?))
+}

@@ -5,7 +5,7 @@ use std::alloc::{AllocError, Global};
 use std::hash::{FoldHasher, Hash, Hasher};
 use std::test::Fail;
 use ttcn_config::Config;
-use ttcn_syntax::Verdict;
+use ttcn_syntax::{Seq, Verdict};
 use ttcn_values::Value;
 
 /// Whether a configuration that is packed is unpacked again.
@@ -35,6 +35,24 @@ fn bytes(rt: HostRuntime) -> Result<(), Fail> {
     assert_eq!(rt; packed.as_bytes(), SMALL);
     assert_eq!(rt; packed.verdict(), None);
     assert!(rt; packed.unpack(alloc)? == config);
+    Ok(())
+}
+
+/// The path of these numbers.
+fn path(alloc: Global, numbers: &[u32]) -> Result<Seq<u32>, AllocError> {
+    let numbers = Vec::from_slice(alloc, numbers)?;
+    Ok(Seq::from_vec(numbers))
+}
+
+#[test]
+fn positions(rt: HostRuntime) -> Result<(), Fail> {
+    let alloc = rt.alloc();
+    let packed = pack(alloc, &large(alloc, Verdict::None)?)?;
+    assert_eq!(rt; packed.position(alloc, &path(alloc, &[])?)?, Some(5));
+    assert_eq!(rt; packed.position(alloc, &path(alloc, &[0])?)?, Some(0));
+    assert_eq!(rt; packed.position(alloc, &path(alloc, &[1])?)?, None);
+    let ended = pack(alloc, &Config::Ended(Verdict::Pass))?;
+    assert_eq!(rt; ended.position(alloc, &path(alloc, &[])?)?, None);
     Ok(())
 }
 

@@ -6,11 +6,11 @@ use std::marker::Model;
 
 /// The bytes that are left.
 #[derive(Drop)]
-pub struct Reader<'a> {
+pub struct ByteReader<'a> {
     bytes: &'a [u8],
 }
 
-impl<'a> Model for Reader<'a> {
+impl<'a> Model for ByteReader<'a> {
     ghost use Rattle.std.specs.Prelude.{List, ℕ};
 
     ghost Value = { List ℕ };
@@ -18,11 +18,11 @@ impl<'a> Model for Reader<'a> {
     ghost view = { λ reader. reader.bytes.now };
 }
 
-impl<'a> Reader<'a> {
-    pub fn new(bytes: &'a [u8]) -> Reader<'a>
+impl<'a> ByteReader<'a> {
+    pub fn new(bytes: &'a [u8]) -> ByteReader<'a>
         ensures { result ≡ bytes.now }
     {
-        Reader { bytes }
+        ByteReader { bytes }
     }
 
     /// How many bytes are left.
