@@ -1,9 +1,13 @@
 pub mod Agreement
+pub mod Assigned
 pub mod Demands
 pub mod Lists
 pub mod MetExpressions
 pub mod ModuleReadings
+pub mod Only
+pub mod Parameters
 pub mod Places
+pub mod Sending
 pub mod Steps
 pub mod TemplateAgreement
 pub mod TypedChains
@@ -11,3 +15,4 @@ pub mod TypedLiterals
 pub mod TypedRecords
 pub mod TypedTemplates
 pub mod TypedValues
+pub mod Using

@@ -107,7 +107,7 @@ module _ (definitions : List Definition) where
   level-boolean Value-F.Null goes = absurd (let e = goes in cc)
   level-boolean Value-F.Omit goes = absurd (let e = goes in cc)
 
-  boolean-there : (v : Value) → is_of definitions type.Boolean v ≡ true → is_some (boolean v) ≡ true
+  pub boolean-there : (v : Value) → is_of definitions type.Boolean v ≡ true → is_some (boolean v) ≡ true
   boolean-there v is = level-boolean (out-Value v) (sym (goes_out definitions v (target_of (Some type.Boolean))) ∙ is)
 
   level-component : (x : Value-F Value) (at : ℕ) → level_goes definitions x (target_of (Some (type.Component at))) ≡ true → IsMet (values.component_in x)
@@ -200,7 +200,7 @@ module _ (definitions : List Definition) where
     chosen-known true f found known rest nothing = known-typed (resolved (module_names definitions) f.type_name) known
     chosen-known false f found known rest nothing = rest nothing
 
-    found-known : (test : Field → Bool) (fs : List Field) → All (HasFieldType definitions) fs → (check_field definitions (find test fs)).broken ≡ [] → (check_field definitions (find test fs)).typing ≢ typing.Unknown
+    pub found-known : (test : Field → Bool) (fs : List Field) → All (HasFieldType definitions) fs → (check_field definitions (find test fs)).broken ≡ [] → (check_field definitions (find test fs)).typing ≢ typing.Unknown
     found-known test [] known nothing = absurd (let e = nothing in cc)
     found-known test (f ∷ fs) known nothing =
         chosen-known (test f) f (find test fs) (All-head (HasFieldType definitions) f fs known) (found-known test fs (All-tail (HasFieldType definitions) f fs known)) nothing
@@ -432,7 +432,7 @@ module _ (scope : Scope) (reading : Reading) (whole : IsWhole scope) (fits : Fit
       (along-met scope.definitions whole.fields reference.fields found.typing (named reading reference.name) (meaning-known reference.name first) rest
       (all.values reference.name (name-there scope.definitions (scope.names reference.name) reference.fields first rest valued)) (fits.names reference.name))
 
-  component-met : (c : ComponentRef) (free : Bool) → (check_component scope c free).broken ≡ [] → is_valued (check_component scope c free).typing ≡ true → IsMet (component_at reading c)
+  pub component-met : (c : ComponentRef) (free : Bool) → (check_component scope c free).broken ≡ [] → is_valued (check_component scope c free).typing ≡ true → IsMet (component_at reading c)
   component-met component.Itself free nothing valued = tt
   component-met component.Mtc free nothing valued = tt
   component-met (component.Named reference) free nothing valued = reference-met reference nothing valued

@@ -16,7 +16,7 @@ use Rattle.ttcn_syntax.specs.declared.tree.definition.TemplateDefinition.{Templa
 use Rattle.ttcn_syntax.specs.declared.tree.statement.Constant.{Constant}
 use Rattle.ttcn_syntax.specs.declared.tree.value.TypeName.{TypeName}
 use Rattle.ttcn_syntax.specs.declared.tree.value.TypeName.TheVariants as type_name
-use Rattle.ttcn_types.specs.Parts.{constant_parts, number_at, template_parts, written_out}
+use Rattle.ttcn_types.specs.Parts.{constant_parts, number_at, template_parts, constants_and_templates}
 use Rattle.ttcn_types.specs.Rules.{AreWellTyped}
 use Rattle.checker_laws.proofs.Nothing.{kept, nothing-first, nothing-rest}
 use Rattle.checker_laws.proofs.Whole.{definition_is_fine, module_whole, parameters_whole}
@@ -60,7 +60,7 @@ type-known names with_default (type_name.Named name) nothing = kept (is_some (ty
 
 module _ (definitions : List Definition) where
   -- types of a scope are those of the module
-  abbrev Types : Scope → Type 0
+  abbrev pub Types : Scope → Type 0
   Types scope = (name : List ℕ) → type_meant (scope.names name) ≡ type_meant (module_names definitions name)
 
   types-next : (scope : Scope) (p : Parameter) → Types scope → scope.names p.name ≡ None → Types (declaring scope (parameter_entry scope p ∷ []))
@@ -77,7 +77,7 @@ module _ (definitions : List Definition) where
   resolved-known scope type_name.Default types known = refl
   resolved-known scope (type_name.Named name) types known = subst (λ o. is_some o ≡ true) (types name) known
 
-  each-known : (scope : Scope) (ps : List Parameter) → Types scope → check_parameters scope ps ≡ [] → All (HasParameterType definitions) ps
+  pub each-known : (scope : Scope) (ps : List Parameter) → Types scope → check_parameters scope ps ≡ [] → All (HasParameterType definitions) ps
   each-known scope [] types nothing = All-nil (HasParameterType definitions)
   each-known scope (p ∷ ps) types nothing =
       let next : Scope = declaring scope (parameter_entry scope p ∷ []) in
@@ -90,7 +90,7 @@ module _ (definitions : List Definition) where
       All-cons (HasParameterType definitions) p ps (resolved-known scope p.type_name types (type-known scope.names true p.type_name (nothing-rest name type fine)))
       (each-known next ps (types-next scope p types new) (nothing-rest here others nothing))
 
-  parameters-fine : AreWellTyped definitions → (t : TemplateDefinition) (at : ℕ) → kind_at definitions at ≡ Some (kind.Template t) → check_parameters (module_scope definitions) t.parameters ≡ []
+  pub parameters-fine : AreWellTyped definitions → (t : TemplateDefinition) (at : ℕ) → kind_at definitions at ≡ Some (kind.Template t) → check_parameters (module_scope definitions) t.parameters ≡ []
   parameters-fine well t at is =
       let scope : Scope = module_scope definitions in
       let type_fine : List Rule = check_type scope.names false t.type_name in
@@ -395,7 +395,7 @@ module _ (reading : Reading) (well : AreWellTyped reading.definitions) where
 
   -- no chain that begins there is longer
   abbrev IsShort : ℕ → ℕ → Type 0
-  IsShort n k = BeginsLongerChain (written_out reading.definitions) n k → ⊥
+  IsShort n k = BeginsLongerChain (constants_and_templates reading.definitions) n k → ⊥
 
   constant-met : (n at item : ℕ) → IsShort (suc n) (number_at reading.definitions at + item) → ((k : ℕ) → IsShort n k → MetAt (outcomes_within n reading) k)
       → (c : Option Constant) → constant_at reading.definitions at item ≡ c → is_some c ≡ true → IsMet ((outcomes_within (suc n) reading).0 at item)
@@ -464,11 +464,11 @@ module _ (reading : Reading) (well : AreWellTyped reading.definitions) where
   no-constant : (at item : ℕ) → IsShort 0 (number_at reading.definitions at + item) → (c : Option Constant) → constant_at reading.definitions at item ≡ c → is_some c ≡ true → ⊥
   no-constant at item short None found some = let e = some in cc
   no-constant at item short (Some c) found some =
-      short (alone (written_out reading.definitions) (number_at reading.definitions at + item) (constant_parts (module_scope reading.definitions) c) (constant_placed reading.definitions at item c found))
+      short (alone (constants_and_templates reading.definitions) (number_at reading.definitions at + item) (constant_parts (module_scope reading.definitions) c) (constant_placed reading.definitions at item c found))
 
   no-template-at : (at : ℕ) → IsShort 0 (number_at reading.definitions at) → (k : Option DefinitionKind) → kind_at reading.definitions at ≡ k → is_some (template_type reading.definitions k) ≡ true → ⊥
   no-template-at at short (Some (kind.Template t)) is known =
-      short (alone (written_out reading.definitions) (number_at reading.definitions at) (template_parts (with_parameters (module_scope reading.definitions) t.parameters) t.template) (template_placed reading.definitions at t (ap template_of is)))
+      short (alone (constants_and_templates reading.definitions) (number_at reading.definitions at) (template_parts (with_parameters (module_scope reading.definitions) t.parameters) t.template) (template_placed reading.definitions at t (ap template_of is)))
   no-template-at at short (Some (kind.Record r)) is known = let e = known in cc
   no-template-at at short (Some (kind.Enumerated r)) is known = let e = known in cc
   no-template-at at short (Some (kind.Port r)) is known = let e = known in cc

@@ -22,7 +22,7 @@ use Rattle.checker_laws.proofs.Whole.{definition_is_fine}
 use Rattle.check_statements.specs.Definitions.{check_parameter, check_parameters, parameter_entry, with_parameters}
 use Rattle.check_scope.specs.Scopes.{module_scope}
 use Rattle.check_scope.specs.Names.{Scope, constant_at, constants_type, declaring, kind_at, module_names, resolved, template_at, template_of}
-use Rattle.ttcn_types.specs.Parts.{constant_parts, number_at, template_parts, written_out}
+use Rattle.ttcn_types.specs.Parts.{constant_parts, number_at, template_parts, constants_and_templates}
 use Rattle.ttcn_types.specs.Rules.{AreWellTyped}
 use Rattle.ttcn_types.specs.Rules.Breaks.{size}
 use Rattle.check_expressions.specs.Targets.{check_new_name, check_type}
@@ -123,7 +123,7 @@ module _ (reading : Reading) (well : AreWellTyped reading.definitions) where
   definitions = reading.definitions
 
   abbrev things : List Thing
-  things = written_out reading.definitions
+  things = constants_and_templates reading.definitions
 
   -- the type of the constants of a declaration
   abbrev type_at : ℕ → Option DataType
@@ -143,7 +143,7 @@ module _ (reading : Reading) (well : AreWellTyped reading.definitions) where
     no_template : (at : ℕ) → template_at reading.definitions at ≡ None → (values : List Value) → (family 0).1 at values ≡ unmet
 
   abbrev Short : ℕ → ℕ → Type 0
-  Short n k = BeginsLongerChain (written_out reading.definitions) n k → ⊥
+  Short n k = BeginsLongerChain (constants_and_templates reading.definitions) n k → ⊥
 
   -- what two outcomes give with one more link
   pub constant-next : (one other : Outcomes) (n at item : ℕ) → Short (suc n) (number_at reading.definitions at + item) → ((k : ℕ) → Short n k → AgreeAt reading.definitions one other k)
@@ -263,14 +263,14 @@ module _ (reading : Reading) (well : AreWellTyped reading.definitions) where
 -- ---- modules that break no rule
 
 -- no chain has more members than the rule of sizes lets it have
-pub no-longer : (definitions : List Definition) → AreWellTyped definitions → (links : ℕ) → 200 ≤ links → (k : ℕ) → BeginsLongerChain (written_out definitions) links k → ⊥
+pub no-longer : (definitions : List Definition) → AreWellTyped definitions → (links : ℕ) → 200 ≤ links → (k : ℕ) → BeginsLongerChain (constants_and_templates definitions) links k → ⊥
 no-longer definitions well links enough k (rest, chain, longer) = well rule.Size (size (inl (k, (rest, chain, omega arith))))
 
 module _ (definitions : List Definition) (well : AreWellTyped definitions) (links : ℕ) (enough : 200 ≤ links) (facts : Reading) (is : facts.definitions ≡ definitions) where
   abbrev still_well : AreWellTyped facts.definitions
   still_well = subst AreWellTyped (sym is) well
 
-  abbrev all_short : (k : ℕ) → BeginsLongerChain (written_out facts.definitions) links k → ⊥
+  abbrev all_short : (k : ℕ) → BeginsLongerChain (constants_and_templates facts.definitions) links k → ⊥
   all_short = no-longer facts.definitions still_well links enough
 
   -- each constant stands for its value

@@ -579,3 +579,9 @@ pub arguments_typed : (scope : Scope) (reading : Reading) → IsWhole scope → 
     → IfYields (arguments reading ps vs) (AreGiven scope.definitions ps)
 arguments_typed scope reading whole differ fit ps vs are =
     yields_of (AreGiven scope.definitions ps) (arguments reading ps vs) (arguments-meet scope reading whole differ fit false tt ps vs (λ is. absurd (let e = is in cc)) are)
+
+-- or a dynamic error, where the types of the parameters are known
+pub arguments_met : (scope : Scope) (reading : Reading) → IsWhole scope → FieldsDiffer scope.definitions → ParametersKnown scope.definitions → FitsIn scope reading → HasAll scope reading
+    → (ps : List Parameter) (vs : List written.Value) → All (HasParameterType scope.definitions) ps → AreArguments scope ps vs → IsMet (arguments reading ps vs)
+arguments_met scope reading whole differ known fit all ps vs typed are =
+    met_of (AreGiven scope.definitions ps) (arguments reading ps vs) (arguments-meet scope reading whole differ fit true (all, known) ps vs (λ is. typed) are)

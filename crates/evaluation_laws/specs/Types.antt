@@ -48,12 +48,14 @@ abbrev pub goes_to_field : List Definition → Field → Option Goes → Bool
 goes_to_field definitions field None = true
 goes_to_field definitions field (Some goes) = goes definitions (field_target definitions field)
 
+-- a record's values go to its fields in their order: there are as many, each of which may be missing
 abbrev pub go_to_fields : List Definition → List Field → List (Option Goes) → Bool
 go_to_fields definitions [] [] = true
 go_to_fields definitions [] (v ∷ vs) = false
 go_to_fields definitions (f ∷ fs) [] = false
 go_to_fields definitions (f ∷ fs) (v ∷ vs) = goes_to_field definitions f v && go_to_fields definitions fs vs
 
+-- whether one level of a value goes to a target, given whether the values of its fields go to targets
 abbrev pub value_step : Value-F Goes → Goes
 value_step (Value-F.Integer n) definitions target = wants type.Integer target.data_type
 value_step (Value-F.Boolean b) definitions target = wants type.Boolean target.data_type
@@ -88,12 +90,14 @@ ParametersKnown definitions = (at : ℕ) → is_some (template_type definitions 
 
 -- ---- templates
 
+-- the templates of a record's fields go to the fields in their order: there are as many
 abbrev pub go_to_each : List Definition → List Field → List Goes → Bool
 go_to_each definitions [] [] = true
 go_to_each definitions [] (p ∷ ps) = false
 go_to_each definitions (f ∷ fs) [] = false
 go_to_each definitions (f ∷ fs) (p ∷ ps) = p definitions (field_target definitions f) && go_to_each definitions fs ps
 
+-- whether one level of a pattern goes to a target, given whether its parts go to targets
 abbrev pub pattern_step : Pattern-F Goes Goes → Goes
 pattern_step (Pattern-F.Value v) definitions target = value_goes v definitions (target_of target.data_type) && is_complete v
 pattern_step Pattern-F.Any definitions target = true
@@ -105,6 +109,7 @@ pattern_step (Pattern-F.Range low high) definitions target = wants type.Integer 
 pattern_step (Pattern-F.Record at parts) definitions target =
     wants (type.Record at) target.data_type && go_to_each definitions (fields_at definitions at) parts
 
+-- whether a template goes to a target, given whether its pattern does: `ifpresent` only where `omit` may stand
 abbrev pub template_step : Template-F Goes Goes → Goes
 template_step t definitions target = t.pattern definitions target && (not t.ifpresent || target.optional)
 

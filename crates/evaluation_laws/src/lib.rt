@@ -3,6 +3,7 @@
 
 mod laws;
 mod typing;
+mod uses;
 
 pub use laws::{
     constants_stand_for_their_values, more_links_change_nothing, nothing_else_stands_so,
@@ -13,4 +14,8 @@ pub use typing::{
     expressions_give_their_types, fields_differ, modules_have_all, parameters_are_known,
     templates_are_met, templates_go_where_they_are_wanted, values_are_met,
     values_go_where_they_are_wanted, wanted_expressions_go,
+};
+pub use uses::{
+    all_parameters_are_known, arguments_are_met, assignments_keep_types, components_are_given,
+    conditions_are_met, references_are_given, specific_values_go,
 };

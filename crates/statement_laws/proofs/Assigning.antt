@@ -17,7 +17,7 @@ use Rattle.check_scope.specs.declared.types.Typing.{Typing}
 use Rattle.check_scope.specs.declared.types.Typing.TheVariants as typing
 use Rattle.checker_laws.proofs.Nothing.{nothing-first, nothing-rest}
 use Rattle.checker_laws.specs.Laws.{HasFieldType, IsKnown, IsWhole}
-use Rattle.statement_laws.specs.Targets.{HasTarget}
+use Rattle.statement_laws.specs.Targets.{HasTarget, IsVariable}
 
 -- a type is known
 abbrev IsType : Typing → Type 0
@@ -75,17 +75,36 @@ module _ (scope : Scope) (whole : IsWhole scope) where
       (within-typed of name (subst (λ u. (within scope.definitions u name).broken ≡ []) is first)))
       (nothing-rest (within scope.definitions t name).broken (along scope.definitions (within scope.definitions t name).typing names).broken nothing)
 
-  reference-typed : (reference : Reference) → (check_target scope reference).broken ≡ [] → IsType (check_target scope reference).typing
-  reference-typed reference nothing =
+  pub reference_typed : (reference : Reference) → (check_target scope reference).broken ≡ [] → IsType (check_target scope reference).typing
+  reference_typed reference nothing =
       let found = as_target scope.definitions (scope.names reference.name) in
       let rest = along scope.definitions found.typing reference.fields in
       along-typed reference.fields found.typing
       (target-typed (scope.names reference.name) (whole.names reference.name) (nothing-first found.broken rest.broken nothing))
       (nothing-rest found.broken rest.broken nothing)
 
+  -- ---- variables
+
+  target-variable : (m : Option Meaning) → IfSome m (IsKnown scope.definitions) → (as_target scope.definitions m).broken ≡ [] → (of : DataType) × (m ≡ Some (meaning.Variable (Some of)))
+  target-variable (Some (meaning.Variable (Some of))) known nothing = (of, refl)
+  target-variable (Some (meaning.Variable None)) known nothing = absurd (let e = known in cc)
+  target-variable _ known nothing = absurd (let e = nothing in cc)
+
+  pub reference_variable : (reference : Reference) (t : DataType) → (check_target scope reference).typing ≡ typing.Known t → (check_target scope reference).broken ≡ [] → IsVariable scope reference t
+  reference_variable reference t is nothing =
+      let found = as_target scope.definitions (scope.names reference.name) in
+      let rest = along scope.definitions found.typing reference.fields in
+      let variable = target-variable (scope.names reference.name) (whole.names reference.name) (nothing-first found.broken rest.broken nothing) in
+      record {
+        of = variable.0;
+        variable = variable.1;
+        fields = subst (λ m. (along scope.definitions (as_target scope.definitions m).typing reference.fields).broken ≡ []) variable.1 (nothing-rest found.broken rest.broken nothing);
+        is = subst (λ m. (along scope.definitions (as_target scope.definitions m).typing reference.fields).typing ≡ typing.Known t) variable.1 is;
+      }
+
 pub assignment_typed : (scope : Scope) → IsWhole scope → (assignment : Assignment) → check_assignment scope assignment ≡ [] → HasTarget scope assignment
 assignment_typed scope whole assignment nothing =
     let target = check_target scope assignment.target in
     let right = check_rhs scope (target_at scope assignment.target) assignment.value in
-    let is = reference-typed scope whole assignment.target (nothing-first target.broken right nothing) in
+    let is = reference_typed scope whole assignment.target (nothing-first target.broken right nothing) in
     record { data_type = is.0; known = ap type_known is.1; value = nothing-rest target.broken right nothing }

@@ -4,4 +4,8 @@ pub mod Descent
 pub mod MessageTypes
 pub mod Naming
 pub mod NoComponents
+pub mod Redirecting
 pub mod Resolving
+pub mod Returning
+pub mod RightSides
+pub mod Typing

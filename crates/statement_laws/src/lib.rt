@@ -1,28 +1,41 @@
 //! Laws of statements that break no rule, for the layers above: they run no code.
 #![tactic(auto)]
 
-ghost use Rattle.std.specs.Prelude.{◌≡◌, ℕ, Bool, List, [], None, Some};
+ghost use Rattle.std.specs.Prelude.{◌≡◌, ℕ, Bool, List, [], Option, None, Some};
+ghost use Rattle.ttcn_syntax.specs.declared.tree.definition.Altstep.{Altstep};
 ghost use Rattle.ttcn_syntax.specs.declared.tree.definition.Definition.{Definition};
+ghost use Rattle.ttcn_syntax.specs.declared.tree.definition.DefinitionKind.TheVariants as kind;
+ghost use Rattle.ttcn_syntax.specs.declared.tree.definition.Function.{Function};
+ghost use Rattle.ttcn_syntax.specs.declared.tree.definition.Testcase.{Testcase};
 ghost use Rattle.ttcn_syntax.specs.declared.tree.expression.ComponentRef.{ComponentRef};
 ghost use Rattle.ttcn_syntax.specs.declared.tree.expression.Expr.{Expr};
 ghost use Rattle.ttcn_syntax.specs.declared.tree.statement.Action.{out-Action};
 ghost use Rattle.ttcn_syntax.specs.declared.tree.statement.Assignment.{Assignment};
 ghost use Rattle.ttcn_syntax.specs.declared.tree.statement.Branch.{Branch};
+ghost use Rattle.ttcn_syntax.specs.declared.tree.statement.Constants.{Constants};
+ghost use Rattle.ttcn_syntax.specs.declared.tree.statement.Receive.{Receive};
 ghost use Rattle.ttcn_syntax.specs.declared.tree.statement.Statement.{Statement, out-Statement};
+ghost use Rattle.ttcn_syntax.specs.declared.tree.statement.Variables.{Variables};
 ghost use Rattle.ttcn_syntax.specs.declared.tree.template.MessageTemplate.{MessageTemplate};
 ghost use Rattle.ttcn_syntax.specs.declared.tree.value.Call.{Call};
+ghost use Rattle.ttcn_syntax.specs.declared.tree.value.Rhs.{Rhs};
+ghost use Rattle.ttcn_syntax.specs.declared.tree.value.Value.{Value};
 ghost use Rattle.check_expressions.specs.Calls.{check_activation};
-ghost use Rattle.check_expressions.specs.Targets.{check_assignment};
-ghost use Rattle.check_scope.specs.Names.{Scope, module_names};
+ghost use Rattle.check_expressions.specs.Targets.{check_assignment, check_constants, check_rhs, check_variables};
+ghost use Rattle.check_scope.specs.Names.{Scope, kind_at, module_names};
 ghost use Rattle.check_scope.specs.declared.names.Meaning.{Meaning};
-ghost use Rattle.check_statements.specs.Messages.{check_message, passage_at, type_anywhere};
-ghost use Rattle.check_statements.specs.Statements.{Place, check_condition, check_start, branch, statement};
+ghost use Rattle.check_scope.specs.declared.types.DataType.{DataType};
+ghost use Rattle.check_statements.specs.Definitions.{returns_of};
+ghost use Rattle.check_statements.specs.Messages.{check_message, check_receive, passage_at, type_anywhere};
+ghost use Rattle.check_statements.specs.Statements.{Place, check_condition, check_return, check_start, branch, statement, statements};
 ghost use Rattle.checker_laws.specs.Laws.{IsWhole};
 ghost use Rattle.statement_laws.specs.Messages.{HasType};
 ghost use Rattle.statement_laws.specs.Named.{IsDefinedAs};
 ghost use Rattle.statement_laws.specs.Parts.{HasFineParts, IsCondition, IsFineBranch};
+ghost use Rattle.statement_laws.specs.Redirects.{HasRedirects};
 ghost use Rattle.statement_laws.specs.Resolved.{Activates, Starts};
-ghost use Rattle.statement_laws.specs.Targets.{HasTarget};
+ghost use Rattle.statement_laws.specs.Results.{IsFineWithoutReturns, IsReturn, KnowsResults, branches, scope_in};
+ghost use Rattle.statement_laws.specs.Targets.{DeclaresConstants, DeclaresVariables, HasTarget, IsAssignment, IsRightSide};
 ghost use Rattle.survey.specs.Graphs.{AllChainsWithin};
 ghost use Rattle.ttcn_types.specs.Limits.{longest_chain};
 ghost use Rattle.ttcn_types.specs.Parts.{altsteps};
@@ -92,3 +105,43 @@ pub fn altstep_chains_are_short(program: &Program)
 {
     let _ = program.module();
 }
+
+/// The types of the results of functions are known.
+#[tactic(auto, using(crate::proofs::Returning::results_known))]
+pub fn results_are_known(program: &Program)
+    ensures { KnowsResults program.now.definitions }
+{
+    let _ = program.module();
+}
+
+/// A `return` in a function that breaks no rule returns a value of the result's type, where the function has a result, and
+/// where it has none, nothing.
+#[tactic(auto, using(crate::proofs::Returning::return_fits))]
+pub fn returns_fit()
+    ensures { (scope : Scope) → KnowsResults scope.definitions → (at : ℕ) (f : Function) → kind_at scope.definitions at ≡ Some (kind.Function f) → (given : Option Value) → check_return scope (returns_of scope.definitions f.returns) given ≡ [] → IsReturn scope f.returns given }
+{}
+
+/// No `return` stands in altsteps and test cases that break no rule: they break none where no `return` may stand.
+#[tactic(auto, using(crate::proofs::Returning::altstep_fine, crate::proofs::Returning::testcase_fine))]
+pub fn returns_stand_in_functions(program: &Program)
+    ensures in_no_altstep { (at : ℕ) (a : Altstep) → kind_at program.now.definitions at ≡ Some (kind.Altstep a) → IsFineWithoutReturns (scope_in program.now.definitions a.runs_on a.parameters) (branches a.branches) }
+    ensures in_no_test_case { (at : ℕ) (t : Testcase) → kind_at program.now.definitions at ≡ Some (kind.Testcase t) → IsFineWithoutReturns (scope_in program.now.definitions (Some t.runs_on) []) (statements t.body) }
+{
+    let _ = program.module();
+}
+
+/// What stands on the right of `:=`, and breaks no rule at a target of a type, goes to this type: in assignments, and in
+/// declarations of variables and constants, whose type is known.
+#[tactic(auto, using(crate::proofs::RightSides::right_fits, crate::proofs::RightSides::assignment_fits, crate::proofs::RightSides::variables_fit, crate::proofs::RightSides::constants_fit))]
+pub fn right_sides_fit()
+    ensures anywhere { (scope : Scope) → KnowsResults scope.definitions → (t : DataType) (optional : Bool) (right : Rhs) → check_rhs scope (record { data_type = Some t; optional = optional }) right ≡ [] → IsRightSide scope t optional right }
+    ensures assignments { (scope : Scope) → KnowsResults scope.definitions → IsWhole scope → (assignment : Assignment) → check_assignment scope assignment ≡ [] → IsAssignment scope assignment }
+    ensures variables { (scope : Scope) → KnowsResults scope.definitions → (vs : Variables) → check_variables scope vs ≡ [] → DeclaresVariables scope vs }
+    ensures constants { (scope : Scope) (cs : Constants) → check_constants scope cs ≡ [] → DeclaresConstants scope cs }
+{}
+
+/// The redirects of a `receive` that breaks no rule store the message in a variable of the message's type, and the sender in
+/// one of a component type.
+pub fn redirects_fit()
+    ensures { (scope : Scope) → IsWhole scope → (receive : Receive) → check_receive scope receive ≡ [] → HasRedirects scope receive }
+{}
