@@ -39,7 +39,7 @@ fn beginning<'a>(text: &'a [u8], settings: &Settings<'_>) -> &'a [u8] {
 fn answer_of_check(alloc: Global, text: &[u8]) -> Result<String, AllocError> {
     match check_answer(alloc, text) {
         Ok(printed) => without_last_end(alloc, printed.as_str()),
-        Err(fault) => told(alloc, &fault),
+        Err(fault) => text_of_fault(alloc, &fault),
     }
 }
 
@@ -55,7 +55,7 @@ fn answer_of_replay(
             Ok(printed) => without_last_end(alloc, printed),
             Err(_) => String::from_str(alloc, "not UTF-8"),
         },
-        Err(fault) => told(alloc, &fault),
+        Err(fault) => text_of_fault(alloc, &fault),
     }
 }
 
@@ -95,7 +95,7 @@ fn answer_under<R: Threads + Sync>(
 ) -> Result<String, AllocError> {
     match run_text(rt, alloc, text, testcase(settings), plan, &NoGate) {
         Ok(report) => shown(alloc, &report, settings),
-        Err(fault) => told(alloc, &fault),
+        Err(fault) => text_of_fault(alloc, &fault),
     }
 }
 
@@ -123,7 +123,7 @@ fn without_last_end(alloc: Global, printed: &str) -> Result<String, AllocError> 
 }
 
 /// The status and the line of a fault.
-fn told(alloc: Global, fault: &Fault) -> Result<String, AllocError> {
+fn text_of_fault(alloc: Global, fault: &Fault) -> Result<String, AllocError> {
     let (status, line) = (status(fault), fault_line(alloc, fault)?);
     format!(in alloc; "status {status}\n{line}")
 }
