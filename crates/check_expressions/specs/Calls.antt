@@ -23,6 +23,7 @@ use Rattle.check_scope.specs.declared.types.Typing.TheVariants as typing
 
 -- ---- what is called
 
+-- the formal parameters of a template, a function or an altstep, none of any other definition
 abbrev pub parameters_of : Option DefinitionKind → List Parameter
 parameters_of (Some (kind.Template t)) = t.parameters
 parameters_of (Some (kind.Function f)) = f.parameters
@@ -81,6 +82,7 @@ runs_here (Some at) (Some caller) = nat_eq at caller
 runs_here (Some at) None = false
 runs_here None caller = true
 
+-- the position of the component type that a clause such as `runs on` names, if it stands there and names one
 abbrev pub component_named : List Definition → Option (List ℕ) → Option ℕ
 component_named definitions None = None
 component_named definitions (Some name) = component_meant (module_names definitions name)
@@ -101,6 +103,7 @@ check_behaviour scope callable call (Some at) =
     unless (runs_here (component_named scope.definitions (runs_on_of (kind_at scope.definitions at))) scope.itself) rule.RunsOn ++
     unless (callable (kind_at scope.definitions at)) rule.CallKind
 
+-- the rules that a call breaks, where behaviours of some kinds may be called
 abbrev pub check_call : Scope → (Option DefinitionKind → Bool) → Call → List Rule
 check_call scope callable call = check_behaviour scope callable call (behaviour_meant (scope.names call.name))
 
@@ -131,10 +134,11 @@ abbrev pub result_typing : Scope → Option TypeName → Typing
 result_typing scope None = typing.Unknown
 result_typing scope (Some type_name) = typed (resolved (module_names scope.definitions) type_name)
 
--- an altstep that is activated, and runs on what its activator runs on
+-- the position of the altstep that a name means, if it means one
 abbrev pub altstep_meant : Option Meaning → Option ℕ
 altstep_meant (Some (meaning.Altstep at)) = Some at
 altstep_meant _ = None
 
+-- the rules that an `activate` breaks: it names an altstep, and is judged as a call of one
 abbrev pub check_activation : Scope → Call → List Rule
 check_activation scope call = check_behaviour scope is_altstep call (altstep_meant (scope.names call.name))

@@ -70,6 +70,7 @@ along definitions t [] = fine t
 along definitions t (name ∷ names) =
     let found = within definitions t name in after found.broken (along definitions found.typing names)
 
+-- what is said of a name with the fields behind it: the typing of the last one, and all rules that are broken
 abbrev pub check_reference : Scope → Reference → Judgement
 check_reference scope reference =
     let found = check_meaning scope.definitions (scope.names reference.name) in
@@ -84,6 +85,7 @@ abbrev pub check_self : Option ℕ → Bool → Judgement
 check_self (Some at) free = fine (typing.Known (type.Component at))
 check_self None free = any_component free
 
+-- what is said of `self`, `mtc` or a reference: `mtc`, and `self` of no known type, only where they may stand
 abbrev pub check_component : Scope → ComponentRef → Bool → Judgement
 check_component scope component.Itself free = check_self scope.itself free
 check_component scope component.Mtc free = any_component free
@@ -100,6 +102,7 @@ abbrev pub is_timer : List (List ℕ) → Option Meaning → Bool
 is_timer [] (Some meaning.Timer) = true
 is_timer _ _ = false
 
+-- a reference is the name of a timer without fields: `self` and `mtc` are not
 abbrev pub names_timer : Scope → ComponentRef → Bool
 names_timer scope (component.Named reference) = is_timer reference.fields (scope.names reference.name)
 names_timer scope _ = false
@@ -129,6 +132,7 @@ check_ispresent scope reference = after (check_reference scope reference).broken
 abbrev pub of_type : DataType → Typing → Judgement
 of_type wanted found = demand (is_of wanted found) rule.OperandType wanted
 
+-- the same of an operand with what is said of it, whose own broken rules come first
 abbrev pub operand : DataType → Judgement → Judgement
 operand wanted judged = after judged.broken (of_type wanted judged.typing)
 
@@ -158,6 +162,7 @@ abbrev pub join_links : Judge → List (Operator × Judge) → Judge
 join_links first [] = first
 join_links first (link ∷ links) = join_links (join_link link.0 first link.1) links
 
+-- what is said of one level of an expression, given what is said of its operands
 abbrev pub expression_step : Expr-F Judge (Operator × Judge) → Judge
 expression_step (Expr-F.Int n) scope free = fine (typing.Known type.Integer)
 expression_step (Expr-F.Bool b) scope free = fine (typing.Known type.Boolean)
@@ -169,6 +174,7 @@ expression_step (Expr-F.Not judgement) scope free = operand type.Boolean (judgem
 expression_step (Expr-F.Signed sign judgement) scope free = operand type.Integer (judgement scope false)
 expression_step (Expr-F.Chain first links) scope free = join_links first links scope free
 
+-- what is said of one link of a chain: its operator, with what is said of its operand, which is given
 abbrev pub link_step : Link-F Judge (Operator × Judge) → Operator × Judge
 link_step link = (link.operator, link.operand)
 

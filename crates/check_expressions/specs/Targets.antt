@@ -55,6 +55,7 @@ abbrev pub check_created : Option DataType → Option ℕ → List Rule
 check_created wanted None = rule.UnknownName ∷ []
 check_created wanted (Some at) = unless (fits wanted (typing.Known (type.Component at))) rule.ValueType
 
+-- the rules that a right side breaks at a target: a value, a new component, a call or an `activate`
 abbrev pub check_rhs : Scope → Target → Rhs → List Rule
 check_rhs scope target (rhs.Value v) = value v scope target
 check_rhs scope target (rhs.Create name) = check_created target.data_type (component_meant (scope.names name))
@@ -73,38 +74,49 @@ check_initial scope target (Some right) = check_rhs scope target right
 abbrev pub check_variable : Option DataType → Scope → Variable → List Rule
 check_variable of scope variable = check_new_name scope.names variable.name ++ check_initial scope (target_of of) variable.value
 
+-- the entry of a variable: its name stands for a variable of this type
 abbrev pub variable_entry : Option DataType → Scope → Variable → Entry
 variable_entry of scope variable = (variable.name, meaning.Variable of)
 
+-- the rules that a declaration of variables breaks: those of its type, and of each variable in its order
 abbrev pub check_variables : Scope → Variables → List Rule
 check_variables scope vs = check_type scope.names true vs.type_name ++
     one_by_one (check_variable (resolved scope.names vs.type_name)) (variable_entry (resolved scope.names vs.type_name)) scope vs.variables
 
+-- the scope behind a declaration of variables
 abbrev pub behind_variables : Scope → Variables → Scope
 behind_variables scope vs = behind_all (variable_entry (resolved scope.names vs.type_name)) scope vs.variables
 
+-- a constant of a type: its name is new, and its value is of this type
 abbrev pub check_constant : Option DataType → Scope → Constant → List Rule
 check_constant of scope constant = check_new_name scope.names constant.name ++ value constant.value scope (target_of of)
 
+-- the entry of a constant: its name stands for a constant of this type
 abbrev pub constant_entry : Option DataType → Scope → Constant → Entry
 constant_entry of scope constant = (constant.name, meaning.Constant of)
 
+-- the rules that a declaration of constants breaks: those of its type, and of each constant in its order
 abbrev pub check_constants : Scope → Constants → List Rule
 check_constants scope cs = check_type scope.names false cs.type_name ++
     one_by_one (check_constant (resolved scope.names cs.type_name)) (constant_entry (resolved scope.names cs.type_name)) scope cs.constants
 
+-- the scope behind a declaration of constants
 abbrev pub behind_constants : Scope → Constants → Scope
 behind_constants scope cs = behind_all (constant_entry (resolved scope.names cs.type_name)) scope cs.constants
 
+-- a timer: its name is new
 abbrev pub check_timer_name : Scope → Timer → List Rule
 check_timer_name scope timer = check_new_name scope.names timer.name
 
+-- the entry of a timer: its name stands for a timer
 abbrev pub timer_entry : Scope → Timer → Entry
 timer_entry scope timer = (timer.name, meaning.Timer)
 
+-- the rules that a declaration of timers breaks, each behind those before it
 abbrev pub check_timers : Scope → List Timer → List Rule
 check_timers scope timers = one_by_one check_timer_name timer_entry scope timers
 
+-- the scope behind a declaration of timers
 abbrev pub behind_timers : Scope → List Timer → Scope
 behind_timers scope timers = behind_all timer_entry scope timers
 
@@ -129,6 +141,7 @@ abbrev pub is_optional : Option Field → Bool
 is_optional None = true
 is_optional (Some field) = field.optional
 
+-- whether the field of a name may be omitted in what has this typing: not judged where that is no record
 abbrev pub optional_in : List Definition → Typing → List ℕ → Bool
 optional_in definitions (typing.Known (type.Record at)) name = is_optional (field_named name (fields_at definitions at))
 optional_in definitions _ name = true
@@ -139,12 +152,14 @@ last_optional definitions t optional [] = optional
 last_optional definitions t optional (name ∷ names) =
     last_optional definitions (within definitions t name).typing (optional_in definitions t name) names
 
+-- the target that a reference is: its type if that is known, and whether its last field may be omitted
 abbrev pub target_at : Scope → Reference → Target
 target_at scope reference = record {
   data_type = type_known (check_target scope reference).typing;
   optional = last_optional scope.definitions (as_target scope.definitions (scope.names reference.name)).typing false reference.fields;
 }
 
+-- the rules that an assignment breaks: those of its target, and those of the right side at this target
 abbrev pub check_assignment : Scope → Assignment → List Rule
 check_assignment scope assignment =
     (check_target scope assignment.target).broken ++ check_rhs scope (target_at scope assignment.target) assignment.value

@@ -40,6 +40,7 @@ abbrev pub whole_name : List (List ℕ) → List ℕ → Option (List ℕ)
 whole_name [] name = Some name
 whole_name (field ∷ fields) name = None
 
+-- the name that the outermost level of an expression is, if it is a reference without fields
 abbrev pub bare_name : Expr-F Expr Link → Option (List ℕ)
 bare_name (Expr-F.Reference (component.Named reference)) = whole_name reference.fields reference.name
 bare_name _ = None
@@ -49,9 +50,11 @@ abbrev pub template_by_name : Scope → Option (List ℕ) → Option ℕ
 template_by_name scope None = None
 template_by_name scope (Some name) = template_meant (scope.names name)
 
+-- the same, of an expression: its bare name has to be that of a template
 abbrev pub template_named : Scope → Expr → Option ℕ
 template_named scope e = template_by_name scope (bare_name (out-Expr e))
 
+-- the type of the template at a position, if one stands there and its type is known
 abbrev pub type_of_template : Scope → ℕ → Option DataType
 type_of_template scope at = template_type scope.definitions (kind_at scope.definitions at)
 
@@ -69,6 +72,7 @@ check_name scope target e (Some at) = check_named_template scope target [] (Some
 
 -- ---- ranges
 
+-- the rules that a bound of a range breaks: its expression is an integer, and `infinity` breaks none
 abbrev pub check_bound : Scope → Bound → List Rule
 check_bound scope (bound.Expr e) = check_expression scope (Some type.Integer) e
 check_bound scope bound.Infinity = []
@@ -88,6 +92,7 @@ has_all (Some fields) names = list_all (λ field. list_any (bytes_eq field.name)
 abbrev pub each : List AtTarget → AtTarget
 each parts scope target = flat_map (λ part. part scope target) parts
 
+-- the rules that one level of a template body breaks at a target, its parts' rules given
 abbrev pub body_step : TemplateBody-F AtTarget (List ℕ × AtTarget) AtTarget → AtTarget
 body_step TemplateBody-F.Any scope target = []
 body_step TemplateBody-F.AnyOrOmit scope target = unless target.optional rule.Fields
@@ -106,9 +111,11 @@ body_step (TemplateBody-F.Assigned parts) scope target =
     unless (has_all (wanted_fields scope.definitions target.data_type) (map (λ part. part.0) parts)) rule.Fields ++
     by_name (wanted_fields scope.definitions target.data_type) [] parts scope
 
+-- the rules of a template, those of its body given: `ifpresent` stands only where `omit` may stand
 abbrev pub template_step : Template-F AtTarget (List ℕ × AtTarget) AtTarget → AtTarget
 template_step t scope target = t.body scope target ++ unless (not t.ifpresent || target.optional) rule.Fields
 
+-- an element of a template by field names: the name, with the rules of its template, which are given
 abbrev pub field_template_step : FieldTemplate-F AtTarget (List ℕ × AtTarget) AtTarget → List ℕ × AtTarget
 field_template_step part = (part.name, part.template)
 
@@ -131,14 +138,17 @@ abbrev pub typing_at_name : Scope → Expr → Option ℕ → Typing
 typing_at_name scope e None = (expression e scope false).typing
 typing_at_name scope e (Some at) = typed (type_of_template scope at)
 
+-- the typing of the template at a position, unknown where none is meant
 abbrev pub typing_by_position : Scope → Option ℕ → Typing
 typing_by_position scope None = typing.Unknown
 typing_by_position scope (Some at) = typed (type_of_template scope at)
 
+-- the typing that a template body has by itself, where it is an expression or a template with arguments
 abbrev pub typing_of_body : Scope → TemplateBody-F TemplateBody FieldTemplate Template → Option Typing
 typing_of_body scope (TemplateBody-F.Expr e) = Some (typing_at_name scope e (template_named scope e))
 typing_of_body scope (TemplateBody-F.Call call) = Some (typing_by_position scope (template_meant (scope.names call.name)))
 typing_of_body scope _ = None
 
+-- the typing that a template has by itself, where its body has one
 abbrev pub typing_of_template : Scope → Template → Option Typing
 typing_of_template scope t = typing_of_body scope (out-TemplateBody (out-Template t).body)

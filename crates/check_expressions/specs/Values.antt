@@ -30,7 +30,7 @@ named_target definitions (Some field) = field_target definitions field
 
 -- ---- the fields of the record that is wanted
 
--- what is known of the fields of what is wanted: nothing where no type is known, none where it is no record
+-- the fields of what is wanted, where it is known to be a record
 abbrev pub wanted_fields : List Definition → Option DataType → Option (List Field)
 wanted_fields definitions (Some (type.Record at)) = Some (fields_at definitions at)
 wanted_fields definitions _ = None
@@ -91,6 +91,7 @@ by_name fields before (element ∷ elements) scope =
 abbrev pub check_expression : Scope → Option DataType → Expr → List Rule
 check_expression scope wanted e = (expression e scope false).broken ++ unless (fits wanted (expression e scope false).typing) rule.ValueType
 
+-- the rules that one level of a value breaks at a target, its elements' rules given
 abbrev pub value_step : Value-F AtTarget (List ℕ × AtTarget) → AtTarget
 value_step (Value-F.Expr e) scope target = check_expression scope target.data_type e
 value_step Value-F.Omit scope target = unless target.optional rule.Fields
@@ -102,6 +103,7 @@ value_step (Value-F.Assigned elements) scope target =
     unless (takes_braces target.data_type) rule.ValueType ++
     by_name (wanted_fields scope.definitions target.data_type) [] elements scope
 
+-- an element of a record value by field names: the name, with the rules of its value, which are given
 abbrev pub field_value_step : FieldValue-F AtTarget (List ℕ × AtTarget) → List ℕ × AtTarget
 field_value_step element = (element.name, element.value)
 

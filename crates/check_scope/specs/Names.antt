@@ -71,6 +71,7 @@ type_meant (Some (meaning.Enumerated at)) = Some (type.Enumerated at)
 type_meant (Some (meaning.Component at)) = Some (type.Component at)
 type_meant _ = None
 
+-- the type that a type's name stands for: a built-in type, or what the names say of a type that is defined
 abbrev pub resolved : Names → TypeName → Option DataType
 resolved names type_name.Integer = Some type.Integer
 resolved names type_name.Boolean = Some type.Boolean
@@ -91,6 +92,7 @@ port_type_meant _ = None
 abbrev pub kind_at : List Definition → ℕ → Option DefinitionKind
 kind_at definitions at = option_map (λ definition. definition.kind) (slice_get definitions at)
 
+-- the fields of a record type, none of any other definition
 abbrev pub fields_of : Option DefinitionKind → List Field
 fields_of (Some (kind.Record r)) = r.fields
 fields_of _ = []
@@ -108,6 +110,7 @@ abbrev pub constants_type : Names → Option DefinitionKind → Option DataType
 constants_type names (Some (kind.Constants cs)) = resolved names cs.type_name
 constants_type names _ = None
 
+-- the constant at a place of a declaration of constants, if the definition is one and has such a place
 abbrev pub constant_of : Option DefinitionKind → ℕ → Option Constant
 constant_of (Some (kind.Constants cs)) item = slice_get cs.constants item
 constant_of _ item = None
@@ -116,6 +119,7 @@ constant_of _ item = None
 abbrev pub constant_at : List Definition → ℕ → ℕ → Option Constant
 constant_at definitions at item = constant_of (kind_at definitions at) item
 
+-- the template that a definition defines, if it defines one
 abbrev pub template_of : Option DefinitionKind → Option TemplateDefinition
 template_of (Some (kind.Template t)) = Some t
 template_of _ = None

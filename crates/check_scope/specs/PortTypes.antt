@@ -10,16 +10,18 @@ use Rattle.check_scope.specs.Names.{Names, resolved}
 use Rattle.check_scope.specs.Typings.{same_type}
 use Rattle.check_scope.specs.declared.types.DataType.{DataType}
 
--- messages that come in at a port, and those that go out
+-- whether a direction lets messages come in at a port, or go out
 abbrev pub passes : Bool → Direction → Bool
 passes incoming direction.In = incoming
 passes true direction.Out = false
 passes false direction.Out = true
 passes incoming direction.Inout = true
 
+-- the types that a list of message types admits in this direction, each unknown where its name is no type
 abbrev pub types_passing : Names → Bool → PortMessages → List (Option DataType)
 types_passing names incoming messages = if passes incoming messages.direction then map (resolved names) messages.types else []
 
+-- the types of all messages that a port type lets pass in this direction, none of any other definition
 abbrev pub types_of_port : Names → Bool → Option DefinitionKind → List (Option DataType)
 types_of_port names incoming (Some (kind.Port p)) = flat_map (types_passing names incoming) p.messages
 types_of_port names incoming _ = []

@@ -14,6 +14,7 @@ abbrev pub unless : Bool → Rule → List Rule
 unless true rule = []
 unless false rule = rule ∷ []
 
+-- two types are the same: built in and alike, or of one kind and defined at one position
 abbrev pub same_type : DataType → DataType → Bool
 same_type type.Integer type.Integer = true
 same_type type.Boolean type.Boolean = true
@@ -23,10 +24,12 @@ same_type (type.Enumerated at) (type.Enumerated other) = nat_eq at other
 same_type (type.Component at) (type.Component other) = nat_eq at other
 same_type _ _ = false
 
+-- a type is a component type
 abbrev pub is_component : DataType → Bool
 is_component (type.Component at) = true
 is_component _ = false
 
+-- a type is `default`
 abbrev pub is_default : DataType → Bool
 is_default type.Default = true
 is_default _ = false

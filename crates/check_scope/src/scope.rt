@@ -20,6 +20,7 @@ use crate::traffic::Traffic;
 pub use define::define_all;
 pub use fields::fields_of;
 pub use lookup::{built_in, kind_at, port_type_meant, resolved_in, type_meant};
+pub use ports::passes;
 use ttcn_syntax::Definition;
 
 /// The module, the names that are visible at a place, and the component type that `self` is of.

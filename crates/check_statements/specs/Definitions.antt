@@ -35,8 +35,6 @@ use Rattle.check_scope.specs.declared.types.DataType.{DataType}
 use Rattle.check_scope.specs.declared.types.Target.{Target}
 use Rattle.check_scope.specs.Scopes.{check_module_names, component_scope, module_scope, scope_on}
 
--- ---- names
-
 -- ---- records, enumerations and ports
 
 -- a type that records and messages hold: no component, port or `default` type
@@ -47,6 +45,7 @@ as_part (Some (meaning.Component at)) = rule.BadType ∷ []
 as_part (Some (meaning.PortType at)) = rule.BadType ∷ []
 as_part _ = rule.UnknownName ∷ []
 
+-- the rules that the type of a field or of a message breaks
 abbrev pub check_part : Names → TypeName → List Rule
 check_part names type_name.Integer = []
 check_part names type_name.Boolean = []
@@ -60,6 +59,7 @@ check_fields names before (field ∷ fields) =
     unless (not (list_any (bytes_eq field.name) before)) rule.DuplicateName ++ check_part names field.type_name ++
     check_fields names (before ++ field.name ∷ []) fields
 
+-- two signs are the same, where `true` stands for a minus
 abbrev pub same_sign : Bool → Bool → Bool
 same_sign true minus = minus
 same_sign false minus = not minus
@@ -78,31 +78,39 @@ abbrev pub and_number : List EnumNumber → Option EnumNumber → List EnumNumbe
 and_number before None = before
 and_number before (Some n) = before ++ n ∷ []
 
+-- the rules that enumerators break behind these numbers: no number is given twice
 abbrev pub check_numbers : List EnumNumber → List Enumerator → List Rule
 check_numbers before [] = []
 check_numbers before (enumerator ∷ enumerators) = check_number before enumerator.number ++ check_numbers (and_number before enumerator.number) enumerators
 
+-- the rules that a list of message types of a port type breaks
 abbrev pub check_messages : Names → PortMessages → List Rule
 check_messages names messages = flat_map (check_part names) messages.types
 
 -- ---- component types
 
+-- a port of a component type: its name is new
 abbrev pub check_port_name : Scope → List ℕ → List Rule
 check_port_name scope name = check_new_name scope.names name
 
+-- the entry of a port: its name stands for a port of the type at this position, if that is known
 abbrev pub port_entry : Option ℕ → Scope → List ℕ → Entry
 port_entry of scope name = (name, meaning.Port of)
 
+-- the rules that the initial value of a component's variable breaks at its target, if there is one
 abbrev pub check_initial_value : Scope → Target → Option Value → List Rule
 check_initial_value scope target None = []
 check_initial_value scope target (Some v) = value v scope target
 
+-- a variable of a component type: its name is new, and its initial value is of its type
 abbrev pub check_member_variable : Option DataType → Scope → MemberVariable → List Rule
 check_member_variable of scope variable = check_new_name scope.names variable.name ++ check_initial_value scope (target_of of) variable.value
 
+-- the entry of a component's variable: its name stands for a variable of this type
 abbrev pub member_variable_entry : Option DataType → Scope → MemberVariable → Entry
 member_variable_entry of scope variable = (variable.name, meaning.Variable of)
 
+-- the rules that one declaration of a component type breaks: of ports, constants, variables or timers
 abbrev pub check_member : Scope → Member → List Rule
 check_member scope (member.Ports port_type ports) =
     unless (is_some (port_type_meant (scope.names port_type))) rule.UnknownName ++
@@ -112,6 +120,7 @@ check_member scope (member.Variables of variables) = check_type scope.names true
     one_by_one (check_member_variable (resolved scope.names of)) (member_variable_entry (resolved scope.names of)) scope variables
 check_member scope (member.Timers timers) = check_timers scope timers
 
+-- the rules that the declarations of a component type break, each behind those before it
 abbrev pub check_members : Scope → List Member → List Rule
 check_members scope [] = []
 check_members scope (member ∷ members) = check_member scope member ++ check_members (declaring scope (member_entries scope.names member)) members
@@ -126,9 +135,11 @@ check_module_constants scope of constants = flat_map (λ constant. value constan
 abbrev pub check_parameter : Scope → Parameter → List Rule
 check_parameter scope parameter = check_new_name scope.names parameter.name ++ check_type scope.names true parameter.type_name
 
+-- the entry of a formal parameter: its name stands for a variable of the parameter's type
 abbrev pub parameter_entry : Scope → Parameter → Entry
 parameter_entry scope parameter = (parameter.name, meaning.Variable (resolved scope.names parameter.type_name))
 
+-- the rules that a list of formal parameters breaks, each behind those before it
 abbrev pub check_parameters : Scope → List Parameter → List Rule
 check_parameters scope parameters = one_by_one check_parameter parameter_entry scope parameters
 
@@ -136,6 +147,7 @@ check_parameters scope parameters = one_by_one check_parameter parameter_entry s
 abbrev pub with_parameters : Scope → List Parameter → Scope
 with_parameters scope parameters = behind_all parameter_entry scope parameters
 
+-- the rules that the definition of a template breaks: those of its type, its parameters and its body
 abbrev pub check_template : Scope → TemplateDefinition → List Rule
 check_template scope t =
     check_type scope.names false t.type_name ++ check_parameters scope t.parameters ++
@@ -148,6 +160,7 @@ abbrev pub check_component_name : List Definition → Option (List ℕ) → List
 check_component_name definitions None = []
 check_component_name definitions (Some name) = unless (is_some (component_meant (module_names definitions name))) rule.UnknownName
 
+-- the rules that the type of a function's result breaks, if it has one: it is not `default`
 abbrev pub check_result : List Definition → Option TypeName → List Rule
 check_result definitions None = []
 check_result definitions (Some name) = check_type (module_names definitions) false name
@@ -157,6 +170,7 @@ abbrev pub returns_of : List Definition → Option TypeName → Returns
 returns_of definitions None = returns.WithoutValue
 returns_of definitions (Some name) = returns.WithValue (resolved (module_names definitions) name)
 
+-- the place where a behaviour's body begins: behind the parameters, and in no branch
 abbrev pub place_in : Scope → List Parameter → Returns → Place
 place_in scope parameters returns = record { scope = with_parameters scope parameters; returns = returns; in_branch = false }
 
@@ -184,6 +198,7 @@ check_definition definitions at (kind.Testcase t) =
     check_component_name definitions (Some t.runs_on) ++ check_component_name definitions t.system ++
     statements t.body (place_in (scope_on definitions (component_named definitions (Some t.runs_on))) [] returns.Nowhere)
 
+-- the rules that definitions of a module break inside, the first of them at this position
 abbrev pub check_definitions : List Definition → ℕ → List Definition → List Rule
 check_definitions all at [] = []
 check_definitions all at (definition ∷ definitions) = check_definition all at definition.kind ++ check_definitions all (at + 1) definitions

@@ -33,6 +33,7 @@ use Rattle.check_scope.specs.PortTypes.{agrees, only_type, types_of_port}
 abbrev pub Passing : Type 0
 Passing = Option (List (Option DataType))
 
+-- the types that pass in a direction at a port whose type stands at a position, if that is known
 abbrev pub passing_at : List Definition → Bool → Option ℕ → Passing
 passing_at definitions incoming None = None
 passing_at definitions incoming (Some at) = Some (types_of_port (module_names definitions) incoming (kind_at definitions at))
@@ -49,7 +50,7 @@ abbrev pub lists : Passing → DataType → Bool
 lists None t = true
 lists (Some types) t = list_any (agrees t) types
 
--- the typing of a message, and whether the port lets it pass
+-- the judgement of what has no known type, with the rules that it breaks
 abbrev pub unknown_type : List Rule → Judgement
 unknown_type broken = record { typing = typing.Unknown; broken = broken }
 
@@ -58,6 +59,7 @@ abbrev pub of_only : Option DataType → Judgement
 of_only None = unknown_type (rule.PortType ∷ [])
 of_only (Some t) = record { typing = typing.Known t; broken = [] }
 
+-- the judgement of such a message at a port: its type is the only one that passes
 abbrev pub type_by_port : Passing → Judgement
 type_by_port None = unknown_type []
 type_by_port (Some types) = of_only (only_type types)
@@ -74,10 +76,12 @@ type_by_itself passing typing.Unknown = unknown_type []
 abbrev pub type_anywhere : Judgement
 type_anywhere = unknown_type (rule.PortType ∷ [])
 
+-- the judgement of a message with no type before it: by its template's own typing, or else the one given
 abbrev pub by_template : Passing → Judgement → Option Typing → Judgement
 by_template passing otherwise None = otherwise
 by_template passing otherwise (Some t) = type_by_itself passing t
 
+-- the judgement of a message: by the type before its template if there is one, or else by the template
 abbrev pub by_type_name : Scope → Passing → Judgement → Template → Option TypeName → Judgement
 by_type_name scope passing otherwise t None = by_template passing otherwise (typing_of_template scope t)
 by_type_name scope passing otherwise t (Some name) = type_by_itself passing (typed (resolved scope.names name))
@@ -86,6 +90,7 @@ by_type_name scope passing otherwise t (Some name) = type_by_itself passing (typ
 abbrev pub type_of_message : Scope → Passing → Judgement → MessageTemplate → Judgement
 type_of_message scope passing otherwise message = by_type_name scope passing otherwise message.template message.type_name
 
+-- the rules that the type before a message's template breaks, if there is one: it is not `default`
 abbrev pub check_type_name : Scope → Option TypeName → List Rule
 check_type_name scope None = []
 check_type_name scope (Some name) = check_type scope.names false name
@@ -106,27 +111,33 @@ Passage = Passing × Judgement
 abbrev pub passage_at : List Definition → Bool → Option ℕ → Passage
 passage_at definitions incoming port = (passing_at definitions incoming port, type_by_port (passing_at definitions incoming port))
 
+-- the rules that a `to` or `from` clause breaks, if there is one: it names a component
 abbrev pub check_to : Scope → Option ComponentRef → List Rule
 check_to scope None = []
 check_to scope (Some reference) = (check_wanted_component scope reference).broken
 
+-- the rules that the message of a `send` breaks at what its port's name stands for, which has to be a port
 abbrev pub check_sent : Scope → Option (Option ℕ) → MessageTemplate → List Rule
 check_sent scope None message = rule.UnknownName ∷ check_message scope None (type_by_port None) message
 check_sent scope (Some port) message = check_message scope (passage_at scope.definitions false port).0 (passage_at scope.definitions false port).1 message
 
+-- the rules that a `send` breaks: those of its port and message, and of its `to` clause
 abbrev pub check_send : Scope → Send → List Rule
 check_send scope send = check_sent scope (port_meant (scope.names send.port)) send.message ++ check_to scope send.to
 
 -- ---- receives
 
+-- what is known of messages that come in at what a name stands for: nothing where that is no port
 abbrev pub incoming_at : List Definition → Option (Option ℕ) → Passage
 incoming_at definitions None = (None, type_by_port None)
 incoming_at definitions (Some port) = passage_at definitions true port
 
+-- what is known of messages that come in at the port of a `receive`: a named one, or `any port`
 abbrev pub incoming : Scope → PortSelector → Passage
 incoming scope selector.Any = (None, type_anywhere)
 incoming scope (selector.Named name) = incoming_at scope.definitions (port_meant (scope.names name))
 
+-- the rules that the port of a `receive` breaks: its name is that of a port, and `any port` breaks none
 abbrev pub check_selector : Scope → PortSelector → List Rule
 check_selector scope selector.Any = []
 check_selector scope (selector.Named name) = unless (is_some (port_meant (scope.names name))) rule.UnknownName
@@ -160,11 +171,13 @@ stores_sender typing.AnyComponent = true
 stores_sender typing.NoValue = true
 stores_sender typing.Unknown = true
 
+-- the rules of a `value` redirect, if any: a template tells the message, whose type is that of the target
 abbrev pub check_value_redirect : Scope → Bool → Option DataType → Option Reference → List Rule
 check_value_redirect scope finding of None = []
 check_value_redirect scope finding of (Some reference) =
     (check_target scope reference).broken ++ unless finding rule.Redirect ++ unless (stores of (check_target scope reference).typing) rule.Redirect
 
+-- the rules of a `sender` redirect, if any: its target is of a component type
 abbrev pub check_sender_redirect : Scope → Option Reference → List Rule
 check_sender_redirect scope None = []
 check_sender_redirect scope (Some reference) =
@@ -172,19 +185,23 @@ check_sender_redirect scope (Some reference) =
 
 -- ---- events
 
+-- the rules that a `receive` breaks: those of its port, message, `from` clause and redirects
 abbrev pub check_receive : Scope → Receive → List Rule
 check_receive scope receive =
     check_selector scope receive.port ++ check_received scope (incoming scope receive.port) receive.message ++ check_to scope receive.from ++
     check_value_redirect scope (is_some receive.message) (received_type scope (incoming scope receive.port) receive.message) receive.value ++
     check_sender_redirect scope receive.sender
 
+-- a name stands for a timer
 abbrev pub is_timer_name : Option Meaning → Bool
 is_timer_name (Some meaning.Timer) = true
 is_timer_name _ = false
 
+-- the rules that a named timer breaks in an operation: its name is that of a timer
 abbrev pub check_timer : Scope → List ℕ → List Rule
 check_timer scope name = unless (is_timer_name (scope.names name)) rule.UnknownName
 
+-- the rules that an event breaks: a `receive`, a `timeout`, or a `done` of one or all components
 abbrev pub check_event : Scope → Event → List Rule
 check_event scope (event.Receive receive) = check_receive scope receive
 check_event scope (event.Timeout timer) = check_timer scope timer

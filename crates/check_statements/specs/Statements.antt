@@ -74,10 +74,12 @@ check_block [] place = []
 check_block (statement ∷ statements) place =
     statement.broken place ++ check_block statements (with_scope place (statement.scope_behind place.scope))
 
+-- the rules that a block breaks, where one stands
 abbrev pub check_block_if_any : Option (List StatementRules) → Check
 check_block_if_any None place = []
 check_block_if_any (Some block) place = check_block block place
 
+-- the rules that a condition breaks by its typing: it is boolean, and not judged where that is unknown
 abbrev pub check_boolean : Typing → List Rule
 check_boolean (typing.Known t) = unless (same_type type.Boolean t) rule.Condition
 check_boolean typing.Null = rule.ValueType ∷ []
@@ -85,19 +87,23 @@ check_boolean typing.AnyComponent = rule.Condition ∷ []
 check_boolean typing.NoValue = rule.Condition ∷ []
 check_boolean typing.Unknown = []
 
+-- the rules that a condition breaks: those of its expression, which is boolean
 abbrev pub check_condition : Scope → Expr → List Rule
 check_condition scope e = (expression e scope false).broken ++ check_boolean (expression e scope false).typing
 
+-- the rules that the guard of a branch breaks, if it has one
 abbrev pub check_guard : Scope → Option Expr → List Rule
 check_guard scope None = []
 check_guard scope (Some e) = check_condition scope e
 
 -- ---- parts of statements
 
+-- the rules that the initial part of a `for` breaks: a declaration of variables, or an assignment
 abbrev pub check_for_start : Scope → ForStart → List Rule
 check_for_start scope (for_start.Variables vs) = check_variables scope vs
 check_for_start scope (for_start.Assign assignment) = check_assignment scope assignment
 
+-- the scope behind the initial part of a `for`, which has the variables that it declares
 abbrev pub behind_for_start : Scope → ForStart → Scope
 behind_for_start scope (for_start.Variables vs) = behind_variables scope vs
 behind_for_start scope (for_start.Assign assignment) = scope
@@ -111,6 +117,7 @@ check_for_head scope start condition step =
 abbrev pub check_guarded_event : Scope → Option Expr → Event → List Rule
 check_guarded_event scope guard event = check_guard scope guard ++ check_event scope event
 
+-- the same, of a branch that calls an altstep
 abbrev pub check_guarded_call : Scope → Option Expr → Call → List Rule
 check_guarded_call scope guard call = check_guard scope guard ++ check_call scope is_altstep call
 
@@ -123,13 +130,16 @@ check_log_item scope (log_item.Expr e) = (expression e scope true).broken
 abbrev pub check_log : Scope → List LogItem → List Rule
 check_log scope items = flat_map (check_log_item scope) items
 
+-- a verdict is `error`
 abbrev pub is_error : Verdict → Bool
 is_error verdict.Error = true
 is_error _ = false
 
+-- the rules that a `setverdict` breaks: its verdict is not `error`, and its reasons are as what is logged
 abbrev pub check_setverdict : Scope → Verdict → List LogItem → List Rule
 check_setverdict scope verdict reasons = unless (not (is_error verdict)) rule.VerdictError ++ check_log scope reasons
 
+-- the rules that a `return` breaks: it stands in a function, with a value exactly if that has a result
 abbrev pub check_return : Scope → Returns → Option Value → List Rule
 check_return scope returns.Nowhere None = rule.ReturnPlace ∷ []
 check_return scope returns.Nowhere (Some v) = rule.ReturnPlace ∷ value v scope (target_of None)
@@ -144,11 +154,13 @@ refers_to_default (typing.Known t) = is_default t
 refers_to_default typing.Unknown = true
 refers_to_default _ = false
 
+-- the rules that a `deactivate` breaks: what it names, if anything, is a default
 abbrev pub check_deactivate : Scope → Option Reference → List Rule
 check_deactivate scope None = []
 check_deactivate scope (Some reference) =
     (check_reference scope reference).broken ++ unless (refers_to_default (check_reference scope reference).typing) rule.UnknownName
 
+-- the rules that a `stop` of something breaks: it is a timer or a component
 abbrev pub check_stop : Scope → ComponentRef → List Rule
 check_stop scope reference = if names_timer scope reference then [] else (check_wanted_component scope reference).broken
 
@@ -168,10 +180,12 @@ abbrev pub says_component : Option DefinitionKind → Bool
 says_component (Some (kind.Function f)) = is_some f.runs_on
 says_component _ = true
 
+-- a definition is that of a function
 abbrev pub is_function : Option DefinitionKind → Bool
 is_function (Some (kind.Function f)) = true
 is_function _ = false
 
+-- the rules of the behaviour that a component starts with: a function that runs on this component's type
 abbrev pub check_started : Scope → Typing → Call → Option ℕ → List Rule
 check_started scope started call None = rule.UnknownName ∷ lone_arguments scope call.arguments
 check_started scope started call (Some at) =
@@ -180,6 +194,7 @@ check_started scope started call (Some at) =
     unless (runs_there started (component_named scope.definitions (runs_on_of (kind_at scope.definitions at)))) rule.RunsOn ++
     unless (is_function (kind_at scope.definitions at)) rule.CallKind
 
+-- the rules that a `start` of a component breaks: those of the component, and of the call that it starts
 abbrev pub check_start : Scope → ComponentRef → Call → List Rule
 check_start scope reference call =
     (check_component scope reference false).broken ++
@@ -221,6 +236,7 @@ leaf (Action-F.Constants cs) = record { broken = λ place. check_constants place
 leaf (Action-F.Timers timers) = record { broken = λ place. check_timers place.scope timers; scope_behind = λ scope. behind_timers scope timers }
 leaf action = without_declaration (leaf_rules action)
 
+-- what is said of one level of an action, given what is said of its blocks and branches
 abbrev pub action_step : Action-F StatementRules Check Check Check StatementRules → StatementRules
 action_step (Action-F.Alt branches) = without_declaration (λ place. flat_map (λ branch. branch place) branches)
 action_step (Action-F.If conditionals last) = without_declaration (λ place. flat_map (λ conditional. conditional place) conditionals ++ check_block_if_any last place)
@@ -230,12 +246,15 @@ action_step (Action-F.For start condition step block) = without_declaration (λ 
     check_for_head place.scope start condition step ++ check_block block (with_scope place (behind_for_start place.scope start)))
 action_step action = leaf action
 
+-- what is said of a statement: that of its action, which is given
 abbrev pub statement_step : Statement-F StatementRules Check Check Check StatementRules → StatementRules
 statement_step s = s.action
 
+-- the rules of a condition with its block, given what is said of the statements in the block
 abbrev pub conditional_step : Conditional-F StatementRules Check Check Check StatementRules → Check
 conditional_step c place = check_condition place.scope c.condition ++ check_block c.block place
 
+-- the rules of what stands in a branch, given what is said of the statements in its block
 abbrev pub alternative_step : Alternative-F StatementRules Check Check Check StatementRules → Check
 alternative_step (Alternative-F.«Alternative::Event» guard event block) place =
     check_guarded_event place.scope guard event ++ check_block_if_any block (inside_branch place)
@@ -243,6 +262,7 @@ alternative_step (Alternative-F.«Alternative::Call» guard call block) place =
     check_guarded_call place.scope guard call ++ check_block_if_any block (inside_branch place)
 alternative_step (Alternative-F.Else block) place = check_block block (inside_branch place)
 
+-- the rules of a branch: those of what stands in it, which are given
 abbrev pub branch_step : Branch-F StatementRules Check Check Check StatementRules → Check
 branch_step b = b.alternative
 

@@ -17,6 +17,6 @@ pub use error::{CorpusError, RowsError};
 pub use files::{Subject, answer_files};
 pub use frame::Frame;
 pub use reading::read_rows;
-pub use repeat::written_out;
+pub use repeat::expand_repeats;
 pub use row::{Row, Rows};
 pub use settings::Settings;

@@ -6,7 +6,7 @@ use crate::frame::GAP;
 use crate::kind::{Kind, is_title};
 use crate::row::joined;
 use crate::settings::setting;
-use crate::{Frame, Row, Rows, RowsError, Settings, written_out};
+use crate::{Frame, Row, Rows, RowsError, Settings, expand_repeats};
 use std::alloc::Global;
 
 /// Lines of a file that stand one behind the other.
@@ -85,8 +85,8 @@ impl<'a> Lines<'a> {
             return Err(RowsError::NoGap(self.number));
         };
         let frame = Frame {
-            before: written_out(alloc, self.number, before)?,
-            behind: written_out(alloc, self.number, behind)?,
+            before: expand_repeats(alloc, self.number, before)?,
+            behind: expand_repeats(alloc, self.number, behind)?,
         };
         Ok((Some(frame), rest))
     }

@@ -53,7 +53,7 @@ fn push_number(alloc: Global, number: u64, text: &mut String) -> Result<(), Allo
 }
 
 /// A text with its repeats written out. The line is told where one is malformed.
-pub fn written_out(alloc: Global, line: u64, text: &str) -> Result<String, RowsError>
+pub fn expand_repeats(alloc: Global, line: u64, text: &str) -> Result<String, RowsError>
     ensures plain { IfOk result (λ whole. ¬ HasRepeat text.now → string_bytes whole ≡ text.now) }
 {
     let mut whole = String::new(alloc);

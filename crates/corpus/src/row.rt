@@ -1,5 +1,5 @@
 //! Rows, and the files that they stand in.
-use crate::{Frame, RowsError, Settings, written_out};
+use crate::{Frame, RowsError, Settings, expand_repeats};
 use std::alloc::{AllocError, Global};
 
 /// The rows of a file.
@@ -27,7 +27,7 @@ impl<'a> Rows<'a> {
     /// The text of a row in the frame, with repeats written out.
     pub fn text(&self, alloc: Global, row: &Row<'a>) -> Result<String, RowsError> {
         let lines = joined(alloc, row.text)?;
-        let text = written_out(alloc, row.line, lines.as_str())?;
+        let text = expand_repeats(alloc, row.line, lines.as_str())?;
         match &self.frame {
             Some(frame) => Ok(frame.around(text.as_str())?),
             None => Ok(text),

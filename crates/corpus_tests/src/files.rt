@@ -35,8 +35,8 @@ x
 
 const KEYS: [&str; 2] = ["base", "sign"];
 
-/// What is told of each row: its line, title and settings, its text, and the answer that is wanted.
-fn told(alloc: Global, rows: &Rows<'_>) -> Result<String, RowsError> {
+/// Each row: its line, title and settings, its text, and the answer that is wanted.
+fn text_of_rows(alloc: Global, rows: &Rows<'_>) -> Result<String, RowsError> {
     let mut all = String::new(alloc);
     for row in &rows.rows {
         let text = rows.text(alloc, row)?;
@@ -61,7 +61,7 @@ fn rows_of_a_file(rt: HostRuntime) -> Result<(), Fail> {
     let alloc = rt.alloc();
     let lines: Vec<&str> = FILE.lines().collect(alloc)?;
     let rows = read_rows(alloc, lines.as_slice(), &KEYS)?;
-    let all = told(alloc, &rows)?;
+    let all = text_of_rows(alloc, &rows)?;
     assert_eq!(rt; all.as_str(), TOLD);
     Ok(())
 }
@@ -70,7 +70,7 @@ fn rows_of_a_file(rt: HostRuntime) -> Result<(), Fail> {
 fn refusal(alloc: Global, file: &str) -> Result<Option<RowsError>, AllocError> {
     let lines: Vec<&str> = file.lines().collect(alloc)?;
     match read_rows(alloc, lines.as_slice(), &KEYS) {
-        Ok(rows) => Ok(told(alloc, &rows).err()),
+        Ok(rows) => Ok(text_of_rows(alloc, &rows).err()),
         Err(error) => Ok(Some(error)),
     }
 }

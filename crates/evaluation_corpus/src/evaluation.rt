@@ -7,8 +7,11 @@ use ttcn_values::{
     ComponentId, Fault, Frame, Path, Template, Value, eval_template, eval_value, matches,
 };
 
-/// What is told of a module: what `A` gives, or whether `T` matches that; where there is no `A`, which value `T` is.
-pub fn told(alloc: Global, definitions: &Definitions<'_>) -> Result<String, AllocError> {
+/// What is answered of a module: what `A` gives, or whether `T` matches that; where there is no `A`, which value `T` is.
+pub fn answer_of_module(
+    alloc: Global,
+    definitions: &Definitions<'_>,
+) -> Result<String, AllocError> {
     let itself = component(alloc, &[1])?;
     let mtc = component(alloc, &[])?;
     let running = [&mtc.path];

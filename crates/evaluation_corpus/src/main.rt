@@ -7,7 +7,7 @@ mod question;
 
 use anyhow::Result;
 use corpus::{Settings, Subject, answer_files};
-use evaluation::told;
+use evaluation::answer_of_module;
 use question::answered;
 use refusals::{Refusal, program};
 use std::alloc::{AllocError, Global};
@@ -35,7 +35,7 @@ impl Subject for Evaluator {
         };
         let definitions = program.definitions(alloc)?;
         if checked.is_none() {
-            return told(alloc, &definitions);
+            return answer_of_module(alloc, &definitions);
         }
         match module(alloc, text) {
             Ok(module) => answered(alloc, &definitions, &module),

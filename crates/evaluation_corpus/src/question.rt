@@ -191,37 +191,37 @@ fn asked(alloc: Global, frame: &Frame<'_>, statements: &[Statement]) -> Result<S
     }
 }
 
-/// What a value gives, and an expression and a reference the same way by the calls for them. It is told twice where they
+/// What a value gives, and an expression and a reference the same way by the calls for them. Both answers stand there where they
 /// differ.
 fn values_of(alloc: Global, frame: &Frame<'_>, value: &Written) -> Result<String, AllocError> {
     let all = frame.definitions;
-    let told = given(alloc, all, eval_value(alloc, value, None, frame))?;
+    let answer = given(alloc, all, eval_value(alloc, value, None, frame))?;
     let Written::Expr(expr) = value else {
-        return Ok(told);
+        return Ok(answer);
     };
-    let told = also(told, given(alloc, all, eval(alloc, expr, frame))?)?;
+    let answer = also(answer, given(alloc, all, eval(alloc, expr, frame))?)?;
     let Expr::Reference(component) = expr else {
-        return Ok(told);
+        return Ok(answer);
     };
     let referred = eval_component_reference(alloc, component, frame);
-    let told = also(told, given(alloc, all, referred)?)?;
+    let answer = also(answer, given(alloc, all, referred)?)?;
     let ComponentRef::Named(reference) = component else {
-        return Ok(told);
+        return Ok(answer);
     };
     also(
-        told,
+        answer,
         given(alloc, all, eval_reference(alloc, reference, frame))?,
     )
 }
 
-/// What is told, and what another call tells where that differs.
-fn also(told: String, other: String) -> Result<String, AllocError> {
-    let mut told = told;
-    if told.as_str() != other.as_str() {
-        told.push_str(" or ")?;
-        told.push_str(other.as_str())?;
+/// An answer, and that of another call where it differs.
+fn also(answer: String, other: String) -> Result<String, AllocError> {
+    let mut answer = answer;
+    if answer.as_str() != other.as_str() {
+        answer.push_str(" or ")?;
+        answer.push_str(other.as_str())?;
     }
-    Ok(told)
+    Ok(answer)
 }
 
 fn condition_of(alloc: Global, frame: &Frame<'_>, condition: &Expr) -> Result<String, AllocError> {
@@ -236,13 +236,13 @@ fn referent(
     component: &ComponentRef,
 ) -> Result<String, AllocError> {
     let referred = eval_component(alloc, component, frame).map(Value::Component);
-    let told = given(alloc, frame.definitions, referred)?;
+    let answer = given(alloc, frame.definitions, referred)?;
     let runs = timer_runs(component, frame);
     let state = match component {
         ComponentRef::Named(reference) => timer_state(&reference.name, frame),
         _ => None,
     };
-    format!(in alloc; "{told}, {runs:?}, {state:?}")
+    format!(in alloc; "{answer}, {runs:?}, {state:?}")
 }
 
 /// The parameters of a function of the module.
@@ -264,12 +264,12 @@ fn arguments_of(alloc: Global, frame: &Frame<'_>, call: &Call) -> Result<String,
         Err(Fault::Dynamic) => return String::from_str(alloc, "dynamic error"),
         Err(Fault::Memory) => return Err(AllocError),
     };
-    let mut told = String::new(alloc);
+    let mut answer = String::new(alloc);
     for (at, value) in values.as_slice().iter().enumerate() {
-        told.push_str(if at == 0 { "" } else { ", " })?;
-        told.push_str(notation(alloc, frame.definitions, value)?.as_str())?;
+        answer.push_str(if at == 0 { "" } else { ", " })?;
+        answer.push_str(notation(alloc, frame.definitions, value)?.as_str())?;
     }
-    Ok(told)
+    Ok(answer)
 }
 
 // ---- assignments

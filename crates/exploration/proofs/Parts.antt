@@ -8,10 +8,10 @@ use Rattle.place_summaries.specs.declared.blocked.Blocked.{Blocked}
 use Rattle.place_summaries.specs.declared.branches.Branches.{Branches}
 use Rattle.summary.specs.declared.both.Both.{Both}
 use Rattle.summary.specs.Graph.{Graph}
-use Rattle.summary.specs.Reading.{Join, Reading, join_all, shown, sum_of}
+use Rattle.summary.specs.Sums.{Join, Observation, join_all, shown, sum_of}
 use Rattle.summary.specs.Run.{Run, Start, Then, all_runs, end_of}
 
-module _ {C L S T : Type 0} (g : Graph C L) (j : Join S) (k : Join T) (r : Reading C L S) (q : Reading C L T) (part : S → T)
+module _ {C L S T : Type 0} (g : Graph C L) (j : Join S) (k : Join T) (r : Observation C L S) (q : Observation C L T) (part : S → T)
     (none : part j.none ≡ k.none) (join : (x y : S) → part (j.join x y) ≡ k.join (part x) (part y))
     (at : (c : C) → part (r.at c) ≡ q.at c) (by : (c : C) (label : L) → part (r.by c label) ≡ q.by c label) where
   shown-part : (run : Run L) → part (shown g j r run) ≡ shown g k q run
@@ -47,7 +47,7 @@ shown_join = record {
 }
 
 module _ {C L B T : Type 0} (g : Graph C L) (branch : C → L → Option B) (blocked : C → List T) where
-  abbrev pub shown_reading : Reading C L (Shown B T)
+  abbrev pub shown_reading : Observation C L (Shown B T)
   shown_reading = record {
     at = λ c. record { first = record { places = empty }; second = record { components = from_list (blocked c) } };
     by = λ c label. record { first = record { places = from_option (branch c label) }; second = record { components = empty } };

@@ -17,7 +17,7 @@ use Rattle.step_rules.specs.Runs.{graph_of}
 use Rattle.step_rules.specs.Snapshots.{Test}
 use Rattle.step_rules.specs.Steps.{Label}
 use Rattle.summary.specs.Exploration.{HasMark, IsBest}
-use Rattle.summary.specs.Reading.{sum_of}
+use Rattle.summary.specs.Sums.{sum_of}
 use Rattle.summary.specs.Run.{Run, labels_of}
 use Rattle.ttcn_step.specs.Standing.{standing_by}
 use Rattle.ttcn_values.specs.declared.path.Path.{Path}

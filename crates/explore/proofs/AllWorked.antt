@@ -15,12 +15,12 @@ use Rattle.std.proofs.lemmas.Option.{slice_get_within}
 use mathlib.Core.Logic.{dite}
 use native.Mathlib.Decide.{ℕ_discrete}
 use Rattle.summary.specs.Graph.{Graph}
-use Rattle.summary.specs.Reading.{Join, IsSemilattice, Reading}
+use Rattle.summary.specs.Sums.{Join, IsSemilattice, Observation}
 use Rattle.shared.specs.Classes.{IsFirsts}
 use Rattle.shared.specs.Totals.{times, Stands}
 use Rattle.explore.specs.declared.visited.Candidate.{Candidate}
-use Rattle.explore.specs.Search.{with_steps}
-use Rattle.explore.specs.Work.{in_pieces, have_same_state, IsNew, HasPlaced, AreFirst}
+use Rattle.explore.specs.internal.Search.{with_steps}
+use Rattle.explore.specs.internal.Work.{in_pieces, have_same_state, IsNew, HasPlaced, AreFirst}
 use Rattle.explore.proofs.Drawing.{times_cons}
 use Rattle.explore.proofs.Placing.{in_piece}
 use Rattle.explore.proofs.StepSums.{same_shown}
@@ -111,7 +111,7 @@ module _ {C L : Type 0} (eq : C → C → Bool) (laws : IsEquivalence eq) (known
       let inside : off < length (slice_chunk cs size k) = (let t = length-take size (drop (k * size) cs) in let d = length-drop (k * size) cs in omega arith) in
       in_drawn drawn k (get_or cs i c) (each k (within i low)) (subst (Contains (slice_chunk cs size k)) is (Contains-get_or (slice_chunk cs size k) off c inside))
 
-  pub all_shown : {S : Type 0} (j : Join S) (r : Reading C L S) (g : Graph C L) (semilattice : IsSemilattice j)
+  pub all_shown : {S : Type 0} (j : Join S) (r : Observation C L S) (g : Graph C L) (semilattice : IsSemilattice j)
       → with_steps j r g known j.none (in_pieces size cs drawn) ≡ with_steps j r g known j.none cs
   all_shown j r g semilattice = same_shown j r g known semilattice (in_pieces size cs drawn) cs (parts_within drawn) all_drawn
 

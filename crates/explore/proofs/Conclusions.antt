@@ -4,7 +4,7 @@ use Rattle.std.specs.Prelude.{◌≢◌, Contains, Some}
 use Rattle.std.specs.declared.cmp.Ordering.{Ordering}
 use Rattle.summary.specs.Graph.{Graph}
 use Rattle.summary.specs.Run.{Run, Start, Then, steps_of, end_of, IsRun, longer, runs_of, all_runs, Before, NoLater}
-use Rattle.summary.specs.Reading.{Join, IsSemilattice, join_all}
+use Rattle.summary.specs.Sums.{Join, IsSemilattice, join_all}
 use Rattle.summary.specs.Exploration.{Counts, IsComplete, HasMark, IsBest}
 use Rattle.explore.proofs.Lists.{Each, In, Ordered, each_in, each_from_in, in_left, in_right, in_cases, in_contains, contains_in, in_map, from_map, in_flat_map, from_flat_map, pairs_from_ordered}
 use Rattle.explore.proofs.RunOrder.{later_trans, later_short}

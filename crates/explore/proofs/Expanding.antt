@@ -6,8 +6,8 @@ use Rattle.std.specs.declared.alloc.AllocError.{AllocError}
 use Rattle.summary.specs.Graph.{Graph, with_after}
 use Rattle.explore.specs.declared.visited.Candidate.{Candidate}
 use Rattle.explore.specs.declared.expand.Expanded.{Expanded}
-use Rattle.explore.specs.Search.{candidate_of, candidates_of, layer_candidates}
-use Rattle.explore.specs.Expansion.{candidates_with, candidates_in, IsExpanded}
+use Rattle.explore.specs.internal.Search.{candidate_of, candidates_of, layer_candidates}
+use Rattle.explore.specs.internal.Expansion.{candidates_with, candidates_in, IsExpanded}
 
 module _ {C L : Type 0} (g : Graph C L) where
   -- the candidates of a state, by its successors

@@ -6,7 +6,7 @@ use Rattle.std.proofs.lemmas.Bool.Decides.{eqb_tells}
 use Rattle.std.proofs.lemmas.List.{get_or_append_left, get_or-set_same, get_or-set_other}
 use Rattle.std.proofs.lemmas.List.Elements.{All-get_or, All-push}
 use Rattle.summary.specs.Graph.{Graph}
-use Rattle.explore.specs.Tied.{IsFirstMarked, IsPlaceOf, AreFirstMarked}
+use Rattle.explore.specs.internal.Tied.{IsFirstMarked, IsPlaceOf, AreFirstMarked}
 
 module _ {C L : Type 0} (g : Graph C L) where
   grown : (xs : List C) (x : C) (mark place : ℕ) → IsFirstMarked g mark xs place → IsFirstMarked g mark (xs ++ x ∷ []) place

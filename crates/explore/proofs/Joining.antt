@@ -5,12 +5,12 @@ use mathlib.Core.Logic.{dite}
 use native.Mathlib.Decide.{dec_le}
 use Rattle.std.specs.Fork.{slice_chunk}
 use Rattle.summary.specs.Graph.{Graph}
-use Rattle.summary.specs.Reading.{Join, IsSemilattice, Reading}
+use Rattle.summary.specs.Sums.{Join, IsSemilattice, Observation}
 use Rattle.shared.specs.Totals.{times}
 use Rattle.shared.proofs.Sums.{times_append}
 use Rattle.explore.specs.declared.visited.Candidate.{Candidate}
-use Rattle.explore.specs.Search.{with_steps}
-use Rattle.explore.specs.Work.{in_pieces, HasPlaced}
+use Rattle.explore.specs.internal.Search.{with_steps}
+use Rattle.explore.specs.internal.Work.{in_pieces, HasPlaced}
 use Rattle.explore.proofs.StepSums.{steps_append, steps_join}
 
 pub neither : (a b : Bool) → cond a true b ≡ false → (a ≡ false) × (b ≡ false)
@@ -32,7 +32,7 @@ joined_placed eq known cs size ps qs xs ys h k = record {
       );
 }
 
-pub joined_shown : {C L S : Type 0} (j : Join S) (r : Reading C L S) (g : Graph C L) (states : List C) (laws : IsSemilattice j) (size : ℕ) (cs : List (Candidate C L)) (ps qs : List ℕ) (s t u : S)
+pub joined_shown : {C L S : Type 0} (j : Join S) (r : Observation C L S) (g : Graph C L) (states : List C) (laws : IsSemilattice j) (size : ℕ) (cs : List (Candidate C L)) (ps qs : List ℕ) (s t u : S)
     → s ≡ with_steps j r g states j.none (in_pieces size cs ps) → t ≡ with_steps j r g states j.none (in_pieces size cs qs) → u ≡ j.join s t
     → u ≡ with_steps j r g states j.none (in_pieces size cs (ps ++ qs))
 joined_shown j r g states laws size cs ps qs s t u a b e =

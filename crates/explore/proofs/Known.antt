@@ -2,9 +2,9 @@
 use Rattle.std.proofs.Common.{◌≡◌, Bool, true, false, cond, List, [], ◌∷◌, ◌++◌, ap, sym, refl, ◌∙◌}
 use Rattle.std.specs.Prelude.{◌||◌}
 use Rattle.std.specs.List.{list_any}
-use Rattle.summary.specs.Reading.{Join, Reading}
+use Rattle.summary.specs.Sums.{Join, Observation}
 use Rattle.explore.specs.declared.visited.Candidate.{Candidate}
-use Rattle.explore.specs.Search.{Found, place, place_all}
+use Rattle.explore.specs.internal.Search.{Found, place, place_all}
 use Rattle.explore.proofs.SearchSteps.{place_states}
 
 or_false : (b : Bool) → b ≡ (b || false)
@@ -15,7 +15,7 @@ or_assoc : (a b c : Bool) → ((a || b) || c) ≡ (a || (b || c))
 or_assoc true b c = refl
 or_assoc false b c = refl
 
-module _ {C L S : Type 0} (j : Join S) (r : Reading C L S) (eq : C → C → Bool) (transitive : (x y z : C) → eq x y ≡ true → eq y z ≡ true → eq x z ≡ true) where
+module _ {C L S : Type 0} (j : Join S) (r : Observation C L S) (eq : C → C → Bool) (transitive : (x y z : C) → eq x y ≡ true → eq y z ≡ true → eq x z ≡ true) where
   any_push : (x y : C) (xs : List C) → list_any (eq x) (xs ++ y ∷ []) ≡ (list_any (eq x) xs || eq x y)
   any_push x y [] = sym (or_false (eq x y))
   any_push x y (z ∷ zs) = ap (λ b. eq x z || b) (any_push x y zs) ∙ sym (or_assoc (eq x z) (list_any (eq x) zs) (eq x y))

@@ -4,10 +4,10 @@ use Rattle.std.specs.Prelude.{All, Contains, slice_index_or}
 use Rattle.std.proofs.lemmas.List.{get_or-drop, length-drop}
 use Rattle.std.proofs.lemmas.List.Elements.{All-nil, All-cons, All-append, Contains-append_left, Contains-push}
 use Rattle.summary.specs.Graph.{Graph}
-use Rattle.summary.specs.Reading.{Join, Reading}
+use Rattle.summary.specs.Sums.{Join, Observation}
 use Rattle.explore.specs.declared.visited.Candidate.{Candidate}
-use Rattle.explore.specs.Search.{candidate_of, candidates_of, layer_candidates, with_labels, with_layer, with_steps}
-use Rattle.explore.specs.Expansion.{IsStep}
+use Rattle.explore.specs.internal.Search.{candidate_of, candidates_of, layer_candidates, with_labels, with_layer, with_steps}
+use Rattle.explore.specs.internal.Expansion.{IsStep}
 
 module _ {C L : Type 0} (g : Graph C L) (states : List C) where
   -- these states stand among all from a place on
@@ -42,7 +42,7 @@ module _ {C L : Type 0} (g : Graph C L) (states : List C) where
       subst (All (IsStep g states)) (sym is)
       (layer_steps from (drop from states) (omega (arith, length-drop from states)) (λ i lt. sym (get_or-drop from states i g.first)))
 
-  module _ {S : Type 0} (j : Join S) (r : Reading C L S) where
+  module _ {S : Type 0} (j : Join S) (r : Observation C L S) where
     labels_shown : (n : ℕ) (s : C) (summary : S) (labels : List L) (cs : List (Candidate C L)) → slice_index_or states n g.first ≡ s
         → with_steps j r g states summary (candidates_of g n s labels ++ cs) ≡ with_steps j r g states (with_labels j r s summary labels) cs
     labels_shown n s summary [] cs is = refl

@@ -10,11 +10,11 @@ use Rattle.explore.proofs.Drawing.{stands_at}
 use Rattle.explore.proofs.SearchSteps.{place_all_append}
 use Rattle.std.specs.Prelude.{◌||◌, slice_get, Some}
 use Rattle.std.specs.List.{list_any}
-use Rattle.summary.specs.Reading.{Join, Reading}
+use Rattle.summary.specs.Sums.{Join, Observation}
 use Rattle.shared.specs.Totals.{Stands}
 use Rattle.explore.specs.declared.visited.Candidate.{Candidate}
-use Rattle.explore.specs.Search.{Found, place, place_all}
-use Rattle.explore.specs.Work.{AreFirst}
+use Rattle.explore.specs.internal.Search.{Found, place, place_all}
+use Rattle.explore.specs.internal.Work.{AreFirst}
 use Rattle.explore.proofs.Known.{known_after}
 
 either_known : (a b : Bool) → ((a ≡ false) → (b ≡ false) → ⊥) → (a || b) ≡ true
@@ -22,7 +22,7 @@ either_known true b h = refl
 either_known false true h = refl
 either_known false false h = absurd (h refl refl)
 
-module _ {C L S : Type 0} (j : Join S) (r : Reading C L S) (eq : C → C → Bool) (transitive : (x y z : C) → eq x y ≡ true → eq y z ≡ true → eq x z ≡ true) where
+module _ {C L S : Type 0} (j : Join S) (r : Observation C L S) (eq : C → C → Bool) (transitive : (x y z : C) → eq x y ≡ true → eq y z ≡ true → eq x z ≡ true) where
   -- placing a candidate that is not one of the first changes nothing
   pub not_first : (found : Found C L S) (cs : List (Candidate C L)) (firsts : List ℕ) (i : ℕ) (c : Candidate C L) → AreFirst eq found.states cs firsts → slice_get cs i ≡ Some c → (Stands i firsts → ⊥)
       → place j r eq (place_all j r eq found (take i cs)) c ≡ place_all j r eq found (take i cs)
@@ -85,7 +85,7 @@ up_other firsts next at up h other = record {
       (λ apart. let b = h.behind k more near in omega arith);
 }
 
-module _ {C L S : Type 0} (j : Join S) (r : Reading C L S) (eq : C → C → Bool) (laws : IsEquivalence eq) where
+module _ {C L S : Type 0} (j : Join S) (r : Observation C L S) (eq : C → C → Bool) (laws : IsEquivalence eq) where
   -- a candidate that is passed over
   pub passed_over : (found here : Found C L S) (cs : List (Candidate C L)) (firsts : List ℕ) (front rest : List (Candidate C L)) (c : Candidate C L) (at : ℕ)
       → AreFirst eq found.states cs firsts → cs ≡ (front ++ c ∷ []) ++ rest → at ≡ length front → (Stands at firsts → ⊥) → here ≡ place_all j r eq found front

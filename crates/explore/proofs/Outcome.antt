@@ -7,12 +7,12 @@ use Rattle.std.specs.declared.vec.Vec.{Vec}
 use Rattle.std.proofs.lemmas.List.{length-map}
 use Rattle.summary.specs.Graph.{Graph}
 use Rattle.summary.specs.Run.{Run, Start, steps_of, end_of}
-use Rattle.summary.specs.Reading.{Join, IsSemilattice, Reading, sum_of}
+use Rattle.summary.specs.Sums.{Join, IsSemilattice, Observation, sum_of}
 use Rattle.summary.specs.Exploration.{Counts, IsComplete}
 use Rattle.explore.specs.declared.visited.Step.{Step}
 use Rattle.explore.specs.Best.{IsBestOf}
-use Rattle.explore.specs.Search.{Found, found_after}
-use Rattle.explore.specs.Tied.{as_found, run_at, GoBack, AreLastSteps, IsFirstMarked, IsKept}
+use Rattle.explore.specs.internal.Search.{Found, found_after}
+use Rattle.explore.specs.internal.Tied.{as_found, run_at, GoBack, AreLastSteps, IsFirstMarked, IsKept}
 use Rattle.explore.proofs.Lists.{Each, In, each_in, each_from_in, each_all, all_each, in_left, in_cases, in_map, from_map}
 use Rattle.explore.proofs.Visits.{IsLawful, visits}
 use Rattle.explore.proofs.Covering.{AreVisited, are_visited, Covers, covers, covers_more}
@@ -27,7 +27,7 @@ split_at (x ∷ xs) zero d h = refl
 split_at (x ∷ xs) (suc k) d h = ap (λ ys. x ∷ ys) (split_at xs k d (omega arith))
 
 module _ {C L S : Type 0} (g : Graph C L) (cmp : L → L → Ordering) (eq : C → C → Bool) (F : C → Type 0) (lawful : IsLawful g cmp eq F)
-    (j : Join S) (r : Reading C L S) (laws : IsSemilattice j) (n : ℕ) where
+    (j : Join S) (r : Observation C L S) (laws : IsSemilattice j) (n : ℕ) where
   visited : AreVisited g cmp eq F lawful n (visits g eq n).old (visits g eq n).layer
   visited = are_visited g cmp eq F lawful n
 

@@ -10,7 +10,7 @@ use native.Mathlib.Decide.{ℕ_discrete, dec_le}
 use Rattle.shared.specs.Totals.{Stands}
 use Rattle.shared.proofs.Sums.{times_append, times_push_hit, times_push_miss}
 use Rattle.explore.specs.declared.visited.Candidate.{Candidate}
-use Rattle.explore.specs.Work.{IsNew, AddsNew, HasPlaced}
+use Rattle.explore.specs.internal.Work.{IsNew, AddsNew, HasPlaced}
 
 -- the positions of a piece
 pub of_piece : (i size piece : ℕ) → 0 < size → piece * size ≤ i → i < piece * size + size → piece ≡ i / size

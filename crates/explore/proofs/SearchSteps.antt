@@ -5,11 +5,11 @@ use Rattle.std.specs.List.{list_any}
 use Rattle.std.proofs.lemmas.List.Elements.{All-nil, All-cons, All-head, All-tail, All-append, All-push, Contains-append_left, Contains-push}
 use Rattle.indexmap.specs.IndexSet.{insert_key}
 use Rattle.summary.specs.Graph.{Graph}
-use Rattle.summary.specs.Reading.{Join, Reading}
+use Rattle.summary.specs.Sums.{Join, Observation}
 use Rattle.explore.specs.declared.visited.Step.{Step}
 use Rattle.explore.specs.declared.visited.Candidate.{Candidate}
-use Rattle.explore.specs.Search.{Found, candidate_of, candidates_of, layer_candidates, with_layer, place, place_all, advanced, next, found_after}
-use Rattle.explore.specs.Tied.{as_found, Places}
+use Rattle.explore.specs.internal.Search.{Found, candidate_of, candidates_of, layer_candidates, with_layer, place, place_all, advanced, next, found_after}
+use Rattle.explore.specs.internal.Tied.{as_found, Places}
 
 module _ {C L : Type 0} (g : Graph C L) where
   module _ (F : C → Type 0) (goes : (s : C) (l : L) → F s → Contains (g.enabled s) l → F (g.after s l)) where
@@ -28,7 +28,7 @@ module _ {C L : Type 0} (g : Graph C L) where
         All-append (λ (c : Candidate C L). F c.state) (candidates_of g n s (g.enabled s)) (layer_candidates g (n + 1) states)
         (candidates_fit n s [] (g.enabled s) refl (All-head F s states f)) (layer_fits (n + 1) states (All-tail F s states f))
 
-module _ {C L S : Type 0} (j : Join S) (r : Reading C L S) where
+module _ {C L S : Type 0} (j : Join S) (r : Observation C L S) where
   module _ (eq : C → C → Bool) where
     chosen : (b : Bool) (from : ℕ) (xs ys : List C) (ps qs : List (Option (Step L))) (s t : S)
         → as_found (cond b xs ys) (cond b ps qs) from (cond b s t) ≡ cond b (as_found xs ps from s) (as_found ys qs from t)
@@ -101,7 +101,7 @@ module _ {C L S : Type 0} (j : Join S) (r : Reading C L S) where
       place_all_fits found (c ∷ cs) f h =
           place_all_fits (place j r eq found c) cs (place_fits found c f (All-head (λ (c : Candidate C L). F c.state) c cs h)) (All-tail (λ (c : Candidate C L). F c.state) c cs h)
 
-module _ {C L S : Type 0} (g : Graph C L) (j : Join S) (r : Reading C L S) (eq : C → C → Bool) where
+module _ {C L S : Type 0} (g : Graph C L) (j : Join S) (r : Observation C L S) (eq : C → C → Bool) where
   layer_grows : (found : Found C L S) → length found.states ≤ length (next g j r eq found).states
   layer_grows found = place_all_grows j r eq (advanced g j r eq found) (layer_candidates g found.from (drop found.from found.states))
 

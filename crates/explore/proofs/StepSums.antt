@@ -5,15 +5,15 @@ use Rattle.std.proofs.lemmas.List.{take_more, get_or-drop, length-drop}
 use Rattle.std.proofs.lemmas.Option.{slice_get_cases}
 use Rattle.std.proofs.lemmas.Grind.{flat_map-append}
 use Rattle.std.specs.Fork.{slice_chunk}
-use Rattle.explore.specs.Work.{in_pieces}
+use Rattle.explore.specs.internal.Work.{in_pieces}
 use Rattle.std.proofs.lemmas.List.Elements.{All-head, All-tail}
 use Rattle.summary.specs.Graph.{Graph}
-use Rattle.summary.specs.Reading.{Join, IsSemilattice, Reading}
+use Rattle.summary.specs.Sums.{Join, IsSemilattice, Observation}
 use Rattle.explore.specs.declared.visited.Candidate.{Candidate}
-use Rattle.explore.specs.Search.{with_steps}
+use Rattle.explore.specs.internal.Search.{with_steps}
 use Rattle.std.specs.Prelude.{slice_index_or}
 
-module _ {C L S : Type 0} (j : Join S) (r : Reading C L S) (g : Graph C L) (states : List C) where
+module _ {C L S : Type 0} (j : Join S) (r : Observation C L S) (g : Graph C L) (states : List C) where
   pub steps_append : (s : S) (xs ys : List (Candidate C L)) → with_steps j r g states s (xs ++ ys) ≡ with_steps j r g states (with_steps j r g states s xs) ys
   steps_append s [] ys = refl
   steps_append s (x ∷ xs) ys = steps_append (j.join s (r.by (slice_index_or states x.before g.first) x.label)) xs ys
@@ -45,7 +45,7 @@ module _ {C L S : Type 0} (j : Join S) (r : Reading C L S) (g : Graph C L) (stat
       ∙ sym (steps_append j.none (in_pieces size cs pieces) (slice_chunk cs size piece))
       ∙ ap (with_steps j r g states j.none) (ap (λ ds. in_pieces size cs pieces ++ ds) (sym (append-nil (slice_chunk cs size piece))) ∙ sym (flat_map-append (slice_chunk cs size) pieces (piece ∷ [])))
 
-module _ {C L S : Type 0} (j : Join S) (r : Reading C L S) (g : Graph C L) (states : List C) (laws : IsSemilattice j) where
+module _ {C L S : Type 0} (j : Join S) (r : Observation C L S) (g : Graph C L) (states : List C) (laws : IsSemilattice j) where
   abbrev shown_by : Candidate C L → S
   shown_by c = r.by (slice_index_or states c.before g.first) c.label
 

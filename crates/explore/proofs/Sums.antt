@@ -3,14 +3,14 @@ use Rattle.std.proofs.Common.{◌≡◌, ℕ, ◌<◌, ◌≤◌, Bool, List, sy
 use Rattle.std.specs.declared.cmp.Ordering.{Ordering}
 use Rattle.summary.specs.Graph.{Graph}
 use Rattle.summary.specs.Run.{Run, Start, Then, steps_of, end_of, IsRun, all_runs}
-use Rattle.summary.specs.Reading.{Join, IsSemilattice, Reading, shown, sum_of}
+use Rattle.summary.specs.Sums.{Join, IsSemilattice, Observation, shown, sum_of}
 use Rattle.explore.proofs.Lists.{In, each_in, each_from_in, in_contains, in_map, from_map, contains_in}
 use Rattle.explore.proofs.RunOrder.{later_short}
 use Rattle.explore.proofs.Visits.{IsLawful}
 use Rattle.explore.proofs.Covering.{Covers, cover}
 use Rattle.explore.proofs.Conclusions.{listed_are_runs, runs_are_listed, Below, below_trans, below_left, below_right, below_both, below_same, in_below, all_below}
 
-module _ {C L S : Type 0} (g : Graph C L) (j : Join S) (r : Reading C L S) (laws : IsSemilattice j) where
+module _ {C L S : Type 0} (g : Graph C L) (j : Join S) (r : Observation C L S) (laws : IsSemilattice j) where
   -- a summary is the least that is above what each run shows at its end, and by its steps where they are taken
   pub record IsLeast (all : List (Run L)) (steps : List (Run L)) (summary : S) : Type 0 where
     pub ends : (v : Run L) → In v all → Below j laws (r.at (end_of g v)) summary

@@ -6,11 +6,11 @@ use Rattle.std.proofs.lemmas.List.{map-append, drop_at, get_or_append_left, get_
 use Rattle.std.proofs.lemmas.Bool.{cases_lt}
 use Rattle.summary.specs.Graph.{Graph}
 use Rattle.summary.specs.Run.{Run, Start, Then, end_of, longer}
-use Rattle.summary.specs.Reading.{Join, IsSemilattice, Reading}
+use Rattle.summary.specs.Sums.{Join, IsSemilattice, Observation}
 use Rattle.explore.specs.declared.visited.Step.{Step}
 use Rattle.explore.specs.declared.visited.Candidate.{Candidate}
-use Rattle.explore.specs.Search.{Found, candidates_of, layer_candidates, with_labels, with_layer, place, place_all, begin, advanced, found_after}
-use Rattle.explore.specs.Tied.{run_at, step_at, GoBack, Tells, AreLastSteps}
+use Rattle.explore.specs.internal.Search.{Found, candidates_of, layer_candidates, with_labels, with_layer, place, place_all, begin, advanced, found_after}
+use Rattle.explore.specs.internal.Tied.{run_at, step_at, GoBack, Tells, AreLastSteps}
 use Rattle.explore.proofs.Lists.{In, in_left, in_right, in_cases, in_map, from_map}
 use Rattle.explore.proofs.Conclusions.{Below, below_trans, below_left, below_right, below_both}
 use Rattle.explore.proofs.Sums.{IsLeast}
@@ -69,7 +69,7 @@ module _ {L : Type 0} where
       earlier k a b (Some s) h = omega arith
 
 -- the least summary that is above some parts
-module _ {C L S : Type 0} (j : Join S) (r : Reading C L S) (laws : IsSemilattice j) where
+module _ {C L S : Type 0} (j : Join S) (r : Observation C L S) (laws : IsSemilattice j) where
   pub record IsLeastAbove (P : S → Type 0) (summary : S) : Type 0 where
     pub above : (p : S) → P p → Below j laws p summary
     pub least : (u : S) → ((p : S) → P p → Below j laws p u) → Below j laws summary u

@@ -1,9 +1,9 @@
 ghost use Rattle.std.specs.Prelude.{◌≡◌, ◌↔◌, ℕ, ◌<◌, ◌≤◌, length, None, All, IfOk, IfSome, OnOk, IsTrue, IsErrOf, slice_index_or};
 ghost use Rattle.summary.specs.Exploration.{Counts, IsComplete};
-ghost use Rattle.summary.specs.Reading.{sum_of};
+ghost use Rattle.summary.specs.Sums.{sum_of};
 ghost use Rattle.explore.specs.Best.{AreBest};
 ghost use Rattle.explore.specs.Limits.{IsWithinLimits};
-ghost use Rattle.explore.specs.Tied.{GoBack, IsKept, IsRunKept};
+ghost use Rattle.explore.specs.internal.Tied.{GoBack, IsKept, IsRunKept};
 
 use crate::layers::search;
 use crate::plan::{ExploreError, Gate, Plan};
@@ -46,13 +46,13 @@ pub fn explore<Y: System, U: Summary<Y>, G: Gate, R: Threads + Sync>(
         → (count : ℕ) × Counts (Y.graph system.now) plan.now.steps count × (plan.now.limit < count) }
 
     ensures count { IfOk result (λ answer. Counts (Y.graph system.now) plan.now.steps answer.count × (answer.count ≤ plan.now.limit)) }
-    ensures summary { IfOk result (λ answer. answer.summary ≡ sum_of (Y.graph system.now) U.joins (U.reading system.now) plan.now.steps) }
+    ensures summary { IfOk result (λ answer. answer.summary ≡ sum_of (Y.graph system.now) U.joins (U.observation system.now) plan.now.steps) }
     ensures complete { IfOk result (λ answer. IsTrue answer.complete ↔ IsComplete (Y.graph system.now) plan.now.steps) }
     ensures best { IfOk result (λ answer. AreBest (Y.graph system.now) Y.Label.cmp plan.now.steps answer.best.items) }
 
     // Where it is complete, summary and count are those of every greater bound.
     ensures every_bound { IfOk result (λ answer. IsTrue answer.complete → (bound : ℕ) → plan.now.steps ≤ bound
-        → (answer.summary ≡ sum_of (Y.graph system.now) U.joins (U.reading system.now) bound) × Counts (Y.graph system.now) bound answer.count) }
+        → (answer.summary ≡ sum_of (Y.graph system.now) U.joins (U.observation system.now) bound) × Counts (Y.graph system.now) bound answer.count) }
 {
     if !plan.is_within_limits() {
         return Err(ExploreError::BadPlan);

@@ -1,8 +1,8 @@
 //! The first new candidates enter the visited states.
 ghost use Rattle.std.specs.Prelude.{◌≡◌, ◌≢◌, ◌<◌, ◌≤◌, ℕ, length, All, IfOk, OnOk, IsErrOf};
-ghost use Rattle.explore.specs.Search.{place_all};
-ghost use Rattle.explore.specs.Tied.{as_found};
-ghost use Rattle.explore.specs.Work.{AreFirst};
+ghost use Rattle.explore.specs.internal.Search.{place_all};
+ghost use Rattle.explore.specs.internal.Tied.{as_found};
+ghost use Rattle.explore.specs.internal.Work.{AreFirst};
 
 use crate::layers::place_one;
 use crate::leftovers::Leftovers;
@@ -26,10 +26,10 @@ pub fn enter_first<Y: System, U: Summary<Y>>(
     requires fits { All (λ c. Y.fits system.now c.state) candidates.items }
     requires first { AreFirst Y.State.eq visited.old.states.keys candidates.items firsts.now }
     ensures placed { IfOk result (λ s. (from : ℕ) → as_found visited.new.states.keys visited.new.steps.items from s
-        ≡ place_all U.joins (U.reading system.now) Y.State.eq (as_found visited.old.states.keys visited.old.steps.items from summary) candidates.items) }
+        ≡ place_all U.joins (U.observation system.now) Y.State.eq (as_found visited.old.states.keys visited.old.steps.items from summary) candidates.items) }
     ensures within { OnOk result (length visited.old.states.keys ≤ limit → length visited.new.states.keys ≤ limit) }
     ensures too_many { IsErrOf result ExploreError.TooMany → (from : ℕ) → limit
-        < length (place_all U.joins (U.reading system.now) Y.State.eq (as_found visited.old.states.keys visited.old.steps.items from summary) candidates.items).states }
+        < length (place_all U.joins (U.observation system.now) Y.State.eq (as_found visited.old.states.keys visited.old.steps.items from summary) candidates.items).states }
     ensures planned { result ≢ Err ExploreError.BadPlan }
 {
     let mut summary = summary;

@@ -90,7 +90,7 @@ impl Summary<Ring> for Residues {
       join = λ v w. record { residues = set.union v.residues w.residues };
     } };
 
-    ghost reading = { λ it. record {
+    ghost observation = { λ it. record {
       at = λ state. record { residues = set.insert set.empty (state % 4) };
       by = λ state label. record { residues = set.empty };
     } };
@@ -144,7 +144,7 @@ impl Summary<Ring> for Turns {
       join = λ v w. record { taken = set.union v.taken w.taken };
     } };
 
-    ghost reading = { λ it. record {
+    ghost observation = { λ it. record {
       at = λ state. record { taken = set.empty };
       by = λ state label. record { taken = set.insert set.empty label };
     } };

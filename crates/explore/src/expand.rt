@@ -1,7 +1,7 @@
 //! The candidates of a layer, by as many threads as rayon starts.
 ghost use Rattle.std.specs.Prelude.{◌≡◌, ◌+◌, ◌^◌, ◌<◌, ◌++◌, ◌∷◌, [], length, All, IfOk, OnOk, flat_map};
-ghost use Rattle.explore.specs.Search.{layer_candidates};
-ghost use Rattle.explore.specs.Expansion.{candidates_with, candidates_in, IsExpanded};
+ghost use Rattle.explore.specs.internal.Search.{layer_candidates};
+ghost use Rattle.explore.specs.internal.Expansion.{candidates_with, candidates_in, IsExpanded};
 
 use crate::visited::Candidate;
 use rayon::prelude::*;

@@ -1,8 +1,8 @@
 ghost use Rattle.std.specs.Prelude.{◌≡◌, ◌≢◌, ◌+◌, ◌^◌, ◌<◌, ◌≤◌, ℕ, [], ◌∷◌, ◌++◌, length, None, All, IfOk, OnOk, IsErrOf};
 ghost use Rattle.explore.specs.Limits.{IsWithinLimits};
-ghost use Rattle.explore.specs.Expansion.{IsStep};
-ghost use Rattle.explore.specs.Search.{with_steps, place_all, found_after};
-ghost use Rattle.explore.specs.Tied.{as_found, Places};
+ghost use Rattle.explore.specs.internal.Expansion.{IsStep};
+ghost use Rattle.explore.specs.internal.Search.{with_steps, place_all, found_after};
+ghost use Rattle.explore.specs.internal.Tied.{as_found, Places};
 ghost use Rattle.indexmap.specs.IndexSet.{insert_key};
 
 use crate::entering::enter_first;
@@ -27,7 +27,7 @@ pub fn place_one<Y: System, U: Summary<Y>>(
     summary: U,
 ) -> Result<U, ExploreError>
     requires { Y.fits system.now candidate.state }
-    ensures placed { IfOk result (λ s. Places U.joins (U.reading system.now) Y.State.eq visited.old.states.keys visited.old.steps.items summary candidate visited.new.states.keys visited.new.steps.items s) }
+    ensures placed { IfOk result (λ s. Places U.joins (U.observation system.now) Y.State.eq visited.old.states.keys visited.old.steps.items summary candidate visited.new.states.keys visited.new.steps.items s) }
     ensures within { OnOk result (length visited.old.states.keys ≤ limit → length visited.new.states.keys ≤ limit) }
     ensures too_many { IsErrOf result ExploreError.TooMany → limit < length (insert_key Y.State.eq visited.old.states.keys candidate.state) }
     ensures planned { result ≢ Err ExploreError.BadPlan }
@@ -68,12 +68,12 @@ fn place_layer<Y: System, U: Summary<Y>, G: Gate, R: Threads + Sync>(
     requires steps { All (IsStep (Y.graph system.now) visited.old.states.keys) candidates.items }
     requires fits { All (λ c. Y.fits system.now c.state) candidates.items }
     ensures placed { IfOk result (λ s. (from : ℕ) → as_found visited.new.states.keys visited.new.steps.items from s
-        ≡ place_all U.joins (U.reading system.now) Y.State.eq (as_found visited.old.states.keys visited.old.steps.items from
-        (with_steps U.joins (U.reading system.now) (Y.graph system.now) visited.old.states.keys summary candidates.items)) candidates.items) }
+        ≡ place_all U.joins (U.observation system.now) Y.State.eq (as_found visited.old.states.keys visited.old.steps.items from
+        (with_steps U.joins (U.observation system.now) (Y.graph system.now) visited.old.states.keys summary candidates.items)) candidates.items) }
     ensures within { OnOk result (length visited.old.states.keys ≤ plan.now.limit → length visited.new.states.keys ≤ plan.now.limit) }
     ensures too_many { IsErrOf result ExploreError.TooMany → (from : ℕ) → plan.now.limit
-        < length (place_all U.joins (U.reading system.now) Y.State.eq (as_found visited.old.states.keys visited.old.steps.items from
-        (with_steps U.joins (U.reading system.now) (Y.graph system.now) visited.old.states.keys summary candidates.items)) candidates.items).states }
+        < length (place_all U.joins (U.observation system.now) Y.State.eq (as_found visited.old.states.keys visited.old.steps.items from
+        (with_steps U.joins (U.observation system.now) (Y.graph system.now) visited.old.states.keys summary candidates.items)) candidates.items).states }
     ensures planned { result ≢ Err ExploreError.BadPlan }
 {
     let (firsts, shown) = find_first::<Y, U, G, R>(
@@ -121,12 +121,12 @@ pub fn search<Y: System, U: Summary<Y>, G: Gate, R: Threads + Sync>(
 ) -> Result<Explored<Y::State, Y::Label, U>, ExploreError>
     requires plan { IsWithinLimits plan.now }
     ensures found { IfOk result (λ s. as_found s.visited.states.keys s.visited.steps.items s.from s.summary
-        ≡ found_after (Y.graph system.now) U.joins (U.reading system.now) Y.State.eq plan.now.steps) }
+        ≡ found_after (Y.graph system.now) U.joins (U.observation system.now) Y.State.eq plan.now.steps) }
     ensures fits { IfOk result (λ s. All (Y.fits system.now) s.visited.states.keys) }
     ensures within { IfOk result (λ s. length s.visited.states.keys ≤ plan.now.limit) }
     ensures from { IfOk result (λ s. s.from ≤ length s.visited.states.keys) }
     ensures too_many { IsErrOf result ExploreError.TooMany → plan.now.limit
-        < length (found_after (Y.graph system.now) U.joins (U.reading system.now) Y.State.eq plan.now.steps).states }
+        < length (found_after (Y.graph system.now) U.joins (U.observation system.now) Y.State.eq plan.now.steps).states }
     ensures planned { result ≢ Err ExploreError.BadPlan }
 {
     let (mut visited, mut summary) = begin_search(alloc, system)?;
@@ -161,7 +161,7 @@ fn begin_search<Y: System, U: Summary<Y>>(
 ) -> Result<(Visited<Y::State, Y::Label>, U), AllocError>
     ensures states { IfOk result (λ r. r.0.states.keys ≡ (Y.graph system.now).first ∷ []) }
     ensures steps { IfOk result (λ r. r.0.steps.items ≡ None ∷ []) }
-    ensures summary { IfOk result (λ r. r.1 ≡ (U.reading system.now).at (Y.graph system.now).first) }
+    ensures summary { IfOk result (λ r. r.1 ≡ (U.observation system.now).at (Y.graph system.now).first) }
 {
     let first = system.start(alloc)?;
     let summary = U::at(alloc, system, &first)?;

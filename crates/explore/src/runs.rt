@@ -1,6 +1,6 @@
 ghost use Rattle.std.specs.Prelude.{◌≡◌, ◌↔◌, ◌<◌, [], List, length, All, IfOk, IsTrue};
 ghost use Rattle.summary.specs.Run.{Run, labels_of};
-ghost use Rattle.explore.specs.Tied.{GoBack, AreLastSteps, run_at, AreFirstMarked};
+ghost use Rattle.explore.specs.internal.Tied.{GoBack, AreLastSteps, run_at, AreFirstMarked};
 
 use crate::visited::Step;
 use std::alloc::{AllocError, Global};

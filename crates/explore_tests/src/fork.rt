@@ -143,7 +143,7 @@ impl<'a> Summary<Fork<'a>> for Taken {
       join = λ v w. record { labels = set.union v.labels w.labels };
     } };
 
-    ghost reading = { λ it. record {
+    ghost observation = { λ it. record {
       at = λ state. record { labels = set.empty };
       by = λ state label. record { labels = set.insert set.empty label };
     } };

@@ -48,6 +48,7 @@ meaning_one a = variant_one meaning_enum (tests_of meaning_enum (meanings.ghosts
 
 -- ---- declared names
 
+-- `==` of declared names: of the names, and of what they mean
 abbrev pub same_entry : Entry → Entry → Bool
 same_entry a b = pointwise nat_eq a.0 b.0 && (meanings.ghosts).eq a.1 b.1
 
@@ -102,6 +103,7 @@ entry_fed a b h = ap (λ e. e.0 ∷ []) (entry_one a b h)
 
 -- ---- references
 
+-- `==` of references: of the names, and of the fields behind them
 abbrev pub same_reference : Reference → Reference → Bool
 same_reference a b = pointwise nat_eq a.name b.name && pointwise (pointwise nat_eq) a.fields b.fields
 

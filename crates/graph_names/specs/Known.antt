@@ -28,25 +28,29 @@ Known = List (List ℕ)
 
 -- ---- statements
 
--- those that an event's redirects store to, or the timer that it waits for
-abbrev pub names_of_references : Option Reference → Known
-names_of_references None = []
-names_of_references (Some reference) = reference.name ∷ []
+-- the name of a reference, where there is one
+abbrev pub names_of_reference : Option Reference → Known
+names_of_reference None = []
+names_of_reference (Some reference) = reference.name ∷ []
 
+-- those that the redirects of a receive store to, or the timer of a timeout
 abbrev pub names_of_event : Event → Known
-names_of_event (event.Receive receive) = names_of_references receive.value ++ names_of_references receive.sender
+names_of_event (event.Receive receive) = names_of_reference receive.value ++ names_of_reference receive.sender
 names_of_event (event.Timeout name) = name ∷ []
 names_of_event (event.Done reference) = []
 names_of_event event.AllDone = []
 
+-- those of the event of an alternative: a call and `else` have none
 abbrev pub names_of_alternative : Alternative-F Action Alternative Branch Conditional Statement → Known
 names_of_alternative (Alternative-F.«Alternative::Event» guard event block) = names_of_event event
 names_of_alternative (Alternative-F.«Alternative::Call» guard call block) = []
 names_of_alternative (Alternative-F.Else block) = []
 
+-- those of the event of a branch
 abbrev pub names_of_branch : Branch → Known
 names_of_branch b = names_of_alternative (out-Alternative (out-Branch b).alternative)
 
+-- the name in a reference to a component: `self` and `mtc` have none
 abbrev pub names_of_component : ComponentRef → Known
 names_of_component component.Itself = []
 names_of_component component.Mtc = []
@@ -96,6 +100,7 @@ abbrev pub assignment_at_start : ForStart → Option Assignment
 assignment_at_start (for_start.Variables vs) = None
 assignment_at_start (for_start.Assign a) = Some a
 
+-- the assignment that a statement begins with, where it is a `for` that begins with one
 abbrev pub first_assignment : Does → Option Assignment
 first_assignment (Action-F.For start condition step block) = assignment_at_start start
 first_assignment _ = None
@@ -133,6 +138,7 @@ names_of (Waiting target ∷ rest) = target.reference.name ∷ []
 
 -- ---- definitions
 
+-- those that a member of a component type declares
 abbrev pub names_of_member : Member → Known
 names_of_member (member.Ports port_type ports) = ports
 names_of_member (member.Constants cs) = map (λ c. c.name) cs.constants

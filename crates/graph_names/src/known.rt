@@ -5,7 +5,7 @@ ghost use Rattle.std.specs.Option.{option_map};
 ghost use Rattle.step_rules.specs.Items.{action_of};
 ghost use Rattle.graph_items.specs.Standing.{part_of};
 ghost use Rattle.graph_names.specs.Known as named;
-ghost use Rattle.graph_names.specs.Known.{names_if_any, names_of_assignment, names_of_branch, names_of_component, names_of_event, names_of_kind, names_of_member, names_of_part, names_of_references, names_of_whole};
+ghost use Rattle.graph_names.specs.Known.{names_if_any, names_of_assignment, names_of_branch, names_of_component, names_of_event, names_of_kind, names_of_member, names_of_part, names_of_reference, names_of_whole};
 ghost use Rattle.graph_names.specs.internal.Learning.{names_of_definition, names_of_first, with_name, with_names};
 
 use graph_items::{First, Part};
@@ -157,7 +157,7 @@ impl<'a> Names<'a> {
     // ---- statements
 
     fn add_reference(&mut self, reference: &'a Option<Reference>) -> Result<(), AllocError>
-        ensures { OnOk result (self.new ≡ with_names self.old (names_of_references reference.now)) }
+        ensures { OnOk result (self.new ≡ with_names self.old (names_of_reference reference.now)) }
     {
         match reference {
             Some(reference) => self.add(&reference.name),

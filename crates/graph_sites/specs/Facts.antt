@@ -45,6 +45,7 @@ pub record EventFacts : Type 0 where
   pub sender : Option Goal
   pub own : Bool
 
+-- what is known where a part of a statement stands: where values go, of what type, and whose its timer is
 pub data Facts : Type 0 where
   Nothing : Facts
   -- where an assignment stores a value
@@ -68,12 +69,14 @@ target_in definitions site reference = record {
   data_type = type_for reference.fields (type_of_name (scope_at definitions site) reference.name);
 }
 
+-- where a value goes that is stored in what a reference at a site means
 abbrev pub goal_at : List Definition → Site → Reference → Goal
 goal_at definitions site reference = record {
   target = target_in definitions site reference;
   wanted = (target_at (scope_at definitions site) reference).data_type;
 }
 
+-- where a redirect at a site stores to, where there is one
 abbrev pub goal_if_any : List Definition → Site → Option Reference → Option Goal
 goal_if_any definitions site reference = option_map (goal_at definitions site) reference
 
@@ -83,6 +86,7 @@ goal_if_any definitions site reference = option_map (goal_at definitions site) r
 abbrev pub no_event : EventFacts
 no_event = record { received = None; value = None; sender = None; own = false }
 
+-- what is known of an event at a site
 abbrev pub event_facts : List Definition → Site → Event → EventFacts
 event_facts definitions site (event.Receive receive) = record {
   received = received_type (scope_at definitions site) (incoming (scope_at definitions site) receive.port) receive.message;
@@ -94,11 +98,13 @@ event_facts definitions site (event.Timeout name) = record { received = None; va
 event_facts definitions site (event.Done reference) = no_event
 event_facts definitions site event.AllDone = no_event
 
+-- what is known of the event of an alternative: nothing of a call and of `else`, which have none
 abbrev pub alternative_facts : List Definition → Site → Alternative-F Action Alternative Branch Conditional Statement → EventFacts
 alternative_facts definitions site (Alternative-F.«Alternative::Event» guard event block) = event_facts definitions site event
 alternative_facts definitions site (Alternative-F.«Alternative::Call» guard call block) = no_event
 alternative_facts definitions site (Alternative-F.Else block) = no_event
 
+-- what is known of the event of a branch at a site
 abbrev pub branch_facts : List Definition → Site → Branch → EventFacts
 branch_facts definitions site b = alternative_facts definitions site (out-Alternative (out-Branch b).alternative)
 
@@ -108,14 +114,17 @@ altstep_facts definitions at = map (branch_facts definitions (beginning at)) (br
 
 -- ---- statements
 
+-- what is known of the assignment that a `for` begins with: nothing where it begins with variables
 abbrev pub start_facts : List Definition → Site → ForStart → Facts
 start_facts definitions site (for_start.Variables vs) = Nothing
 start_facts definitions site (for_start.Assign a) = Stores (goal_at definitions site a.target)
 
+-- what is known of the variables that a `for` begins with: nothing where it begins with an assignment
 abbrev pub start_name_facts : List Definition → Site → ForStart → Facts
 start_name_facts definitions site (for_start.Variables vs) = Declares (resolved (scope_at definitions site).names vs.type_name)
 start_name_facts definitions site (for_start.Assign a) = Nothing
 
+-- what is known of a part of a `for` that begins so and has this assignment behind its block
 abbrev pub for_facts : List Definition → Site → ForStart → Assignment → Part → Facts
 for_facts definitions site start step Whole = Nothing
 for_facts definitions site start step (Name k) = start_name_facts definitions site start
@@ -124,6 +133,7 @@ for_facts definitions site start step Start = start_facts definitions site start
 for_facts definitions site start step Loop = Nothing
 for_facts definitions site start step Last = Stores (goal_at definitions site step.target)
 
+-- what is known of a part of a statement that does this
 abbrev pub facts_of_part : List Definition → Site → Part → Does → Facts
 facts_of_part definitions site part (Action-F.Variables vs) = Declares (resolved (scope_at definitions site).names vs.type_name)
 facts_of_part definitions site part (Action-F.Constants cs) = Declares (resolved (scope_at definitions site).names cs.type_name)
@@ -158,9 +168,11 @@ facts_of definitions (Waiting target ∷ rest) = Nothing
 
 -- ---- what code keeps of it
 
+-- what a goal of the code stands for
 abbrev pub goal_by : code_goal.Goal → Goal
 goal_by goal = record { target = target_of goal.target; wanted = goal.wanted }
 
+-- what the code's facts of an event stand for
 abbrev pub event_by : code_event.EventFacts → EventFacts
 event_by facts = record {
   received = facts.received;
@@ -169,6 +181,7 @@ event_by facts = record {
   own = facts.own;
 }
 
+-- what the code's facts of a part of a statement stand for
 abbrev pub facts_by : code_facts.Facts → Facts
 facts_by code.Nothing = Nothing
 facts_by (code.Stores goal) = Stores (goal_by goal)

@@ -9,7 +9,7 @@ use Rattle.step_rules.specs.Configurations.{Configuration}
 use Rattle.step_rules.specs.LiveParts.{live_part}
 use Rattle.step_rules.specs.Snapshots.{Test}
 use Rattle.step_rules.specs.Steps.{Label}
-use Rattle.summary.specs.Reading.{Reading}
+use Rattle.summary.specs.Sums.{Observation}
 
 pub marks_seen : {S : Type 0} (put : Option ℕ → S) (none : S) → SeesLiveParts (mark_reading put none)
 marks_seen put none = record { at = λ c. ap put (mark_live c); by = λ c label. refl }
@@ -20,7 +20,7 @@ blocked_seen test put none = record { at = λ c. ap put (blocked_live test c); b
 pub branches_seen : {S : Type 0} (test : Test) (put : Option Span → S) (none : S) → SeesLiveParts (branch_reading test put none)
 branches_seen test put none = record { at = λ c. refl; by = λ c label. ap put (branch_live test c label) }
 
-pub both_seen : {S T U : Type 0} (pair : S → T → U) (one : Reading Configuration Label S) (other : Reading Configuration Label T)
+pub both_seen : {S T U : Type 0} (pair : S → T → U) (one : Observation Configuration Label S) (other : Observation Configuration Label T)
     → SeesLiveParts one → SeesLiveParts other → SeesLiveParts (both_readings pair one other)
 both_seen pair one other first second = record {
   at = λ c. ap (λ s. pair s (other.at (live_part c))) (first.at c) ∙ ap (pair (one.at c)) (second.at c);

@@ -8,7 +8,7 @@ use Rattle.step_rules.proofs.LiveTheorem.{blocked_live, branch_live, labels_live
 use Rattle.step_rules.specs.Configurations.{Component, Configuration, Created, Ended, Goes, Going, Running, State, Terminated, is_running_state, is_terminated_state}
 use Rattle.step_rules.specs.Labels.{labels}
 use Rattle.step_rules.specs.LiveParts.{live_component, live_going, live_part}
-use Rattle.step_rules.specs.Places.{blocked, branch_of, place_of, place_of_frames, standing, with_place}
+use Rattle.step_rules.specs.Places.{blocked, branch_of, place_of, place_of_frames, standings, with_place}
 use Rattle.step_rules.specs.Runs.{mark_of}
 use Rattle.step_rules.specs.Snapshots.{Test}
 use Rattle.step_rules.specs.Steps.{Label, next, step}
@@ -54,11 +54,11 @@ places-live [] = refl
 places-live (x ∷ xs) =
     ap (λ ps. ps ++ flat_map (λ y. with_place y (place_of y)) (map live_component xs)) (place-live x) ∙ ap (λ ps. with_place x (place_of x) ++ ps) (places-live xs)
 
-pub standing_live : (c : Going) → standing (live_going c) ≡ standing c
+pub standing_live : (c : Going) → standings (live_going c) ≡ standings c
 standing_live c = places-live c.components
 
 standing-of : Configuration → List (Path × Span)
-standing-of (Goes c) = standing c
+standing-of (Goes c) = standings c
 standing-of (Ended v) = []
 
 standing-live : (c : Configuration) → standing-of (live_part c) ≡ standing-of c
@@ -66,6 +66,6 @@ unfolding standing-of
 standing-live (Goes c) = standing_live c
 standing-live (Ended v) = refl
 
-pub same_standing : (c d : Going) → AreSame (Goes c) (Goes d) → standing c ≡ standing d
+pub same_standing : (c d : Going) → AreSame (Goes c) (Goes d) → standings c ≡ standings d
 unfolding standing-of
 same_standing c d = alike standing-of standing-live (Goes c) (Goes d)

@@ -7,20 +7,20 @@ use Rattle.step_rules.specs.Places.{blocked, branch_of}
 use Rattle.step_rules.specs.Runs.{mark_of}
 use Rattle.step_rules.specs.Snapshots.{Test}
 use Rattle.step_rules.specs.Steps.{Label}
-use Rattle.summary.specs.Reading.{Reading}
+use Rattle.summary.specs.Sums.{Observation}
 
 -- of a configuration its mark, of a step nothing
-abbrev pub mark_reading : {S : Type 0} → (Option ℕ → S) → S → Reading Configuration Label S
+abbrev pub mark_reading : {S : Type 0} → (Option ℕ → S) → S → Observation Configuration Label S
 mark_reading put none = record { at = λ c. put (mark_of c); by = λ c label. none }
 
 -- of a configuration its blocked components with the places where they stand, of a step nothing
-abbrev pub blocked_reading : {S : Type 0} → Test → (List (Path × Span) → S) → S → Reading Configuration Label S
+abbrev pub blocked_reading : {S : Type 0} → Test → (List (Path × Span) → S) → S → Observation Configuration Label S
 blocked_reading test put none = record { at = λ c. put (blocked test c); by = λ c label. none }
 
 -- of a configuration nothing, of a step the place of the branch that it takes, where it takes one
-abbrev pub branch_reading : {S : Type 0} → Test → (Option Span → S) → S → Reading Configuration Label S
+abbrev pub branch_reading : {S : Type 0} → Test → (Option Span → S) → S → Observation Configuration Label S
 branch_reading test put none = record { at = λ c. none; by = λ c label. put (branch_of test c label) }
 
 -- two readings made one
-abbrev pub both_readings : {S T U : Type 0} → (S → T → U) → Reading Configuration Label S → Reading Configuration Label T → Reading Configuration Label U
+abbrev pub both_readings : {S T U : Type 0} → (S → T → U) → Observation Configuration Label S → Observation Configuration Label T → Observation Configuration Label U
 both_readings pair one other = record { at = λ c. pair (one.at c) (other.at c); by = λ c label. pair (one.by c label) (other.by c label) }

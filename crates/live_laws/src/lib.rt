@@ -11,12 +11,12 @@ ghost use Rattle.step_rules.specs.Canonical.{SeesLiveParts, canonical_graph};
 ghost use Rattle.step_rules.specs.Configurations.{Configuration, Goes, Going};
 ghost use Rattle.step_rules.specs.Labels.{labels};
 ghost use Rattle.step_rules.specs.LiveParts.{live_part};
-ghost use Rattle.step_rules.specs.Places.{blocked, branch_of, standing};
+ghost use Rattle.step_rules.specs.Places.{blocked, branch_of, standings};
 ghost use Rattle.step_rules.specs.Runs.{graph_of, mark_of, start};
 ghost use Rattle.step_rules.specs.Snapshots.{Test};
 ghost use Rattle.step_rules.specs.Steps.{Label, next, step};
 ghost use Rattle.summary.specs.Exploration.{Counts, HasMark, IsComplete, IsReached};
-ghost use Rattle.summary.specs.Reading.{Reading};
+ghost use Rattle.summary.specs.Sums.{Observation};
 ghost use Rattle.summary.specs.Run.{IsRun, Run};
 ghost use Rattle.ttcn_syntax.specs.declared.place.Span.{Span};
 ghost use Rattle.ttcn_values.specs.Outcomes.{outcome_map};
@@ -38,7 +38,7 @@ pub fn same_configurations_go_on_alike()
     ensures mark { (c d : Configuration) → AreSame c d → mark_of c ≡ mark_of d }
     ensures branch { (test : Test) (c d : Configuration) (label : Label) → AreSame c d → branch_of test c label ≡ branch_of test d label }
     ensures blocked { (test : Test) (c d : Configuration) → AreSame c d → blocked test c ≡ blocked test d }
-    ensures standing { (c d : Going) → AreSame (Goes c) (Goes d) → standing c ≡ standing d }
+    ensures standing { (c d : Going) → AreSame (Goes c) (Goes d) → standings c ≡ standings d }
 {}
 
 /// Over live parts the same runs are runs.
@@ -83,5 +83,5 @@ pub fn places_are_seen_of_live_parts<S>()
 /// What two readings see of live parts, both together see.
 #[tactic(auto, using(crate::proofs::SameReadings::both_seen))]
 pub fn both_readings_see_live_parts<S, T, U>()
-    ensures { (pair : S → T → U) (one : Reading Configuration Label S) (other : Reading Configuration Label T) → SeesLiveParts one → SeesLiveParts other → SeesLiveParts (both_readings pair one other) }
+    ensures { (pair : S → T → U) (one : Observation Configuration Label S) (other : Observation Configuration Label T) → SeesLiveParts one → SeesLiveParts other → SeesLiveParts (both_readings pair one other) }
 {}

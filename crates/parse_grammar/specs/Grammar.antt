@@ -190,7 +190,7 @@ optional parts (Some a) = turn (parts a)
 
 -- ---- words
 
--- how a verdict and a direction are written
+-- how a verdict is written
 abbrev pub verdict_word : Verdict → Word
 verdict_word verdict.None = word.None
 verdict_word verdict.Pass = word.Pass
@@ -243,6 +243,7 @@ branches bs = turn (sym mark.LeftBrace ▸ items (each (λ b. ended (phrase (a_b
 
 -- ---- the productions
 
+-- of which parts a phrase consists: a case for each production of the grammar
 pub data Production : Phrase → Parts → Type 0 where
   -- Ref = Id {'.' Id}
   dotted_name : (name : List ℕ) (fields : List (List ℕ))

@@ -41,6 +41,7 @@ pub one_coded : (a b : Gv) → numbers_of a ≡ numbers_of b → a ≡ b
 one_coded a b h = (one_value a b [] [] (ap (λ ns. ns ++ []) h)).0
 
 module _ {K : Type 0} (c : Coded K) where
+  -- the order of two keys: that of the lists of numbers that they are stored as, compared number by number
   abbrev pub order : K → K → Ordering
   order = on (λ k. numbers_of (c.code k)) (slice_cmp nat_cmp)
 
@@ -70,6 +71,7 @@ module _ {K : Type 0} (c : Coded K) where
       let same : (q : K) → list_any (eq_by_cmp order q) xs ≡ list_any (eq_by_cmp order q) ys = λ q. sym (found xs q) ∙ ap (λ s. ordered.contains s q) e ∙ found ys q in
       (within_found xs ys same, within_found ys xs (λ q. sym (same q)))
 
+  -- a set with its keys in this order, each of them once
   abbrev pub in_order : KeySet K → FinSet order
   in_order s = /_rec (Coded-set (ordered.code c)) (λ xs. ordered.from_list xs) stored_once s
 
@@ -77,6 +79,7 @@ module _ {K : Type 0} (c : Coded K) where
   unfolding /_rec
   in_order_tells = /_elim_prop₂ (λ s t. in_order s ≡ in_order t → s ≡ t) (λ s t. →_prop (/_set s t)) (λ xs ys e. eq/ xs ys (stored_apart xs ys e))
 
+  -- how a set is stored: as its keys in this order
   abbrev pub code : Coded (KeySet K)
   code = coded_via (ordered.code c) in_order in_order_tells
 

@@ -2,7 +2,7 @@
 use Rattle.std.specs.Prelude.{◌≡◌, List, [], ◌∷◌, ◌++◌, Option, None, Some, Contains}
 use Rattle.std.proofs.Common.{inl, inr, refl, append_assoc}
 use Rattle.std.proofs.lemmas.List.Elements.{Contains-append_left, Contains-append_right, Contains-append_cases}
-use Rattle.summary.specs.Reading.{Join, IsSemilattice}
+use Rattle.summary.specs.Sums.{Join, IsSemilattice}
 use std.Quotient as quotient
 use std.Quotient.{cls, eq/, /_set, /_rec, /_rec₂, /_elim_prop, /_elim_prop₂, /_elim_prop₃}
 
@@ -18,9 +18,11 @@ SameKeys xs ys = Within xs ys × Within ys xs
 abbrev pub KeySet : Type 0 → Type 0
 KeySet K = quotient.◌/◌ (List K) SameKeys
 
+-- the set of the keys of a list
 abbrev pub from_list : {K : Type 0} → List K → KeySet K
 from_list keys = cls keys
 
+-- the set without keys
 abbrev pub empty : {K : Type 0} → KeySet K
 empty = from_list []
 

@@ -17,7 +17,7 @@ impl<Y: Located> Summary<Y> for Blocked<Y::Standing> {
       join = λ x y. record { components = set.union x.components y.components };
     } };
 
-    ghost reading = { λ system. record {
+    ghost observation = { λ system. record {
       at = λ state. record { components = set.from_list (Y.blocked system state) };
       by = λ state label. record { components = set.empty };
     } };

@@ -17,7 +17,7 @@ impl<Y: Located> Summary<Y> for Branches<Y::Branch> {
       join = λ x y. record { places = set.union x.places y.places };
     } };
 
-    ghost reading = { λ system. record {
+    ghost observation = { λ system. record {
       at = λ state. record { places = set.empty };
       by = λ state label. record { places = set.from_option (Y.branch system state label) };
     } };

@@ -15,9 +15,11 @@ use Rattle.ttcn_syntax.specs.declared.place.Span.{Span}
 abbrev pub list_of : {X : Type 0} → (X → Data) → List X → Data
 list_of json xs = array (items_of (map json xs))
 
+-- a label, as the string of its text
 abbrev pub label_json : Label → Data
 label_json label = string (label_text label)
 
+-- a place, as the string of its line and column
 abbrev pub place_json : Span → Data
 place_json place = string (place_text place)
 

@@ -22,6 +22,7 @@ abbrev pub is_timer_name : List ℕ → Bool
 is_timer_name [] = false
 is_timer_name (first ∷ others) = is_letter first && list_all is_word_byte others
 
+-- the expiry of a label, if it has one, has a small frame number and a timer's name
 abbrev pub IsProperExpiry : Option Expiry → Type 0
 IsProperExpiry None = Unit {0}
 IsProperExpiry (Some expiry) = IsSmall expiry.frame × IsTrue (is_timer_name expiry.timer)

@@ -23,6 +23,7 @@ word_of verdict.Inconc = codes "inconc"
 word_of verdict.Fail = codes "fail"
 word_of verdict.Error = codes "error"
 
+-- `yes` where it is so, or else `no`
 abbrev pub yes_or_no : Bool → List ℕ
 yes_or_no true = codes "yes"
 yes_or_no false = codes "no"

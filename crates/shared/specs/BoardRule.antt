@@ -58,6 +58,7 @@ pub record CountsForNothing (v : BoardView) : Type 0 where
   pub ends : v.ends ≡ 0
   pub raises : v.raises ≡ 0
 
+-- a seat fits its board: it lives or counts for nothing, and only the first one has seats left to make
 pub record FitsBoard (key : BoardKey) (flag : ℕ) (v : BoardView) : Type 0 where
   pub lives : 0 < v.parts → Lives key flag v
   pub nothing : v.parts ≡ 0 → CountsForNothing v
@@ -86,5 +87,6 @@ module _ {S : Type 0} where
   abbrev pub Sees : Me S BoardView → ℕ → Me S BoardView → Type 0
   Sees m found w = (w.1 ≡ m.1) × (found ≡ 0 → (m.0.saw ≡ false) × (w.0 ≡ with_look m.0 false)) × (0 < found → w.0 ≡ with_look m.0 true)
 
+  -- the seat raised the flag, whether it was raised before or not
   abbrev pub Raises : Me S BoardView → ℕ → Me S BoardView → Type 0
   Raises m found w = (w.1 ≡ m.1) × (w.0 ≡ with_raise m.0)

@@ -35,5 +35,6 @@ pub record Shape : Type 0 where
   pub words : ℕ
   pub seats : ℕ
 
+-- the shape of a key: the classes of its items and where their probe paths begin, and how many words and seats
 abbrev pub shape_of : {S : Type 0} → (S → S → Bool) → (S → List (List ℕ)) → SeenKey S → Shape
 shape_of eq input key = record { classes = classes_of eq key.items.now; starts = map (start_of input key.words) key.items.now; words = key.words; seats = key.seats }

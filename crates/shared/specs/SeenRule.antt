@@ -86,6 +86,7 @@ pub record CountsForNothing (v : SeenView) : Type 0 where
   pub placed : v.placed ≡ []
   pub answered : v.answered ≡ []
 
+-- a seat fits its table: it lives or counts for nothing, and only the first one has seats left to make
 pub record FitsSeen (shape : Shape) (words : List ℕ) (v : SeenView) : Type 0 where
   pub lives : 0 < v.parts → Lives shape words v
   pub nothing : v.parts ≡ 0 → CountsForNothing v
@@ -115,6 +116,7 @@ abbrev pub IsSameSeat : SeenView → SeenView → Type 0
 IsSameSeat v w = (w.classes ≡ v.classes) × (w.words ≡ v.words) × (w.seats ≡ v.seats) × (w.first ≡ v.first) × (w.left ≡ v.left) × (w.parts ≡ v.parts)
 
 module _ {T : Type 0} where
+  -- a state keeps the rule: its words and the views of its seats hold first positions
   abbrev pub KeepsSeen : Shape → State T SeenView → Type 0
   KeepsSeen shape s = HoldsFirsts shape s.words s.views
 

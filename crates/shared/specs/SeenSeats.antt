@@ -14,6 +14,7 @@ abbrev pub AllJoined : SeenView → Type 0
 AllJoined v = v.parts + v.left ≡ v.seats
 
 module _ {S : Type 0} where
+  -- the items whose positions the table holds
   abbrev pub items_of : Seen S → List S
   items_of seen = seen.table.shared.key.items.now
 

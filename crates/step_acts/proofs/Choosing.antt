@@ -8,8 +8,8 @@ use Rattle.check_expressions.specs.Calls.{altstep_meant}
 use Rattle.check_scope.specs.Names.{module_names}
 use Rattle.step_acts.proofs.Standing.{ways-there}
 use Rattle.step_acts.specs.Asks.{Asks}
-use Rattle.step_acts.specs.Places.{list_at}
-use Rattle.step_acts.specs.Stands.{legend_of, site_of, stand_by}
+use Rattle.step_acts.specs.internal.Places.{list_at}
+use Rattle.step_acts.specs.internal.Stands.{legend_of, site_of, stand_by}
 use Rattle.step_acts.specs.declared.stand.Stand.{Stand}
 use Rattle.step_choice.specs.Choices.{Finds, IsWayOf, choice_of}
 use Rattle.step_rules.specs.Branches.{Judge, write_altsteps, written_alt, written_call}

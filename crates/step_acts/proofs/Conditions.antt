@@ -9,8 +9,8 @@ use Rattle.ttcn_syntax.specs.declared.tree.statement.Statement.{Statement}
 use Rattle.step_acts.proofs.Forms.{whole-asks}
 use Rattle.step_acts.proofs.Standing.{ways-there}
 use Rattle.step_acts.specs.Asks.{Asks}
-use Rattle.step_acts.specs.Places.{list_at}
-use Rattle.step_acts.specs.Stands.{legend_of, site_of, stand_by}
+use Rattle.step_acts.specs.internal.Places.{list_at}
+use Rattle.step_acts.specs.internal.Stands.{legend_of, site_of, stand_by}
 use Rattle.step_acts.specs.declared.stand.Stand.{Stand}
 use Rattle.step_rules.specs.Items.{Does, Doing, Item, Last, Loop, Whole, action_of, items, items_if_any}
 use Rattle.step_rules.specs.Statements as said

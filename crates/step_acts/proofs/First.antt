@@ -1,7 +1,7 @@
 -- The step of a component with a last frame, by what remains in it.
 use Rattle.std.proofs.Common.{◌≡◌, sym, subst, List, ◌∷◌, Option, Result, map}
 use Rattle.step_acts.specs.Asks.{Asks}
-use Rattle.step_acts.specs.Places.{behind_first, list_at}
+use Rattle.step_acts.specs.internal.Places.{behind_first, list_at}
 use Rattle.step_rules.specs.Items.{Item}
 use Rattle.step_rules.specs.Statements as said
 use Rattle.step_snapshot.specs.Seen.{own_by, seen_by}

@@ -2,7 +2,7 @@
 use Rattle.std.proofs.Common.{◌≡◌, sym, subst, ℕ, Option, Some, None, Result, Err}
 use Rattle.check_scope.specs.declared.types.DataType.{DataType}
 use Rattle.step_acts.specs.Asks.{Asks}
-use Rattle.step_acts.specs.Stands.{legend_of, site_of, stand_by}
+use Rattle.step_acts.specs.internal.Stands.{legend_of, site_of, stand_by}
 use Rattle.step_acts.specs.declared.stand.Stand.{Stand}
 use Rattle.step_rules.specs.Items.{Does, action_of}
 use Rattle.step_rules.specs.Statements as said

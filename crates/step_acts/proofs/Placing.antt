@@ -4,8 +4,8 @@ use Rattle.ttcn_syntax.specs.declared.place.Span.{Span}
 use Rattle.std.specs.Prelude.{IfOk}
 use Rattle.step_acts.proofs.Choosing.{choice-there}
 use Rattle.step_acts.specs.Asks.{Asks, IsFault}
-use Rattle.step_acts.specs.Places.{behind_first, list_at}
-use Rattle.step_acts.specs.Stands.{site_of, stand_by}
+use Rattle.step_acts.specs.internal.Places.{behind_first, list_at}
+use Rattle.step_acts.specs.internal.Stands.{site_of, stand_by}
 use Rattle.step_acts.specs.declared.stand.Stand.{Stand}
 use Rattle.step_choice.specs.Choices.{choice_of}
 use Rattle.step_rules.specs.Events.{Choice}

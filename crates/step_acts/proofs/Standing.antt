@@ -3,8 +3,8 @@ use Rattle.std.proofs.Common.{◌≡◌, refl, ap, subst, ◌∙◌, ℕ, List, 
 use Rattle.std.specs.Option.{option_map}
 use Rattle.std.proofs.Common.{map, get_or, IfSome}
 use Rattle.check_scope.specs.declared.types.DataType.{DataType}
-use Rattle.step_acts.specs.Places.{list_at}
-use Rattle.step_acts.specs.Stands.{site_of}
+use Rattle.step_acts.specs.internal.Places.{list_at}
+use Rattle.step_acts.specs.internal.Stands.{site_of}
 use Rattle.step_acts.specs.declared.stand.Stand.{Stand}
 use Rattle.step_rules.specs.Items.{Does, Doing, Part, action_of}
 use Rattle.step_snapshot.specs.Slots.{IsKnown, NoneIsMissing}

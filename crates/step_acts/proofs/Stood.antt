@@ -2,8 +2,8 @@
 use Rattle.std.proofs.Common.{◌≡◌, ap, sym, subst, List, length, map}
 use Rattle.std.specs.List.{All}
 use Rattle.std.proofs.lemmas.List.Elements.{All-head}
-use Rattle.step_acts.specs.Places.{behind_first}
-use Rattle.step_acts.specs.Stands.{legend_of, stand_by}
+use Rattle.step_acts.specs.internal.Places.{behind_first}
+use Rattle.step_acts.specs.internal.Stands.{legend_of, stand_by}
 use Rattle.step_acts.specs.declared.stand.Stand.{Stand}
 use Rattle.step_rules.specs.Snapshots.{View, last_view, timers_of}
 use Rattle.step_snapshot.specs.Tests.{extent_of}

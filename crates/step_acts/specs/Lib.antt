@@ -1,4 +1,2 @@
 pub mod Asks
-pub mod Places
-pub mod Stands
 pub mod internal

@@ -1,3 +1,5 @@
 pub mod Marks
+pub mod Places
 pub mod Ports
+pub mod Stands
 pub mod Takings

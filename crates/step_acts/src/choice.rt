@@ -2,7 +2,7 @@
 ghost use Rattle.std.specs.Prelude.{◌≡◌, IfOk, IfSome, Some};
 ghost use Rattle.check_expressions.specs.Calls.{altstep_meant};
 ghost use Rattle.check_scope.specs.Names.{module_names};
-ghost use Rattle.step_acts.specs.Stands.{site_of};
+ghost use Rattle.step_acts.specs.internal.Stands.{site_of};
 ghost use Rattle.step_choice.specs.Choices.{Chooses};
 ghost use Rattle.step_choice.specs.Deeds.{HasKnownNames};
 ghost use Rattle.step_rules.specs.Items as rules;

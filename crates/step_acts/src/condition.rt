@@ -1,8 +1,8 @@
 //! Conditions and loops (ES 201 873-1, 19.2 to 19.5).
 ghost use Rattle.std.specs.Prelude.{◌≡◌, ◌<◌, ◌∷◌, ◌++◌, [], List, is_some, length, slice_get, true};
 ghost use Rattle.step_acts.specs.Asks.{Asks, AsksWithin};
-ghost use Rattle.step_acts.specs.Places.{list_at};
-ghost use Rattle.step_acts.specs.Stands.{legend_of, site_of, stand_by};
+ghost use Rattle.step_acts.specs.internal.Places.{list_at};
+ghost use Rattle.step_acts.specs.internal.Stands.{legend_of, site_of, stand_by};
 ghost use Rattle.step_rules.specs.Items as rules;
 ghost use Rattle.step_rules.specs.Statements as said;
 ghost use Rattle.ttcn_graph.specs.Ways.{ways_from, ways_of};

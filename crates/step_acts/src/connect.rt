@@ -2,7 +2,7 @@
 ghost use Rattle.std.specs.Prelude.{◌≡◌, length, IfOk};
 ghost use Rattle.step_acts.specs.Asks.{Asks, AsksWithin};
 ghost use Rattle.step_snapshot.specs.Slots.{IsKnown};
-ghost use Rattle.step_acts.specs.Stands.{legend_of, site_of, stand_by};
+ghost use Rattle.step_acts.specs.internal.Stands.{legend_of, site_of, stand_by};
 ghost use Rattle.step_rules.specs.Statements as said;
 ghost use Rattle.step_snapshot.specs.Tests.{extent_of};
 

@@ -3,7 +3,7 @@ ghost use Rattle.std.specs.Prelude.{◌≡◌, ◌<◌, [], length, IfOk, Some};
 ghost use Rattle.check_scope.specs.Names.{component_meant, module_names};
 ghost use Rattle.step_acts.specs.Asks.{Asks, AsksWithin};
 ghost use Rattle.step_snapshot.specs.Slots.{IsKnown};
-ghost use Rattle.step_acts.specs.Stands.{legend_of, site_of, stand_by};
+ghost use Rattle.step_acts.specs.internal.Stands.{legend_of, site_of, stand_by};
 ghost use Rattle.step_rules.specs.Creating.{child_of, new_members};
 ghost use Rattle.step_rules.specs.Statements as said;
 ghost use Rattle.ttcn_config.specs.Legend.{data_by, frame_with};

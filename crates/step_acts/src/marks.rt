@@ -1,7 +1,7 @@
 //! Marks, and `repeat` (ES 201 873-1, 20.3).
 ghost use Rattle.std.specs.Prelude.{◌≡◌, ◌≤◌, ◌<◌, drop, length, map, slice_get, IfNone, IfOk, IfSome, None, Some};
 ghost use Rattle.std.specs.Option.{option_map};
-ghost use Rattle.step_acts.specs.Places.{list_at};
+ghost use Rattle.step_acts.specs.internal.Places.{list_at};
 ghost use Rattle.step_acts.specs.internal.Marks.{going_on_from};
 ghost use Rattle.step_rules.specs.Storing.{with_calls};
 ghost use Rattle.step_rules.specs.Taking as rules;

@@ -1,8 +1,8 @@
 //! The branch that a component's step takes (ES 201 873-1, 20.2).
 ghost use Rattle.std.specs.Prelude.{◌≡◌, ◌∷◌, IfOk, Some};
 ghost use Rattle.step_acts.specs.Asks.{Asks};
-ghost use Rattle.step_acts.specs.Places.{behind_first};
-ghost use Rattle.step_acts.specs.Stands.{site_of, stand_by};
+ghost use Rattle.step_acts.specs.internal.Places.{behind_first};
+ghost use Rattle.step_acts.specs.internal.Stands.{site_of, stand_by};
 ghost use Rattle.step_choice.specs.Choices.{Chooses, choice_of};
 ghost use Rattle.step_rules.specs.Items as rules;
 ghost use Rattle.step_rules.specs.Places.{place_chosen, place_in_frames, place_in_list, unless_fault};

@@ -7,20 +7,10 @@ ghost use Rattle.check_scope.specs.PortTypes as spec;
 ghost use Rattle.step_acts.specs.internal.Ports as ports;
 ghost use Rattle.step_rules.specs.Statements as said;
 
+use check_scope::scope::passes;
 use std::alloc::{AllocError, Global};
-use ttcn_syntax::{DefinitionKind, Direction, PortMessages, TypeName};
+use ttcn_syntax::{DefinitionKind, PortMessages, TypeName};
 use ttcn_types::{DataType, Definitions};
-
-/// Whether messages of a direction come in, or go out.
-fn passes(incoming: bool, direction: Direction) -> bool
-    ensures { result ≡ spec.passes incoming direction }
-{
-    match direction {
-        Direction::In => incoming,
-        Direction::Out => !incoming,
-        Direction::Inout => true,
-    }
-}
 
 /// The types of names come behind others.
 fn add_types(

@@ -1,8 +1,8 @@
 //! Positions of what remains, and the data where it remains.
 ghost use Rattle.std.specs.Prelude.{◌≡◌, ◌<◌, [], length, is_some, slice_get, IfNone, IfOk, IfSome, Some, true};
 ghost use Rattle.step_acts.specs.Asks.{Asks, AsksWithin};
-ghost use Rattle.step_acts.specs.Places.{list_at};
-ghost use Rattle.step_acts.specs.Stands.{legend_of, site_of, stand_by};
+ghost use Rattle.step_acts.specs.internal.Places.{list_at};
+ghost use Rattle.step_acts.specs.internal.Stands.{legend_of, site_of, stand_by};
 ghost use Rattle.step_rules.specs.Statements as said;
 ghost use Rattle.ttcn_config.specs.Legend.{data_by};
 ghost use Rattle.ttcn_config.specs.Views.{IsWithin};

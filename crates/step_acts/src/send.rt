@@ -5,7 +5,7 @@ ghost use Rattle.step_acts.specs.Asks.{Asks, AsksWithin};
 ghost use Rattle.step_snapshot.specs.Slots.{IsKnown};
 ghost use Rattle.step_snapshot.specs.Slots.{NoneIsMissing};
 ghost use Rattle.graph_names.specs.Known.{names_of_component};
-ghost use Rattle.step_acts.specs.Stands.{legend_of, site_of, stand_by};
+ghost use Rattle.step_acts.specs.internal.Stands.{legend_of, site_of, stand_by};
 ghost use Rattle.step_rules.specs.Sites.{is_own, scope_at};
 ghost use Rattle.step_rules.specs.Statements as said;
 ghost use Rattle.step_rules.specs.Storing as storing;

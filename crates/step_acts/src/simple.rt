@@ -1,7 +1,7 @@
 //! Statements that ask for one thing by themselves (ES 201 873-1, 19, 20.5, 21.3 and 24).
 ghost use Rattle.std.specs.Prelude.{◌≡◌, length};
 ghost use Rattle.step_acts.specs.Asks.{Asks, AsksWithin};
-ghost use Rattle.step_acts.specs.Stands.{legend_of, site_of, stand_by};
+ghost use Rattle.step_acts.specs.internal.Stands.{legend_of, site_of, stand_by};
 ghost use Rattle.step_rules.specs.Statements as said;
 ghost use Rattle.step_rules.specs.Taking.{repeat_alt};
 ghost use Rattle.step_snapshot.specs.Tests.{extent_of};

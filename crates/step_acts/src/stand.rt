@@ -1,6 +1,6 @@
 //! Where a component stands in its step.
 ghost use Rattle.std.specs.Prelude.{◌≡◌, ◌<◌, ◌∷◌, length};
-ghost use Rattle.step_acts.specs.Places.{behind_first, list_at, site_at};
+ghost use Rattle.step_acts.specs.internal.Places.{behind_first, list_at, site_at};
 ghost use Rattle.step_rules.specs.Items as rules;
 ghost use Rattle.graph_sites.specs.Facts.{facts_by, facts_of};
 ghost use Rattle.step_snapshot.specs.Slots.{NoneIsMissing};

@@ -2,8 +2,8 @@
 ghost use Rattle.std.specs.Prelude.{◌≡◌, length, map, IfOk, IfSome, Ok, is_some, slice_get, true};
 ghost use Rattle.std.specs.List.{All};
 ghost use Rattle.step_acts.specs.Asks.{Asks, AsksWithin};
-ghost use Rattle.step_acts.specs.Places.{list_at};
-ghost use Rattle.step_acts.specs.Stands.{legend_of, site_of, stand_by};
+ghost use Rattle.step_acts.specs.internal.Places.{list_at};
+ghost use Rattle.step_acts.specs.internal.Stands.{legend_of, site_of, stand_by};
 ghost use Rattle.step_acts.specs.internal.Takings.{IsTakenAt, effected_by, limited, stored_all};
 ghost use Rattle.step_choice.specs.Choices.{Chooses, IsTaken, IsWayOf};
 ghost use Rattle.step_choice.specs.Deeds as deeds;

@@ -27,7 +27,7 @@ use Rattle.step_choice.specs.declared.taken.Deed.TheVariants as code
 use Rattle.step_choice.specs.declared.taken.Stored.{Stored}
 use Rattle.step_snapshot.specs.Slots.{IsKnown, NoneIsMissing}
 use Rattle.ttcn_config.specs.Legend.{Legend}
-use Rattle.graph_names.specs.Known.{names_of_event, names_of_references}
+use Rattle.graph_names.specs.Known.{names_of_event, names_of_reference}
 use Rattle.ttcn_values.specs.Outcomes.{DynamicError, Fails, Outcome, Yields, dynamic_error, outcome_map}
 use Rattle.ttcn_values.specs.Readings.{Reading, component_referred}
 use Rattle.ttcn_values.specs.declared.frame.TimerState.{TimerState}
@@ -123,7 +123,7 @@ all-done-known names false others effect is = absurd (let e = is in cc)
 
 -- ---- messages
 
-value-known : (names : List (List ℕ)) (reference : Option Reference) (v : Value) → NoneIsMissing names (names_of_references reference) → All (RedirectKnown names) (redirected_value reference v)
+value-known : (names : List (List ℕ)) (reference : Option Reference) (v : Value) → NoneIsMissing names (names_of_reference reference) → All (RedirectKnown names) (redirected_value reference v)
 value-known names None v all = All-nil (RedirectKnown names)
 value-known names (Some reference) v all = All-cons (RedirectKnown names) (record { reference = reference; value = v }) [] (first-known names [] reference.name all) (All-nil (RedirectKnown names))
 
@@ -132,7 +132,7 @@ only-sender true one stored is = let same : one ≡ stored = cc in same
 only-sender false one stored is = absurd (let e = is in cc)
 
 sender-known : (names : List (List ℕ)) (scope : Scope) (reference : Option Reference) (sender : ComponentId) (stored : List Redirect) → redirected_sender scope reference sender ≡ Yields stored
-    → NoneIsMissing names (names_of_references reference) → All (RedirectKnown names) stored
+    → NoneIsMissing names (names_of_reference reference) → All (RedirectKnown names) stored
 sender-known names scope None sender stored is all = let same : [] ≡ stored = cc in subst (All (RedirectKnown names)) same (All-nil (RedirectKnown names))
 sender-known names scope (Some reference) sender stored is all =
     let one : Redirect = record { reference = reference; value = value.Component sender } in
@@ -149,8 +149,8 @@ redirects-known names scope receive message stored is all =
     let sent = made-of (λ (others : List Redirect). redirected_value receive.value message.value ++ others) (redirected_sender scope receive.sender message.sender) stored is in
     subst (All (RedirectKnown names)) sent.1.1
     (All-append (RedirectKnown names) (redirected_value receive.value message.value) sent.0
-    (value-known names receive.value message.value (left-known names (names_of_references receive.value) (names_of_references receive.sender) all))
-    (sender-known names scope receive.sender message.sender sent.0 sent.1.0 (right-known names (names_of_references receive.value) (names_of_references receive.sender) all)))
+    (value-known names receive.value message.value (left-known names (names_of_reference receive.value) (names_of_reference receive.sender) all))
+    (sender-known names scope receive.sender message.sender sent.0 sent.1.0 (right-known names (names_of_reference receive.value) (names_of_reference receive.sender) all)))
 
 module _ (names : List (List ℕ)) (test : Test) (site : Site) (reading : Reading) (receive : Receive) (all : NoneIsMissing names (names_of_event (event.Receive receive))) where
   passed-known : (stored : Outcome (List Redirect)) (port : List ℕ) (b : Bool) (effect : Effect) → ((rs : List Redirect) → stored ≡ Yields rs → All (RedirectKnown names) rs)

@@ -15,6 +15,7 @@ use Rattle.ttcn_config.specs.Legend.{Legend}
 use Rattle.graph_items.specs.Standing.{target_of}
 use Rattle.ttcn_values.specs.declared.value.Value.{Value}
 
+-- what taking a branch does beside what it leaves to be done, with its redirects as targets
 pub data Deed : Type 0 where
   -- nothing more
   Nothing : Deed
@@ -27,7 +28,7 @@ pub data Deed : Type 0 where
 abbrev pub stored_of : Test → Site → Redirect → Target × Value
 stored_of test site redirect = (target_meant test site redirect.reference, redirect.value)
 
--- the effect of a branch that is judged at a site
+-- the deed for which the effect of a branch stands, which is judged at a site
 abbrev pub deed_of : Test → Site → Effect → Deed
 deed_of test site events.Plain = Nothing
 deed_of test site (events.Receives port redirects) = Receives port (map (stored_of test site) redirects)
@@ -35,9 +36,11 @@ deed_of test site (events.Elapses name) = Elapses name (is_own test.definitions 
 
 -- ---- what code keeps of it
 
+-- what the code's form of a target with its value stands for
 abbrev pub stored_by : code_stored.Stored → Target × Value
 stored_by stored = (target_of stored.target.now, stored.value)
 
+-- what a deed of the code stands for
 abbrev pub deed_by : Legend → code_deed.Deed → Deed
 deed_by legend code.Nothing = Nothing
 deed_by legend (code.Receives port stored) = Receives (legend.names port) (map stored_by stored.items)

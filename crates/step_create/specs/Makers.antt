@@ -18,6 +18,7 @@ use Rattle.ttcn_values.specs.declared.value.ComponentId.{ComponentId}
 abbrev pub RunIn : List (Bor Path) → Snapshot → Type 0
 RunIn running snapshot = (path : Path) → list_any (λ other. (equality.ghosts).eq path other.now) running ≡ runs_in snapshot path
 
+-- the legend of the test case for which new components are made
 abbrev pub legend_of : Maker → Legend
 legend_of maker = legend_by maker.test.now
 

@@ -12,6 +12,7 @@ use Rattle.ttcn_values.specs.declared.value.Value.{Value}
 abbrev pub entered_all : List Frame → List Item → Data → Data
 entered_all frames items own = with_calls (frames ++ in_last (with_remaining items) own.calls) own
 
+-- frames without the last one, which stands first in the list
 abbrev pub without_last : List Frame → List Frame
 without_last [] = []
 without_last (frame ∷ frames) = frames

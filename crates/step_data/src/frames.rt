@@ -5,7 +5,7 @@ ghost use Rattle.step_rules.specs.Statements as rules;
 ghost use Rattle.step_data.specs.Frames.{entered_all, left};
 ghost use Rattle.ttcn_config.specs.Legend.{Legend, data_by, frame_by};
 ghost use Rattle.ttcn_config.specs.Views.{Extent, IsFrameWithin, IsWithin};
-ghost use Rattle.ttcn_values.specs.Outcomes.{GivesBy};
+ghost use Rattle.ttcn_values.specs.Outcomes.{Answers, GivesBy};
 
 use std::alloc::{AllocError, Global};
 use std::mem;
@@ -39,6 +39,7 @@ pub fn enter_all(
 pub fn limit_frames(own: Data) -> Result<Data, Fault>
     ensures limited { (legend : Legend) → GivesBy (data_by legend) (rules.with_frames (data_by legend own).calls (data_by legend own)) result }
     ensures within { (size : Extent) → IsWithin size own → IfOk result (IsWithin size) }
+    ensures answers { Answers result }
 {
     if own.calls.len() >= MOST_FRAMES {
         return Err(Fault::Dynamic);

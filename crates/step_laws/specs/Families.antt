@@ -16,6 +16,7 @@ pub record IsChild (c : Going) (component : Component) : Type 0 where
 abbrev pub IsFamily : Going → Type 0
 IsFamily c = All (λ component. ((path_of component).numbers ≡ []) ⊎ IsChild c component) c.components
 
+-- the components of a test case that goes on are a family; one that ended has none
 abbrev pub StandsInFamily : Configuration → Type 0
 StandsInFamily (Ended v) = Unit {0}
 StandsInFamily (Goes c) = IsFamily c

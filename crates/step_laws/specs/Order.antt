@@ -15,6 +15,7 @@ pub record HasValuesInOrder (component : Component) : Type 0 where
 abbrev pub HasNoMarkFirst : Component → Type 0
 HasNoMarkFirst component = uncovered component.own ≡ component.own
 
+-- components, timers, values and connections stand in their order, and no component has a mark in front
 pub record IsInOrder (c : Going) : Type 0 where
   -- components by path, and the timers of each frame by name
   pub ordered : IsOrdered c

@@ -10,7 +10,7 @@ use Rattle.step_rules.specs.Snapshots.{Test}
 use Rattle.step_rules.specs.Steps.{Label, next}
 use Rattle.summary.specs.Exploration.{HasMark, IsBest}
 use Rattle.summary.specs.Graph.{Graph}
-use Rattle.summary.specs.Reading.{Join, Reading, join_all, shown, sum_of}
+use Rattle.summary.specs.Sums.{Join, Observation, join_all, shown, sum_of}
 use Rattle.summary.specs.Run.{IsRun, Run, Start, Then, all_runs, end_of, longer, runs_of}
 use Rattle.std.specs.declared.cmp.Ordering.{Ordering}
 
@@ -60,7 +60,7 @@ module _ (test : Test) where
   pub marks_alike : (run : Run Label) → h.mark (end_of h run) ≡ g.mark (end_of g run)
   marks_alike run = ap mark_of (ends_live run) ∙ mark_live (end_of g run)
 
-  module _ {S : Type 0} (j : Join S) (r : Reading Configuration Label S) (sees : SeesLiveParts r) where
+  module _ {S : Type 0} (j : Join S) (r : Observation Configuration Label S) (sees : SeesLiveParts r) where
     shown-alike : (run : Run Label) → shown h j r run ≡ shown g j r run
     shown-alike Start = sees.at g.first
     shown-alike (Then run label) =

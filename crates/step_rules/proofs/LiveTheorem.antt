@@ -9,7 +9,7 @@ use Rattle.step_rules.proofs.Verdicts.{none_worse, worse_associates, worse_none,
 use Rattle.step_rules.specs.Configurations.{Component, Configuration, Connection, Created, Data, End, Ended, Frame, Goes, Going, Message, Running, State, Terminated, component_at, is_running_state, is_terminated_state, overall, path_of, same_path, worse}
 use Rattle.step_rules.specs.Labels.{expiries, labels, labels_of_component, statement_labels}
 use Rattle.step_rules.specs.LiveParts.{forget_verdict, is_live, live_component, live_going, live_part}
-use Rattle.step_rules.specs.Places.{blocked, branch_in, branch_of, branch_of_component, if_none, place_in_frames, place_of, place_of_frames, standing, unless_fault, with_place}
+use Rattle.step_rules.specs.Places.{blocked, branch_in, branch_of, branch_of_component, if_none, place_in_frames, place_of, place_of_frames, standings, unless_fault, with_place}
 use Rattle.step_rules.specs.Runs.{mark_of}
 use Rattle.step_rules.specs.Snapshots.{Test, mtc_of, snapshot_of}
 use Rattle.step_rules.specs.Statements.{Act, Connects, Continues, Creates, Errs, Removes, Sends, Starts, Stops, Waits, Worsens, act, same_end}
@@ -392,7 +392,7 @@ place-live x = by-state (λ y. with_place (live_component y) (place_of (live_com
 pub blocked_live : (test : Test) (c : Configuration) → blocked test (live_part c) ≡ blocked test c
 blocked_live test (Ended v) = refl
 blocked_live test (Goes c) =
-    ap (λ ls. if_none ls (standing (live_going c))) (labels_live test (Goes c))
+    ap (λ ls. if_none ls (standings (live_going c))) (labels_live test (Goes c))
     ∙ ap (if_none (labels test (Goes c))) (flat-twice (λ x. with_place x (place_of x)) live_component (λ x. with_place x (place_of x)) place-live c.components)
 
 pub live_twice : (c : Configuration) → live_part (live_part c) ≡ live_part c

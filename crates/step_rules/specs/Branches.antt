@@ -54,6 +54,7 @@ pub data Written : Type 0 where
 
 -- ---- altsteps
 
+-- the branches of an altstep; any other definition has none
 abbrev pub branches_of : Option DefinitionKind → List Branch
 branches_of (Some (kind.Altstep a)) = a.branches
 branches_of _ = []
@@ -86,6 +87,7 @@ way_through test at values before way = record {
   frames = way.frames ++ frame_with test.definitions at values way.block ∷ [];
 }
 
+-- a branch of an altstep as one of a call of that altstep; what keeps a branch from being judged stays as it is
 abbrev pub through : Test → ℕ → List Value → List Item → Written → Written
 through test at values before (Fault why) = Fault why
 through test at values before (Open chance) = Open (record {
@@ -135,6 +137,7 @@ written_call below test snapshot own judge call before None = Fault Unmet ∷ []
 written_call below test snapshot own judge call before (Some at) =
     written_with below test snapshot own at before (arguments (read_by test snapshot own judge) (parameters_of (kind_at test.definitions at)) call.arguments)
 
+-- an alternative written out: an event or a called altstep where its guard is true, or an `else`
 abbrev pub written_alternative : Writing → Test → Snapshot → Data → Judge → Span → Alternative-F Action Alternative Branch Conditional Statement → List Written
 written_alternative below test snapshot own judge place (Alternative-F.«Alternative::Event» guard event block) =
     behind_guard (guard_holds (read_by test snapshot own judge) guard) (open_branch test judge place (Some event) (items_if_any test.definitions judge.site block) ∷ [])
@@ -144,6 +147,7 @@ written_alternative below test snapshot own judge place (Alternative-F.«Alterna
 written_alternative below test snapshot own judge place (Alternative-F.Else block) =
     open_branch test judge place None (items test.definitions judge.site block) ∷ []
 
+-- a branch of an `alt` or of an altstep, written out with its place
 abbrev pub written_branch : Writing → Test → Snapshot → Data → Judge → Branch → List Written
 written_branch below test snapshot own judge b =
     written_alternative below test snapshot own judge (out-Branch b).place (out-Alternative (out-Branch b).alternative)

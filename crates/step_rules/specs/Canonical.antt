@@ -6,7 +6,7 @@ use Rattle.step_rules.specs.Runs.{graph_of}
 use Rattle.step_rules.specs.Snapshots.{Test}
 use Rattle.step_rules.specs.Steps.{Label}
 use Rattle.summary.specs.Graph.{Graph}
-use Rattle.summary.specs.Reading.{Reading}
+use Rattle.summary.specs.Sums.{Observation}
 
 -- the live parts of the configurations of a test case, and the steps between them
 abbrev pub canonical_graph : Test → Graph Configuration Label
@@ -18,6 +18,6 @@ canonical_graph test = record {
 }
 
 -- what is seen of a configuration and of a step is seen of the live part
-pub record SeesLiveParts {S : Type 0} (reading : Reading Configuration Label S) : Type 0 where
+pub record SeesLiveParts {S : Type 0} (reading : Observation Configuration Label S) : Type 0 where
   pub at : (c : Configuration) → reading.at (live_part c) ≡ reading.at c
   pub by : (c : Configuration) (label : Label) → reading.by (live_part c) label ≡ reading.by c label

@@ -55,15 +55,18 @@ pub record Data : Type 0 where
 
 -- ---- components
 
+-- the state of a component: created and not started yet, running, or terminated
 pub data State : Type 0 where
   Created : State
   Running : State
   Terminated : State
 
+-- a component in this state runs
 abbrev pub is_running_state : State → Bool
 is_running_state Running = true
 is_running_state _ = false
 
+-- a component in this state is terminated
 abbrev pub is_terminated_state : State → Bool
 is_terminated_state Terminated = true
 is_terminated_state _ = false
@@ -77,6 +80,7 @@ pub record Message : Type 0 where
 abbrev pub Queue : Type 0
 Queue = List ℕ × List Message
 
+-- a component: its path and type, its own data, its state, its verdict, and the messages that wait at its ports
 pub record Component : Type 0 where
   -- its path, with its type
   pub itself : ComponentId
@@ -86,6 +90,7 @@ pub record Component : Type 0 where
   -- the ports of its type in the order of their declaration
   pub queues : List Queue
 
+-- the path of a component, by which it is told from all others
 abbrev pub path_of : Component → Path
 path_of component = component.itself.path
 
@@ -105,6 +110,7 @@ pub record Connection : Type 0 where
 abbrev pub path_cmp : Path → Path → Ordering
 path_cmp p q = name_cmp p.numbers q.numbers
 
+-- two paths are equal, number by number
 abbrev pub same_path : Path → Path → Bool
 same_path p q = bytes_eq p.numbers q.numbers
 
@@ -123,6 +129,7 @@ pub record Going : Type 0 where
   -- the worst verdict of the components of which nothing but their paths is left
   pub forgotten : Verdict
 
+-- a configuration of a test case: it has ended with a verdict, or goes on
 pub data Configuration : Type 0 where
   -- the test case ended with a verdict
   Ended : Verdict → Configuration

@@ -21,6 +21,7 @@ use Rattle.ttcn_values.specs.declared.value.ComponentId.{ComponentId}
 
 -- ---- ports
 
+-- the names of the ports that a member of a component type declares
 abbrev pub ports_of : Member → List (List ℕ)
 ports_of (member.Ports port_type ports) = ports
 ports_of (member.Constants cs) = []
@@ -33,6 +34,7 @@ empty_queues definitions at = map (λ name. (name, [])) (flat_map ports_of (memb
 
 -- ---- frame 0
 
+-- a frame in which nothing remains to be done and nothing is declared
 abbrev pub empty_frame : Frame
 empty_frame = record { remaining = []; values = []; timers = [] }
 
@@ -51,10 +53,12 @@ abbrev pub declared_with : Test → ComponentId → Snapshot → Option DataType
 declared_with test itself snapshot of frame name v =
     outcome_map (λ found. declare name found frame) (value_wanted v (reading_of_members test itself snapshot frame) of)
 
+-- a frame behind the declaration of a variable of a type: the name has no value where none is given
 abbrev pub declared_variable : Test → ComponentId → Snapshot → Option DataType → Frame → List ℕ → Option Value → Outcome Frame
 declared_variable test itself snapshot of frame name None = Yields (forget name frame)
 declared_variable test itself snapshot of frame name (Some v) = declared_with test itself snapshot of frame name v
 
+-- a frame behind the declarations of one member of a component type; ports declare nothing in it
 abbrev pub declared_member : Test → ComponentId → Snapshot → Frame → Member → Outcome Frame
 declared_member test itself snapshot frame (member.Ports port_type ports) = Yields frame
 declared_member test itself snapshot frame (member.Constants cs) =
@@ -70,6 +74,7 @@ new_members test itself snapshot =
 
 -- ---- components
 
+-- the data of a new component with this frame 0: it has no other frames, defaults or children
 abbrev pub new_data : Frame → Data
 new_data members = record { members = members; calls = []; defaults = []; activations = 0; children = 0 }
 

@@ -38,6 +38,7 @@ pub record Redirect : Type 0 where
   pub reference : Reference
   pub value : Value
 
+-- the effect of a branch: none, a message is removed and values are stored, or a timer becomes inactive
 pub data Effect : Type 0 where
   -- nothing more
   Plain : Effect
@@ -55,6 +56,7 @@ pub data Trial : Type 0 where
   -- it has happened
   Happened : Effect → Trial
 
+-- an event without effect: it has happened where this is true, and has not where it is false
 abbrev pub happened_if : Bool → Trial
 happened_if true = Happened Plain
 happened_if false = Passed
@@ -101,6 +103,7 @@ type_in (Value-F.Default n) = Some type.Default
 type_in Value-F.Null = None
 type_in Value-F.Omit = None
 
+-- the type of a value by itself: `null` and `omit` have none
 abbrev pub type_of : Value → Option DataType
 type_of v = type_in (out-Value v)
 
@@ -111,10 +114,12 @@ abbrev pub fits_sender : ComponentId → Option DataType → Bool
 fits_sender sender None = false
 fits_sender sender (Some wanted) = same_type wanted (type.Component sender.component_type)
 
+-- what the value redirect of a receive stores, where it has one
 abbrev pub redirected_value : Option Reference → Value → List Redirect
 redirected_value None v = []
 redirected_value (Some reference) v = record { reference = reference; value = v } ∷ []
 
+-- what a `sender` redirect stores: a dynamic error where its target is not of the sender's component type
 abbrev pub redirected_sender : Scope → Option Reference → ComponentId → Outcome (List Redirect)
 redirected_sender scope None sender = Yields []
 redirected_sender scope (Some reference) sender =
@@ -135,6 +140,7 @@ is_from sender (Value-F.Component c) = Yields (same_path c.path sender.path)
 is_from sender Value-F.Null = Yields false
 is_from sender _ = unmet
 
+-- the sender of a message fits a `from` clause: without a clause each sender does
 abbrev pub from_fits : Reading → Option ComponentRef → ComponentId → Outcome Bool
 from_fits reading None sender = Yields true
 from_fits reading (Some reference) sender = outcome_and_then (λ v. is_from sender (out-Value v)) (component_at reading reference)
@@ -144,6 +150,7 @@ abbrev pub template_fits : Reading → DataType → Option MessageTemplate → V
 template_fits reading of None v = Yields true
 template_fits reading of (Some message) v = outcome_map (λ t. is_match t v) (template_wanted message.template reading (Some of))
 
+-- a receive at a port: where the message matches it has happened, with what its redirects store
 abbrev pub happened_or_passed : Outcome (List Redirect) → List ℕ → Bool → Trial
 happened_or_passed stored port false = Passed
 happened_or_passed stored port true = tried (λ redirects. Happened (Receives port redirects)) stored
@@ -154,6 +161,7 @@ try_template test site reading receive port message of false = Passed
 try_template test site reading receive port message of true =
     tried (happened_or_passed (redirects (scope_at test.definitions site) receive message) port) (template_fits reading of receive.message message.value)
 
+-- the first message of a port, whose type is right: its sender is compared, and then its value is matched
 abbrev pub try_typed : Test → Site → Reading → Receive → List ℕ → Message → DataType → Trial
 try_typed test site reading receive port message of =
     tried (try_template test site reading receive port message of) (from_fits reading receive.from message.sender)
@@ -173,6 +181,7 @@ try_front test site reading receive port (Some message) =
     try_type test site reading receive port message (received_type (scope_at test.definitions site) (incoming (scope_at test.definitions site) receive.port) receive.message)
     (type_of message.value) receive.message
 
+-- the next trial, where the event of the first one has not happened
 abbrev pub or_next : Trial → Trial → Trial
 or_next Passed next = next
 or_next found next = found
@@ -182,16 +191,19 @@ abbrev pub try_fronts : Test → Site → Reading → Receive → List (List ℕ
 try_fronts test site reading receive [] = Passed
 try_fronts test site reading receive (front ∷ fronts) = or_next (try_front test site reading receive front.0 front.1) (try_fronts test site reading receive fronts)
 
+-- a receive at the port that was found in a snapshot; no checked module names one that isn't there
 abbrev pub try_port : Test → Site → Reading → Receive → Option (List ℕ × Option Message) → Trial
 try_port test site reading receive None = Faulty Unmet
 try_port test site reading receive (Some front) = try_front test site reading receive front.0 front.1
 
+-- a receive: `any port` tries all ports of a snapshot, a name the port that has it
 abbrev pub try_receive : Test → Snapshot → Site → Reading → Receive → PortSelector → Trial
 try_receive test snapshot site reading receive selector.Any = try_fronts test site reading receive snapshot.fronts
 try_receive test snapshot site reading receive (selector.Named name) = try_port test site reading receive (find (λ front. bytes_eq front.0 name) snapshot.fronts)
 
 -- ---- branches
 
+-- an event is judged in a snapshot: a receive, a timeout, or `done` of one component or of all others
 abbrev pub try_event : Test → Snapshot → Data → Judge → Event → Trial
 try_event test snapshot own judge (event.Receive receive) =
     try_receive test snapshot judge.site (read_by test snapshot own judge) receive receive.port
@@ -215,6 +227,7 @@ pub data Choice : Type 0 where
   -- this is the first branch that can be taken
   Taken : Chance → Effect → Choice
 
+-- the choice behind the trial of a branch: it is passed over, refused or taken
 abbrev pub chosen_by : Chance → Trial → Choice → Choice
 chosen_by chance Passed others = others
 chosen_by chance (Faulty why) others = Refused why

@@ -35,6 +35,7 @@ pub record Target : Type 0 where
   pub reference : Reference
   pub data_type : Option DataType
 
+-- one item of what remains to be done in a frame
 pub data Item : Type 0 where
   -- a part of a statement, which stands at a site
   Doing : Site → Statement → Part → Item
@@ -47,6 +48,7 @@ pub data Item : Type 0 where
 abbrev pub Does : Type 0
 Does = Action-F Action Alternative Branch Conditional Statement
 
+-- what a statement does, without its place
 abbrev pub action_of : Statement → Does
 action_of s = out-Action (out-Statement s).action
 
@@ -55,6 +57,7 @@ abbrev pub declarations : Site → Statement → ℕ → List Entry → List Ite
 declarations site s at [] = []
 declarations site s at (entry ∷ entries) = Doing site s (Name at) ∷ declarations (site_with site entry) s (at + 1) entries
 
+-- a statement that does this, as what remains: a declaration name by name, anything else as a whole
 abbrev pub items_of_action : List Definition → Site → Statement → Does → List Item
 items_of_action definitions site s (Action-F.Variables vs) = declarations site s 0 (variable_entries (scope_at definitions site) vs)
 items_of_action definitions site s (Action-F.Constants cs) = declarations site s 0 (constant_entries (scope_at definitions site) cs)

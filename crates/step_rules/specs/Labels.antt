@@ -13,6 +13,7 @@ use Rattle.ttcn_values.specs.declared.path.Path.{Path}
 
 -- ---- their order
 
+-- expiries at one component: by the number of the frame, then by the timer's name
 abbrev pub expiry_cmp : ℕ → List ℕ → ℕ → List ℕ → Ordering
 expiry_cmp number name other other_name = match_ordering (nat_cmp number other) Less (name_cmp name other_name) Greater
 
@@ -34,6 +35,7 @@ abbrev pub call_expiries : Path → List Frame → List Label
 call_expiries path [] = []
 call_expiries path (frame ∷ frames) = call_expiries path frames ++ frame_expiries path (length frames + 1) frame
 
+-- the expiries of the running timers of a component, those of frame 0 first
 abbrev pub expiries : Component → List Label
 expiries component = frame_expiries (path_of component) 0 component.own.members ++ call_expiries (path_of component) component.own.calls
 
@@ -41,6 +43,7 @@ expiries component = frame_expiries (path_of component) 0 component.own.members 
 abbrev pub statement_labels : Test → Going → Component → List Label
 statement_labels test c component = if is_some (statement_step test c component) then Statement (path_of component) ∷ [] else []
 
+-- the enabled labels of a component, its statement first: only one that runs has any
 abbrev pub labels_of_component : Test → Going → Component → List Label
 labels_of_component test c component =
     if is_running_state component.state then statement_labels test c component ++ expiries component else []

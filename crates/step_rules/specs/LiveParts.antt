@@ -18,6 +18,7 @@ husk path = record {
   queues = [];
 }
 
+-- a component as far as it matters: of a terminated one only its path
 abbrev pub live_component : Component → Component
 live_component component = if is_terminated_state component.state then husk (path_of component) else component
 
@@ -29,6 +30,7 @@ forget_verdict v component = if is_terminated_state component.state then worse v
 abbrev pub is_live : Going → Connection → Bool
 is_live c k = not (is_terminated_at c k.one.component && is_terminated_at c k.other.component)
 
+-- a test case that goes on, with its terminated components as husks and the connections that are live
 abbrev pub live_going : Going → Going
 live_going c = record {
   components = map live_component c.components;

@@ -17,6 +17,7 @@ use Rattle.ttcn_values.specs.Outcomes.{Outcome, or_unmet, outcome_and_then, outc
 
 -- ---- the start
 
+-- the body of a test case; any other definition gives none
 abbrev pub testcase_body : Option DefinitionKind → Option (List Statement)
 testcase_body (Some (kind.Testcase t)) = Some t.body
 testcase_body _ = None
@@ -25,6 +26,7 @@ testcase_body _ = None
 abbrev pub first_snapshot : Test → Snapshot
 first_snapshot test = record { itself = mtc_of test; fronts = []; timers = []; member_timers = []; states = ((mtc_of test).path, Running) ∷ [] }
 
+-- frame 1 of the MTC, in which the whole body of the test case remains to be done
 abbrev pub body_frame : Test → List Statement → Frame
 body_frame test body = record { remaining = items test.definitions (beginning test.testcase) body; values = []; timers = [] }
 
@@ -32,6 +34,7 @@ body_frame test body = record { remaining = items test.definitions (beginning te
 abbrev pub mtc_with : Test → List Statement → Frame → Component
 mtc_with test body members = begin (body_frame test body) (new_component test (mtc_of test) members)
 
+-- the configuration in which the MTC alone begins this body, where its frame 0 can be made
 abbrev pub started : Test → List Statement → Outcome Configuration
 started test body =
     outcome_map (λ members. Goes (record { components = mtc_with test body members ∷ []; connections = []; forgotten = verdict.None })) (new_members test (mtc_of test) (first_snapshot test))
@@ -42,6 +45,7 @@ start test = settled (outcome_and_then (started test) (or_unmet (testcase_body (
 
 -- ---- runs
 
+-- what is made of the value that an option has, or what stands for it where there is none
 abbrev pub option_elim : {A B : Type 0} → B → (A → B) → Option A → B
 option_elim none some None = none
 option_elim none some (Some a) = some a
@@ -65,5 +69,6 @@ abbrev pub replay_from : Test → List Label → ℕ → Configuration → Resul
 replay_from test [] number c = Ok c
 replay_from test (label ∷ others) number c = option_elim (Err number) (replay_from test others (number + 1)) (next test c label)
 
+-- labels one after the other from the start: where they lead, or the number of the first that isn't enabled
 abbrev pub replay : Test → List Label → Result Configuration ℕ
 replay test run = replay_from test run 1 (start test)

@@ -78,6 +78,7 @@ constant_entries scope cs = map (λ c. (c.name, meaning.Constant (resolved scope
 abbrev pub timer_entries : List Timer → List Entry
 timer_entries timers = map (λ t. (t.name, meaning.Timer)) timers
 
+-- the names that a `for` declares, where it begins with variables
 abbrev pub entries_of_start : Scope → ForStart → List Entry
 entries_of_start scope (for_start.Variables vs) = variable_entries scope vs
 entries_of_start scope (for_start.Assign assignment) = []

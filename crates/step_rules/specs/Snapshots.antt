@@ -43,10 +43,12 @@ pub record Snapshot : Type 0 where
   pub member_timers : Entries TimerState
   pub states : List (Path × State)
 
+-- the first of the messages that wait at a port, if any waits
 abbrev pub front_of : List Message → Option Message
 front_of [] = None
 front_of (message ∷ messages) = Some message
 
+-- the name of a port with the first message that waits at it
 abbrev pub front_at : Queue → List ℕ × Option Message
 front_at queue = (queue.0, front_of queue.1)
 
@@ -67,9 +69,11 @@ snapshot_of c component = record {
 
 -- ---- components in a snapshot
 
+-- the state of the component with a path, if a snapshot has such a component
 abbrev pub state_of : Snapshot → Path → Option State
 state_of snapshot path = option_map (λ entry. entry.1) (find (λ entry. same_path entry.0 path) snapshot.states)
 
+-- a component was found, and this is true of its state
 abbrev pub holds : (State → Bool) → Option State → Bool
 holds is None = false
 holds is (Some state) = is state

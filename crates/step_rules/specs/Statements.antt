@@ -81,6 +81,7 @@ abbrev pub acting : {A : Type 0} → (A → Act) → Outcome A → Act
 acting act (Yields a) = act a
 acting act (Fails why) = Errs why
 
+-- nothing is asked for but a change of the component's own data, which may fail
 abbrev pub continuing : Outcome Data → Act
 continuing = acting Continues
 
@@ -111,6 +112,7 @@ remaining stand items = going_on items stand.own
 abbrev pub done : Stand → Data
 done stand = remaining stand stand.rest
 
+-- nothing is done but that these items remain in the last frame
 abbrev pub go_on : Stand → List Item → Act
 go_on stand items = Continues (remaining stand items)
 
@@ -120,6 +122,7 @@ go_on stand items = Continues (remaining stand items)
 abbrev pub with_frames : List Frame → Data → Outcome Data
 with_frames calls own = if nat_lt (length calls) most then Yields (with_calls calls own) else dynamic_error
 
+-- the body of a function; any other definition gives none
 abbrev pub body_of : Option DefinitionKind → Option (List Statement)
 body_of (Some (kind.Function f)) = Some f.body
 body_of _ = None
@@ -135,10 +138,12 @@ frame_at stand site at given (Some body) =
     outcome_map (λ values. function_frame stand.test at values body)
     (arguments (reads stand site) (parameters_of (kind_at stand.test.definitions at)) given)
 
+-- the frame of a call of the function at a position, where the called name means a behaviour
 abbrev pub called_frame : Stand → Site → Call → Option ℕ → Outcome Frame
 called_frame stand site call None = unmet
 called_frame stand site call (Some at) = frame_at stand site at call.arguments (body_of (kind_at stand.test.definitions at))
 
+-- the frame of the function that a call names, with the call's arguments
 abbrev pub frame_of_call : Stand → Site → Call → Outcome Frame
 frame_of_call stand site call = called_frame stand site call (behaviour_meant (module_names stand.test.definitions call.name))
 
@@ -146,6 +151,7 @@ frame_of_call stand site call = called_frame stand site call (behaviour_meant (m
 abbrev pub enter : Data → List Item → Frame → Outcome Data
 enter own items frame = with_frames (frame ∷ (going_on items own).calls) own
 
+-- a call of a function: its frame comes on top, and these items remain below it
 abbrev pub call_function : Stand → Site → Call → Data → List Item → Act
 call_function stand site call own items = acting (λ frame. continuing (enter own items frame)) (frame_of_call stand site call)
 
@@ -161,6 +167,7 @@ activate at own values = record {
   children = own.children;
 }
 
+-- an activation of the altstep at a position: one too many is a dynamic error
 abbrev pub activated_at : Stand → Site → Call → Data → Option ℕ → Outcome Data
 activated_at stand site call own None = unmet
 activated_at stand site call own (Some at) =
@@ -175,6 +182,7 @@ activated stand site call own = activated_at stand site call own (altstep_meant 
 abbrev pub with_child : Data → Data
 with_child own = record { members = own.members; calls = own.calls; defaults = own.defaults; activations = own.activations; children = own.children + 1 }
 
+-- the path and the type of the component that a component creates next
 abbrev pub new_id : Stand → Data → ℕ → ComponentId
 new_id stand own at = record { path = child_of stand.snapshot.itself own.children; component_type = at }
 
@@ -184,6 +192,7 @@ create stand target own new =
     acting (λ members. acting (λ changed. Creates (new_component stand.test new members) (with_child changed)) (store stand.test target (value.Component new) own))
     (if nat_lt own.children most then new_members stand.test new stand.snapshot else dynamic_error)
 
+-- a `create` of a component of the type at a position, where the name in it means a component type
 abbrev pub created : Stand → Target → Data → Option ℕ → Act
 created stand target own None = Errs Unmet
 created stand target own (Some at) = create stand target own (new_id stand own at)
@@ -212,18 +221,22 @@ declared_target name = record { own = true; reference = record { name = name; fi
 abbrev pub declared : Stand → (Frame → Frame) → Data
 declared stand change = with_calls (in_last change (done stand).calls) (done stand)
 
+-- the declaration of a variable, with its initial value where one is given
 abbrev pub act_initial : Stand → Site → Option DataType → List ℕ → Option Rhs → Act
 act_initial stand site of name None = Continues (declared stand (forget name))
 act_initial stand site of name (Some right) = assign stand site (declared_target name) of (declared stand (forget name)) right
 
+-- the declaration of one variable of a type
 abbrev pub act_variable : Stand → Site → Option DataType → Option Variable → Act
 act_variable stand site of None = Errs Unmet
 act_variable stand site of (Some v) = act_initial stand site of v.name v.value
 
+-- the declaration of one constant of a type: its value is evaluated
 abbrev pub act_constant : Stand → Site → Option DataType → Option Constant → Act
 act_constant stand site of None = Errs Unmet
 act_constant stand site of (Some c) = acting (λ v. Continues (declared stand (declare c.name v))) (value_wanted c.value (reads stand site) of)
 
+-- the declaration of one timer, which is inactive
 abbrev pub act_timer : Stand → Option Timer → Act
 act_timer stand None = Errs Unmet
 act_timer stand (Some t) = Continues (declared stand (declare_timer t.name))
@@ -239,6 +252,7 @@ act_name stand site k _ = Errs Unmet
 
 -- ---- conditions and loops
 
+-- these items remain where a condition holds, and those where it doesn't
 abbrev pub go_either : Stand → List Item → List Item → Bool → Act
 go_either stand held failed true = go_on stand held
 go_either stand held failed false = go_on stand failed
@@ -269,6 +283,7 @@ act_loop stand site condition block again =
 
 -- ---- ends of frames
 
+-- the first of remaining items waits for the result of a call
 abbrev pub waits_first : List Item → Bool
 waits_first (Waiting target ∷ items) = true
 waits_first _ = false
@@ -296,6 +311,7 @@ leave stand (frame ∷ frames) result = give_back stand frame frames frame.remai
 abbrev pub result_at : Test → Site → Option DataType
 result_at test site = option_and_then (resolved (module_names test.definitions)) (result_type_of (kind_at test.definitions site.behaviour))
 
+-- `return`: the value behind it, where there is one, is evaluated and given back as the result
 abbrev pub act_return : Stand → Site → Option written.Value → Act
 act_return stand site None = leave stand stand.below None
 act_return stand site (Some v) = acting (λ found. leave stand stand.below (Some found)) (value_wanted v (reads stand site) (result_at stand.test site))
@@ -315,6 +331,7 @@ abbrev pub types_at : List Definition → Bool → Option ℕ → List (Option D
 types_at definitions incoming None = []
 types_at definitions incoming (Some at) = types_of_port (module_names definitions) incoming (kind_at definitions at)
 
+-- a port that receives these types receives this one: not judged where it or one of them is unknown
 abbrev pub takes : List (Option DataType) → Option DataType → Bool
 takes received None = true
 takes received (Some sent) = list_any (agrees sent) received
@@ -323,10 +340,12 @@ takes received (Some sent) = list_any (agrees sent) received
 abbrev pub suits : List Definition → Option ℕ → Option ℕ → Bool
 suits definitions sending receiving = list_all (takes (types_at definitions true receiving)) (types_at definitions false sending)
 
+-- of ports of two types each sends only what the other receives: a port that isn't there suits none
 abbrev pub suit_each_other : List Definition → Option (Option ℕ) → Option (Option ℕ) → Bool
 suit_each_other definitions (Some one) (Some other) = suits definitions one other && suits definitions other one
 suit_each_other definitions _ _ = false
 
+-- two ends are one: the same port of the same component
 abbrev pub same_end : End → End → Bool
 same_end d e = same_path d.component e.component && bytes_eq d.port e.port
 
@@ -336,18 +355,21 @@ may_connect definitions c p d q =
     suit_each_other definitions (port_type definitions c p) (port_type definitions d q) &&
     not (same_end (record { component = c.path; port = p }) (record { component = d.path; port = q }))
 
+-- the connection of two ports is asked for: a dynamic error where they may not be connected
 abbrev pub ask_connection : Stand → ComponentId → List ℕ → ComponentId → List ℕ → Act
 ask_connection stand c p d q =
     if may_connect stand.test.definitions c p d q
     then Connects (record { component = c.path; port = p }) (record { component = d.path; port = q }) (done stand)
     else Errs DynamicError
 
+-- `connect`: its two components are evaluated, and then the connection of their ports is asked for
 abbrev pub act_connect : Stand → Site → PortRef → PortRef → Act
 act_connect stand site one other =
     acting (λ c. acting (λ d. ask_connection stand c one.port d other.port) (component_meant_at stand site other.component)) (component_meant_at stand site one.component)
 
 -- ---- sends
 
+-- the type of a message that is sent from a port of this type, where there is such a port
 abbrev pub sent_at : Scope → Option (Option ℕ) → Send → Option DataType
 sent_at scope None send = None
 sent_at scope (Some port) send =
@@ -367,6 +389,7 @@ abbrev pub sent_to : Stand → Site → Option ComponentRef → Outcome (Option 
 sent_to stand site None = Yields None
 sent_to stand site (Some reference) = outcome_map (λ c. Some c.path) (component_meant_at stand site reference)
 
+-- `send`: the value is evaluated first, and then who it is sent to
 abbrev pub act_send : Stand → Site → Send → Act
 act_send stand site send =
     acting (λ v. acting (λ to. Sends send.port to v (done stand)) (sent_to stand site send.to))
@@ -374,14 +397,17 @@ act_send stand site send =
 
 -- ---- starts and stops
 
+-- `start` of a function on a component: the component is evaluated first, and then the arguments of the call
 abbrev pub act_start : Stand → Site → ComponentRef → Call → Act
 act_start stand site reference call =
     acting (λ c. acting (λ frame. Starts c.path frame (done stand)) (frame_of_call stand site call)) (component_meant_at stand site reference)
 
+-- the name in a reference to a component: `self` and `mtc` have none
 abbrev pub name_in : ComponentRef → List ℕ
 name_in (component.Named reference) = reference.name
 name_in _ = []
 
+-- `.stop` of a timer that was found, which becomes inactive, or else of a component
 abbrev pub stop_meant : Stand → Site → ComponentRef → Option Bool → Act
 stop_meant stand site reference (Some _) = Continues (set_timer stand.test site (name_in reference) timer.Inactive (done stand))
 stop_meant stand site reference None = acting (λ c. Stops c.path (done stand)) (component_meant_at stand site reference)
@@ -392,6 +418,7 @@ act_stop_of stand site reference = stop_meant stand site reference (timer_at (re
 
 -- ---- defaults
 
+-- the data of a component with other defaults
 abbrev pub with_defaults : List ActiveDefault → Data → Data
 with_defaults defaults own = record { members = own.members; calls = own.calls; defaults = defaults; activations = own.activations; children = own.children }
 
@@ -401,6 +428,7 @@ without_default own (Value-F.Default n) = Yields (with_defaults (filter (λ d. n
 without_default own Value-F.Null = Yields own
 without_default own _ = unmet
 
+-- `deactivate`: the default that a reference means goes, and without reference all go
 abbrev pub act_deactivate : Stand → Site → Option Reference → Act
 act_deactivate stand site None = Continues (with_defaults [] (done stand))
 act_deactivate stand site (Some reference) =
@@ -412,6 +440,7 @@ act_deactivate stand site (Some reference) =
 abbrev pub choose_from : Stand → List Written → Choice
 choose_from stand written = first_choice stand.test stand.snapshot stand.own (written ++ written_defaults stand.test stand.snapshot stand.own)
 
+-- where the branches of an `alt` are judged that stands at a site in the last frame
 abbrev pub judge_at : Stand → Site → Judge
 judge_at stand site = record { site = site; view = last_view stand.snapshot stand.frame }
 
@@ -420,10 +449,12 @@ abbrev pub choice_at : Stand → Site → Statement → Option Choice
 choice_at stand site s =
     option_map (choose_from stand) (written_alt stand.test stand.snapshot stand.own (judge_at stand site) (out-Statement s).place (action_of s))
 
+-- a branch was taken: the message that it received is removed from its port, where it received one
 abbrev pub act_port : Option (List ℕ) → Data → Act
 act_port None own = Continues own
 act_port (Some port) own = Removes port own
 
+-- what comes of the choice at an `alt`: the component waits, the step fails, or the branch is taken
 abbrev pub act_choice : Stand → Site → Statement → Choice → Act
 act_choice stand site s Nothing = Waits
 act_choice stand site s (Refused why) = Errs why
@@ -485,6 +516,7 @@ abbrev pub act_from : Stand → Site → Statement → ℕ → Does → Act
 act_from stand site s k (Action-F.If conditionals last) = act_if stand site s k conditionals last
 act_from stand site s k _ = Errs Unmet
 
+-- a part of a statement is done
 abbrev pub act_part : Stand → Site → Statement → Part → Act
 act_part stand site s Whole = act_whole stand site s (action_of s)
 act_part stand site s (Name k) = act_name stand site k (action_of s)
@@ -495,6 +527,7 @@ act_part stand site s Last = act_for_step stand site (action_of s)
 
 -- ---- steps of a component
 
+-- the first of the items that remain in the last frame is done: the frame ends where none remains
 abbrev pub act_first : Test → Snapshot → Data → Frame → List Frame → List Item → Act
 act_first test snapshot own frame below [] = act_end (record { test = test; snapshot = snapshot; own = own; frame = frame; below = below; rest = [] }) below
 act_first test snapshot own frame below (Doing site s part ∷ rest) =
@@ -502,6 +535,7 @@ act_first test snapshot own frame below (Doing site s part ∷ rest) =
 act_first test snapshot own frame below (Mark site s ∷ rest) = Errs Unmet
 act_first test snapshot own frame below (Waiting target ∷ rest) = Errs Unmet
 
+-- the step in the last of these frames: a component that runs has one
 abbrev pub act_in : Test → Snapshot → Data → List Frame → Act
 act_in test snapshot own [] = Errs Unmet
 act_in test snapshot own (frame ∷ below) = act_first test snapshot own frame below frame.remaining

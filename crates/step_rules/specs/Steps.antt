@@ -27,9 +27,11 @@ use Rattle.ttcn_values.specs.declared.value.Value.{Value}
 abbrev pub with_data : Data → Component → Component
 with_data own component = record { itself = component.itself; own = uncovered own; state = component.state; verdict = component.verdict; queues = component.queues }
 
+-- a component in another state
 abbrev pub with_state : State → Component → Component
 with_state state component = record { itself = component.itself; own = component.own; state = state; verdict = component.verdict; queues = component.queues }
 
+-- a component whose verdict is the worse one of its own and this
 abbrev pub with_verdict : Verdict → Component → Component
 with_verdict v component = record { itself = component.itself; own = component.own; state = component.state; verdict = worse component.verdict v; queues = component.queues }
 
@@ -48,6 +50,7 @@ at_queue port change component = record {
   queues = change_queue port change component.queues;
 }
 
+-- messages without the first one
 abbrev pub without_first : List Message → List Message
 without_first [] = []
 without_first (message ∷ messages) = messages
@@ -56,6 +59,7 @@ without_first (message ∷ messages) = messages
 abbrev pub unless_terminated : (Component → Component) → Component → Component
 unless_terminated change component = if is_terminated_state component.state then component else change component
 
+-- a change of the component with a path, unless it is terminated
 abbrev pub touch : Going → Path → (Component → Component) → Going
 touch c path change = with_component c path (unless_terminated change)
 
@@ -82,14 +86,17 @@ with_new new c = record {
   forgotten = c.forgotten;
 }
 
+-- a component that begins to run, with this as its frame 1
 abbrev pub begin : Frame → Component → Component
 begin frame component = with_state Running (record { itself = component.itself; own = with_calls (frame ∷ []) component.own; state = component.state; verdict = component.verdict; queues = component.queues })
 
+-- a start of a component that is in this state: a dynamic error unless it is created and not started yet
 abbrev pub start_in : Going → Path → Frame → State → Outcome Going
 start_in c path frame Created = Yields (touch c path (begin frame))
 start_in c path frame Running = dynamic_error
 start_in c path frame Terminated = dynamic_error
 
+-- a start of the component that was found at a path
 abbrev pub start_created : Going → Path → Frame → Option Component → Outcome Going
 start_created c path frame None = unmet
 start_created c path frame (Some component) = start_in c path frame component.state
@@ -108,6 +115,7 @@ stop test c path = if same_path path (mtc_of test).path then Ended (overall c) e
 abbrev pub connection : End → End → Connection
 connection d e = match_ordering (end_cmp d e) (record { one = d; other = e }) (record { one = d; other = e }) (record { one = e; other = d })
 
+-- connections by their lesser end, then by the other one
 abbrev pub connection_cmp : Connection → Connection → Ordering
 connection_cmp k l = match_ordering (end_cmp k.one l.one) Less (end_cmp k.other l.other) Greater
 
@@ -115,6 +123,7 @@ connection_cmp k l = match_ordering (end_cmp k.one l.one) Less (end_cmp k.other 
 abbrev pub add_connection : Connection → List Connection → List Connection
 add_connection new connections = filter (λ k. is_lt (connection_cmp k new)) connections ++ new ∷ filter (λ k. is_lt (connection_cmp new k)) connections
 
+-- a test case in which this connection is there as well
 abbrev pub with_connection : Connection → Going → Going
 with_connection new c = record { components = c.components; connections = add_connection new c.connections; forgotten = c.forgotten }
 
@@ -130,10 +139,12 @@ peers c d = flat_map (opposite d) c.connections
 abbrev pub is_double : Going → End → End → Bool
 is_double c d e = list_any (λ peer. same_path peer.component e.component && not (bytes_eq peer.port e.port)) (peers c d)
 
+-- a component was found and is terminated
 abbrev pub is_terminated_component : Option Component → Bool
 is_terminated_component None = false
 is_terminated_component (Some component) = is_terminated_state component.state
 
+-- the component with a path is there and is terminated
 abbrev pub is_terminated_at : Going → Path → Bool
 is_terminated_at c path = is_terminated_component (component_at c path)
 
@@ -150,6 +161,7 @@ abbrev pub addressed : Option Path → End → Bool
 addressed None e = true
 addressed (Some path) e = same_path path e.component
 
+-- a message goes behind those that wait at the only one of these ends: a dynamic error where it isn't only one
 abbrev pub deliver : Going → Message → List End → Outcome Going
 deliver c message [] = dynamic_error
 deliver c message (e ∷ []) = Yields (touch c e.component (at_queue e.port (λ messages. messages ++ message ∷ [])))
@@ -162,6 +174,7 @@ send c sender port to v =
 
 -- ---- what a component asks for
 
+-- a test case that goes on, as a configuration, where nothing fails
 abbrev pub ending : Outcome Going → Outcome Configuration
 ending = outcome_map Goes
 
@@ -185,6 +198,7 @@ abbrev pub expire_in : Entries TimerState → List ℕ → Option TimerState →
 expire_in timers name (Some timer.Running) = Some (put name timer.Expired timers)
 expire_in timers name _ = None
 
+-- a frame in which the timer of a name expires, where it runs
 abbrev pub expired_frame : List ℕ → Frame → Option Frame
 expired_frame name frame = option_map (λ timers. with_timers timers frame) (expire_in frame.timers name (entry frame.timers name))
 
@@ -208,6 +222,7 @@ pub data Label : Type 0 where
   Statement : Path → Label
   Expiry : Path → ℕ → List ℕ → Label
 
+-- what was found, where a component runs
 abbrev pub if_running : {A : Type 0} → Component → Option A → Option A
 if_running component found = if is_running_state component.state then found else None
 
@@ -215,6 +230,7 @@ if_running component found = if is_running_state component.state then found else
 abbrev pub statement_step : Test → Going → Component → Option (Outcome Configuration)
 statement_step test c component = if_running component (apply test c component.itself (act test (snapshot_of c component) component.own))
 
+-- a component with other data, in which marks that come first stay
 abbrev pub exchanged : Data → Component → Component
 exchanged own component = record { itself = component.itself; own = own; state = component.state; verdict = component.verdict; queues = component.queues }
 
@@ -223,6 +239,7 @@ abbrev pub expiry_step : Going → ℕ → List ℕ → Component → Option (Ou
 expiry_step c number name component =
     if_running component (option_map (λ own. Yields (Goes (touch c (path_of component) (exchanged own)))) (expired number name component.own))
 
+-- the step of a label in a test case that goes on, where the label is enabled
 abbrev pub step_in : Test → Going → Label → Option (Outcome Configuration)
 step_in test c (Statement path) = option_and_then (statement_step test c) (component_at c path)
 step_in test c (Expiry path number name) = option_and_then (expiry_step c number name) (component_at c path)

@@ -19,12 +19,15 @@ use Rattle.ttcn_values.specs.declared.value.Value.{Value}
 
 -- ---- frames
 
+-- a frame in which other items remain to be done
 abbrev pub with_remaining : List Item → Frame → Frame
 with_remaining items frame = record { remaining = items; values = frame.values; timers = frame.timers }
 
+-- a frame with other values of its names
 abbrev pub with_values : Entries Value → Frame → Frame
 with_values values frame = record { remaining = frame.remaining; values = values; timers = frame.timers }
 
+-- a frame with other states of its timers
 abbrev pub with_timers : Entries TimerState → Frame → Frame
 with_timers timers frame = record { remaining = frame.remaining; values = frame.values; timers = timers }
 
@@ -42,9 +45,11 @@ declare_timer name frame = record { remaining = frame.remaining; values = withou
 
 -- ---- data
 
+-- the data of a component with other frames above frame 0
 abbrev pub with_calls : List Frame → Data → Data
 with_calls calls own = record { members = own.members; calls = calls; defaults = own.defaults; activations = own.activations; children = own.children }
 
+-- the data of a component with another frame 0
 abbrev pub with_members : Frame → Data → Data
 with_members members own = record { members = members; calls = own.calls; defaults = own.defaults; activations = own.activations; children = own.children }
 

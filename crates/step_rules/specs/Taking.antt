@@ -66,6 +66,7 @@ from_mark (Mark site s ∷ items) = Some (Doing site s Whole ∷ items)
 from_mark (Doing site s part ∷ items) = from_mark items
 from_mark (Waiting target ∷ items) = from_mark items
 
+-- the frames from this one on where a mark was found in it, and else what those below give
 abbrev pub repeat_in : Frame → List Frame → Option (List Item) → Option (List Frame) → Option (List Frame)
 repeat_in frame frames None below = below
 repeat_in frame frames (Some items) below = Some (with_remaining items frame ∷ frames)
@@ -75,5 +76,6 @@ abbrev pub repeated : List Frame → Option (List Frame)
 repeated [] = None
 repeated (frame ∷ frames) = repeat_in frame frames (from_mark frame.remaining) (repeated frames)
 
+-- `repeat`: the `alt` of the last mark is to be done again, and the frames above that mark are gone
 abbrev pub repeat_alt : Data → Outcome Data
 repeat_alt own = outcome_map (λ calls. with_calls calls own) (or_unmet (repeated own.calls))

@@ -17,7 +17,7 @@ ghost use Rattle.step_rules.specs.Snapshots.{Test};
 ghost use Rattle.step_rules.specs.Steps.{Label, next, step, touch, with_connection, with_new};
 ghost use Rattle.std.specs.Option.{option_map};
 ghost use Rattle.summary.specs.Exploration.{IsBest};
-ghost use Rattle.summary.specs.Reading.{Join, Reading, sum_of};
+ghost use Rattle.summary.specs.Sums.{Join, Observation, sum_of};
 ghost use Rattle.summary.specs.Run.{Run, all_runs, end_of};
 ghost use Rattle.ttcn_values.specs.Outcomes.{outcome_map};
 ghost use Rattle.ttcn_values.specs.declared.path.Path.{Path};
@@ -94,5 +94,5 @@ pub fn canonical_runs_stand_for_all()
 /// What is summed up over the runs over live parts is what is summed up over all runs, where it is seen of live parts.
 #[tactic(auto, using(crate::proofs::CanonicalRuns::sums_alike))]
 pub fn canonical_sums_stand_for_all<S>()
-    ensures { (test : Test) (j : Join S) (r : Reading Configuration Label S) → SeesLiveParts r → (n : ℕ) → sum_of (canonical_graph test) j r n ≡ sum_of (graph_of test) j r n }
+    ensures { (test : Test) (j : Join S) (r : Observation Configuration Label S) → SeesLiveParts r → (n : ℕ) → sum_of (canonical_graph test) j r n ≡ sum_of (graph_of test) j r n }
 {}

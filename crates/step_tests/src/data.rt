@@ -8,7 +8,7 @@ use step_data::{
 use ttcn_config::{Cells, Data, Frame};
 use ttcn_syntax::{Module, Name, Seq};
 use ttcn_types::check;
-use ttcn_values::Value;
+use ttcn_values::{Fault, Value};
 
 fn frame(alloc: Global, remaining: usize) -> Frame {
     Frame {
@@ -92,6 +92,23 @@ fn defaults_come_and_go(rt: HostRuntime) -> Result<(), Fail> {
     }
     let own = create_child(own);
     assert_eq!(rt; (own.activations, own.children), (3, 1));
+    Ok(())
+}
+
+#[test]
+fn the_last_activation(rt: HostRuntime) -> Result<(), Fail> {
+    let alloc = rt.alloc();
+    let mut own = no_data(alloc);
+    own.activations = u32::MAX - 1;
+    let Some(own) = activate(alloc, own, 7, Seq::new(alloc)).ok() else {
+        return Err(Fail::new("a dynamic error"));
+    };
+    assert_eq!(rt;
+        defaults(alloc, &own)?.as_slice(),
+        [(u32::MAX, 7)].as_slice()
+    );
+    let one_more = activate(alloc, own, 7, Seq::new(alloc)).err();
+    assert_eq!(rt; one_more, Some(Fault::Dynamic));
     Ok(())
 }
 

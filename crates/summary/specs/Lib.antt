@@ -1,5 +1,5 @@
 pub mod Graph
 pub mod Run
-pub mod Reading
+pub mod Sums
 pub mod Exploration
 pub mod NumberSet

@@ -4,7 +4,7 @@ use Rattle.std.proofs.Common.{sym, refl, ap, ◌∙◌}
 use Rattle.std.specs.Ordering.{nat_cmp}
 use Rattle.std.specs.Cmp.{nat_cmp_total}
 use Rattle.std.specs.FinSet.{FinSet, from_list, empty, insert, union, contains, same_set, contains-union, contains-empty, nat_cmp-IsAntisymmetric}
-use Rattle.summary.specs.Reading.{Join, IsSemilattice}
+use Rattle.summary.specs.Sums.{Join, IsSemilattice}
 
 -- the numbers of a list
 abbrev pub number_set : List ℕ → FinSet nat_cmp
@@ -15,6 +15,7 @@ abbrev pub numbers_of : Option ℕ → FinSet nat_cmp
 numbers_of None = empty
 numbers_of (Some number) = insert empty number
 
+-- sets of numbers joined by their union, from the empty set on
 abbrev pub union_join : Join (FinSet nat_cmp)
 union_join = record { none = empty; join = union }
 

@@ -16,9 +16,9 @@ impl<Y: System, A: Summary<Y>, B: Summary<Y>> Summary<Y> for Both<A, B> {
       join = λ x y. record { first = A.joins.join x.first y.first; second = B.joins.join x.second y.second };
     } };
 
-    ghost reading = { λ system. record {
-      at = λ state. record { first = (A.reading system).at state; second = (B.reading system).at state };
-      by = λ state label. record { first = (A.reading system).by state label; second = (B.reading system).by state label };
+    ghost observation = { λ system. record {
+      at = λ state. record { first = (A.observation system).at state; second = (B.observation system).at state };
+      by = λ state label. record { first = (A.observation system).by state label; second = (B.observation system).by state label };
     } };
 
     ghost semilattice = { record {

@@ -1,5 +1,5 @@
 ghost use Rattle.std.specs.Prelude.{◌≡◌, IfOk, Contains};
-ghost use Rattle.summary.specs.Reading.{Join, IsSemilattice, Reading};
+ghost use Rattle.summary.specs.Sums.{Join, IsSemilattice, Observation};
 
 use crate::{Memory, System};
 use std::alloc::Global;
@@ -11,7 +11,7 @@ pub trait Summary<Y: System>: Send + Sync + Drop {
     ghost joins: { Join Self };
 
     /// What is told of a state, and of a step.
-    ghost reading: { Y → Reading Y.State Y.Label Self };
+    ghost observation: { Y → Observation Y.State Y.Label Self };
 
     fn empty(alloc: Global) -> Result<Self, Memory>
         ensures { IfOk result (λ summary. summary ≡ joins.none) };
@@ -22,13 +22,13 @@ pub trait Summary<Y: System>: Send + Sync + Drop {
     /// What a state shows.
     fn at(alloc: Global, system: &Y, state: &Y::State) -> Result<Self, Memory>
         requires { Y.fits system.now state.now }
-        ensures { IfOk result (λ summary. summary ≡ (reading system.now).at state.now) };
+        ensures { IfOk result (λ summary. summary ≡ (observation system.now).at state.now) };
 
     /// What the step that an enabled label takes from a state shows.
     fn by(alloc: Global, system: &Y, state: &Y::State, label: &Y::Label) -> Result<Self, Memory>
         requires fits { Y.fits system.now state.now }
         requires enabled { Contains ((Y.graph system.now).enabled state.now) label.now }
-        ensures { IfOk result (λ summary. summary ≡ (reading system.now).by state.now label.now) };
+        ensures { IfOk result (λ summary. summary ≡ (observation system.now).by state.now label.now) };
 
     /// Summaries are joined in any order, and any number of times.
     ghost semilattice: { IsSemilattice joins };

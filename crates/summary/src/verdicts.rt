@@ -16,7 +16,7 @@ impl<Y: System> Summary<Y> for Verdicts {
       join = λ v w. record { marks = set.union v.marks w.marks };
     } };
 
-    ghost reading = { λ system. record {
+    ghost observation = { λ system. record {
       at = λ state. record { marks = numbers_of ((Y.graph system).mark state) };
       by = λ state label. record { marks = set.empty };
     } };

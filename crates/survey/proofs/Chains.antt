@@ -6,7 +6,7 @@ use Rattle.std.proofs.lemmas.Option.{get_or_from_slice_get, slice_get_read, slic
 use Rattle.std.proofs.lemmas.List.Elements.{All-contains}
 use Rattle.survey.specs.Graphs.Weigh.{nothing, one_more}
 use Rattle.survey.specs.Graphs.{AreComplete, IsChain, IsOnCircle, Weigh, own, references}
-use Rattle.survey.specs.Search.{IsPath}
+use Rattle.survey.specs.internal.Search.{IsPath}
 use Rattle.survey.specs.declared.thing.Thing.{Thing}
 
 -- what a list contains is its first or among the others

@@ -4,7 +4,7 @@ use Rattle.std.specs.Prelude.{All, MatchOption}
 use Rattle.std.proofs.lemmas.Bool.{cases_lt}
 use Rattle.std.proofs.lemmas.List.{get_or_past}
 use Rattle.survey.specs.Graphs.{AllChainsWithin, AllWeigh, AllWeighWithin, BeginsLongerChain, IsChain, IsFirst, IsOnCircle, WeighsMore}
-use Rattle.survey.specs.Search.{HaveSize, IsSearched, size_of, state_of}
+use Rattle.survey.specs.internal.Search.{HaveSize, IsSearched, size_of, state_of}
 use Rattle.survey.specs.declared.search.State.{State}
 use Rattle.survey.specs.declared.search.State.TheVariants.{New, Open, Done}
 use Rattle.survey.specs.declared.size.Size.{Size}

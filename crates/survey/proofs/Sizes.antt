@@ -4,7 +4,7 @@ use Rattle.std.proofs.lemmas.Bool.{cases_lt}
 use Rattle.std.proofs.lemmas.List.Elements.{Contains-append_cases, Contains-append_left, Contains-append_right}
 use Rattle.survey.specs.Graphs.Weigh.{nothing}
 use Rattle.survey.specs.Graphs.{IsChain, own, references}
-use Rattle.survey.specs.Search.{HasLongest, HaveSize}
+use Rattle.survey.specs.internal.Search.{HasLongest, HaveSize}
 use Rattle.survey.specs.Things.{capped}
 use Rattle.survey.specs.declared.size.Size.{Size}
 use Rattle.survey.specs.declared.thing.Thing.{Thing}

@@ -6,7 +6,7 @@ use Rattle.std.proofs.lemmas.List.{get_or_read, length-set, map_push, take_all, 
 use Rattle.std.proofs.lemmas.List.Elements.{All-pop, All-push, Contains-append_left, Contains-push, Contains-push_cases}
 use Rattle.std.proofs.lemmas.List.Sums.{sum_by_push}
 use Rattle.survey.specs.Graphs.{AreComplete, IsChain, IsOnCircle, references}
-use Rattle.survey.specs.Search.{HaveSize, IsPath, IsRead, IsSearched, StayBegun, at_first, left, left_new, left_of, state_of, things_on}
+use Rattle.survey.specs.internal.Search.{HaveSize, IsPath, IsRead, IsSearched, StayBegun, at_first, left, left_new, left_of, state_of, things_on}
 use Rattle.survey.specs.Things.{capped}
 use Rattle.survey.specs.declared.search.State.{State}
 use Rattle.survey.specs.declared.search.State.TheVariants.{New, Open, Done}

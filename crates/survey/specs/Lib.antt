@@ -1,3 +1,3 @@
 pub mod Graphs
-pub mod Search
 pub mod Things
+pub mod internal

@@ -2,6 +2,7 @@
 use Rattle.std.specs.Prelude.{ℕ, ◌+◌, ◌-◌, ◌^◌, min, List, [], ◌++◌}
 use Rattle.survey.specs.declared.thing.Thing.{Thing}
 
+-- a thing with so many parts of its own, which refers to the things at these places
 abbrev pub parts : ℕ → List ℕ → Thing
 parts own references = record { own = own; references = references }
 

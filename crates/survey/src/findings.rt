@@ -1,7 +1,7 @@
 //! What is found among things: a circle, or the first that begins too long a chain and the first that is too heavy.
 ghost use Rattle.std.specs.Prelude.{ℕ, ◌<◌, ◌≤◌, All, IfOk, MatchOption};
 ghost use Rattle.survey.specs.Graphs.{AllChainsWithin, AllWeigh, AllWeighWithin, AreComplete, BeginsLongerChain, IfCircle, IfSizes, IsFirst, IsOnCircle, WeighsMore};
-ghost use Rattle.survey.specs.Search.{size_of, state_of};
+ghost use Rattle.survey.specs.internal.Search.{size_of, state_of};
 
 use crate::search::{Search, State};
 use crate::thing::Thing;

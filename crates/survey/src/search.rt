@@ -1,7 +1,7 @@
 //! A depth-first search of things.
 ghost use Rattle.std.specs.Prelude.{◌≡◌, ◌≢◌, ◌++◌, ◌∷◌, ◌<◌, ℕ, [], length, slice_set, IfNone, IfOk, IfSome, OnOk};
 ghost use Rattle.survey.specs.Graphs.{AreComplete, IsOnCircle};
-ghost use Rattle.survey.specs.Search.{IsSearched, StayBegun, at_first, left, size_of, state_of};
+ghost use Rattle.survey.specs.internal.Search.{IsSearched, StayBegun, at_first, left, size_of, state_of};
 
 use crate::size::Size;
 use crate::thing::Thing;

@@ -76,6 +76,7 @@ abbrev pub tests : (Fss : List (List Field)) → (Choice Fss → Choice Fss → 
 tests [] eq = tt
 tests (Fs ∷ Fss) eq = (λ x y. eq (inl x) (inl y), tests Fss (λ c d. eq (inr c) (inr d)))
 
+-- the tests of a relation on an enum, for the fields of each of its variants
 abbrev pub tests_of : (N : Record) → (N.D → N.D → Bool) → Each Bool N.parts
 tests_of N eq = tests N.parts (λ c d. eq (N.make c) (N.make d))
 

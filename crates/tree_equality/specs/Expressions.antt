@@ -57,9 +57,11 @@ component_one a = variant_one component_enum (tests_of component_enum (component
 
 -- ---- expressions and links: one level, over those that are known to equal themselves alone
 
+-- `==` of expressions
 abbrev same : Expr → Expr → Bool
 same = (expressions.ghosts).eq
 
+-- `==` of links, each an operator of a chain with the operand behind it
 abbrev same_link : Link → Link → Bool
 same_link = (links.ghosts).eq
 
@@ -94,12 +96,15 @@ each = (
   ),
 )
 
+-- one level of an expression as its variant, with the values of the variant's fields
 abbrev values_of : Expr-F Expr Link → Choice expression_enum.parts
 values_of = split-Expr (Values the_members the_sigs the_carrier)
 
+-- one level of an expression, without what is known of its parts
 abbrev bare : Expr-F (Known same) (Known same_link) → Expr-F Expr Link
 bare = map-Expr (Known same) (Known same_link) Expr Link (λ k. k.0) (λ k. k.0)
 
+-- one level of a link, without what is known of its parts
 abbrev bare_link : Link-F (Known same) (Known same_link) → Link-F Expr Link
 bare_link = map-Link (Known same) (Known same_link) Expr Link (λ k. k.0) (λ k. k.0)
 

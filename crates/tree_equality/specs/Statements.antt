@@ -48,21 +48,27 @@ use denote.Enum.Compared.{Each}
 use denote.Enum.Declared.{Choice}
 use denote.Hole.Carrier.{Values}
 
+-- `==` of actions
 abbrev same : Action → Action → Bool
 same = (actions.ghosts).eq
 
+-- `==` of alternatives
 abbrev same_alternative : Alternative → Alternative → Bool
 same_alternative = (alternatives.ghosts).eq
 
+-- `==` of branches
 abbrev same_branch : Branch → Branch → Bool
 same_branch = (branches.ghosts).eq
 
+-- `==` of conditionals, each a condition of an `if` with its block
 abbrev same_conditional : Conditional → Conditional → Bool
 same_conditional = (conditionals.ghosts).eq
 
+-- `==` of statements
 abbrev same_statement : Statement → Statement → Bool
 same_statement = (statements.ghosts).eq
 
+-- `==` of blocks, statement by statement
 abbrev same_block : List Statement → List Statement → Bool
 same_block = pointwise same_statement
 
@@ -154,25 +160,31 @@ each_alternative = (
 
 -- ---- one level, over those that are known to equal themselves alone
 
--- what a form of the cycle is over the values of the cycle, and over known ones
+-- what a form of the cycle is over the values of the cycle
 abbrev Whole : (Type 0 → Type 0 → Type 0 → Type 0 → Type 0 → Type 0) → Type 0
 Whole F = F Action Alternative Branch Conditional Statement
 
+-- a form of the cycle over values of it that are known to equal themselves alone
 abbrev Level : (Type 0 → Type 0 → Type 0 → Type 0 → Type 0 → Type 0) → Type 0
 Level F = F (Known same) (Known same_alternative) (Known same_branch) (Known same_conditional) (Known same_statement)
 
+-- one level of an action, without what is known of its parts
 abbrev bare : Level Action-F → Whole Action-F
 bare = map-Action (Known same) (Known same_alternative) (Known same_branch) (Known same_conditional) (Known same_statement) Action Alternative Branch Conditional Statement (λ k. k.0) (λ k. k.0) (λ k. k.0) (λ k. k.0) (λ k. k.0)
 
+-- one level of an alternative, without what is known of its parts
 abbrev bare_alternative : Level Alternative-F → Whole Alternative-F
 bare_alternative = map-Alternative (Known same) (Known same_alternative) (Known same_branch) (Known same_conditional) (Known same_statement) Action Alternative Branch Conditional Statement (λ k. k.0) (λ k. k.0) (λ k. k.0) (λ k. k.0) (λ k. k.0)
 
+-- one level of a branch, without what is known of its parts
 abbrev bare_branch : Level Branch-F → Whole Branch-F
 bare_branch = map-Branch (Known same) (Known same_alternative) (Known same_branch) (Known same_conditional) (Known same_statement) Action Alternative Branch Conditional Statement (λ k. k.0) (λ k. k.0) (λ k. k.0) (λ k. k.0) (λ k. k.0)
 
+-- one level of a conditional, without what is known of its parts
 abbrev bare_conditional : Level Conditional-F → Whole Conditional-F
 bare_conditional = map-Conditional (Known same) (Known same_alternative) (Known same_branch) (Known same_conditional) (Known same_statement) Action Alternative Branch Conditional Statement (λ k. k.0) (λ k. k.0) (λ k. k.0) (λ k. k.0) (λ k. k.0)
 
+-- one level of a statement, without what is known of its parts
 abbrev bare_statement : Level Statement-F → Whole Statement-F
 bare_statement = map-Statement (Known same) (Known same_alternative) (Known same_branch) (Known same_conditional) (Known same_statement) Action Alternative Branch Conditional Statement (λ k. k.0) (λ k. k.0) (λ k. k.0) (λ k. k.0) (λ k. k.0)
 
@@ -185,9 +197,11 @@ known_option_one (Some x) (Some y) h = ap Some (block_one x y h)
 known_option_one None (Some y) h = absurd (true≢false (sym h))
 known_option_one (Some x) None h = absurd (true≢false (sym h))
 
+-- one level of an action as its variant, with the values of the variant's fields
 abbrev action_values : Whole Action-F → Choice action_enum.parts
 action_values = split-Action (Values the_members the_sigs the_carrier)
 
+-- one level of an alternative as its variant, with the values of the variant's fields
 abbrev alternative_values : Whole Alternative-F → Choice alternative_enum.parts
 alternative_values = split-Alternative (Values the_members the_sigs the_carrier)
 

@@ -41,12 +41,15 @@ bound_one a = variant_one bound_enum (tests_of bound_enum (bounds.ghosts).eq) a 
 
 -- ---- templates, their bodies and fields: one level, over those that are known to equal themselves alone
 
+-- `==` of bodies of templates
 abbrev same : TemplateBody → TemplateBody → Bool
 same = (bodies.ghosts).eq
 
+-- `==` of templates of fields, each with the field's name
 abbrev same_field : FieldTemplate → FieldTemplate → Bool
 same_field = (fields.ghosts).eq
 
+-- `==` of templates, each a body with or without `ifpresent`
 abbrev same_template : Template → Template → Bool
 same_template = (templates.ghosts).eq
 
@@ -84,15 +87,19 @@ each = (
   ),
 )
 
+-- one level of a body as its variant, with the values of the variant's fields
 abbrev values_of : TemplateBody-F TemplateBody FieldTemplate Template → Choice body_enum.parts
 values_of = split-TemplateBody (Values the_members the_sigs the_carrier)
 
+-- one level of a body, without what is known of its parts
 abbrev bare : TemplateBody-F (Known same) (Known same_field) (Known same_template) → TemplateBody-F TemplateBody FieldTemplate Template
 bare = map-TemplateBody (Known same) (Known same_field) (Known same_template) TemplateBody FieldTemplate Template (λ k. k.0) (λ k. k.0) (λ k. k.0)
 
+-- one level of a field's template, without what is known of its parts
 abbrev bare_field : FieldTemplate-F (Known same) (Known same_field) (Known same_template) → FieldTemplate-F TemplateBody FieldTemplate Template
 bare_field = map-FieldTemplate (Known same) (Known same_field) (Known same_template) TemplateBody FieldTemplate Template (λ k. k.0) (λ k. k.0) (λ k. k.0)
 
+-- one level of a template, without what is known of its parts
 abbrev bare_template : Template-F (Known same) (Known same_field) (Known same_template) → Template-F TemplateBody FieldTemplate Template
 bare_template = map-Template (Known same) (Known same_field) (Known same_template) TemplateBody FieldTemplate Template (λ k. k.0) (λ k. k.0) (λ k. k.0)
 

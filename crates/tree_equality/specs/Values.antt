@@ -42,9 +42,11 @@ type_one a = variant_one type_enum (tests_of type_enum (types.ghosts).eq) a (typ
 
 -- ---- values and fields: one level, over those that are known to equal themselves alone
 
+-- `==` of values as they are written
 abbrev same : Value → Value → Bool
 same = (values.ghosts).eq
 
+-- `==` of values of fields, each with the field's name
 abbrev same_field : FieldValue → FieldValue → Bool
 same_field = (fields.ghosts).eq
 
@@ -64,12 +66,15 @@ each = (
   ),
 )
 
+-- one level of a value as its variant, with the values of the variant's fields
 abbrev values_of : Value-F Value FieldValue → Choice value_enum.parts
 values_of = split-Value (Values the_members the_sigs the_carrier)
 
+-- one level of a value, without what is known of its parts
 abbrev bare : Value-F (Known same) (Known same_field) → Value-F Value FieldValue
 bare = map-Value (Known same) (Known same_field) Value FieldValue (λ k. k.0) (λ k. k.0)
 
+-- one level of a field's value, without what is known of its parts
 abbrev bare_field : FieldValue-F (Known same) (Known same_field) → FieldValue-F Value FieldValue
 bare_field = map-FieldValue (Known same) (Known same_field) Value FieldValue (λ k. k.0) (λ k. k.0)
 

@@ -14,6 +14,7 @@ use Rattle.ttcn_values.specs.Outcomes.{Fails, Outcome, Yields}
 use Rattle.ttcn_values.specs.declared.fault.Fault.{Fault}
 use Rattle.ttcn_values.specs.declared.fault.Fault.TheVariants.{Dynamic, Memory}
 
+-- what the code's form of that which a component asks for stands for among those of the rules
 abbrev pub act_by : Legend → Act → said.Act
 act_by legend (act.Continues own) = said.Continues (data_by legend own)
 act_by legend (act.Worsens v own) = said.Worsens v (data_by legend own)
@@ -45,6 +46,7 @@ IsUncovered asked = option_map uncovered (data_behind asked) ≡ data_behind ask
 abbrev pub HasPathsInOrder : Going → Type 0
 HasPathsInOrder going = AllPairs (λ p q. rules.path_cmp p q ≡ Less) (map (λ component. component.itself.path) going.components)
 
+-- there is a step, and it fails
 abbrev pub IsFailing : Option (Outcome rules.Configuration) → Type 0
 IsFailing None = ⊥
 IsFailing (Some (Yields c)) = ⊥

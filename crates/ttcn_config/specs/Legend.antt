@@ -26,6 +26,7 @@ pub record Legend : Type 0 where
 
 -- ---- what a component has of its own
 
+-- entries of slots as entries of the names that the slots stand for
 abbrev pub entries_by : {A : Type 0} → Legend → List (ℕ × A) → Entries A
 entries_by legend entries = map (λ e. (legend.names e.0, e.1)) entries
 
@@ -37,12 +38,15 @@ frame_with legend items cells = record {
   timers = entries_by legend cells.timers;
 }
 
+-- what a frame stands for: its position is that of the list that remains
 abbrev pub frame_by : Legend → Frame → rules.Frame
 frame_by legend frame = frame_with legend (legend.lists frame.remaining) frame.cells
 
+-- what an activated default stands for: its number, altstep and arguments as they are
 abbrev pub default_by : ActiveDefault → rules.ActiveDefault
 default_by d = record { number = d.number; altstep = d.altstep; arguments = d.arguments }
 
+-- what a component's own data stand for: nothing remains to be done in frame 0
 abbrev pub data_by : Legend → Data → rules.Data
 data_by legend own = record {
   members = frame_with legend [] own.members;
@@ -54,17 +58,21 @@ data_by legend own = record {
 
 -- ---- components and connections
 
+-- what the state of a component stands for
 abbrev pub state_by : State → rules.State
 state_by state.Created = rules.Created
 state_by state.Running = rules.Running
 state_by state.Terminated = rules.Terminated
 
+-- what a message that waits stands for
 abbrev pub message_by : Message → rules.Message
 message_by message = record { value = message.value; sender = message.sender }
 
+-- what a queue stands for: the name of its port, and its messages in their order
 abbrev pub queue_by : Legend → Queue → rules.Queue
 queue_by legend queue = (legend.names queue.port, map message_by queue.messages)
 
+-- what a component stands for, with all that it has of its own
 abbrev pub component_by : Legend → Component → rules.Component
 component_by legend component = record {
   itself = component.itself;
@@ -74,14 +82,17 @@ component_by legend component = record {
   queues = map (queue_by legend) component.queues;
 }
 
+-- what an end of a connection stands for: its component, and the name of its port
 abbrev pub end_by : Legend → End → rules.End
 end_by legend e = record { component = e.component; port = legend.names e.port }
 
+-- what a connection stands for
 abbrev pub connection_by : Legend → Connection → rules.Connection
 connection_by legend k = record { one = end_by legend k.one; other = end_by legend k.other }
 
 -- ---- configurations
 
+-- what a test case that goes on stands for
 abbrev pub going_by : Legend → Going → rules.Going
 going_by legend going = record {
   components = map (component_by legend) going.components;

@@ -18,6 +18,7 @@ use Rattle.ttcn_values.specs.declared.path.Path.{Path}
 abbrev pub AreNames : Legend → List (List ℕ) → Type 0
 AreNames legend names = (slot : ℕ) → slot < length names → slice_get names slot ≡ Some (legend.names slot)
 
+-- the slots of these entries are less than this
 abbrev pub AreWithin : {A : Type 0} → ℕ → List (ℕ × A) → Type 0
 AreWithin size entries = All (λ e. e.0 < size) entries
 
@@ -45,6 +46,7 @@ pub record IsWithin (size : Extent) (own : Data) : Type 0 where
 abbrev pub AreAllWithin : Extent → List Component → Type 0
 AreAllWithin size components = All (λ component. IsWithin size component.own) components
 
+-- so it is in a configuration: a test case that ended has no frames
 abbrev pub IsConfigWithin : Extent → Config → Type 0
 IsConfigWithin size (config.Ended v) = Unit {0}
 IsConfigWithin size (config.Going going) = AreAllWithin size going.components

@@ -27,19 +27,23 @@ Lists = List (List Item)
 
 -- ---- assignments: a call on the right leaves its target waiting for the result
 
+-- a right side: a call leaves the target waiting in front of the rest, and any other leaves nothing
 abbrev pub ways_of_right : Target → List Item → Rhs → Lists
 ways_of_right target rest (rhs.Value v) = []
 ways_of_right target rest (rhs.Create name) = []
 ways_of_right target rest (rhs.Call call) = (Waiting target ∷ rest) ∷ []
 ways_of_right target rest (rhs.Activate call) = []
 
+-- an assignment at a site, in front of the rest
 abbrev pub ways_of_assignment : List Definition → Site → List Item → Assignment → Lists
 ways_of_assignment definitions site rest a = ways_of_right (target_in definitions site a.target) rest a.value
 
+-- the declaration of a name, with its initial value where one is given
 abbrev pub ways_of_initial : List ℕ → List Item → Option Rhs → Lists
 ways_of_initial name rest None = []
 ways_of_initial name rest (Some right) = ways_of_right (declared_target name) rest right
 
+-- the declaration of a variable, where there is one
 abbrev pub ways_of_variable : List Item → Option Variable → Lists
 ways_of_variable rest None = []
 ways_of_variable rest (Some v) = ways_of_initial v.name rest v.value
@@ -75,6 +79,7 @@ items_of_alternative definitions site (Alternative-F.«Alternative::Event» guar
 items_of_alternative definitions site (Alternative-F.«Alternative::Call» guard call block) = items_if_any definitions site block
 items_of_alternative definitions site (Alternative-F.Else block) = items definitions site block
 
+-- the block of a branch's alternative, as what remains
 abbrev pub items_of_branch : List Definition → Site → Branch → List Item
 items_of_branch definitions site b = items_of_alternative definitions site (out-Alternative (out-Branch b).alternative)
 
@@ -93,9 +98,11 @@ ways_of_conditional definitions site s rest k conditionals last None = (items_if
 ways_of_conditional definitions site s rest k conditionals last (Some c) =
     (items definitions site (out-Conditional c).block ++ rest) ∷ items_otherwise definitions site s rest (k + 1) conditionals last ∷ []
 
+-- the conditions of an `if` from that of a number on
 abbrev pub ways_from : List Definition → Site → Statement → List Item → ℕ → List Conditional → Option (List Statement) → Lists
 ways_from definitions site s rest k conditionals last = ways_of_conditional definitions site s rest k conditionals last (slice_get conditionals k)
 
+-- an `if`: all its conditions, or those from the one on at which a part of it begins
 abbrev pub ways_of_if : List Definition → Site → Statement → List Item → List Conditional → Option (List Statement) → Part → Lists
 ways_of_if definitions site s rest conditionals last Whole = ways_from definitions site s rest 0 conditionals last
 ways_of_if definitions site s rest conditionals last (From k) = ways_from definitions site s rest k conditionals last
@@ -113,10 +120,12 @@ ways_of_do definitions site s rest block (From k) = []
 ways_of_do definitions site s rest block Start = []
 ways_of_do definitions site s rest block Last = []
 
+-- the declaration of one of the variables that a `for` begins with
 abbrev pub ways_of_start_name : List Item → ℕ → ForStart → Lists
 ways_of_start_name rest k (for_start.Variables vs) = ways_of_variable rest (slice_get vs.variables k)
 ways_of_start_name rest k (for_start.Assign a) = []
 
+-- the assignment that a `for` begins with: variables are declared one by one
 abbrev pub ways_of_start : List Definition → Site → List Item → ForStart → Lists
 ways_of_start definitions site rest (for_start.Variables vs) = []
 ways_of_start definitions site rest (for_start.Assign a) = ways_of_assignment definitions site rest a

@@ -12,7 +12,7 @@ use Rattle.ttcn_syntax.specs.declared.tree.definition.DefinitionKind.TheVariants
 use Rattle.ttcn_syntax.specs.declared.tree.definition.Testcase.{Testcase}
 use Rattle.check_scope.proofs.Lookups.{or-None, or-assoc, put}
 use Rattle.ttcn_types.specs.Programs.{IsTestCaseAt, is_test_case, test_case_named}
-use Rattle.ttcn_types.specs.TestCases.{with_position}
+use Rattle.ttcn_types.specs.internal.TestCases.{with_position}
 
 abbrev pub Positions : Type 0
 Positions = List ℕ → Option ℕ

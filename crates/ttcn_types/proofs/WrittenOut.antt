@@ -33,7 +33,7 @@ use Rattle.ttcn_types.proofs.Numbered.{AreNumbered, HasNumber, module-numbered, 
 use Rattle.check_scope.specs.Scopes.{module_scope}
 use Rattle.check_statements.specs.Definitions.{with_parameters}
 use Rattle.check_scope.specs.Names.{Scope}
-use Rattle.ttcn_types.specs.Parts.{all_of, body_parts_step, call_parts, constant_parts, expression_parts, expression_parts_step, field_template_parts, field_template_parts_step, field_value_parts, field_value_parts_step, how_many, how_many_in, link_parts, link_parts_step, number_at, of_bound, of_component, of_meaning, of_name, of_template, parts, template_parts, template_parts_step, value_parts, value_parts_step, written_at, written_from, written_out}
+use Rattle.ttcn_types.specs.Parts.{all_of, body_parts_step, call_parts, constant_parts, expression_parts, expression_parts_step, field_template_parts, field_template_parts_step, field_value_parts, field_value_parts_step, how_many, how_many_in, link_parts, link_parts_step, number_at, of_bound, of_component, of_meaning, of_name, of_template, parts, template_parts, template_parts_step, value_parts, value_parts_step, things_at, things_from, constants_and_templates}
 use Rattle.check_expressions.specs.Templates.{bare_name, template_by_name, template_meant}
 use Rattle.check_scope.specs.declared.names.Meaning.{Meaning}
 use Rattle.check_scope.specs.declared.names.Meaning.TheVariants as meaning
@@ -222,32 +222,32 @@ module _ (definitions : List Definition) where
   one-thing : (thing : Thing) → Below (how_many_in definitions) thing → EachBelow (thing ∷ [])
   one-thing thing below = All-cons (Below (how_many_in definitions)) thing [] below (All-nil (Below (how_many_in definitions)))
 
-  written-below : (k : DefinitionKind) → EachBelow (written_at definitions k)
+  written-below : (k : DefinitionKind) → EachBelow (things_at definitions k)
   written-below (kind.Constants cs) = constants-below (module_scope definitions) (module-numbered definitions) cs.constants
   written-below (kind.Template t) =
       one-thing (template_parts (with_parameters (module_scope definitions) t.parameters) t.template) (template-below definitions (with_parameters (module_scope definitions) t.parameters)
       (parameters-numbered definitions (module_scope definitions) t.parameters (module-numbered definitions)) t.template)
   written-below _ = one-thing (parts 0 []) (nothing-below (how_many_in definitions))
 
-  from-below : (rest : List Definition) → EachBelow (written_from definitions rest)
+  from-below : (rest : List Definition) → EachBelow (things_from definitions rest)
   from-below [] = All-nil (Below (how_many_in definitions))
   from-below (definition ∷ rest) =
-      All-append (Below (how_many_in definitions)) (written_at definitions definition.kind) (written_from definitions rest) (written-below definition.kind) (from-below rest)
+      All-append (Below (how_many_in definitions)) (things_at definitions definition.kind) (things_from definitions rest) (written-below definition.kind) (from-below rest)
 
-  length-written_at : (k : DefinitionKind) → length (written_at definitions k) ≡ how_many k
-  length-written_at (kind.Constants cs) = length-map cs.constants (constant_parts (module_scope definitions))
-  length-written_at (kind.Template t) = refl
-  length-written_at _ = refl
+  length-things_at : (k : DefinitionKind) → length (things_at definitions k) ≡ how_many k
+  length-things_at (kind.Constants cs) = length-map cs.constants (constant_parts (module_scope definitions))
+  length-things_at (kind.Template t) = refl
+  length-things_at _ = refl
 
-  length-written_from : (rest : List Definition) → length (written_from definitions rest) ≡ how_many_in rest
-  length-written_from [] = refl
-  length-written_from (definition ∷ rest) =
-      length-append (written_at definitions definition.kind) (written_from definitions rest)
-      ∙ ap (λ m. m + length (written_from definitions rest)) (length-written_at definition.kind)
-      ∙ ap (λ m. how_many definition.kind + m) (length-written_from rest)
+  length-things_from : (rest : List Definition) → length (things_from definitions rest) ≡ how_many_in rest
+  length-things_from [] = refl
+  length-things_from (definition ∷ rest) =
+      length-append (things_at definitions definition.kind) (things_from definitions rest)
+      ∙ ap (λ m. m + length (things_from definitions rest)) (length-things_at definition.kind)
+      ∙ ap (λ m. how_many definition.kind + m) (length-things_from rest)
 
-pub length_written : (definitions : List Definition) → length (written_out definitions) ≡ how_many_in definitions
-length_written definitions = length-written_from definitions definitions
+pub length_written : (definitions : List Definition) → length (constants_and_templates definitions) ≡ how_many_in definitions
+length_written definitions = length-things_from definitions definitions
 
-pub written_complete : (definitions : List Definition) → AreComplete (written_out definitions)
-written_complete definitions = subst (λ m. All (Below m) (written_out definitions)) (sym (length-written_from definitions definitions)) (from-below definitions definitions)
+pub written_complete : (definitions : List Definition) → AreComplete (constants_and_templates definitions)
+written_complete definitions = subst (λ m. All (Below m) (constants_and_templates definitions)) (sym (length-things_from definitions definitions)) (from-below definitions definitions)

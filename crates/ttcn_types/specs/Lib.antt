@@ -2,5 +2,4 @@ pub mod Limits
 pub mod Parts
 pub mod Programs
 pub mod Rules
-pub mod TestCases
 pub mod internal

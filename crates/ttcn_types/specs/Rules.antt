@@ -6,7 +6,7 @@ use Rattle.ttcn_syntax.specs.declared.tree.definition.Definition.{Definition}
 use Rattle.check_statements.specs.Definitions.{check_sites}
 use Rattle.check_scope.specs.Numbers.{number_of}
 use Rattle.ttcn_types.specs.Limits.{longest_chain, most_fields, most_parts}
-use Rattle.ttcn_types.specs.Parts.{altsteps, records, written_out}
+use Rattle.ttcn_types.specs.Parts.{altsteps, records, constants_and_templates}
 use Rattle.ttcn_types.specs.declared.error.CheckError.{CheckError}
 use Rattle.ttcn_types.specs.declared.error.CheckError.TheVariants.{Broken, Memory}
 use Rattle.check_scope.specs.declared.rule.Rule.{Rule}
@@ -30,11 +30,11 @@ pub data Breaks (definitions : List Definition) : Rule → Type 0 where
   -- a record contains itself
   in_itself : HasCircle (records definitions) → Breaks definitions rule.BadType
   -- constants or templates, or altsteps as branches, refer to themselves
-  circle : HasCircle (written_out definitions) → Breaks definitions rule.Cycle
+  circle : HasCircle (constants_and_templates definitions) → Breaks definitions rule.Cycle
   altstep_circle : HasCircle (altsteps definitions) → Breaks definitions rule.Cycle
   -- sizes
   record_size : AreTooLarge (records definitions) longest_chain most_fields → Breaks definitions rule.Size
-  size : AreTooLarge (written_out definitions) longest_chain most_parts → Breaks definitions rule.Size
+  size : AreTooLarge (constants_and_templates definitions) longest_chain most_parts → Breaks definitions rule.Size
   altstep_size : AreTooLarge (altsteps definitions) longest_chain most_parts → Breaks definitions rule.Size
 
 -- a module is well typed where it breaks no rule

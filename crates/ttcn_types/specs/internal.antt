@@ -2,3 +2,4 @@ pub mod Numbering
 pub mod ProgramFields
 pub mod Surrounding
 pub mod Surveys
+pub mod TestCases

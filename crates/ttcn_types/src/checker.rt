@@ -7,7 +7,7 @@ ghost use Rattle.ttcn_types.specs.Rules.{AreWellTyped, Breaks, IsRefusal};
 ghost use Rattle.ttcn_types.specs.internal.Surveys.{BreaksAmong, BreaksBySurvey, BreaksInAltsteps, BreaksInRecords, BreaksWritten, IsLeastWhere, rule_of};
 
 use crate::error::CheckError;
-use crate::parts::{altsteps, records, written_out};
+use crate::parts::{altsteps, constants_and_templates, records};
 use crate::program::Program;
 use check_scope::least::Least;
 use check_scope::rule::Rule;
@@ -79,7 +79,7 @@ fn check_records(alloc: Global, scope: &Scope<'_>) -> Result<Least, AllocError>
 fn check_written(alloc: Global, scope: &Scope<'_>) -> Result<Least, AllocError>
     ensures { IfOk result (λ found. IsLeastWhere (BreaksWritten scope.now.definitions.now) (least_in found).least) }
 {
-    let written = written_out(alloc, scope)?;
+    let written = constants_and_templates(alloc, scope)?;
     let fault = match check_survey(alloc, written.things.as_slice(), MOST_PARTS, Rule::Cycle)? {
         Some((rule, number)) => Some((rule, written.places[number])),
         None => None,

@@ -14,7 +14,7 @@ use check_scope::types::DataType;
 use std::alloc::{AllocError, Global};
 use survey::Thing;
 use ttcn_syntax::{Alternative, Branch, DefinitionKind, Field};
-pub(crate) use written::written_out;
+pub(crate) use written::constants_and_templates;
 
 // ---- records
 

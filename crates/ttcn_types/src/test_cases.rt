@@ -1,7 +1,7 @@
 //! The test cases of a module, by their names.
 ghost use Rattle.std.specs.Prelude.{◌≡◌, IfOk, OnOk, None};
 ghost use Rattle.ttcn_types.specs.Programs.{test_case_named};
-ghost use Rattle.ttcn_types.specs.TestCases.{placed, with_position};
+ghost use Rattle.ttcn_types.specs.internal.TestCases.{placed, with_position};
 
 use std::alloc::{AllocError, Global};
 use std::collections::HashMap;

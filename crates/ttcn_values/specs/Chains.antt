@@ -47,6 +47,7 @@ template_value reading (Some t) values =
 abbrev pub Outcomes : Type 0
 Outcomes = (ℕ → ℕ → Outcome Value) × (ℕ → List Value → Outcome Template)
 
+-- a reading in which constants and templates give these outcomes
 abbrev pub with_outcomes : Outcomes → Reading → Reading
 with_outcomes outcomes reading = record {
   definitions = reading.definitions;

@@ -25,6 +25,7 @@ abbrev pub after : Reading → Outcome Value → List (Operator × Evaluation) �
 after reading found [] = found
 after reading found (link ∷ links) = after reading (outcome_and_then (joined reading link) found) links
 
+-- what one level of an expression gives in a reading, given what its operands give
 abbrev pub expression_step : Expr-F Evaluation (Operator × Evaluation) → Evaluation
 expression_step (Expr-F.Int n) reading = fitting (within (pos n))
 expression_step (Expr-F.Bool b) reading = truth b
@@ -36,6 +37,7 @@ expression_step (Expr-F.Not operand) reading = outcome_and_then negated (operand
 expression_step (Expr-F.Signed sign operand) reading = outcome_and_then (under_sign sign) (operand reading)
 expression_step (Expr-F.Chain first links) reading = after reading (first reading) links
 
+-- one link of a chain: its operator, with what its operand gives, which is given
 abbrev pub link_step : Link-F Evaluation (Operator × Evaluation) → Operator × Evaluation
 link_step link = (link.operator, link.operand)
 

@@ -31,6 +31,7 @@ seen_entry inner outer name = option_or (entry inner name) (entry outer name)
 
 -- ---- timers
 
+-- a timer of this state is running: neither inactive nor expired
 abbrev pub is_running : TimerState → Bool
 is_running timer.Running = true
 is_running _ = false

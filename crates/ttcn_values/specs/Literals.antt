@@ -52,15 +52,18 @@ element_named reading field (Some found) = element reading (field, found.1)
 abbrev pub given_by_name : Reading → List (List ℕ × Wanted) → Field → Outcome (Option Value)
 given_by_name reading elements field = element_named reading field (find (λ e. bytes_eq e.0 field.name) elements)
 
+-- what named elements give for each field, in the order of the fields
 abbrev pub by_name : Reading → List Field → List (List ℕ × Wanted) → Outcome (List (Option Value))
 by_name reading fields elements = each (map (given_by_name reading elements) fields)
 
 -- ---- values
 
+-- a record of the type at a position with what its fields give, where both are there
 abbrev pub record_at : Outcome ℕ → (ℕ → Outcome (List (Option Value))) → Outcome Value
 record_at (Fails why) fields = Fails why
 record_at (Yields at) fields = outcome_map (value.Record at) (fields at)
 
+-- what one level of a value gives where a type is wanted, given what its elements give
 abbrev pub value_step : Value-F Wanted (List ℕ × Wanted) → Wanted
 value_step (Value-F.Expr e) reading wanted = value_of e reading
 value_step Value-F.Omit reading wanted = Yields value.Omit
@@ -69,6 +72,7 @@ value_step (Value-F.Listed elements) reading wanted =
 value_step (Value-F.Assigned elements) reading wanted =
     record_at (wanted_record wanted) (λ at. by_name reading (fields_at reading.definitions at) elements)
 
+-- an element of a record literal by field names: the name, with what its value gives, which is given
 abbrev pub field_value_step : FieldValue-F Wanted (List ℕ × Wanted) → List ℕ × Wanted
 field_value_step e = (e.name, e.value)
 

@@ -17,6 +17,7 @@ use Rattle.ttcn_values.specs.declared.value.Value.TheVariants as value
 abbrev pub equal_template : Template → Template → Bool
 equal_template = (templates.ghosts).eq
 
+-- the same, of patterns
 abbrev pub equal_pattern : Pattern → Pattern → Bool
 equal_pattern = (patterns.ghosts).eq
 
@@ -26,15 +27,17 @@ equal_pattern = (patterns.ghosts).eq
 abbrev pub Matcher : Type 0
 Matcher = Value → Bool
 
--- an end of a range bounds a number: an infinite one bounds nothing
+-- the lower end of a range bounds a number: an infinite one bounds nothing
 abbrev pub is_above : Option ℤ → ℤ → Bool
 is_above None n = true
 is_above (Some low) n = not (int_lt n low)
 
+-- the same, of the upper end
 abbrev pub is_below : Option ℤ → ℤ → Bool
 is_below None n = true
 is_below (Some high) n = not (int_lt high n)
 
+-- a number is in a range, to which its ends belong: what is no integer is in none
 abbrev pub in_range : Option ℤ → Option ℤ → Option ℤ → Bool
 in_range low high None = false
 in_range low high (Some n) = is_above low n && is_below high n
@@ -51,10 +54,12 @@ match_fields (part ∷ parts) (field ∷ fields) = matches_field part field && m
 match_fields [] (field ∷ fields) = false
 match_fields (part ∷ parts) [] = false
 
+-- a record of the type at a position is matched field by field, and nothing else is
 abbrev pub match_record : ℕ → List Matcher → Option (ℕ × List (Option Value)) → Bool
 match_record at parts None = false
 match_record at parts (Some found) = nat_eq at found.0 && match_fields parts found.1
 
+-- the values that one level of a pattern matches, given those that its parts match
 abbrev pub pattern_step : Pattern-F Matcher Matcher → Matcher
 pattern_step (Pattern-F.Value w) v = equal w v
 pattern_step Pattern-F.Any v = not (is_omit v)
@@ -65,6 +70,7 @@ pattern_step (Pattern-F.List parts) v = list_any (λ part. part v) parts
 pattern_step (Pattern-F.Range low high) v = in_range low high (integer v)
 pattern_step (Pattern-F.Record at parts) v = match_record at parts (record_of v)
 
+-- the values that a template matches, given those that its pattern matches: `ifpresent` adds an omitted field
 abbrev pub template_step : Template-F Matcher Matcher → Matcher
 template_step t v = (t.ifpresent && is_omit v) || t.pattern v
 
@@ -78,6 +84,7 @@ is_match_of_pattern = fold-Pattern Matcher Matcher pattern_step template_step
 
 -- ---- sending
 
+-- fields with a value before them, where the fields are given
 abbrev pub before_fields : Value → Outcome (List (Option Value)) → Outcome (List (Option Value))
 before_fields v (Fails why) = Fails why
 before_fields v (Yields fields) = Yields (Some v ∷ fields)
@@ -88,6 +95,7 @@ all_fields [] = Yields []
 all_fields (Fails why ∷ given) = Fails why
 all_fields (Yields v ∷ given) = before_fields v (all_fields given)
 
+-- the record of the type at a position with these fields, where they are given
 abbrev pub record_with : ℕ → Outcome (List (Option Value)) → Outcome Value
 record_with at (Fails why) = Fails why
 record_with at (Yields fields) = Yields (value.Record at fields)
@@ -99,6 +107,7 @@ specific_step Pattern-F.Omit = Yields value.Omit
 specific_step (Pattern-F.Record at parts) = record_with at (all_fields parts)
 specific_step _ = dynamic_error
 
+-- the value that a template stands for, given that of its pattern: with `ifpresent` it stands for none
 abbrev pub specific_template_step : Template-F (Outcome Value) (Outcome Value) → Outcome Value
 specific_template_step t = if t.ifpresent then dynamic_error else t.pattern
 

@@ -15,6 +15,7 @@ use Rattle.ttcn_values.specs.declared.value.Value.TheVariants as value
 abbrev pub fitting : Option ℤ → Outcome Value
 fitting found = outcome_map value.Integer (or_error found)
 
+-- a boolean as the value that an operator gives
 abbrev pub truth : Bool → Outcome Value
 truth b = Yields (value.Boolean b)
 
@@ -24,6 +25,7 @@ truth b = Yields (value.Boolean b)
 abbrev pub negated : Value → Outcome Value
 negated v = outcome_and_then (λ b. truth (not b)) (or_unmet (boolean v))
 
+-- an integer with a sign before it: none where the negated one is no integer any more
 abbrev pub with_sign : Sign → ℤ → Option ℤ
 with_sign sign.Plus z = Some z
 with_sign sign.Minus z = within (neg_ℤ z)
@@ -70,6 +72,7 @@ applied operator.LessEqual v w = both (ordered operator.LessEqual) (integer v) (
 applied operator.GreaterEqual v w = both (ordered operator.GreaterEqual) (integer v) (integer w)
 applied op v w = both (λ x y. fitting (calculated op x y)) (integer v) (integer w)
 
+-- a boolean is there and is the one that is asked for
 abbrev pub is_truth : Bool → Option Bool → Bool
 is_truth wanted None = false
 is_truth wanted (Some b) = beq wanted b

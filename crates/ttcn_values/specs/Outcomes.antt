@@ -15,9 +15,11 @@ pub data Outcome (A : Type 0) : Type 0 where
   Yields : A → Outcome A
   Fails : Failure → Outcome A
 
+-- no value, because of a dynamic error
 abbrev pub dynamic_error : {A : Type 0} → Outcome A
 dynamic_error = Fails DynamicError
 
+-- no value, where no checked module comes
 abbrev pub unmet : {A : Type 0} → Outcome A
 unmet = Fails Unmet
 

@@ -41,6 +41,7 @@ pub record Reading : Type 0 where
 
 -- ---- names
 
+-- the enumerators of an enumeration, none of any other definition
 abbrev pub enumerators_of : Option DefinitionKind → List Enumerator
 enumerators_of (Some (kind.Enumerated e)) = e.enumerators
 enumerators_of _ = []
@@ -50,6 +51,7 @@ abbrev pub enumerated : List Definition → ℕ → List ℕ → Outcome Value
 enumerated definitions at name =
     outcome_map (value.Enumerated at) (or_unmet (position (λ e. bytes_eq e.name name) (enumerators_of (kind_at definitions at))))
 
+-- the value of a name by what it means in the module: a constant, an enumerator, or else what is read of it
 abbrev pub by_meaning : Reading → List ℕ → Option Meaning → Outcome Value
 by_meaning reading name (Some (meaning.ModuleConstant at item)) = reading.constants at item
 by_meaning reading name (Some (meaning.Enumerator at)) = enumerated reading.definitions at name
@@ -61,6 +63,7 @@ named reading name = by_meaning reading name (module_names reading.definitions n
 
 -- ---- fields
 
+-- what stands in the field of a name, in a record given by its type's position and its fields, if there is one
 abbrev pub state_in : List Definition → List ℕ → Option (ℕ × List (Option Value)) → Outcome (Option Value)
 state_in definitions name None = unmet
 state_in definitions name (Some found) =
@@ -80,6 +83,7 @@ abbrev pub read : Option Value → Outcome Value
 read None = dynamic_error
 read (Some v) = if is_omit v then dynamic_error else Yields v
 
+-- what is read of the field of a name: a dynamic error where it has no value or is omitted
 abbrev pub field : List Definition → List ℕ → Value → Outcome Value
 field definitions name v = outcome_and_then read (state_of_field definitions name v)
 
@@ -114,6 +118,7 @@ component_at reading (component.Named reference) = referred reading reference
 abbrev pub component_referred : Reading → ComponentRef → Outcome ComponentId
 component_referred reading reference = outcome_and_then values.component (component_at reading reference)
 
+-- whether the timer of a name runs, if the name is one's: a name with fields behind it is no timer's
 abbrev pub timer_of : (List ℕ → Option Bool) → List (List ℕ) → List ℕ → Option Bool
 timer_of timers [] name = timers name
 timer_of timers (field ∷ fields) name = None
@@ -127,6 +132,7 @@ timer_at reading _ = None
 abbrev pub component_runs : Reading → Value → Outcome Value
 component_runs reading v = outcome_map (λ c. value.Boolean (reading.running c.path)) (values.component v)
 
+-- whether the timer runs, where the reference is that of one, or else the component that it refers to
 abbrev pub runs_at : Reading → ComponentRef → Option Bool → Outcome Value
 runs_at reading reference (Some runs) = truth runs
 runs_at reading reference None = outcome_and_then (component_runs reading) (component_at reading reference)

@@ -46,10 +46,12 @@ as_pattern v = if is_complete v then Yields (plain (pattern.Value v)) else dynam
 abbrev pub argument : Reading → Parameter × written.Value → Outcome Value
 argument reading pair = value_wanted pair.1 reading (resolved (module_names reading.definitions) pair.0.type_name)
 
+-- what arguments give for the parameters, in their order: there are as many
 abbrev pub arguments : Reading → List Parameter → List written.Value → Outcome (List Value)
 arguments reading parameters given =
     if nat_eq (length given) (length parameters) then each (map (argument reading) (zip parameters given)) else unmet
 
+-- what the template at a position gives with these arguments, if one is meant
 abbrev pub template_called : Reading → Option ℕ → List written.Value → Outcome Template
 template_called reading None given = unmet
 template_called reading (Some at) given =
@@ -76,6 +78,7 @@ abbrev pub value_of_bound : Reading → Bound → Outcome (Option ℤ)
 value_of_bound reading (bound.Expr e) = outcome_and_then (λ v. outcome_map Some (or_unmet (integer v))) (value_of e reading)
 value_of_bound reading bound.Infinity = Yields None
 
+-- what a range gives: its two ends, the lower one evaluated first
 abbrev pub template_of_range : Reading → Bound → Bound → Outcome Template
 template_of_range reading low high =
     outcome_and_then (λ l. outcome_map (λ h. plain (pattern.Range l h)) (value_of_bound reading high)) (value_of_bound reading low)
@@ -95,6 +98,7 @@ abbrev pub in_order : Reading → List Field → List Wanted → Outcome (List T
 in_order reading fields elements =
     if nat_eq (length elements) (length fields) then each (map (element reading) (zip fields elements)) else unmet
 
+-- what the element of a field's name gives for it: no checked module has a field without one
 abbrev pub element_named : Reading → Field → Option (List ℕ × Wanted) → Outcome Template
 element_named reading field None = unmet
 element_named reading field (Some found) = element reading (field, found.1)
@@ -104,12 +108,14 @@ abbrev pub by_name : Reading → List Field → List (List ℕ × Wanted) → Ou
 by_name reading fields elements =
     each (map (λ field. element_named reading field (find (λ e. bytes_eq e.0 field.name) elements)) fields)
 
+-- a record template of the type at a position with what its fields' templates give, where both are there
 abbrev pub record_at : Outcome ℕ → (ℕ → Outcome (List Template)) → Outcome Template
 record_at (Fails why) parts = Fails why
 record_at (Yields at) parts = outcome_map (λ ps. plain (pattern.Record at ps)) (parts at)
 
 -- ---- templates
 
+-- what one level of a template body gives where a type is wanted, given what its parts give
 abbrev pub body_step : TemplateBody-F Wanted (List ℕ × Wanted) Wanted → Wanted
 body_step TemplateBody-F.Any reading wanted = Yields (plain pattern.Any)
 body_step TemplateBody-F.AnyOrOmit reading wanted = Yields (plain pattern.AnyOrOmit)
@@ -128,9 +134,11 @@ body_step (TemplateBody-F.Assigned parts) reading wanted =
 abbrev pub with_ifpresent : Bool → Template → Template
 with_ifpresent also found = record { pattern = found.pattern; ifpresent = found.ifpresent || also }
 
+-- what a template gives, given what its body gives, with `ifpresent` where that stands behind it
 abbrev pub template_step : Template-F Wanted (List ℕ × Wanted) Wanted → Wanted
 template_step t reading wanted = outcome_map (with_ifpresent t.ifpresent) (t.body reading wanted)
 
+-- an element of a template by field names: the name, with what its template gives, which is given
 abbrev pub field_template_step : FieldTemplate-F Wanted (List ℕ × Wanted) Wanted → List ℕ × Wanted
 field_template_step part = (part.name, part.template)
 

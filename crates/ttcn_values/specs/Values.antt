@@ -13,6 +13,7 @@ equal = (equality.ghosts).eq
 
 -- ---- what a value is
 
+-- the integer that the outermost level of a value is, if it is one
 abbrev pub integer_in : Value-F Value → Option ℤ
 integer_in (Value-F.Integer n) = Some n
 integer_in _ = None
@@ -21,6 +22,7 @@ integer_in _ = None
 abbrev pub integer : Value → Option ℤ
 integer v = integer_in (out-Value v)
 
+-- the boolean that the outermost level of a value is, if it is one
 abbrev pub boolean_in : Value-F Value → Option Bool
 boolean_in (Value-F.Boolean b) = Some b
 boolean_in _ = None
@@ -29,6 +31,7 @@ boolean_in _ = None
 abbrev pub boolean : Value → Option Bool
 boolean v = boolean_in (out-Value v)
 
+-- the component that the outermost level of a value refers to: a dynamic error for `null`
 abbrev pub component_in : Value-F Value → Outcome ComponentId
 component_in (Value-F.Component c) = Yields c
 component_in Value-F.Null = dynamic_error
@@ -38,6 +41,7 @@ component_in _ = unmet
 abbrev pub component : Value → Outcome ComponentId
 component v = component_in (out-Value v)
 
+-- the record that the outermost level of a value is, if it is one
 abbrev pub record_in : Value-F Value → Option (ℕ × List (Option Value))
 record_in (Value-F.Record at fields) = Some (at, fields)
 record_in _ = None
@@ -46,6 +50,7 @@ record_in _ = None
 abbrev pub record_of : Value → Option (ℕ × List (Option Value))
 record_of v = record_in (out-Value v)
 
+-- the outermost level of a value is `omit`
 abbrev pub is_omit_in : Value-F Value → Bool
 is_omit_in Value-F.Omit = true
 is_omit_in _ = false
@@ -56,10 +61,12 @@ is_omit v = is_omit_in (out-Value v)
 
 -- ---- what a value lacks
 
+-- a field has a value that lacks nothing, given whether its value lacks nothing
 abbrev pub has_value : Option Bool → Bool
 has_value None = false
 has_value (Some complete) = complete
 
+-- one level of a value lacks nothing, given whether the values of its fields lack nothing
 abbrev pub complete_step : Value-F Bool → Bool
 complete_step (Value-F.Record at fields) = list_all has_value fields
 complete_step _ = true

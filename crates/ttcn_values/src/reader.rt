@@ -53,8 +53,8 @@ pub(crate) enum Use {
 #[derive(Drop)]
 pub(crate) enum Origin<'a> {
     Constant(usize, usize),
-    Made(Option<Value>),
-    Kept(Option<&'a Value>),
+    Enumerator(Option<Value>),
+    Local(Option<&'a Value>),
 }
 
 /// A step in which templates are built, which changes a list of those so far.

@@ -16,7 +16,7 @@ use std::alloc::{AllocError, Global};
 use ttcn_syntax::{Definition, DefinitionKind, Direction, PortMessages, TypeName};
 
 /// Whether messages of a direction come in, or go out.
-fn passes(incoming: bool, direction: Direction) -> bool
+pub fn passes(incoming: bool, direction: Direction) -> bool
     ensures { result ≡ spec.passes incoming direction }
 {
     match direction {

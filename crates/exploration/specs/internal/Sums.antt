@@ -2,7 +2,7 @@
 use Rattle.std.specs.Prelude.{ℕ, List, Option}
 use Rattle.place_summaries.specs.KeySet.{KeySet, empty, from_list, from_option, union_join}
 use Rattle.summary.specs.Graph.{Graph}
-use Rattle.summary.specs.Reading.{sum_of}
+use Rattle.summary.specs.Sums.{sum_of}
 
 -- the branches that the steps of runs of at most n steps take
 abbrev pub branches_of : {C L B : Type 0} → Graph C L → (C → L → Option B) → ℕ → KeySet B

@@ -2,10 +2,10 @@
 ghost use Rattle.std.specs.Prelude.{◌≡◌, ◌+◌, ◌^◌, ◌<◌, ◌≤◌, false, length, All, IfOk, OnOk};
 ghost use Rattle.shared.specs.BoardSeats.{view as board_view};
 ghost use Rattle.shared.specs.SeenSeats.{view};
-ghost use Rattle.explore.specs.Expansion.{IsStep};
+ghost use Rattle.explore.specs.internal.Expansion.{IsStep};
 ghost use Rattle.explore.specs.Limits.{IsWithinLimits};
-ghost use Rattle.explore.specs.Search.{with_steps};
-ghost use Rattle.explore.specs.Work.{in_pieces, AreFirst, AreFirstSeats, AreSeatsOf, HasPlaced, IsDone, IsFresh, IsReady};
+ghost use Rattle.explore.specs.internal.Search.{with_steps};
+ghost use Rattle.explore.specs.internal.Work.{in_pieces, AreFirst, AreFirstSeats, AreSeatsOf, HasPlaced, IsDone, IsFresh, IsReady};
 
 use super::{Work, Worked, Worker};
 use crate::plan::{Gate, Plan};
@@ -63,14 +63,14 @@ impl<'l, 's, Y: System, G: Gate> Work<'l, 's, Y, G> {
         requires own { AreSeatsOf Y.State.eq self.now.seen.now self.now.board.now seat.old draws.old }
         requires first { AreFirstSeats 0 1 (view seat.old) (board_view draws.old) }
         requires fresh { IsFresh (view seat.old) (board_view draws.old) }
-        requires done { All (IsDone Y.State.eq self.now.seen.now self.now.board.now U.joins (U.reading self.now.system.now) (Y.graph self.now.system.now)
+        requires done { All (IsDone Y.State.eq self.now.seen.now self.now.board.now U.joins (U.observation self.now.system.now) (Y.graph self.now.system.now)
             self.now.visited.now.keys self.now.candidates.now self.now.size) done.items }
         ensures own { AreSeatsOf Y.State.eq self.now.seen.now self.now.board.now seat.new draws.new }
         ensures first { OnOk result (AreFirstSeats 0 (1 + length done.items) (view seat.new) (board_view draws.new)) }
         ensures ends { OnOk result ((board_view draws.new).saw ≡ false → 0 < length done.items → 0 < (board_view draws.new).ends) }
         ensures placed { OnOk result ((board_view draws.new).saw ≡ false
             → HasPlaced Y.State.eq self.now.visited.now.keys self.now.candidates.now self.now.size (board_view draws.new).drawn (view seat.new).placed) }
-        ensures summary { IfOk result (λ s. s ≡ with_steps U.joins (U.reading self.now.system.now) (Y.graph self.now.system.now) self.now.visited.now.keys U.joins.none
+        ensures summary { IfOk result (λ s. s ≡ with_steps U.joins (U.observation self.now.system.now) (Y.graph self.now.system.now) self.now.visited.now.keys U.joins.none
             (in_pieces self.now.size self.now.candidates.now (board_view draws.new).drawn)) }
     {
         let mut summary = U::empty(alloc)?;
@@ -103,7 +103,7 @@ fn run_workers<Y: System, U: Summary<Y>, G: Gate, R: Threads + Sync>(
     requires steps { All (IsStep (Y.graph work.now.system.now) work.now.visited.now.keys) work.now.candidates.now }
     requires ready { All (IsReady Y.State.eq work.now.seen.now work.now.board.now) workers.items }
     ensures count { IfOk result (λ done. length done.items ≡ length workers.items) }
-    ensures done { IfOk result (λ done. All (IsDone Y.State.eq work.now.seen.now work.now.board.now U.joins (U.reading work.now.system.now) (Y.graph work.now.system.now)
+    ensures done { IfOk result (λ done. All (IsDone Y.State.eq work.now.seen.now work.now.board.now U.joins (U.observation work.now.system.now) (Y.graph work.now.system.now)
         work.now.visited.now.keys work.now.candidates.now work.now.size) done.items) }
 {
     thread::map_vec(
@@ -111,7 +111,7 @@ fn run_workers<Y: System, U: Summary<Y>, G: Gate, R: Threads + Sync>(
         workers,
         &|worker: Worker| -> Worked<U>
             requires { All (Y.fits work.now.system.now) work.now.visited.now.keys × All (IsStep (Y.graph work.now.system.now) work.now.visited.now.keys) work.now.candidates.now × IsReady Y.State.eq work.now.seen.now work.now.board.now worker }
-            ensures { IsDone Y.State.eq work.entry.now.seen.now work.entry.now.board.now U.joins (U.reading work.entry.now.system.now) (Y.graph work.entry.now.system.now)
+            ensures { IsDone Y.State.eq work.entry.now.seen.now work.entry.now.board.now U.joins (U.observation work.entry.now.system.now) (Y.graph work.entry.now.system.now)
                 work.entry.now.visited.now.keys work.entry.now.candidates.now work.entry.now.size result }
         { work.work(alloc, worker) },
     )
@@ -136,7 +136,7 @@ fn share_work<Y: System, U: Summary<Y>, G: Gate, R: Threads + Sync>(
     ensures first { OnOk result (AreFirstSeats 0 (1 + count) (view seat.new) (board_view draws.new)) }
     ensures placed { OnOk result ((board_view draws.new).saw ≡ false → (0 < (board_view draws.new).ends)
         × HasPlaced Y.State.eq work.now.visited.now.keys work.now.candidates.now work.now.size (board_view draws.new).drawn (view seat.new).placed) }
-    ensures summary { IfOk result (λ s. s ≡ with_steps U.joins (U.reading work.now.system.now) (Y.graph work.now.system.now) work.now.visited.now.keys U.joins.none
+    ensures summary { IfOk result (λ s. s ≡ with_steps U.joins (U.observation work.now.system.now) (Y.graph work.now.system.now) work.now.visited.now.keys U.joins.none
         (in_pieces work.now.size work.now.candidates.now (board_view draws.new).drawn)) }
 {
     let workers = work.make_workers(alloc, seat, draws, count)?;
@@ -161,7 +161,7 @@ pub fn find_first<'l, Y: System, U: Summary<Y>, G: Gate, R: Threads + Sync>(
     requires steps { All (IsStep (Y.graph system.now) visited.now.keys) candidates.now }
     requires room { length candidates.now < 2 ^ 63 }
     ensures first { IfOk result (λ r. AreFirst Y.State.eq visited.now.keys candidates.now r.0.items) }
-    ensures summary { IfOk result (λ r. r.1 ≡ with_steps U.joins (U.reading system.now) (Y.graph system.now) visited.now.keys U.joins.none candidates.now) }
+    ensures summary { IfOk result (λ r. r.1 ≡ with_steps U.joins (U.observation system.now) (Y.graph system.now) visited.now.keys U.joins.none candidates.now) }
 {
     let size = plan.piece as usize;
     let pieces = candidates.len().div_ceil(size) as u64;

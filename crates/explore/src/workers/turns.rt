@@ -4,9 +4,9 @@ ghost use Rattle.std.specs.Fork.{slice_chunk};
 ghost use Rattle.shared.specs.BoardSeats.{view as board_view, IsSeatOf as IsBoardSeatOf};
 ghost use Rattle.shared.specs.SeenRule.{IsSameSeat};
 ghost use Rattle.shared.specs.SeenSeats.{view, IsSeatOf};
-ghost use Rattle.explore.specs.Expansion.{IsStep};
-ghost use Rattle.explore.specs.Search.{with_steps};
-ghost use Rattle.explore.specs.Work.{have_same_state, in_pieces, AddsNew, HasPlaced, IsIdle, IsSameBoardSeat, IsReady, IsDone};
+ghost use Rattle.explore.specs.internal.Expansion.{IsStep};
+ghost use Rattle.explore.specs.internal.Search.{with_steps};
+ghost use Rattle.explore.specs.internal.Work.{have_same_state, in_pieces, AddsNew, HasPlaced, IsIdle, IsSameBoardSeat, IsReady, IsDone};
 
 use super::{Work, Worked, Worker};
 use crate::plan::Gate;
@@ -39,7 +39,7 @@ impl<'l, 's, Y: System, G: Gate> Work<'l, 's, Y, G> {
         requires steps { All (IsStep (Y.graph self.now.system.now) self.now.visited.now.keys) self.now.candidates.now }
         requires at { at < length self.now.candidates.now }
         ensures { IfOk result (λ s. (c : _) → slice_get self.now.candidates.now at ≡ Some c
-            → s ≡ with_steps U.joins (U.reading self.now.system.now) (Y.graph self.now.system.now) self.now.visited.now.keys summary (c ∷ [])) }
+            → s ≡ with_steps U.joins (U.observation self.now.system.now) (Y.graph self.now.system.now) self.now.visited.now.keys summary (c ∷ [])) }
     {
         let candidate = &self.candidates[at];
         let before = &self.visited[candidate.before];
@@ -61,7 +61,7 @@ impl<'l, 's, Y: System, G: Gate> Work<'l, 's, Y, G> {
         ensures own { IsSeatOf (have_same_state Y.State.eq) self.now.seen.now seat.new }
         ensures kept { IsSameSeat (view seat.old) (view seat.new) }
         ensures placed { OnOk result (AddsNew Y.State.eq self.now.visited.now.keys self.now.candidates.now (piece * self.now.size) (piece * self.now.size + self.now.size) (view seat.old).placed (view seat.new).placed) }
-        ensures summary { IfOk result (λ s. s ≡ with_steps U.joins (U.reading self.now.system.now) (Y.graph self.now.system.now) self.now.visited.now.keys summary (slice_chunk self.now.candidates.now self.now.size piece)) }
+        ensures summary { IfOk result (λ s. s ≡ with_steps U.joins (U.observation self.now.system.now) (Y.graph self.now.system.now) self.now.visited.now.keys summary (slice_chunk self.now.candidates.now self.now.size piece)) }
     {
         let from = piece as usize * self.size;
         let to = from + self.size.min(self.candidates.len() - from);
@@ -89,7 +89,7 @@ impl<'l, 's, Y: System, G: Gate> Work<'l, 's, Y, G> {
         ensures kept { IsSameSeat (view seat.old) (view seat.new) × IsSameBoardSeat (board_view draws.old) (board_view draws.new) }
         ensures placed { OnOk result ((board_view draws.new).saw ≡ false
             → (0 < (board_view draws.new).ends) × HasPlaced Y.State.eq self.now.visited.now.keys self.now.candidates.now self.now.size (board_view draws.new).drawn (view seat.new).placed) }
-        ensures summary { IfOk result (λ s. s ≡ with_steps U.joins (U.reading self.now.system.now) (Y.graph self.now.system.now) self.now.visited.now.keys U.joins.none
+        ensures summary { IfOk result (λ s. s ≡ with_steps U.joins (U.observation self.now.system.now) (Y.graph self.now.system.now) self.now.visited.now.keys U.joins.none
             (in_pieces self.now.size self.now.candidates.now (board_view draws.new).drawn)) }
     {
         let mut summary = U::empty(alloc)?;
@@ -110,7 +110,7 @@ impl<'l, 's, Y: System, G: Gate> Work<'l, 's, Y, G> {
         requires fits { All (Y.fits self.now.system.now) self.now.visited.now.keys }
         requires steps { All (IsStep (Y.graph self.now.system.now) self.now.visited.now.keys) self.now.candidates.now }
         requires ready { IsReady Y.State.eq self.now.seen.now self.now.board.now worker }
-        ensures { IsDone Y.State.eq self.now.seen.now self.now.board.now U.joins (U.reading self.now.system.now) (Y.graph self.now.system.now)
+        ensures { IsDone Y.State.eq self.now.seen.now self.now.board.now U.joins (U.observation self.now.system.now) (Y.graph self.now.system.now)
             self.now.visited.now.keys self.now.candidates.now self.now.size result }
     {
         let Worker {

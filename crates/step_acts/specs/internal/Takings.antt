@@ -1,6 +1,6 @@
 -- Branches that are taken, with what code keeps of them (ES 201 873-1, 20.2).
 use Rattle.std.specs.Prelude.{List, [], ◌∷◌}
-use Rattle.step_acts.specs.Stands.{site_of}
+use Rattle.step_acts.specs.internal.Stands.{site_of}
 use Rattle.step_acts.specs.declared.stand.Stand.{Stand}
 use Rattle.step_choice.specs.Choices.{IsTaken, IsWayOf}
 use Rattle.step_choice.specs.Deeds.{Deed, Elapses, Nothing, Receives}

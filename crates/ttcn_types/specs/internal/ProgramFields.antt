@@ -2,7 +2,7 @@
 use Rattle.std.specs.Prelude.{◌≡◌}
 use Rattle.ttcn_types.specs.Programs.{test_case_named}
 use Rattle.ttcn_types.specs.Rules.{AreWellTyped}
-use Rattle.ttcn_types.specs.TestCases.{placed}
+use Rattle.ttcn_types.specs.internal.TestCases.{placed}
 use Rattle.ttcn_types.specs.declared.program.Program.TheInside.{Inside}
 
 -- the module is well typed, and the table has its test cases

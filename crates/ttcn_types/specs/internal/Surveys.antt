@@ -5,7 +5,7 @@ use Rattle.survey.specs.declared.thing.Thing.{Thing}
 use Rattle.ttcn_syntax.specs.declared.tree.definition.Definition.{Definition}
 use Rattle.check_scope.specs.Numbers.{number_of}
 use Rattle.ttcn_types.specs.Limits.{longest_chain, most_fields, most_parts}
-use Rattle.ttcn_types.specs.Parts.{altsteps, records, written_out}
+use Rattle.ttcn_types.specs.Parts.{altsteps, records, constants_and_templates}
 use Rattle.ttcn_types.specs.Rules.{AreTooLarge, HasCircle}
 use Rattle.check_scope.specs.declared.rule.Rule.{Rule}
 use Rattle.check_scope.specs.declared.rule.Rule.TheVariants as rule
@@ -30,7 +30,7 @@ BreaksInRecords definitions = BreaksAmong (records definitions) most_fields rule
 
 -- what its constants and templates break
 abbrev pub BreaksWritten : List Definition → Rule → Type 0
-BreaksWritten definitions = BreaksAmong (written_out definitions) most_parts rule.Cycle
+BreaksWritten definitions = BreaksAmong (constants_and_templates definitions) most_parts rule.Cycle
 
 -- what its altsteps break
 abbrev pub BreaksInAltsteps : List Definition → Rule → Type 0

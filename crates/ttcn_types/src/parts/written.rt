@@ -109,7 +109,7 @@ fn push_written<'a>(
     things: &mut Vec<Thing>,
 ) -> Result<(), AllocError>
     requires { scope_of around.now ≡ module_scope around.now.scope.now.definitions.now }
-    ensures { OnOk result (things.new.items ≡ things.old.items ++ map tally (spec.written_at around.now.scope.now.definitions.now kind.now)) }
+    ensures { OnOk result (things.new.items ≡ things.old.items ++ map tally (spec.things_at around.now.scope.now.definitions.now kind.now)) }
 {
     match kind {
         DefinitionKind::Constants(constants) => {
@@ -126,7 +126,7 @@ fn push_written<'a>(
 /// What each constant and each template of the module is.
 fn things_of(alloc: Global, scope: &Scope<'_>, numbers: &Numbers) -> Result<Vec<Thing>, AllocError>
     requires { AreNumbers numbers.now scope.now.definitions.now }
-    ensures { IfOk result (λ things. things.items ≡ map tally (spec.written_out scope.now.definitions.now)) }
+    ensures { IfOk result (λ things. things.items ≡ map tally (spec.constants_and_templates scope.now.definitions.now)) }
 {
     let around = Surroundings::of_module(alloc, scope, numbers);
     let mut things = Vec::new(alloc);
@@ -145,8 +145,11 @@ pub(crate) struct Numbering {
 }
 
 /// The constants and templates of the module.
-pub(crate) fn written_out(alloc: Global, scope: &Scope<'_>) -> Result<Numbering, AllocError>
-    ensures things { IfOk result (λ written. written.things.items ≡ map tally (spec.written_out scope.now.definitions.now)) }
+pub(crate) fn constants_and_templates(
+    alloc: Global,
+    scope: &Scope<'_>,
+) -> Result<Numbering, AllocError>
+    ensures things { IfOk result (λ written. written.things.items ≡ map tally (spec.constants_and_templates scope.now.definitions.now)) }
     ensures places { IfOk result (λ written. length written.places.items ≡ length written.things.items) }
 {
     let numbers = Numbers::of(alloc, scope.definitions)?;

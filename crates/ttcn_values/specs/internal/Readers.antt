@@ -62,5 +62,5 @@ wanted_of wanted reading reference = taken_for wanted reading.definitions refere
 -- the value of what a name stands for
 abbrev pub origin_value : Reading → Origin → Outcome Value
 origin_value reading (origin.Constant at item) = reading.constants at item
-origin_value reading (origin.Made v) = or_unmet v
-origin_value reading (origin.Kept v) = or_error (option_map (λ value. value.now) v)
+origin_value reading (origin.Enumerator v) = or_unmet v
+origin_value reading (origin.Local v) = or_error (option_map (λ value. value.now) v)

@@ -5,7 +5,7 @@ ghost use Rattle.ttcn_values.specs.internal.Readers.{KnowsConstants, read_by, wa
 ghost use Rattle.ttcn_values.specs.Outcomes.{Answers, Gives, Yields};
 ghost use Rattle.ttcn_values.specs.Readings.{component_at, component_runs};
 
-use super::record::{kept, made};
+use super::record::{value_of_new, value_of_stored};
 use super::{Origin, Reader, Use};
 use crate::operators::{apply, is_decided, negate, number, sign};
 use crate::{Fault, Value};
@@ -106,15 +106,15 @@ impl Reader<'_> {
         let fields = reference.fields.as_slice();
         match self.origin(&reference.name) {
             Origin::Constant(at, item) => match self.result_of(at, item) {
-                Some(Ok(value)) => kept(alloc, definitions, wanted, Some(value), fields),
+                Some(Ok(value)) => value_of_stored(alloc, definitions, wanted, Some(value), fields),
                 Some(Err(fault)) => Err(*fault),
                 None => {
                     let value = self.constant(alloc, at, item)?;
-                    made(alloc, definitions, wanted, Some(value), fields)
+                    value_of_new(alloc, definitions, wanted, Some(value), fields)
                 }
             },
-            Origin::Made(value) => made(alloc, definitions, wanted, value, fields),
-            Origin::Kept(value) => kept(alloc, definitions, wanted, value, fields),
+            Origin::Enumerator(value) => value_of_new(alloc, definitions, wanted, value, fields),
+            Origin::Local(value) => value_of_stored(alloc, definitions, wanted, value, fields),
         }
     }
 }

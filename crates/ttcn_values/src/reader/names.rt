@@ -70,8 +70,8 @@ impl<'a> Reader<'a> {
         let definitions = self.frame.definitions;
         match definitions.meaning(name.as_bytes()) {
             Some(Meaning::ModuleConstant(at, item)) => Origin::Constant(at, item),
-            Some(Meaning::Enumerator(at)) => Origin::Made(enumerated(definitions, at, name)),
-            _ => Origin::Kept(self.name(name)),
+            Some(Meaning::Enumerator(at)) => Origin::Enumerator(enumerated(definitions, at, name)),
+            _ => Origin::Local(self.name(name)),
         }
     }
 }

@@ -118,7 +118,7 @@ fn is_there(
 }
 
 /// What a value that is kept elsewhere gives for a use, with fields behind it.
-fn used(
+fn value_for(
     alloc: Global,
     definitions: &Definitions<'_>,
     wanted: Use,
@@ -138,7 +138,7 @@ fn used(
 
 /// The same, if there is a value.
 #[tactic(auto, using(crate::proofs::Uses::taken_of_failure))]
-pub(super) fn kept(
+pub(super) fn value_of_stored(
     alloc: Global,
     definitions: &Definitions<'_>,
     wanted: Use,
@@ -148,14 +148,14 @@ pub(super) fn kept(
     ensures { Gives (taken_for wanted definitions.now fields.now (or_error (option_map (λ value. value.now) value.entry))) result }
 {
     match value {
-        Some(value) => used(alloc, definitions, wanted, value, fields),
+        Some(value) => value_for(alloc, definitions, wanted, value, fields),
         None => Err(Fault::Dynamic),
     }
 }
 
 /// The same, of a value that was made for it.
 #[tactic(auto, using(crate::proofs::Uses::taken_of_failure))]
-pub(super) fn made(
+pub(super) fn value_of_new(
     alloc: Global,
     definitions: &Definitions<'_>,
     wanted: Use,
@@ -165,7 +165,7 @@ pub(super) fn made(
     ensures { Gives (taken_for wanted definitions.now fields.now (or_unmet value)) result }
 {
     match value {
-        Some(value) => used(alloc, definitions, wanted, &value, fields),
+        Some(value) => value_for(alloc, definitions, wanted, &value, fields),
         None => Err(Fault::Dynamic),
     }
 }

@@ -1,6 +1,6 @@
 use Rattle.std.proofs.Common.{◌≡◌, ℕ, ◌<◌, length, get_or}
 use Rattle.std.specs.Prelude.{None}
-use Rattle.explore.specs.Tied.{IsRunKept}
+use Rattle.explore.specs.internal.Tied.{IsRunKept}
 use Rattle.explore.proofs.answer.best_runs.Given as goal
 
 abbrev pub invariant-loop-place : goal.invariant-loop-place

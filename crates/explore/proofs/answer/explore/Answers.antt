@@ -3,7 +3,7 @@ use Rattle.std.specs.Prelude.{All}
 use Rattle.std.proofs.lemmas.List.{take_rest}
 use Rattle.std.proofs.lemmas.Result.{err_from_is_err_and}
 use Rattle.summary.specs.Exploration.{Counts}
-use Rattle.summary.specs.Reading.{IsSemilattice}
+use Rattle.summary.specs.Sums.{IsSemilattice}
 use Rattle.explore.proofs.Visits.{IsLawful}
 use Rattle.explore.proofs.Outcome.{too_many, go_back, as_many, count_is, complete_is, summary_is, every_bound, best_is}
 use Rattle.explore.proofs.answer.explore.Given.{Over}
@@ -31,7 +31,7 @@ returns-in_err-explored-clause-too_many g c many =
     let system = c.args.system.now in
     let p = err_from_is_err_and c.from_residual.result c.from_residual.ensures.1 in
     too_many (g.Y.System.graph system) g.Y.Label.Ord.cmp g.Y.State.PartialEq.eq (g.Y.System.fits system) (lawful g system)
-    g.U.Summary.joins (g.U.Summary.reading system) (semilattice g) c.args.plan.now.steps c.args.plan.now.limit
+    g.U.Summary.joins (g.U.Summary.observation system) (semilattice g) c.args.plan.now.steps c.args.plan.now.limit
     (c.in_err-explored.ensures.too_many (cc (p.1, p.2, many)))
 
 pub best_runs-requires-clause-as_many : goal.best_runs-requires-clause-as_many
@@ -39,7 +39,7 @@ best_runs-requires-clause-as_many g c κs within =
     let system = c.args.system.now in
     let found = c.in_ok-explored.explored in
     as_many (g.Y.System.graph system) g.Y.Label.Ord.cmp g.Y.State.PartialEq.eq (g.Y.System.fits system) (lawful g system)
-    g.U.Summary.joins (g.U.Summary.reading system) (semilattice g) c.args.plan.now.steps
+    g.U.Summary.joins (g.U.Summary.observation system) (semilattice g) c.args.plan.now.steps
     found.visited.states.keys found.visited.steps.items found.from found.summary c.in_ok-explored.ensures.found
 
 pub best_runs-requires-clause-back : goal.best_runs-requires-clause-back
@@ -47,7 +47,7 @@ best_runs-requires-clause-back g c κs within =
     let system = c.args.system.now in
     let found = c.in_ok-explored.explored in
     go_back (g.Y.System.graph system) g.Y.Label.Ord.cmp g.Y.State.PartialEq.eq (g.Y.System.fits system) (lawful g system)
-    g.U.Summary.joins (g.U.Summary.reading system) (semilattice g) c.args.plan.now.steps
+    g.U.Summary.joins (g.U.Summary.observation system) (semilattice g) c.args.plan.now.steps
     found.visited.states.keys found.visited.steps.items found.from found.summary c.in_ok-explored.ensures.found
 
 pub returns-clause-count : goal.returns-clause-count
@@ -58,7 +58,7 @@ returns-clause-count g c =
     let limit = c.args.plan.now.limit in
     let found = c.in_ok-explored.explored in
     let counted = count_is graph g.Y.Label.Ord.cmp g.Y.State.PartialEq.eq (g.Y.System.fits system) (lawful g system)
-    g.U.Summary.joins (g.U.Summary.reading system) (semilattice g) steps
+    g.U.Summary.joins (g.U.Summary.observation system) (semilattice g) steps
     found.visited.states.keys found.visited.steps.items found.from found.summary c.in_ok-explored.ensures.found in
     subst (λ states. Counts graph steps (length states) × (length states ≤ limit)) (sym c.as_slice-states.ensures.keys) (counted, c.in_ok-explored.ensures.within)
 
@@ -67,7 +67,7 @@ returns-clause-summary g c =
     let system = c.args.system.now in
     let found = c.in_ok-explored.explored in
     summary_is (g.Y.System.graph system) g.Y.Label.Ord.cmp g.Y.State.PartialEq.eq (g.Y.System.fits system) (lawful g system)
-    g.U.Summary.joins (g.U.Summary.reading system) (semilattice g) c.args.plan.now.steps
+    g.U.Summary.joins (g.U.Summary.observation system) (semilattice g) c.args.plan.now.steps
     found.visited.states.keys found.visited.steps.items found.from found.summary c.in_ok-explored.ensures.found
 
 pub returns-clause-complete : goal.returns-clause-complete
@@ -78,7 +78,7 @@ returns-clause-complete g c =
     let layer = take_rest c.as_slice-states.result.now found.from ∙ ap (drop found.from) c.as_slice-states.ensures.keys in
     let quiet = c.in_ok-complete.ensures in
     let exact = complete_is graph g.Y.Label.Ord.cmp g.Y.State.PartialEq.eq (g.Y.System.fits system) (lawful g system)
-    g.U.Summary.joins (g.U.Summary.reading system) (semilattice g) c.args.plan.now.steps
+    g.U.Summary.joins (g.U.Summary.observation system) (semilattice g) c.args.plan.now.steps
     found.visited.states.keys found.visited.steps.items found.from found.summary c.in_ok-explored.ensures.found in (
       λ is. exact.0 (subst (All (λ (s : _). graph.enabled s ≡ [])) layer (quiet.0 is)),
       λ all. quiet.1 (subst (All (λ (s : _). graph.enabled s ≡ [])) (sym layer) (exact.1 all)),
@@ -91,7 +91,7 @@ returns-clause-best g c =
     record {
       eight = c.in_ok-best.ensures.eight;
       each = λ mark below. best_is (g.Y.System.graph system) g.Y.Label.Ord.cmp g.Y.State.PartialEq.eq (g.Y.System.fits system) (lawful g system)
-          g.U.Summary.joins (g.U.Summary.reading system) (semilattice g) c.args.plan.now.steps
+          g.U.Summary.joins (g.U.Summary.observation system) (semilattice g) c.args.plan.now.steps
           found.visited.states.keys found.visited.steps.items found.from found.summary c.in_ok-explored.ensures.found
           mark _ (c.in_ok-best.ensures.each mark below);
     }
@@ -103,7 +103,7 @@ returns-clause-every_bound g c complete bound le =
     let found = c.in_ok-explored.explored in
     let layer = take_rest c.as_slice-states.result.now found.from ∙ ap (drop found.from) c.as_slice-states.ensures.keys in
     let more = every_bound graph g.Y.Label.Ord.cmp g.Y.State.PartialEq.eq (g.Y.System.fits system) (lawful g system)
-    g.U.Summary.joins (g.U.Summary.reading system) (semilattice g) c.args.plan.now.steps
+    g.U.Summary.joins (g.U.Summary.observation system) (semilattice g) c.args.plan.now.steps
     found.visited.states.keys found.visited.steps.items found.from found.summary c.in_ok-explored.ensures.found
     (subst (All (λ (s : _). graph.enabled s ≡ [])) layer (c.in_ok-complete.ensures.0 complete)) bound le in
     (more.0, subst (λ states. Counts graph bound (length states)) (sym c.as_slice-states.ensures.keys) more.1)

@@ -2,8 +2,8 @@ use Rattle.std.proofs.Common.{◌≡◌, ◌+◌, ◌^◌, ◌%◌, ◌≢◌, �
 use Rattle.std.proofs.iter.Next.{Yields-more}
 use Rattle.std.proofs.lemmas.Result.{err_from_is_err_and}
 use Rattle.std.specs.Vec.Iter.{into_iter_items, into_iter_steps}
-use Rattle.explore.specs.Search.{place}
-use Rattle.explore.specs.Tied.{as_found}
+use Rattle.explore.specs.internal.Search.{place}
+use Rattle.explore.specs.internal.Tied.{as_found}
 use Rattle.explore.proofs.SearchSteps.{placed, place_all_append, too_many_at}
 use Rattle.explore.proofs.Taken.{front_taken}
 use Rattle.explore.proofs.NotFirst.{IsUpTo, not_there, up_first, up_other, passed_over}
@@ -14,12 +14,12 @@ use Rattle.explore.proofs.entering.enter_first.Goals.{Joined-next-firsts, then-n
 pub returns-in_err-summary-clause-too_many : goal.returns-in_err-summary-clause-too_many
 returns-in_err-summary-clause-too_many g c many from =
     let joins = g.U.Summary.joins in
-    let reading = g.U.Summary.reading c.args.system.now in
+    let observation = g.U.Summary.observation c.args.system.now in
     let eq = g.Y.State.PartialEq.eq in
     let p = err_from_is_err_and c.from_residual.result c.from_residual.ensures.1 in
     let start = c.into_iter-candidate-iterator.result in
     let more = Yields-more into_iter_steps start c.loop-candidate.yielded c.loop-candidate.candidate-iterator c.in-Some.candidate c.next.new.self c.loop-candidate.yielded_by c.in-Some.ensures.steps in
-    too_many_at joins reading eq c.args.limit
+    too_many_at joins observation eq c.args.limit
     (as_found c.args.visited.now.states.keys c.args.visited.now.steps.items from c.args.summary)
     (as_found c.loop-candidate.visited.states.keys c.loop-candidate.visited.steps.items from c.loop-candidate.summary)
     c.loop-candidate.yielded (into_iter_items c.next.new.self) c.args.candidates.items c.in-Some.candidate
@@ -46,7 +46,7 @@ one_more g c =
 pub loop-candidate-preserved : goal.loop-candidate-preserved
 loop-candidate-preserved g c =
     let joins = g.U.Summary.joins in
-    let reading = g.U.Summary.reading c.args.system.now in
+    let observation = g.U.Summary.observation c.args.system.now in
     let eq = g.Y.State.PartialEq.eq in
     let laws = (g.met.Y.State.Eq g.world.𝓛 g.world.𝓜 g.world.𝓡 ((λ s x. x), (λ x. x), (λ x. x), λ x. x)).laws in
     let firsts = c.args.firsts.now in
@@ -59,9 +59,9 @@ loop-candidate-preserved g c =
       | then-next-firsts+then-firsts-next+in_ok-summary w ↦ record {
         found = λ from.
             (λ i. as_found (w.visited-is i).states.keys (w.visited-is i).steps.items from (w.summary-is i))
-            ∙ placed joins reading eq w.in_ok-summary.ensures.placed from
-            ∙ ap (λ f. place joins reading eq f c.in-Some.candidate) (inv.found from)
-            ∙ sym (place_all_append joins reading eq (as_found c.args.visited.now.states.keys c.args.visited.now.steps.items from c.args.summary) c.loop-candidate.yielded (c.in-Some.candidate ∷ []));
+            ∙ placed joins observation eq w.in_ok-summary.ensures.placed from
+            ∙ ap (λ f. place joins observation eq f c.in-Some.candidate) (inv.found from)
+            ∙ sym (place_all_append joins observation eq (as_found c.args.visited.now.states.keys c.args.visited.now.steps.items from c.args.summary) c.loop-candidate.yielded (c.in-Some.candidate ∷ []));
         within = λ h. subst (λ (v : _). length v.states.keys ≤ c.args.limit) (sym w.visited-is) (w.in_ok-summary.ensures.within (inv.within h));
         at = count;
         up = subst (λ n. IsUpTo firsts n ((at + 1) % 2 ^ 64)) (sym w.next-is)
@@ -75,7 +75,7 @@ loop-candidate-preserved g c =
           record {
             found = λ from.
                 (λ i. as_found (w.visited-is i).states.keys (w.visited-is i).steps.items from (w.summary-is i))
-                ∙ passed_over joins reading eq laws (as_found c.args.visited.now.states.keys c.args.visited.now.steps.items from c.args.summary)
+                ∙ passed_over joins observation eq laws (as_found c.args.visited.now.states.keys c.args.visited.now.steps.items from c.args.summary)
                 (as_found c.loop-candidate.visited.states.keys c.loop-candidate.visited.steps.items from c.loop-candidate.summary)
                 c.args.candidates.items firsts c.loop-candidate.yielded (into_iter_items c.next.new.self) c.in-Some.candidate at
                 c.requires.first (split g c) inv.at (not_there firsts next at c.requires.first.ascending inv.up other) (inv.found from);

@@ -1,5 +1,5 @@
 use Rattle.std.proofs.Common.{◌≡◌, ◌++◌}
-use Rattle.explore.specs.Expansion.{candidates_with}
+use Rattle.explore.specs.internal.Expansion.{candidates_with}
 use Rattle.explore.proofs.expand.add_candidates.Given as goal
 
 abbrev pub invariant-loop-label : goal.invariant-loop-label

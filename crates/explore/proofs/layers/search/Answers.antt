@@ -3,8 +3,8 @@ use Rattle.std.specs.Prelude.{All}
 use Rattle.std.proofs.lemmas.List.{take_rest}
 use Rattle.std.proofs.lemmas.List.Elements.{All-nil, All-cons, All-drop}
 use Rattle.std.proofs.lemmas.Result.{err_from_is_err_and}
-use Rattle.explore.specs.Search.{Found, found_after, layer_candidates, with_steps}
-use Rattle.explore.specs.Tied.{as_found}
+use Rattle.explore.specs.internal.Search.{Found, found_after, layer_candidates, with_steps}
+use Rattle.explore.specs.internal.Tied.{as_found}
 use Rattle.explore.proofs.SearchSteps.{layer_fits, place_all_fits, placed_grows, layer_done, layer_too_many}
 use Rattle.explore.proofs.LayerSteps.{are_steps, steps_shown}
 use Rattle.explore.proofs.layers.search.Goals as goal
@@ -50,16 +50,16 @@ pub returns-in_err-summary-clause-too_many : goal.returns-in_err-summary-clause-
 returns-in_err-summary-clause-too_many g c many =
     let graph = g.Y.System.graph c.args.system.now in
     let joins = g.U.Summary.joins in
-    let reading = g.U.Summary.reading c.args.system.now in
+    let observation = g.U.Summary.observation c.args.system.now in
     let eq = g.Y.State.PartialEq.eq in
     let p = err_from_is_err_and c.from_residual-in_err-summary.result c.from_residual-in_err-summary.ensures.1 in
     let states = c.as_slice-states.result.now in
     let keys = c.loop-layer.visited.states.keys in
     let layer = take_rest states c.loop-layer.from ∙ ap (drop c.loop-layer.from) c.as_slice-states.ensures.keys in
-    let shown = with_steps joins reading graph keys c.loop-layer.summary c.in_ok-candidates.candidates.items in
-    let shown_is = steps_shown graph keys joins reading c.loop-layer.from c.loop-layer.summary c.in_ok-candidates.candidates.items
+    let shown = with_steps joins observation graph keys c.loop-layer.summary c.in_ok-candidates.candidates.items in
+    let shown_is = steps_shown graph keys joins observation c.loop-layer.from c.loop-layer.summary c.in_ok-candidates.candidates.items
     (c.in_ok-candidates.ensures ∙ ap (layer_candidates graph c.loop-layer.from) layer) in
-    layer_too_many graph joins reading eq c.loop-layer.layer c.args.plan.now.steps c.args.plan.now.limit c.loop-layer.from
+    layer_too_many graph joins observation eq c.loop-layer.layer c.args.plan.now.steps c.args.plan.now.limit c.loop-layer.from
     c.loop-layer.visited.states.keys c.loop-layer.visited.steps.items c.loop-layer.summary shown c.in_ok-candidates.candidates.items
     c.loop-layer-test.true c.loop-layer.invariant.found
     (c.in_ok-candidates.ensures ∙ ap (layer_candidates graph c.loop-layer.from) layer)
@@ -71,32 +71,32 @@ loop-layer-preserved g c =
     let fits = g.Y.System.fits c.args.system.now in
     let graph = g.Y.System.graph c.args.system.now in
     let joins = g.U.Summary.joins in
-    let reading = g.U.Summary.reading c.args.system.now in
+    let observation = g.U.Summary.observation c.args.system.now in
     let eq = g.Y.State.PartialEq.eq in
     let states = c.as_slice-states.result.now in
     let keys = c.loop-layer.visited.states.keys in
     let layer = take_rest states c.loop-layer.from ∙ ap (drop c.loop-layer.from) c.as_slice-states.ensures.keys in
-    let shown = with_steps joins reading graph keys c.loop-layer.summary c.in_ok-candidates.candidates.items in
-    let shown_is = steps_shown graph keys joins reading c.loop-layer.from c.loop-layer.summary c.in_ok-candidates.candidates.items
+    let shown = with_steps joins observation graph keys c.loop-layer.summary c.in_ok-candidates.candidates.items in
+    let shown_is = steps_shown graph keys joins observation c.loop-layer.from c.loop-layer.summary c.in_ok-candidates.candidates.items
     (c.in_ok-candidates.ensures ∙ ap (layer_candidates graph c.loop-layer.from) layer) in
     let cands = c.in_ok-candidates.ensures ∙ ap (layer_candidates graph c.loop-layer.from) layer in
     let old = as_found c.loop-layer.visited.states.keys c.loop-layer.visited.steps.items 0 shown in
     let new_states = ap (λ (f : Found _ _ _). f.states) (c.in_ok-summary.ensures.placed 0) in
     record {
-      found = layer_done graph joins reading eq c.loop-layer.layer c.loop-layer.from c.len-from.result
+      found = layer_done graph joins observation eq c.loop-layer.layer c.loop-layer.from c.len-from.result
           c.loop-layer.visited.states.keys c.place_layer.new.visited.states.keys c.loop-layer.visited.steps.items c.place_layer.new.visited.steps.items
           c.loop-layer.summary shown c.in_ok-summary.summary c.in_ok-candidates.candidates.items
           c.loop-layer.invariant.found cands
           shown_is
           c.len-from.ensures.len c.in_ok-summary.ensures.placed;
       fits = subst (All fits) (sym new_states)
-          (place_all_fits joins reading eq fits old c.in_ok-candidates.candidates.items c.loop-layer.invariant.fits
+          (place_all_fits joins observation eq fits old c.in_ok-candidates.candidates.items c.loop-layer.invariant.fits
           (subst (All (λ (k : _). fits k.state)) (sym cands)
           (layer_fits graph fits ((g.met.Y.System g.world.𝓛 g.world.𝓜 g.world.𝓡 ((λ s x. x), (λ x. x), (λ x. x), λ x. x)).after_fits c.args.system.now) c.loop-layer.from (drop c.loop-layer.from c.loop-layer.visited.states.keys)
           (All-drop fits c.loop-layer.from c.loop-layer.visited.states.keys c.loop-layer.invariant.fits))));
       within = c.in_ok-summary.ensures.within c.loop-layer.invariant.within;
       from =
-          let grown = placed_grows joins reading eq c.loop-layer.visited.states.keys c.place_layer.new.visited.states.keys c.loop-layer.visited.steps.items
+          let grown = placed_grows joins observation eq c.loop-layer.visited.states.keys c.place_layer.new.visited.states.keys c.loop-layer.visited.steps.items
           c.place_layer.new.visited.steps.items 0 shown c.in_ok-summary.summary c.in_ok-candidates.candidates.items (c.in_ok-summary.ensures.placed 0) in
           subst (λ (k : ℕ). k ≤ length c.place_layer.new.visited.states.keys) (sym c.len-from.ensures.len) grown;
     }
@@ -105,4 +105,4 @@ pub returns-clause-found : goal.returns-clause-found
 returns-clause-found g c =
     let graph = g.Y.System.graph c.args.system.now in
     let e : c.loop-layer.layer ≡ c.args.plan.now.steps = omega arith in
-    c.loop-layer.invariant.found ∙ ap (found_after graph g.U.Summary.joins (g.U.Summary.reading c.args.system.now) g.Y.State.PartialEq.eq) e
+    c.loop-layer.invariant.found ∙ ap (found_after graph g.U.Summary.joins (g.U.Summary.observation c.args.system.now) g.Y.State.PartialEq.eq) e

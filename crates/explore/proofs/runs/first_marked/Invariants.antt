@@ -1,5 +1,5 @@
 use Rattle.std.proofs.Common.{take}
-use Rattle.explore.specs.Tied.{AreFirstMarked}
+use Rattle.explore.specs.internal.Tied.{AreFirstMarked}
 use Rattle.explore.proofs.runs.first_marked.Given as goal
 
 abbrev pub invariant-loop-place : goal.invariant-loop-place

@@ -2,7 +2,7 @@ use Rattle.std.proofs.Common.{◌++◌, ap, sym, ◌∙◌, arith}
 use Rattle.std.specs.Prelude.{None, reverse}
 use Rattle.std.proofs.lemmas.List.{get_or_read}
 use Rattle.summary.specs.Run.{labels_of}
-use Rattle.explore.specs.Tied.{run_at}
+use Rattle.explore.specs.internal.Tied.{run_at}
 use Rattle.explore.proofs.RunLabels.{step_back, before_within}
 use Rattle.explore.proofs.runs.run_to.Goals as goal
 

@@ -1,7 +1,7 @@
 use Rattle.std.proofs.Common.{◌≡◌, ◌<◌, ◌++◌, List, length}
 use Rattle.std.specs.Prelude.{reverse}
 use Rattle.summary.specs.Run.{Run, labels_of}
-use Rattle.explore.specs.Tied.{AreLastSteps, run_at}
+use Rattle.explore.specs.internal.Tied.{AreLastSteps, run_at}
 use Rattle.explore.proofs.runs.run_to.Given as goal
 
 abbrev pub invariant-loop-at : goal.invariant-loop-at

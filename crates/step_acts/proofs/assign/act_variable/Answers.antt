@@ -1,7 +1,7 @@
 use Rattle.std.proofs.Common.{Option, ap, subst, sym, true, ◌∙◌}
 use Rattle.step_acts.proofs.assign.act_variable.Goals as goal
 use Rattle.step_acts.specs.Asks.{Asks}
-use Rattle.step_acts.specs.Stands.{legend_of, site_of, stand_by}
+use Rattle.step_acts.specs.internal.Stands.{legend_of, site_of, stand_by}
 use Rattle.step_rules.specs.Configurations.{Data}
 use Rattle.step_rules.specs.Items.{Target}
 use Rattle.step_rules.specs.Statements as said

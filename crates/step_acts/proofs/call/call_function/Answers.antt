@@ -1,8 +1,8 @@
 use Rattle.std.proofs.Common.{refl}
 use Rattle.step_acts.proofs.Asking.{acting-fails, there}
 use Rattle.step_acts.proofs.call.call_function.Goals as goal
-use Rattle.step_acts.specs.Places.{list_at}
-use Rattle.step_acts.specs.Stands.{legend_of, site_of, stand_by}
+use Rattle.step_acts.specs.internal.Places.{list_at}
+use Rattle.step_acts.specs.internal.Stands.{legend_of, site_of, stand_by}
 use Rattle.step_rules.specs.Configurations.{Frame}
 use Rattle.step_rules.specs.Statements as said
 use Rattle.step_snapshot.specs.Tests.{extent_of}

@@ -2,7 +2,7 @@ use Rattle.std.proofs.Common.{length, refl}
 use Rattle.std.proofs.lemmas.Option.{slice_get_past, slice_get_read}
 use Rattle.step_acts.proofs.Conditions.{if-ends, if-tests}
 use Rattle.step_acts.proofs.condition.act_if.Goals as goal
-use Rattle.step_acts.specs.Places.{list_at}
+use Rattle.step_acts.specs.internal.Places.{list_at}
 
 pub returns-in-Some-clause-asks : goal.returns-in-Some-clause-asks
 returns-in-Some-clause-asks c =

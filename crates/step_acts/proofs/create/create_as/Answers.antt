@@ -1,7 +1,7 @@
 use Rattle.std.proofs.Common.{[], arith}
 use Rattle.step_acts.proofs.Creating.{created-as, stored-children}
 use Rattle.step_acts.proofs.create.create_as.Goals as goal
-use Rattle.step_acts.specs.Stands.{legend_of, stand_by}
+use Rattle.step_acts.specs.internal.Stands.{legend_of, stand_by}
 use Rattle.step_snapshot.specs.Tests.{extent_of}
 use Rattle.ttcn_config.specs.Legend.{component_by, data_by, frame_with}
 use Rattle.graph_items.specs.Standing.{target_of}

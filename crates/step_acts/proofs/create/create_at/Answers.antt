@@ -1,7 +1,7 @@
 use Rattle.std.proofs.Common.{subst}
 use Rattle.step_acts.proofs.create.create_at.Goals as goal
 use Rattle.step_acts.specs.Asks.{Asks}
-use Rattle.step_acts.specs.Stands.{legend_of, stand_by}
+use Rattle.step_acts.specs.internal.Stands.{legend_of, stand_by}
 use Rattle.step_rules.specs.Statements as said
 use Rattle.ttcn_config.specs.Legend.{data_by}
 use Rattle.graph_items.specs.Standing.{target_of}

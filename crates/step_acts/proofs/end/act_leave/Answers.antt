@@ -4,8 +4,8 @@ use Rattle.step_acts.proofs.Asking.{asked}
 use Rattle.step_acts.proofs.Ending.{leave-above, more-below, some-below}
 use Rattle.step_acts.proofs.Standing.{first-known}
 use Rattle.step_acts.proofs.end.act_leave.Goals as goal
-use Rattle.step_acts.specs.Places.{behind_first}
-use Rattle.step_acts.specs.Stands.{legend_of, stand_by}
+use Rattle.step_acts.specs.internal.Places.{behind_first}
+use Rattle.step_acts.specs.internal.Stands.{legend_of, stand_by}
 use Rattle.step_data.specs.Frames.{left}
 use Rattle.step_rules.specs.Items.{Item}
 use Rattle.step_rules.specs.Statements as said

@@ -1,5 +1,5 @@
 use Rattle.std.proofs.Common.{◌≡◌, ◌≤◌}
-use Rattle.step_acts.specs.Places.{list_at}
+use Rattle.step_acts.specs.internal.Places.{list_at}
 use Rattle.step_acts.proofs.marks.without_marks.Given as goal
 use Rattle.step_rules.specs.Taking.{without_marks}
 

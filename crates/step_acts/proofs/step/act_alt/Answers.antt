@@ -1,7 +1,7 @@
 use Rattle.step_acts.proofs.Forms.{whole-asks}
 use Rattle.step_acts.proofs.Standing.{known-there}
 use Rattle.step_acts.proofs.step.act_alt.Goals as goal
-use Rattle.step_acts.specs.Stands.{legend_of, site_of, stand_by}
+use Rattle.step_acts.specs.internal.Stands.{legend_of, site_of, stand_by}
 use Rattle.step_rules.specs.Items.{Whole}
 use Rattle.step_rules.specs.Statements as said
 use Rattle.ttcn_graph.proofs.Forms.{does-Alt}

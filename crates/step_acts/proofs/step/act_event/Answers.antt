@@ -2,7 +2,7 @@ use Rattle.std.proofs.Common.{[], ◌∷◌, map, sym, ◌∙◌}
 use Rattle.step_acts.proofs.Forms.{whole-asks}
 use Rattle.step_acts.proofs.Standing.{facts-kept, first-event, known-there, one-list}
 use Rattle.step_acts.proofs.step.act_event.Goals as goal
-use Rattle.step_acts.specs.Stands.{legend_of, site_of, stand_by}
+use Rattle.step_acts.specs.internal.Stands.{legend_of, site_of, stand_by}
 use Rattle.step_rules.specs.Items.{Whole}
 use Rattle.step_rules.specs.Statements as said
 use Rattle.graph_sites.specs.Facts.{event_by, event_facts}

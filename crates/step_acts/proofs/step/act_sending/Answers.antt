@@ -2,7 +2,7 @@ use Rattle.std.proofs.Common.{[]}
 use Rattle.step_acts.proofs.Forms.{does-Send}
 use Rattle.step_acts.proofs.Standing.{facts-kept, first-known, known-there}
 use Rattle.step_acts.proofs.step.act_sending.Goals as goal
-use Rattle.step_acts.specs.Stands.{site_of}
+use Rattle.step_acts.specs.internal.Stands.{site_of}
 use Rattle.step_rules.specs.Items.{Whole}
 use Rattle.step_rules.specs.Sites.{scope_at}
 use Rattle.step_rules.specs.Statements as said

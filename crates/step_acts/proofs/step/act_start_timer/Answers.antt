@@ -2,7 +2,7 @@ use Rattle.std.proofs.Common.{[]}
 use Rattle.step_acts.proofs.Forms.{does-StartTimer, whole-asks}
 use Rattle.step_acts.proofs.Standing.{facts-kept, first-known, known-there}
 use Rattle.step_acts.proofs.step.act_start_timer.Goals as goal
-use Rattle.step_acts.specs.Stands.{legend_of, site_of, stand_by}
+use Rattle.step_acts.specs.internal.Stands.{legend_of, site_of, stand_by}
 use Rattle.step_rules.specs.Items.{Whole}
 use Rattle.step_rules.specs.Sites.{is_own}
 use Rattle.ttcn_syntax.specs.declared.tree.statement.Action.TheOpen.{Action-F}

@@ -1,7 +1,7 @@
 use Rattle.step_acts.proofs.Forms.{does-StopOf}
 use Rattle.step_acts.proofs.Standing.{facts-kept, known-there}
 use Rattle.step_acts.proofs.step.act_stopping.Goals as goal
-use Rattle.step_acts.specs.Stands.{site_of}
+use Rattle.step_acts.specs.internal.Stands.{site_of}
 use Rattle.step_rules.specs.Items.{Whole}
 use Rattle.step_rules.specs.Sites.{is_own}
 use Rattle.step_rules.specs.Statements.{name_in}

@@ -2,7 +2,7 @@ use Rattle.std.proofs.Common.{Err, None, Ok, Option, Result, ap, subst, sym, ◌
 use Rattle.step_acts.proofs.Choosing.{chosen-asks, none-asks, refused-asks}
 use Rattle.step_acts.proofs.waiting.act_choice.Goals as goal
 use Rattle.step_acts.specs.Asks.{Asks}
-use Rattle.step_acts.specs.Stands.{legend_of, site_of, stand_by}
+use Rattle.step_acts.specs.internal.Stands.{legend_of, site_of, stand_by}
 use Rattle.step_choice.specs.Choices.{Finds, IsWayOf}
 use Rattle.step_choice.specs.declared.taken.Taken.{Taken}
 use Rattle.step_rules.specs.Events.{Choice}

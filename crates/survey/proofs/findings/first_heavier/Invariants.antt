@@ -1,5 +1,5 @@
 use Rattle.std.proofs.Common.{ℕ, ◌<◌, ◌≤◌, get_or}
-use Rattle.survey.specs.Search.{size_of}
+use Rattle.survey.specs.internal.Search.{size_of}
 use Rattle.survey.specs.declared.search.State.{State}
 use Rattle.survey.proofs.findings.first_heavier.Given as goal
 

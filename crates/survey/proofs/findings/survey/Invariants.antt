@@ -1,5 +1,5 @@
 use Rattle.std.proofs.Common.{◌≡◌, ℕ, ◌≤◌, []}
-use Rattle.survey.specs.Search.{IsSearched, state_of}
+use Rattle.survey.specs.internal.Search.{IsSearched, state_of}
 use Rattle.survey.specs.declared.search.State.TheVariants.{New}
 use Rattle.survey.proofs.findings.survey.Given as goal
 

@@ -3,14 +3,14 @@ use Rattle.std.specs.Prelude.{IfOk, All}
 use Rattle.std.proofs.iter.Next.{Yields-more}
 use Rattle.std.proofs.lemmas.List.Elements.{All-contains, Contains-append_left, Contains-push}
 use Rattle.std.specs.Vec.Iter.{into_iter_items, into_iter_steps}
-use Rattle.summary.specs.Reading.{IsSemilattice}
+use Rattle.summary.specs.Sums.{IsSemilattice}
 use Rattle.shared.specs.BoardSeats.{view as board_view}
 use Rattle.shared.specs.SeenSeats.{view}
 use Rattle.shared.specs.declared.board.view.BoardView.{BoardView}
 use Rattle.shared.specs.declared.seen.view.SeenView.{SeenView}
 use Rattle.explore.specs.declared.workers.Worked.{Worked}
-use Rattle.explore.specs.Search.{with_steps}
-use Rattle.explore.specs.Work.{in_pieces, HasPlaced, IsDone}
+use Rattle.explore.specs.internal.Search.{with_steps}
+use Rattle.explore.specs.internal.Work.{in_pieces, HasPlaced, IsDone}
 use Rattle.explore.proofs.Joining.{neither, joined_placed, joined_shown}
 use Rattle.explore.proofs.Taken.{front_taken}
 use Rattle.explore.proofs.workers.Work.join_workers.Given.{Over}
@@ -20,10 +20,10 @@ use Rattle.explore.proofs.workers.Work.join_workers.Goals.{In-Some}
 semilattice : (g : Over) → IsSemilattice g.U.Summary.joins
 semilattice g = (g.met.U.Summary g.world.𝓛 g.world.𝓜 g.world.𝓡 ((λ s x. x), (λ x. x), (λ x. x), λ x. x)).semilattice
 
-worked_done : (g : Over) (c : In-Some g) → IsDone g.Y.State.PartialEq.eq c.args.self.now.seen.now c.args.self.now.board.now g.U.Summary.joins (g.U.Summary.reading c.args.self.now.system.now) (g.Y.System.graph c.args.self.now.system.now)
+worked_done : (g : Over) (c : In-Some g) → IsDone g.Y.State.PartialEq.eq c.args.self.now.seen.now c.args.self.now.board.now g.U.Summary.joins (g.U.Summary.observation c.args.self.now.system.now) (g.Y.System.graph c.args.self.now.system.now)
     c.args.self.now.visited.now.keys c.args.self.now.candidates.now c.args.self.now.size c.in-Some.worked
 worked_done g c =
-    let P : Worked g.row.U.Denot → Type 0 = λ w. IsDone g.Y.State.PartialEq.eq c.args.self.now.seen.now c.args.self.now.board.now g.U.Summary.joins (g.U.Summary.reading c.args.self.now.system.now) (g.Y.System.graph c.args.self.now.system.now)
+    let P : Worked g.row.U.Denot → Type 0 = λ w. IsDone g.Y.State.PartialEq.eq c.args.self.now.seen.now c.args.self.now.board.now g.U.Summary.joins (g.U.Summary.observation c.args.self.now.system.now) (g.Y.System.graph c.args.self.now.system.now)
     c.args.self.now.visited.now.keys c.args.self.now.candidates.now c.args.self.now.size w in
     let start = c.into_iter-worked-iterator.result in
     let more = Yields-more into_iter_steps start c.loop-worked.yielded c.loop-worked.worked-iterator c.in-Some.worked c.next.new.self c.loop-worked.yielded_by c.in-Some.ensures.steps in
@@ -39,7 +39,7 @@ loop-worked-preserved g c =
     let size = c.args.self.now.size in
     let system = c.args.self.now.system.now in
     let joins = g.U.Summary.joins in
-    let reading = g.U.Summary.reading system in
+    let observation = g.U.Summary.observation system in
     let graph = g.Y.System.graph system in
     let done = worked_done g (goal.at.loop-worked-preserved g c).In-Some in
     let v = view c.loop-worked.seat in
@@ -69,7 +69,7 @@ loop-worked-preserved g c =
           subst (λ ds. HasPlaced eq known cs size ds (view c.join.new.seat).placed) (sym drawn_is)
           (subst (λ xs. HasPlaced eq known cs size (w.drawn ++ w'.drawn) xs) (sym placed_is) h));
       summary =
-          joined_shown joins reading graph known (semilattice g) size cs w.drawn w'.drawn c.loop-worked.summary c.in_ok-shown.field-0 c.in_ok-summary-2.summary
-          inv.summary (subst (λ o. IfOk o (λ s. s ≡ with_steps joins reading graph known joins.none (in_pieces size cs w'.drawn))) c.in_ok-shown.was done.summary) c.in_ok-summary-2.ensures
-          ∙ ap (λ ds. with_steps joins reading graph known joins.none (in_pieces size cs ds)) (sym drawn_is);
+          joined_shown joins observation graph known (semilattice g) size cs w.drawn w'.drawn c.loop-worked.summary c.in_ok-shown.field-0 c.in_ok-summary-2.summary
+          inv.summary (subst (λ o. IfOk o (λ s. s ≡ with_steps joins observation graph known joins.none (in_pieces size cs w'.drawn))) c.in_ok-shown.was done.summary) c.in_ok-summary-2.ensures
+          ∙ ap (λ ds. with_steps joins observation graph known joins.none (in_pieces size cs ds)) (sym drawn_is);
     }

@@ -2,7 +2,7 @@ use Rattle.std.proofs.Common.{◌≡◌, ◌-◌, length}
 use Rattle.std.specs.Prelude.{All}
 use Rattle.shared.specs.BoardSeats.{view as board_view}
 use Rattle.shared.specs.SeenSeats.{view}
-use Rattle.explore.specs.Work.{AreFirstSeats, AreSeatsOf, IsFresh, IsReady}
+use Rattle.explore.specs.internal.Work.{AreFirstSeats, AreSeatsOf, IsFresh, IsReady}
 use Rattle.explore.proofs.workers.Work.make_workers.Given as goal
 
 abbrev pub invariant-loop-number : goal.invariant-loop-number

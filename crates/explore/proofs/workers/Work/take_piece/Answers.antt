@@ -2,7 +2,7 @@ use Rattle.std.proofs.Common.{◌+◌, ◌*◌, ◌-◌, ◌≡◌, length, subs
 use mathlib.Core.Logic.{dite}
 use native.Mathlib.Decide.{dec_le}
 use Rattle.shared.specs.SeenSeats.{view}
-use Rattle.explore.specs.Work.{AddsNew}
+use Rattle.explore.specs.internal.Work.{AddsNew}
 use Rattle.explore.proofs.Drawing.{same_seat_then}
 use Rattle.explore.proofs.Placing.{then_placed, placed_further}
 use Rattle.explore.proofs.StepSums.{step_more}
@@ -19,7 +19,7 @@ loop-at-preserved g c =
       own = c.place.ensures.own;
       kept = same_seat_then (view c.args.seat.now) (view c.loop-at.seat) (view c.place.new.seat) c.loop-at.invariant.kept c.place.ensures.kept;
       placed = then_placed eq known cs from c.loop-at.at (c.loop-at.at + 1) _ _ _ (omega arith) (omega arith) c.loop-at.invariant.placed c.place.ensures.placed;
-      summary = step_more g.U.Summary.joins (g.U.Summary.reading system) (g.Y.System.graph system) known c.args.summary c.loop-at.summary c.in_ok-summary.summary cs from c.loop-at.at
+      summary = step_more g.U.Summary.joins (g.U.Summary.observation system) (g.Y.System.graph system) known c.args.summary c.loop-at.summary c.in_ok-summary.summary cs from c.loop-at.at
           (omega arith) (omega arith) c.loop-at.invariant.summary c.in_ok-summary.ensures;
     }
 

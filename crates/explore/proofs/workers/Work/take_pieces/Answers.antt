@@ -4,8 +4,8 @@ use Rattle.shared.specs.BoardRule.{with_drawn, with_look}
 use Rattle.shared.specs.SeenSeats.{view}
 use Rattle.shared.specs.Totals.{Stands}
 use Rattle.shared.specs.declared.board.view.BoardView.{BoardView}
-use Rattle.explore.specs.Work.{in_pieces, HasPlaced}
-use Rattle.explore.specs.Search.{with_steps}
+use Rattle.explore.specs.internal.Work.{in_pieces, HasPlaced}
+use Rattle.explore.specs.internal.Search.{with_steps}
 use Rattle.explore.proofs.Drawing.{few, low_more, same_seat_then}
 use Rattle.explore.proofs.Placing.{piece_placed}
 use Rattle.explore.proofs.StepSums.{piece_more}
@@ -61,7 +61,7 @@ loop-alloc-preserved g c =
           (piece_placed eq known cs size c.in-Some.piece before (view c.loop-alloc.seat).placed (view c.take_piece.new.seat).placed c.args.self.now.some
           c.loop-alloc.invariant.placed c.in_ok-summary-in-Some.ensures.placed);
       summary =
-          piece_more g.U.Summary.joins (g.U.Summary.reading system) (g.Y.System.graph system) known size cs before c.in-Some.piece c.loop-alloc.summary c.in_ok-summary-in-Some.summary
+          piece_more g.U.Summary.joins (g.U.Summary.observation system) (g.Y.System.graph system) known size cs before c.in-Some.piece c.loop-alloc.summary c.in_ok-summary-in-Some.summary
           c.loop-alloc.invariant.summary c.in_ok-summary-in-Some.ensures.summary
-          ∙ ap (λ ds. with_steps g.U.Summary.joins (g.U.Summary.reading system) (g.Y.System.graph system) known g.U.Summary.joins.none (in_pieces size cs ds)) (sym drawn);
+          ∙ ap (λ ds. with_steps g.U.Summary.joins (g.U.Summary.observation system) (g.Y.System.graph system) known g.U.Summary.joins.none (in_pieces size cs ds)) (sym drawn);
     }

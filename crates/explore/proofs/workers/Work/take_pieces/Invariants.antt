@@ -3,8 +3,8 @@ use Rattle.shared.specs.BoardSeats.{view as board_view, IsSeatOf as IsBoardSeatO
 use Rattle.shared.specs.SeenRule.{IsSameSeat}
 use Rattle.shared.specs.SeenSeats.{view, IsSeatOf}
 use Rattle.shared.specs.Totals.{times, Stands}
-use Rattle.explore.specs.Search.{with_steps}
-use Rattle.explore.specs.Work.{have_same_state, in_pieces, HasPlaced, IsSameBoardSeat}
+use Rattle.explore.specs.internal.Search.{with_steps}
+use Rattle.explore.specs.internal.Work.{have_same_state, in_pieces, HasPlaced, IsSameBoardSeat}
 use Rattle.explore.proofs.workers.Work.take_pieces.Given as goal
 
 abbrev pub invariant-loop-alloc : goal.invariant-loop-alloc
@@ -17,7 +17,7 @@ invariant-loop-alloc g l = record {
   low : (x : ℕ) → Stands x (board_view l.draws).drawn → x < l.self.pieces;
   once : (x : ℕ) → times x (board_view l.draws).drawn ≤ 1;
   placed : HasPlaced g.Y.State.PartialEq.eq l.self.visited.now.keys l.self.candidates.now l.self.size (board_view l.draws).drawn (view l.seat).placed;
-  summary : l.summary ≡ with_steps g.U.Summary.joins (g.U.Summary.reading l.self.system.now) (g.Y.System.graph l.self.system.now) l.self.visited.now.keys g.U.Summary.joins.none
+  summary : l.summary ≡ with_steps g.U.Summary.joins (g.U.Summary.observation l.self.system.now) (g.Y.System.graph l.self.system.now) l.self.visited.now.keys g.U.Summary.joins.none
       (in_pieces l.self.size l.self.candidates.now (board_view l.draws).drawn);
 }
 

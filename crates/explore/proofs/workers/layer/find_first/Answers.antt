@@ -3,7 +3,7 @@ use Rattle.shared.specs.BoardSeats.{view as board_view}
 use Rattle.shared.specs.Classes.{IsFirsts}
 use Rattle.shared.specs.SeenSeats.{view}
 use Rattle.shared.specs.Totals.{Stands}
-use Rattle.explore.specs.Work.{have_same_state}
+use Rattle.explore.specs.internal.Work.{have_same_state}
 use Rattle.explore.proofs.AllWorked.{are_first, all_shown, false_unless, piece_begins, piece_within}
 use Rattle.explore.proofs.workers.layer.find_first.Given.{Over}
 use Rattle.explore.proofs.workers.layer.find_first.Goals as goal
@@ -48,4 +48,4 @@ returns-clause-summary g c =
     c.in_ok-summary.ensures.summary
     ∙ all_shown g.Y.State.PartialEq.eq laws c.args.visited.now.keys cs c.args.plan.now.piece c.div_ceil-pieces.result (board_view c.share_work.new.draws).drawn
     c.requires.plan.piece_low (drawn g at) (piece_within (length cs) c.args.plan.now.piece c.div_ceil-pieces.result c.requires.plan.piece_low c.div_ceil-pieces.ensures)
-    g.U.Summary.joins (g.U.Summary.reading system) (g.Y.System.graph system) semilattice
+    g.U.Summary.joins (g.U.Summary.observation system) (g.Y.System.graph system) semilattice

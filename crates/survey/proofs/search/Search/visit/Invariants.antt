@@ -1,5 +1,5 @@
 use Rattle.std.proofs.Common.{◌≢◌}
-use Rattle.survey.specs.Search.{IsSearched, StayBegun, left, state_of}
+use Rattle.survey.specs.internal.Search.{IsSearched, StayBegun, left, state_of}
 use Rattle.survey.specs.declared.search.State.TheVariants.{New}
 use Rattle.survey.proofs.search.Search.visit.Given as goal
 

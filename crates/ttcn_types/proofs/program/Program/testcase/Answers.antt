@@ -1,7 +1,7 @@
 use Rattle.std.proofs.Common.{sym, ap, ◌∙◌}
 use Rattle.ttcn_syntax.specs.declared.tree.definition.Module.{Module}
 use Rattle.ttcn_types.specs.Programs.{test_case_named}
-use Rattle.ttcn_types.specs.TestCases.{placed}
+use Rattle.ttcn_types.specs.internal.TestCases.{placed}
 use Rattle.ttcn_types.proofs.TestCaseLemmas.{Positions, named-at}
 use Rattle.ttcn_types.proofs.program.Program.testcase.Goals as goal
 

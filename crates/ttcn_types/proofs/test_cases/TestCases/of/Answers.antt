@@ -1,6 +1,6 @@
 use Rattle.std.proofs.Common.{◌+◌, drop, sym, ap, ◌∙◌}
 use Rattle.ttcn_types.specs.Programs.{is_test_case}
-use Rattle.ttcn_types.specs.TestCases.{placed}
+use Rattle.ttcn_types.specs.internal.TestCases.{placed}
 use Rattle.ttcn_types.specs.declared.test_cases.TestCases.{TestCases}
 use Rattle.check_scope.proofs.Lookups.{drop-next}
 use Rattle.ttcn_types.proofs.TestCaseLemmas.{no-test_case, placing, placing-end, placing-first, placing-other, placing-test_case}

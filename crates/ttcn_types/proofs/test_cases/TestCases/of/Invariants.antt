@@ -1,5 +1,5 @@
 use Rattle.std.proofs.Common.{◌≡◌, drop}
-use Rattle.ttcn_types.specs.TestCases.{placed}
+use Rattle.ttcn_types.specs.internal.TestCases.{placed}
 use Rattle.ttcn_types.proofs.TestCaseLemmas.{placed_from, placing}
 use Rattle.ttcn_types.proofs.test_cases.TestCases.of.Given as goal
 

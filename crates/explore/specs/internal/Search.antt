@@ -3,7 +3,7 @@
 use Rattle.std.specs.Prelude.{ℕ, ◌+◌, zero, suc, Bool, List, [], ◌∷◌, ◌++◌, map, length, drop, slice_index_or, Option, None, Some, if◌then◌else◌}
 use Rattle.std.specs.List.{list_any}
 use Rattle.summary.specs.Graph.{Graph}
-use Rattle.summary.specs.Reading.{Join, Reading}
+use Rattle.summary.specs.Sums.{Join, Observation}
 use Rattle.explore.specs.declared.visited.Step.{Step}
 use Rattle.explore.specs.declared.visited.Candidate.{Candidate}
 
@@ -19,6 +19,7 @@ module _ {C L : Type 0} (g : Graph C L) where
   abbrev pub candidate_of : ℕ → C → L → Candidate C L
   candidate_of place state label = record { before = place; label = label; state = g.after state label }
 
+  -- a candidate for each of these labels of the state at a place, in their order
   abbrev pub candidates_of : ℕ → C → List L → List (Candidate C L)
   candidates_of place state labels = map (candidate_of place state) labels
 
@@ -27,7 +28,7 @@ module _ {C L : Type 0} (g : Graph C L) where
   layer_candidates place [] = []
   layer_candidates place (state ∷ states) = candidates_of place state (g.enabled state) ++ layer_candidates (place + 1) states
 
-module _ {C L S : Type 0} (j : Join S) (r : Reading C L S) where
+module _ {C L S : Type 0} (j : Join S) (r : Observation C L S) where
   -- a summary, and what the steps by these labels show
   abbrev pub with_labels : C → S → List L → S
   with_labels state summary [] = summary
@@ -54,11 +55,12 @@ module _ {C L S : Type 0} (j : Join S) (r : Reading C L S) where
           summary = j.join found.summary (r.at c.state);
         }
 
+    -- what is found with these candidates, placed one after the other
     abbrev pub place_all : Found C L S → List (Candidate C L) → Found C L S
     place_all found [] = found
     place_all found (c ∷ cs) = place_all (place found c) cs
 
-module _ {C L S : Type 0} (g : Graph C L) (j : Join S) (r : Reading C L S) (eq : C → C → Bool) where
+module _ {C L S : Type 0} (g : Graph C L) (j : Join S) (r : Observation C L S) (eq : C → C → Bool) where
   -- what is found before the first layer
   abbrev pub begin : Found C L S
   begin = record { states = g.first ∷ []; steps = None ∷ []; from = 0; summary = r.at g.first }
@@ -72,6 +74,7 @@ module _ {C L S : Type 0} (g : Graph C L) (j : Join S) (r : Reading C L S) (eq :
     summary = with_layer j r g found.summary (drop found.from found.states);
   }
 
+  -- what is found with one more layer: the last layer's states are left, and all their candidates placed
   abbrev pub next : Found C L S → Found C L S
   next found = place_all j r eq (advanced found) (layer_candidates g found.from (drop found.from found.states))
 

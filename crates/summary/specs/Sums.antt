@@ -16,12 +16,12 @@ pub record IsSemilattice {S : Type 0} (j : Join S) : Type 0 where
   pub unit : (x : S) → j.join j.none x ≡ x
 
 -- what is seen of a configuration, and of a step that a label takes from it
-pub record Reading (C L S : Type 0) : Type 0 where
+pub record Observation (C L S : Type 0) : Type 0 where
   pub at : C → S
   pub by : C → L → S
 
 -- what one run shows: its end, and its last step where it has one
-abbrev pub shown : {C L S : Type 0} → Graph C L → Join S → Reading C L S → Run L → S
+abbrev pub shown : {C L S : Type 0} → Graph C L → Join S → Observation C L S → Run L → S
 shown g j r Start = r.at g.first
 shown g j r (Then run label) = j.join (r.by (end_of g run) label) (r.at (end_of g (Then run label)))
 
@@ -31,5 +31,5 @@ join_all j [] = j.none
 join_all j (x ∷ xs) = j.join x (join_all j xs)
 
 -- the join, over all runs of at most n steps, of what each shows
-abbrev pub sum_of : {C L S : Type 0} → Graph C L → Join S → Reading C L S → ℕ → S
+abbrev pub sum_of : {C L S : Type 0} → Graph C L → Join S → Observation C L S → ℕ → S
 sum_of g j r n = join_all j (map (shown g j r) (all_runs g n))

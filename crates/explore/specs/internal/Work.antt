@@ -4,7 +4,7 @@ use Rattle.std.specs.List.{list_any}
 use Rattle.std.specs.List.Sorted.{IsStrictlyIncreasing}
 use Rattle.std.specs.Fork.{slice_chunk}
 use Rattle.summary.specs.Graph.{Graph}
-use Rattle.summary.specs.Reading.{Join, Reading}
+use Rattle.summary.specs.Sums.{Join, Observation}
 use Rattle.shared.specs.declared.board.Board.{Board}
 use Rattle.shared.specs.declared.board.BoardSeat.{BoardSeat}
 use Rattle.shared.specs.declared.seen.Seen.{Seen}
@@ -17,7 +17,7 @@ use Rattle.shared.specs.Totals.{Stands}
 use Rattle.explore.specs.declared.visited.Candidate.{Candidate}
 use Rattle.explore.specs.declared.workers.Worker.{Worker}
 use Rattle.explore.specs.declared.workers.Worked.{Worked}
-use Rattle.explore.specs.Search.{with_steps}
+use Rattle.explore.specs.internal.Search.{with_steps}
 
 module _ {C L : Type 0} where
   -- the candidates of pieces of this size, in the order of the pieces
@@ -25,6 +25,7 @@ module _ {C L : Type 0} where
   in_pieces size cs pieces = flat_map (slice_chunk cs size) pieces
 
   module _ (eq : C → C → Bool) where
+    -- two candidates have equal states
     abbrev pub have_same_state : Candidate C L → Candidate C L → Bool
     have_same_state c d = eq c.state d.state
 
@@ -89,7 +90,7 @@ module _ {C L : Type 0} (eq : C → C → Bool) (seen : Seen (Candidate C L)) (b
     pub idle : IsIdle (view worker.seen) (board_view worker.board)
 
   -- A worker that is done. Unless it saw the flag, it found no piece left and placed the new candidates of its pieces
-  pub record IsDone {S : Type 0} (j : Join S) (r : Reading C L S) (g : Graph C L) (known : List C) (cs : List (Candidate C L)) (size : ℕ) (worked : Worked S) : Type 0 where
+  pub record IsDone {S : Type 0} (j : Join S) (r : Observation C L S) (g : Graph C L) (known : List C) (cs : List (Candidate C L)) (size : ℕ) (worked : Worked S) : Type 0 where
     pub own : AreSeatsOf worked.worker.seen worked.worker.board
     pub seen_first : (view worked.worker.seen).first ≡ false
     pub seen_parts : (view worked.worker.seen).parts ≡ 1

@@ -2,7 +2,7 @@ use Rattle.std.proofs.Common.{◌≡◌, [], length, string_bytes}
 use denote.Text.{Utf8}
 use denote.Shadow.{shadow}
 use Rattle.corpus.specs.Rows.{HasRepeat}
-use Rattle.corpus.proofs.repeat.written_out.Given as goal
+use Rattle.corpus.proofs.repeat.expand_repeats.Given as goal
 
 -- what is left is text, and all of it where there is no repeat
 abbrev pub invariant-loop-before : goal.invariant-loop-before

@@ -9,6 +9,7 @@ module _ {C L : Type 0} where
   abbrev pub candidates_with : ℕ → List (L × C) → List (Candidate C L)
   candidates_with place pairs = map (λ p. record { before = place; label = p.0; state = p.1 }) pairs
 
+  -- the candidates of expanded states, one state behind the other
   abbrev pub candidates_in : List (Expanded C L) → List (Candidate C L)
   candidates_in states = flat_map (λ e. candidates_with e.place e.successors.items) states
 

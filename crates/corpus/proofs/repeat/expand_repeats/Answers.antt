@@ -1,6 +1,6 @@
 use Rattle.std.proofs.Common.{◌∙◌, sym, Some, codes, rules}
 use Rattle.std.proofs.lemmas.Str.Pattern.{split_text_parts}
-use Rattle.corpus.proofs.repeat.written_out.Goals as goal
+use Rattle.corpus.proofs.repeat.expand_repeats.Goals as goal
 
 -- in a text without a repeat there is no turn
 pub loop-before-preserved : goal.loop-before-preserved

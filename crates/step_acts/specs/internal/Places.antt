@@ -13,6 +13,7 @@ list_at t position = get_or t.graphs.lists position []
 abbrev pub site_at : TestCase → ℕ → Site
 site_at t position = site_of_list (list_at t position)
 
+-- a list without its first element
 abbrev pub behind_first : {A : Type 0} → List A → List A
 behind_first [] = []
 behind_first (x ∷ xs) = xs

@@ -1,0 +1,4 @@
+pub mod Expansion
+pub mod Search
+pub mod Tied
+pub mod Work
