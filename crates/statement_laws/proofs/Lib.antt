@@ -1,6 +1,7 @@
 pub mod Assigning
 pub mod Chains
 pub mod Descent
+pub mod Members
 pub mod MessageTypes
 pub mod Naming
 pub mod NoComponents
@@ -9,3 +10,10 @@ pub mod Resolving
 pub mod Returning
 pub mod RightSides
 pub mod Typing
+pub mod Within
+pub mod WithinExpressions
+pub mod WithinTemplates
+pub mod WithinPhrases
+pub mod WithinStatements
+pub mod WithinActions
+pub mod Growing

@@ -14,7 +14,7 @@ use Rattle.check_scope.specs.declared.names.Meaning.{Meaning}
 use Rattle.check_scope.specs.declared.names.Meaning.TheVariants as meaning
 use Rattle.statement_laws.specs.Named.{IsDefinedAs}
 
-same-name : (a b : List ℕ) → bytes_eq a b ≡ true → a ≡ b
+pub same-name : (a b : List ℕ) → bytes_eq a b ≡ true → a ≡ b
 same-name a b = (bytes_eq-Decides a b).0
 
 own-name : (a : List ℕ) → bytes_eq a a ≡ true

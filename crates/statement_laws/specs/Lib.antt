@@ -1,3 +1,5 @@
+pub mod Declares
+pub mod Members
 pub mod Messages
 pub mod Named
 pub mod Parts
@@ -5,3 +7,4 @@ pub mod Redirects
 pub mod Resolved
 pub mod Results
 pub mod Targets
+pub mod Within

@@ -1,11 +1,13 @@
 //! Laws of statements that break no rule, for the layers above: they run no code.
 #![tactic(auto)]
 
-ghost use Rattle.std.specs.Prelude.{◌≡◌, ℕ, Bool, List, [], Option, None, Some};
+ghost use Rattle.std.specs.Prelude.{◌≡◌, ℕ, Bool, List, [], ◌∷◌, ◌++◌, Option, None, Some};
 ghost use Rattle.ttcn_syntax.specs.declared.tree.definition.Altstep.{Altstep};
+ghost use Rattle.ttcn_syntax.specs.declared.tree.definition.ComponentType.{ComponentType};
 ghost use Rattle.ttcn_syntax.specs.declared.tree.definition.Definition.{Definition};
 ghost use Rattle.ttcn_syntax.specs.declared.tree.definition.DefinitionKind.TheVariants as kind;
 ghost use Rattle.ttcn_syntax.specs.declared.tree.definition.Function.{Function};
+ghost use Rattle.ttcn_syntax.specs.declared.tree.definition.Member.{Member};
 ghost use Rattle.ttcn_syntax.specs.declared.tree.definition.Testcase.{Testcase};
 ghost use Rattle.ttcn_syntax.specs.declared.tree.expression.ComponentRef.{ComponentRef};
 ghost use Rattle.ttcn_syntax.specs.declared.tree.expression.Expr.{Expr};
@@ -19,16 +21,18 @@ ghost use Rattle.ttcn_syntax.specs.declared.tree.statement.Variables.{Variables}
 ghost use Rattle.ttcn_syntax.specs.declared.tree.template.MessageTemplate.{MessageTemplate};
 ghost use Rattle.ttcn_syntax.specs.declared.tree.value.Call.{Call};
 ghost use Rattle.ttcn_syntax.specs.declared.tree.value.Rhs.{Rhs};
+ghost use Rattle.ttcn_syntax.specs.declared.tree.value.TypeName.{TypeName};
 ghost use Rattle.ttcn_syntax.specs.declared.tree.value.Value.{Value};
 ghost use Rattle.check_expressions.specs.Calls.{check_activation};
 ghost use Rattle.check_expressions.specs.Targets.{check_assignment, check_constants, check_rhs, check_variables};
-ghost use Rattle.check_scope.specs.Names.{Scope, kind_at, module_names};
+ghost use Rattle.check_scope.specs.Names.{Scope, declaring, kind_at, module_names, resolved};
 ghost use Rattle.check_scope.specs.declared.names.Meaning.{Meaning};
 ghost use Rattle.check_scope.specs.declared.types.DataType.{DataType};
-ghost use Rattle.check_statements.specs.Definitions.{returns_of};
+ghost use Rattle.check_statements.specs.Definitions.{check_member, returns_of};
 ghost use Rattle.check_statements.specs.Messages.{check_message, check_receive, passage_at, type_anywhere};
 ghost use Rattle.check_statements.specs.Statements.{Place, check_condition, check_return, check_start, branch, statement, statements};
-ghost use Rattle.checker_laws.specs.Laws.{IsWhole};
+ghost use Rattle.checker_laws.specs.Laws.{IsKnown, IsWhole};
+ghost use Rattle.statement_laws.specs.Members.{IsMember, scope_behind};
 ghost use Rattle.statement_laws.specs.Messages.{HasType};
 ghost use Rattle.statement_laws.specs.Named.{IsDefinedAs};
 ghost use Rattle.statement_laws.specs.Parts.{HasFineParts, IsCondition, IsFineBranch};
@@ -40,7 +44,13 @@ ghost use Rattle.survey.specs.Graphs.{AllChainsWithin};
 ghost use Rattle.ttcn_types.specs.Limits.{longest_chain};
 ghost use Rattle.ttcn_types.specs.Parts.{altsteps};
 
+mod wider;
+
 use ttcn_types::Program;
+pub use wider::{
+    declarations_stay_fine, expressions_stay_fine, parts_stay_fine, returns_stay_fine, scopes_grow,
+    statements_stay_fine, types_stay_same,
+};
 
 /// A condition that breaks no rule is boolean.
 #[tactic(auto, using(crate::proofs::Descent::condition_fine))]
@@ -144,4 +154,26 @@ pub fn right_sides_fit()
 /// one of a component type.
 pub fn redirects_fit()
     ensures { (scope : Scope) → IsWhole scope → (receive : Receive) → check_receive scope receive ≡ [] → HasRedirects scope receive }
+{}
+
+/// In a component type, each member breaks no rule in the scope behind those before it, which is whole: its ports have
+/// their port type, its constants and variables their type, to which their values go, and its names are new.
+#[tactic(auto, using(crate::proofs::Members::whole_between, crate::proofs::Members::member_fine, crate::proofs::Members::member_is))]
+pub fn members_are_fine(program: &Program)
+    ensures scopes { (at : ℕ) (c : ComponentType) → kind_at program.now.definitions at ≡ Some (kind.Component c) → (before rest : List Member) → before ++ rest ≡ c.members → IsWhole (scope_behind program.now.definitions at before) }
+    ensures rules { (at : ℕ) (c : ComponentType) → kind_at program.now.definitions at ≡ Some (kind.Component c) → (before : List Member) (m : Member) (rest : List Member) → before ++ m ∷ rest ≡ c.members → check_member (scope_behind program.now.definitions at before) m ≡ [] }
+    ensures parts { (at : ℕ) (c : ComponentType) → kind_at program.now.definitions at ≡ Some (kind.Component c) → (before : List Member) (m : Member) (rest : List Member) → before ++ m ∷ rest ≡ c.members → IsMember (scope_behind program.now.definitions at before) m }
+{
+    let _ = program.module();
+}
+
+/// The types that are visible between the members of a component type are those of the module.
+pub fn members_declare_no_types()
+    ensures { (definitions : List Definition) (at : ℕ) (before : List Member) (of : TypeName) (t : DataType) → resolved (scope_behind definitions at before).names of ≡ Some t → resolved (module_names definitions) of ≡ Some t }
+{}
+
+/// A whole scope is whole with a further name, if what this stands for is known.
+#[tactic(auto, using(crate::proofs::Members::name_leaves_whole))]
+pub fn names_leave_scopes_whole()
+    ensures { (scope : Scope) → IsWhole scope → (name : List ℕ) (m : Meaning) → IsKnown scope.definitions m → IsWhole (declaring scope ((name, m) ∷ [])) }
 {}
