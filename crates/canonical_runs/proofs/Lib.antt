@@ -1,2 +1,4 @@
+pub mod Choosing
+pub mod Forms
 pub mod Leading
 pub mod Packing

@@ -22,12 +22,15 @@ expiry_of : Label → Option (ℕ × List ℕ)
 expiry_of (Statement path) = None
 expiry_of (Expiry path frame name) = Some (frame, name)
 
+-- the order of labels by the numbers of their components alone
 abbrev first_cmp : Label → Label → Ordering
 first_cmp = on numbers_of (slice_cmp nat_cmp)
 
+-- the order of expiries: by the number of the frame, then by the name of the timer
 abbrev expiry_order : ℕ × List ℕ → ℕ × List ℕ → Ordering
 expiry_order = then_cmp (on (λ e. e.0) nat_cmp) (on (λ e. e.1) (slice_cmp nat_cmp))
 
+-- the order of labels by their expiries alone: a label without one comes first
 abbrev second_cmp : Label → Label → Ordering
 second_cmp = on expiry_of (option_cmp expiry_order)
 

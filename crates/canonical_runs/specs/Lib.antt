@@ -1,3 +1,4 @@
+pub mod Going
 pub mod Labels
 pub mod Laws
 pub mod Orders

@@ -8,6 +8,7 @@ use Rattle.packed_config.specs.contracts.packed.PackedHash.TheImpl as hash
 use Rattle.step_rules.specs.Configurations.{Configuration}
 use Rattle.ttcn_step.specs.Machines.{Machine}
 
+-- what a configuration of the rules feeds a hasher on a machine, by the one of the code that stands for it
 abbrev pub fed : Machine → Configuration → HashWrites
 fed machine c = (hash.ghosts).hash_input (code_of machine.lists machine.names c)
 

@@ -3,6 +3,7 @@
 
 mod keys;
 mod label;
+mod laws;
 mod places;
 mod runs;
 mod scheme;
@@ -10,6 +11,7 @@ mod state;
 
 pub use keys::{BlockedComponent, BranchPlace};
 pub use label::StepLabel;
+pub use laws::canonical_forms_are_equal_for_equal_live_parts;
 pub use runs::Runs;
 pub use scheme::Scheme;
 pub use state::State;

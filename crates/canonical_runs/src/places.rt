@@ -1,5 +1,6 @@
 //! The branches and blocked components of a test case, where summaries ask for them.
-ghost use Rattle.std.specs.Prelude.{◌≡◌, IfOk, map};
+ghost use Rattle.std.specs.Prelude.{◌≡◌, false, IfOk, None, map};
+ghost use Rattle.step_labels.specs.Labels.{label_by};
 ghost use Rattle.step_rules.specs.Places as rules;
 ghost use Rattle.ttcn_step.specs.Standing.{standing_by};
 
@@ -10,7 +11,8 @@ use crate::scheme::Scheme;
 use crate::state::State;
 use place_summaries::Located;
 use std::alloc::{AllocError, Global};
-use ttcn_step::Standing;
+use step_labels::Label;
+use ttcn_step::{Machine, Standing};
 
 /// Components with the places where they stand, as summaries keep them.
 fn blocked_components(
@@ -24,6 +26,25 @@ fn blocked_components(
         found.push(BlockedComponent::new(component, place))?;
     }
     Ok(found)
+}
+
+/// Whether a step may take a branch, as far as the place tells where its component stands.
+fn may_take_branch<K: Scheme>(
+    alloc: Global,
+    machine: &Machine<'_>,
+    state: &State<K>,
+    label: &Label,
+) -> Result<bool, AllocError>
+    requires { machine.now ≡ K.machine }
+    ensures { IfOk result (λ may. may ≡ false → rules.branch_of K.machine.test state.now (label_by label.now) ≡ None) }
+{
+    if label.expiry.is_some() {
+        return Ok(false);
+    }
+    match state.packed.position(alloc, &label.component)? {
+        Some(position) => Ok(machine.may_take_branch(position)),
+        None => Ok(false),
+    }
 }
 
 impl<'t, 'a, K: Scheme + Send + Sync> Located for Runs<'t, 'a, K> {
@@ -41,6 +62,9 @@ impl<'t, 'a, K: Scheme + Send + Sync> Located for Runs<'t, 'a, K> {
         state: &State<K>,
         label: &StepLabel,
     ) -> Result<Option<BranchPlace>, AllocError> {
+        if !may_take_branch(alloc, self.machine, state, label.as_label())? {
+            return Ok(None);
+        }
         let config = state.packed.unpack(alloc)?;
         let place = self.machine.branch(alloc, &config, label.as_label())?;
         Ok(place.map(BranchPlace::new))
@@ -51,6 +75,9 @@ impl<'t, 'a, K: Scheme + Send + Sync> Located for Runs<'t, 'a, K> {
         alloc: Global,
         state: &State<K>,
     ) -> Result<Vec<BlockedComponent>, AllocError> {
+        if state.goes_on {
+            return Ok(Vec::new(alloc));
+        }
         let config = state.packed.unpack(alloc)?;
         let standings = self.machine.blocked(alloc, &config)?;
         blocked_components(alloc, standings)

@@ -65,13 +65,15 @@ fn state_of<K: Scheme>(
     config: Config,
 ) -> Result<State<K>, AllocError>
     requires is { machine.now ≡ K.machine }
-    requires within { IsConfigWithin (extent K.machine) config }
+    requires fits { Fits machine.now config }
     ensures { IfOk result (λ state. state ≡ live_part (config_by (legend K.machine) config)) }
 {
     machine.is_apart();
+    let goes_on = !machine.is_stuck(alloc, &config)?;
     let config = canon_owned(alloc, config)?;
     Ok(State {
         packed: pack(alloc, &config)?,
+        goes_on,
         of: PhantomData,
     })
 }

@@ -11,6 +11,8 @@ use std::marker::{Model, PhantomData};
 #[derive(Drop)]
 pub struct State<K: Scheme> {
     pub(crate) packed: Packed,
+    /// Where this is true, some label is enabled.
+    pub(crate) goes_on: bool,
     pub(crate) of: PhantomData<K>,
 }
 
@@ -22,6 +24,7 @@ impl<K: Scheme> Model for State<K> {
     ghost use Rattle.ttcn_syntax.specs.contracts.tree.template.Template as template;
     ghost use Rattle.ttcn_syntax.specs.contracts.tree.value.Value as tree_value;
     ghost use Rattle.ttcn_values.specs.contracts.value.Value as value;
+    ghost use Rattle.canonical_runs.specs.Going.{GoesOn};
     ghost use Rattle.canonical_runs.specs.Schemes.{IsMachine};
     ghost use Rattle.step_rules.specs.Configurations as rules;
     ghost use Rattle.ttcn_config.specs.Views.{IsConfigWithin};
@@ -33,7 +36,7 @@ impl<K: Scheme> Model for State<K> {
 
     ghost view = { λ state. said K.machine state.packed };
 
-    ghost invariant = { λ state. IsMachine K.machine × IsConfigWithin (extent K.machine) state.packed };
+    ghost invariant = { λ state. IsMachine K.machine × IsConfigWithin (extent K.machine) state.packed × GoesOn K.machine.test (said K.machine state.packed) state.goes_on };
 }
 
 impl<K: Scheme> PartialEq for State<K> {

@@ -1,4 +1,5 @@
 pub mod Branching
+pub mod Choosing
 pub mod Enabled
 pub mod Expiring
 pub mod Following
@@ -7,8 +8,10 @@ pub mod FrameLimits
 pub mod FramesKept
 pub mod Limits
 pub mod Listed
+pub mod NoWait
 pub mod Replaying
 pub mod Slotted
 pub mod Stepping
 pub mod Steps
+pub mod Stuck
 pub mod Succeeding

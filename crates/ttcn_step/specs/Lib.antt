@@ -1,4 +1,5 @@
 pub mod Answers
+pub mod Choosing
 pub mod FrameLimit
 pub mod Machines
 pub mod Standing

@@ -26,6 +26,7 @@ legend machine = legend_of machine.lists machine.names
 abbrev pub extent : Machine → Extent
 extent machine = record { lists = length machine.lists; names = length machine.names }
 
+-- the machine that runs a test case of the code: the test case of the rules, with its lists and names
 abbrev pub machine_of : TestCase → Machine
 machine_of t = record { test = test_by t; lists = t.graphs.lists; names = t.names }
 

@@ -1,3 +1,4 @@
+pub mod Plain
 pub mod Runs
 pub mod Steps
 pub mod Successors

@@ -1,5 +1,5 @@
 //! The labels of a configuration (ES 201 873-4).
-ghost use Rattle.std.specs.Prelude.{◌≡◌, ◌<◌, ◌++◌, [], IfOk, OnOk, length, map};
+ghost use Rattle.std.specs.Prelude.{◌≡◌, ◌↔◌, ◌<◌, ◌++◌, [], IfOk, IsTrue, OnOk, length, map};
 ghost use Rattle.std.specs.List.{All};
 ghost use Rattle.step_labels.specs.Labels.{label_by};
 ghost use Rattle.step_rules.specs.Configurations as rules;
@@ -169,6 +169,52 @@ pub(crate) fn labels(
     match config {
         Config::Ended(_) => Ok(Vec::new(alloc)),
         Config::Going(going) => labels_of(alloc, test, going),
+    }
+}
+
+/// The enabled labels of a component alone.
+fn labels_at(
+    alloc: Global,
+    test: &TestCase<'_>,
+    going: &Going,
+    component: &Component,
+) -> Result<Vec<Label>, AllocError>
+    requires ordered { HasPathsInOrder going.now }
+    requires limit { length component.now.own.calls < most }
+    requires within { IsWithin (extent_of test.now) component.now.own }
+    ensures { IfOk result (λ found. map label_by found.items ≡ said_labels.labels_of_component (test_by test.now) (going_by (legend_by test.now) going.now) (component_by (legend_by test.now) component.now)) }
+{
+    let mut labels = Vec::new(alloc);
+    push_component(alloc, test, going, component, &mut labels)?;
+    Ok(labels)
+}
+
+/// Whether no label of a configuration that goes on is enabled. The components behind the first that has one are not asked.
+fn is_stuck_going(alloc: Global, test: &TestCase<'_>, going: &Going) -> Result<bool, AllocError>
+    requires { Fits (machine_of test.now) (config.Going going.now) }
+    ensures { IfOk result (λ stuck. IsTrue stuck ↔ said_labels.labels (test_by test.now) (rules.Goes (going_by (legend_by test.now) going.now)) ≡ []) }
+{
+    for component in going.components.as_slice() {
+        let labels = labels_at(alloc, test, going, component)?;
+        if !labels.is_empty() {
+            return Ok(false);
+        }
+    }
+    Ok(true)
+}
+
+/// Whether no label of a configuration is enabled.
+pub(crate) fn is_stuck(
+    alloc: Global,
+    test: &TestCase<'_>,
+    config: &Config,
+) -> Result<bool, AllocError>
+    requires { Fits (machine_of test.now) config.now }
+    ensures { IfOk result (λ stuck. IsTrue stuck ↔ said_labels.labels (test_by test.now) (said (machine_of test.now) config.now) ≡ []) }
+{
+    match config {
+        Config::Ended(_) => Ok(true),
+        Config::Going(going) => is_stuck_going(alloc, test, going),
     }
 }
 

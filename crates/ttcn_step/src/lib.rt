@@ -8,6 +8,7 @@ mod laws;
 mod limit;
 mod machine;
 mod places;
+mod plain;
 mod replay;
 mod standing;
 mod start;

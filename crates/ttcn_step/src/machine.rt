@@ -1,5 +1,5 @@
 //! Machines, which run test cases (ES 201 873-4).
-ghost use Rattle.std.specs.Prelude.{◌≡◌, IfOk, map};
+ghost use Rattle.std.specs.Prelude.{◌≡◌, ◌↔◌, [], false, get_or, IfOk, IsTrue, map};
 ghost use Rattle.std.specs.List.{All};
 ghost use Rattle.interner.specs.Lists.{AreDifferent};
 ghost use Rattle.step_labels.specs.Labels.{label_by};
@@ -9,13 +9,14 @@ ghost use Rattle.step_rules.specs.Runs as runs;
 ghost use Rattle.step_rules.specs.Steps as steps;
 ghost use Rattle.ttcn_config.specs.Names.{AreInOrder};
 ghost use Rattle.ttcn_step.specs.Answers.{Ends, IsSuccessor, Leads};
+ghost use Rattle.ttcn_step.specs.Choosing.{TakesNone};
 ghost use Rattle.ttcn_step.specs.Machines.{Fits, said};
 ghost use Rattle.ttcn_step.specs.Standing.{standing_by, standing_of};
 
 use crate::error::{ReplayError, StepError};
 use crate::standing::Standing;
 use crate::successor::Successor;
-use crate::{branches, labels, places, replay, start, step, successors, testcases};
+use crate::{branches, labels, places, plain, replay, start, step, successors, testcases};
 use std::alloc::{AllocError, Global};
 use std::marker::Model;
 use step_labels::Label;
@@ -130,11 +131,27 @@ impl<'a> Machine<'a> {
         branches::branch(alloc, &self.test, config, label)
     }
 
+    /// Whether a component whose last frame is at a position may take a branch in its step: whether an `alt`, or what stands
+    /// for one, comes first there.
+    pub fn may_take_branch(&self, position: usize) -> bool
+        ensures { result ≡ false → TakesNone (get_or self.now.lists position []) }
+    {
+        !plain::is_plain_at(&self.test, position)
+    }
+
+    /// Whether no label of a configuration is enabled.
+    pub fn is_stuck(&self, alloc: Global, config: &Config) -> Result<bool, AllocError>
+        requires { Fits self.now config.now }
+        ensures { IfOk result (λ stuck. IsTrue stuck ↔ rules.labels self.now.test (said self.now config.now) ≡ []) }
+    {
+        labels::is_stuck(alloc, &self.test, config)
+    }
+
     /// The components that run, each with the place of its first remaining statement.
-    pub fn standing(&self, alloc: Global, config: &Config) -> Result<Vec<Standing>, AllocError>
+    pub fn standings(&self, alloc: Global, config: &Config) -> Result<Vec<Standing>, AllocError>
         ensures { IfOk result (λ found. map standing_by found.items ≡ standing_of (said self.now config.now)) }
     {
-        places::standing(alloc, &self.test, config)
+        places::standings(alloc, &self.test, config)
     }
 
     /// The components that are blocked: where no label is enabled, all that run, each with the place of its first remaining

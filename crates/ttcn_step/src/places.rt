@@ -9,7 +9,7 @@ ghost use Rattle.graph_items.specs.Begun.{item_at};
 ghost use Rattle.ttcn_step.specs.Machines.{Fits, machine_of, said};
 ghost use Rattle.ttcn_step.specs.Standing.{standing_by, standing_of};
 
-use crate::labels::labels;
+use crate::labels::is_stuck;
 use crate::standing::Standing;
 use crate::step::is_running;
 use std::alloc::{AllocError, Global};
@@ -85,7 +85,7 @@ fn standing_in(
     test: &TestCase<'_>,
     going: &Going,
 ) -> Result<Vec<Standing>, AllocError>
-    ensures { IfOk result (λ found. map standing_by found.items ≡ rules.standing (going_by (legend_by test.now) going.now)) }
+    ensures { IfOk result (λ found. map standing_by found.items ≡ rules.standings (going_by (legend_by test.now) going.now)) }
 {
     let mut found = Vec::new(alloc);
     for component in going.components.as_slice() {
@@ -95,7 +95,7 @@ fn standing_in(
 }
 
 /// The components that run, each with the place where it stands. There are none where the test case ended.
-pub(crate) fn standing(
+pub(crate) fn standings(
     alloc: Global,
     test: &TestCase<'_>,
     config: &Config,
@@ -117,9 +117,8 @@ pub(crate) fn blocked(
     requires { Fits (machine_of test.now) config.now }
     ensures { IfOk result (λ found. map standing_by found.items ≡ rules.blocked (test_by test.now) (said (machine_of test.now) config.now)) }
 {
-    let labels = labels(alloc, test, config)?;
-    if labels.is_empty() {
-        standing(alloc, test, config)
+    if is_stuck(alloc, test, config)? {
+        standings(alloc, test, config)
     } else {
         Ok(Vec::new(alloc))
     }

@@ -17,6 +17,7 @@ ghost use Rattle.ttcn_step.specs.Machines.{Fits, machine_of, said};
 ghost use Rattle.ttcn_step.specs.internal.Steps as spec;
 
 use crate::error::StepError;
+use crate::plain::stands_at_plain;
 use std::alloc::{AllocError, Global};
 use step_acts::act;
 use step_labels::{Expiry, Label};
@@ -92,6 +93,9 @@ pub(crate) fn has_step(
 {
     if !is_running(component.state) {
         return Ok(false);
+    }
+    if stands_at_plain(test, component) {
+        return Ok(true);
     }
     match asked(alloc, test, going, component) {
         Ok(None) => Ok(false),

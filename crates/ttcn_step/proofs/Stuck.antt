@@ -1,0 +1,76 @@
+-- Where nothing is made of the elements of a list, and where something is.
+use Rattle.std.specs.Prelude.{IfOk, Result}
+use Rattle.std.specs.declared.alloc.AllocError.{AllocError}
+use Rattle.std.specs.declared.alloc.Global.{Global}
+use Rattle.std.specs.declared.vec.Vec.{Vec}
+use Rattle.std.proofs.Common.{◌≡◌, ℕ, ◌+◌, ◌<◌, Bool, true, false, true≢false, List, [], ◌∷◌, ◌++◌, map, length, drop, get_or, refl, sym, subst, suc-ne-zero, ap, ◌∙◌}
+use Rattle.std.specs.Bool.{◌==◌}
+use Rattle.std.proofs.lemmas.Bool.{eqb-true}
+use Rattle.std.proofs.lemmas.List.{at_drop_more}
+use Rattle.step_rules.specs.Labels.{labels}
+use Rattle.step_rules.specs.Configurations.{Configuration, Ended, Goes}
+use Rattle.step_rules.specs.Places.{blocked, if_none, standings}
+use Rattle.step_rules.specs.Snapshots.{Test}
+use Rattle.step_rules.specs.Steps.{Label}
+use Rattle.ttcn_step.proofs.Listed.{grown}
+use Rattle.ttcn_step.specs.Standing.{standing_by, standing_of}
+use Rattle.ttcn_step.specs.declared.standing.Standing.{Standing}
+use Rattle.ttcn_syntax.specs.declared.place.Span.{Span}
+use Rattle.ttcn_values.specs.declared.path.Path.{Path}
+
+-- where nothing is made of an element, what is made of those behind it is what is made of it and them
+pub passed : {X Y : Type 0} (F : List X → List Y) (xs : List X) (i : ℕ) (x : X) (part all : List Y) → i < length xs → x ≡ get_or xs i x
+    → F (x ∷ drop (i + 1) xs) ≡ part ++ F (drop (i + 1) xs) → part ≡ [] → F (drop i xs) ≡ all → F (drop (i + 1) xs) ≡ all
+passed F xs i x part all less read made none holds = grown F xs i x [] [] part all less read made (sym none) holds
+
+first-none : {Y : Type 0} (part rest : List Y) → part ++ rest ≡ [] → part ≡ []
+first-none [] rest none = refl
+first-none (y ∷ part) rest none = cc
+
+-- where something is made of an element, something is made of all
+pub left-over : {X Y : Type 0} (F : List X → List Y) (xs : List X) (i : ℕ) (x : X) (part all : List Y) → i < length xs → x ≡ get_or xs i x
+    → F (x ∷ drop (i + 1) xs) ≡ part ++ F (drop (i + 1) xs) → ¬ (part ≡ []) → F (drop i xs) ≡ all → ¬ (all ≡ [])
+left-over F xs i x part all less read made some holds none =
+    some (first-none part (F (drop (i + 1) xs)) (sym made ∙ ap (λ y. F (y ∷ drop (i + 1) xs)) read ∙ sym (at_drop_more F xs i x less) ∙ holds ∙ none))
+
+-- where no label is enabled, all that run are blocked, and else none is
+pub none-enabled : {A : Type 0} (found : List Label) (standing : List A) → found ≡ [] → if_none found standing ≡ standing
+none-enabled [] standing none = refl
+none-enabled (label ∷ found) standing none = cc
+
+pub some-enabled : {A : Type 0} (found : List Label) (standing : List A) → ¬ (found ≡ []) → if_none found standing ≡ []
+some-enabled [] standing some = absurd (some refl)
+some-enabled (label ∷ found) standing some = refl
+
+-- ---- lists that are tested to be empty
+
+empties-list : {X Y : Type 0} (f : X → Y) (items : List X) → true ≡ (length items == 0) → map f items ≡ []
+empties-list f [] none = refl
+empties-list f (x ∷ items) none = absurd (suc-ne-zero (length items) (eqb-true (length (x ∷ items)) 0 (sym none)))
+
+fills-list : {X Y : Type 0} (f : X → Y) (items : List X) → false ≡ (length items == 0) → ¬ (map f items ≡ [])
+fills-list f [] some none = true≢false (sym some)
+fills-list f (x ∷ items) some none = cc
+
+pub empties : {X Y : Type 0} (f : X → Y) (items : List X) (n : ℕ) → n ≡ length items → true ≡ (n == 0) → map f items ≡ []
+empties f items n is none = empties-list f items (none ∙ ap (λ (m : ℕ). m == 0) is)
+
+pub fills : {X Y : Type 0} (f : X → Y) (items : List X) (n : ℕ) → n ≡ length items → false ≡ (n == 0) → ¬ (map f items ≡ [])
+fills f items n is some = fills-list f items (some ∙ ap (λ (m : ℕ). m == 0) is)
+
+-- ---- blocked components
+
+module _ (test : Test) where
+  -- where no label is enabled, those that run are blocked
+  standing-blocked : (c : Configuration) → labels test c ≡ [] → standing_of c ≡ blocked test c
+  standing-blocked (Ended v) none = refl
+  standing-blocked (Goes c) none = sym (none-enabled (labels test (Goes c)) (standings c) none)
+
+  pub blocked-stuck : (c : Configuration) (r : Result (Vec Standing Global) AllocError) → labels test c ≡ []
+      → IfOk r (λ found. map standing_by found.items ≡ standing_of c) → IfOk r (λ found. map standing_by found.items ≡ blocked test c)
+  blocked-stuck c r none is = subst (λ (to : List (Path × Span)). IfOk r (λ found. map standing_by found.items ≡ to)) (standing-blocked c none) is
+
+  -- where one is, none is blocked
+  pub none-blocked : (c : Configuration) → ¬ (labels test c ≡ []) → [] ≡ blocked test c
+  none-blocked (Ended v) some = refl
+  none-blocked (Goes c) some = sym (some-enabled (labels test (Goes c)) (standings c) some)
