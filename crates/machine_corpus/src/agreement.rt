@@ -27,6 +27,9 @@ pub fn agrees(
     if !labels.iter().all(|label| spelled.contains(label)) {
         return Ok(false);
     }
+    if !blocked_agree(alloc, machine, &config, labels.as_slice())? {
+        return Ok(false);
+    }
     if !successors_agree(alloc, machine, &config, labels.as_slice())? {
         return Ok(false);
     }
@@ -38,6 +41,27 @@ pub fn agrees(
         labels.as_slice(),
         spelled.as_slice(),
     )
+}
+
+/// Whether the components that run are blocked exactly where there is no label, and the machine says so where it is asked
+/// for that alone.
+fn blocked_agree(
+    alloc: Global,
+    machine: &Machine<'_>,
+    config: &Config,
+    labels: &[Label],
+) -> Result<bool, AllocError>
+    requires { Fits machine.now config.now }
+{
+    if machine.is_stuck(alloc, config)? != labels.is_empty() {
+        return Ok(false);
+    }
+    let blocked = machine.blocked(alloc, config)?;
+    if !labels.is_empty() {
+        return Ok(blocked.is_empty());
+    }
+    let standings = machine.standings(alloc, config)?;
+    Ok(blocked.len() == standings.len())
 }
 
 /// Whether the successors have these labels, in this order, and `next` leads where they do.

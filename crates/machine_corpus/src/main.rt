@@ -2,10 +2,12 @@
 #![tactic(auto)]
 
 mod agreement;
+mod behind;
 mod runs;
 mod spelled;
 
 use anyhow::Result;
+use behind::{compared_forms, seen_behind};
 use corpus::{Settings, Subject, answer_files};
 use refusals::program;
 use runs::compared;
@@ -18,7 +20,7 @@ struct Comparison;
 
 impl Subject for Comparison {
     fn keys(&self) -> &'static [&'static str] {
-        &["steps", "testcase", "timers"]
+        &["behind", "forms", "steps", "testcase", "timers"]
     }
 
     fn answer(
@@ -34,13 +36,28 @@ impl Subject for Comparison {
         let Some(testcase) = program.testcase(settings.get("testcase").unwrap_or("T")) else {
             return String::from_str(alloc, "no test case");
         };
-        let Some(steps) = steps(settings) else {
-            return String::from_str(alloc, "no steps");
-        };
-        let timers = names(alloc, settings.get("timers").unwrap_or(""))?;
         let machine = Machine::new(alloc, &program, testcase)?;
-        compared(alloc, &machine, steps, timers.as_slice())
+        answer_of(alloc, &machine, settings)
     }
+}
+
+/// What a machine says behind the runs that the settings name.
+fn answer_of(
+    alloc: Global,
+    machine: &Machine<'_>,
+    settings: &Settings<'_>,
+) -> Result<String, AllocError> {
+    if let Some(run) = settings.get("behind") {
+        return seen_behind(alloc, machine, run);
+    }
+    if let Some(runs) = settings.get("forms") {
+        return compared_forms(alloc, machine, runs);
+    }
+    let Some(steps) = steps(settings) else {
+        return String::from_str(alloc, "no steps");
+    };
+    let timers = names(alloc, settings.get("timers").unwrap_or(""))?;
+    compared(alloc, machine, steps, timers.as_slice())
 }
 
 /// How long runs may be, unless that isn't set or is no number.
