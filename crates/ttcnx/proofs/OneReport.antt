@@ -2,6 +2,7 @@
 use Rattle.std.proofs.Common.{◌≡◌, ℕ, ◌≤◌, Bool, true, false, List, [], ◌∷◌, ◌++◌, length, map, refl, sym, ap, ◌∙◌, arith, inl, inr}
 use Rattle.std.specs.Prelude.{◌↔◌, Option, Some, None, IsTrue, codes, string_bytes}
 use Rattle.std.specs.List.{cons_option, filter_map, flat_map}
+use Rattle.std.specs.Option.{option_map}
 use Rattle.std.specs.Fmt.{decimal}
 use Rattle.std.specs.Cmp.{IsTotalOrder}
 use Rattle.std.specs.Coded.{Coded, code_by, coded_ℕ, coded_list, coded×}
@@ -20,10 +21,14 @@ use Rattle.place_summaries.proofs.OneAscent.{one_ascent}
 use Rattle.place_summaries.specs.Ascent.{Ascends}
 use Rattle.place_summaries.specs.KeyCode.{same_keys}
 use Rattle.place_summaries.specs.KeySet.{from_list}
+use Rattle.report.specs.Json.{json_text, label_json, list_of, outcome_json, place_json, standing_json}
 use Rattle.report.specs.Texts.{blocked_line, branch_line, header_text, line, outcome_text, report_text, step_line, word_of, yes_or_no}
 use Rattle.report.specs.declared.report.Outcome.{Outcome}
 use Rattle.report.specs.declared.report.Report.{Report}
 use Rattle.report.specs.declared.report.Standing.{Standing}
+use Rattle.serde_json.specs.Data.{Data, array, boolean, member, no_members, number, object, string, unsigned}
+use Rattle.serde_json.specs.View.{items_of}
+use Rattle.serde_json.specs.Written.{compact_text}
 use Rattle.step_labels.specs.Labels.{label_by, label_with}
 use Rattle.step_labels.specs.declared.label.Expiry.{Expiry}
 use Rattle.step_labels.specs.declared.label.Label.{Label}
@@ -181,10 +186,64 @@ wholes_alike a b header outcomes branches blocked =
     ∙ ap (λ x. whole_text (header_text b) (flat_map outcome_text b.outcomes.items) x a.blocked.items) branches
     ∙ ap (λ x. whole_text (header_text b) (flat_map outcome_text b.outcomes.items) b.branches.items x) blocked
 
-pub one_report : (test : Test) (name : List ℕ) (plan : Plan) (a b : Report) → Tells test name plan a → Tells test name plan b → report_text a ≡ report_text b
+-- ---- as JSON
+
+json_of_run : Verdict → List Label → Data
+json_of_run verdict labels =
+    object (member (codes "run") (list_of label_json labels)
+    (member (codes "verdict") (string (word_of verdict))
+    no_members))
+
+module _ (test : Test) (n : ℕ) where
+  best_alike_as_json : (verdict : Verdict) (a b : Option (Vec Label Global)) → IsBestRun test n verdict (labels_in a) → IsBestRun test n verdict (labels_in b)
+      → option_map outcome_json (outcome_of verdict a) ≡ option_map outcome_json (outcome_of verdict b)
+  unfolding json_of_run
+  best_alike_as_json verdict None None h k = refl
+  best_alike_as_json verdict None (Some b) h k = absurd (h k.0 k.1.has)
+  best_alike_as_json verdict (Some a) None h k = absurd (k h.0 h.1.has)
+  best_alike_as_json verdict (Some a) (Some b) h k =
+      let same = one_best (graph_of test) label_cmp label_total n (badness verdict) h.0 k.0 h.1 k.1 in
+      let labels : a.items ≡ b.items = labels_alike a.items b.items (h.2 ∙ ap labels_of same ∙ sym k.2) in
+      ap (λ items. Some (json_of_run verdict items)) labels
+
+mapped-cons : (f : Outcome → Data) (o : Option Outcome) (rest : List Outcome) → map f (cons_option o rest) ≡ cons_option (option_map f o) (map f rest)
+mapped-cons f None rest = refl
+mapped-cons f (Some outcome) rest = refl
+
+outcomes_alike : (f : Outcome → Data) (g h : Verdict → Option Outcome) → ((verdict : Verdict) → option_map f (g verdict) ≡ option_map f (h verdict))
+    → (verdicts : List Verdict) → map f (filter_map g verdicts) ≡ map f (filter_map h verdicts)
+outcomes_alike f g h same [] = refl
+outcomes_alike f g h same (verdict ∷ verdicts) =
+    mapped-cons f (g verdict) (filter_map g verdicts) ∙ ap (λ o. cons_option o (map f (filter_map g verdicts))) (same verdict)
+    ∙ ap (cons_option (option_map f (h verdict))) (outcomes_alike f g h same verdicts) ∙ sym (mapped-cons f (h verdict) (filter_map h verdicts))
+
+whole_json : List Standing → List Span → Bool → ℕ → ℕ → List ℕ → List Data → List ℕ
+whole_json blocked branches complete configurations steps testcase outcomes = line (compact_text (
+    object (member (codes "blocked") (list_of standing_json blocked)
+    (member (codes "branches") (list_of place_json branches)
+    (member (codes "complete") (boolean complete)
+    (member (codes "configurations") (number (unsigned configurations))
+    (member (codes "steps") (number (unsigned steps))
+    (member (codes "testcase") (string testcase)
+    (member (codes "verdicts") (array (items_of outcomes))
+    no_members)))))))))
+
+json_alike : (a b : Report) → a.blocked.items ≡ b.blocked.items → a.branches.items ≡ b.branches.items → a.complete ≡ b.complete → a.configurations ≡ b.configurations
+    → a.steps ≡ b.steps → string_bytes a.testcase ≡ string_bytes b.testcase → map outcome_json a.outcomes.items ≡ map outcome_json b.outcomes.items → json_text a ≡ json_text b
+unfolding whole_json
+json_alike a b blocked branches complete configurations steps name outcomes = λ i.
+    whole_json (blocked i) (branches i) (complete i) (configurations i) (steps i) (name i) (outcomes i)
+
+-- ---- the report
+
+pub one_report : (test : Test) (name : List ℕ) (plan : Plan) (a b : Report) → Tells test name plan a → Tells test name plan b
+    → (report_text a ≡ report_text b) × (json_text a ≡ json_text b)
 one_report test name plan a b h k =
-    let header = headers_alike a b (h.testcase ∙ sym k.testcase) (h.steps ∙ sym k.steps)
-    (counts_once test plan.steps a.configurations b.configurations (h.runs).configurations (k.runs).configurations) (same_answer a.complete b.complete h.complete k.complete) in
+    let testcase = h.testcase ∙ sym k.testcase in
+    let steps = h.steps ∙ sym k.steps in
+    let configurations = counts_once test plan.steps a.configurations b.configurations (h.runs).configurations (k.runs).configurations in
+    let complete = same_answer a.complete b.complete h.complete k.complete in
+    let header = headers_alike a b testcase steps configurations complete in
     let outcomes : flat_map outcome_text a.outcomes.items ≡ flat_map outcome_text b.outcomes.items =
     ap (λ items. flat_map outcome_text items) (h.runs).outcomes ∙ told_each (h.runs).run_of all_verdicts
     ∙ each_alike (λ verdict. told_of verdict ((h.runs).run_of verdict)) (λ verdict. told_of verdict ((k.runs).run_of verdict))
@@ -193,4 +252,9 @@ one_report test name plan a b h k =
     let branches = branches_alike test plan.steps a.branches.items b.branches.items (h.runs).branches (k.runs).branches in
     let blocked = standings_alike a.blocked.items b.blocked.items
     (blocked_alike test plan.steps (map standing_in a.blocked.items) (map standing_in b.blocked.items) (h.runs).blocked (k.runs).blocked) in
-    wholes_alike a b header outcomes branches blocked
+    let as_json : map outcome_json a.outcomes.items ≡ map outcome_json b.outcomes.items =
+    ap (map outcome_json) (h.runs).outcomes
+    ∙ outcomes_alike outcome_json (λ verdict. outcome_of verdict ((h.runs).run_of verdict)) (λ verdict. outcome_of verdict ((k.runs).run_of verdict))
+    (λ verdict. best_alike_as_json test plan.steps verdict ((h.runs).run_of verdict) ((k.runs).run_of verdict) ((h.runs).best verdict) ((k.runs).best verdict)) all_verdicts
+    ∙ ap (map outcome_json) (sym (k.runs).outcomes) in
+    (wholes_alike a b header outcomes branches blocked, json_alike a b blocked branches complete configurations steps testcase as_json)

@@ -4,6 +4,7 @@ use Rattle.std.specs.Prelude.{◌≡◌, ℕ, ◌<◌, List, Result, Ok, Err}
 use Rattle.explore.specs.Limits.{IsWithinLimits}
 use Rattle.explore.specs.declared.plan.Plan.{Plan}
 use Rattle.live_laws.specs.Parts.{CountsParts}
+use Rattle.report.specs.Json.{json_text}
 use Rattle.report.specs.Texts.{report_text}
 use Rattle.report.specs.declared.report.Report.{Report}
 use Rattle.step_rules.specs.Snapshots.{Test}
@@ -13,6 +14,7 @@ use Rattle.ttcnx.specs.Tells.{Tells}
 use Rattle.ttcnx.specs.declared.fault.Fault.{Fault}
 use Rattle.ttcnx.specs.declared.fault.Fault.TheVariants as fault
 
+-- an answer: a report, or a fault that says why there is none
 abbrev pub Answer : Type 0
 Answer = Result Report Fault
 
@@ -34,9 +36,9 @@ pub data IsAnswer (text name : List ℕ) (plan : Plan) : Answer → Type 0 where
   named : {test : Test} {answer : Answer} → IsWithinLimits plan → IsTestOf text name test → OfTestCase test name plan answer
       → IsAnswer text name plan answer
 
--- answers that tell the same
+-- answers that tell the same: reports of one text, as text and as JSON, or faults of one kind
 abbrev pub SameAnswer : Answer → Answer → Type 0
-SameAnswer (Ok report) (Ok other) = report_text report ≡ report_text other
+SameAnswer (Ok report) (Ok other) = (report_text report ≡ report_text other) × (json_text report ≡ json_text other)
 SameAnswer (Ok report) (Err other) = ⊥
 SameAnswer (Err one) (Ok other) = ⊥
 SameAnswer (Err one) (Err other) = SameFault one other

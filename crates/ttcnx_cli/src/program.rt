@@ -94,12 +94,12 @@ where
         } => {
             let text = read_bytes(rt, file, ENOUGH)?;
             let report = run_text(rt, alloc, &text, testcase.as_str(), &plan, &NoGate)?;
-            let told = if json {
+            let text = if json {
                 to_json(alloc, &report)?
             } else {
                 to_text(alloc, &report)?
             };
-            Ok(told.into_bytes())
+            Ok(text.into_bytes())
         }
         Line::Replay {
             file,
