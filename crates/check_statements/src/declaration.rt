@@ -1,7 +1,10 @@
 //! Declarations of variables, constants and timers (ES 201 873-1, 8, 10 to 12).
-ghost use Rattle.std.specs.Prelude.{◌≡◌, [], ◌∷◌, IfOk, OnOk};
+ghost use Rattle.std.specs.Prelude.{◌≡◌, List, [], ◌∷◌, IfOk, OnOk};
 ghost use Rattle.check_scope.specs.internal.Checking.{around, least, view};
-ghost use Rattle.check_scope.specs.Names.{declaring};
+ghost use Rattle.check_scope.specs.Names.{Entry, declaring};
+ghost use Rattle.check_scope.specs.Names as visible;
+ghost use Rattle.check_scope.specs.declared.rule.Rule as broken_rule;
+ghost use Rattle.check_expressions.specs.Declarations.{behind_all, one_by_one};
 ghost use Rattle.check_expressions.specs.Targets as spec;
 
 use check_expressions::target::{check_initial, check_new_name, check_type};
@@ -25,6 +28,30 @@ pub(crate) fn declare<'a>(
 {
     let broken = check_new_name(scope, name);
     scope.declare(name.as_bytes(), meaning)?;
+    Ok(broken)
+}
+
+/// Items that declare a name each, which is visible in those behind it.
+pub(crate) fn declare_each<'a, T, F: Fn(&mut Scope<'a>, &'a T) -> Result<Broken, AllocError>>(
+    scope: &mut Scope<'a>,
+    items: &'a [T],
+    declare_item: F,
+) -> Result<Broken, AllocError>
+    requires { F.IsAlwaysCallable declare_item }
+    ensures { (rules : visible.Scope → T → List broken_rule.Rule) → (entry : visible.Scope → T → Entry)
+        → ((before : _) (item : _) (done : _) (after : _) → F.post declare_item before item done after
+        → IfOk done (λ broken. broken ≡ least (rules (view before.now) item.now))
+        × OnOk done (view after.now ≡ declaring (view before.now) (entry (view before.now) item.now ∷ []))
+        × OnOk done (around after.now ≡ around before.now))
+        → IfOk result (λ broken. broken ≡ least (one_by_one rules entry (view scope.old) items.now))
+        × OnOk result (view scope.new ≡ behind_all entry (view scope.old) items.now)
+        × OnOk result (around scope.new ≡ around scope.old) }
+{
+    let mut broken = Broken::nothing();
+    for item in items {
+        let more = declare_item(scope, item)?;
+        broken = broken.and(more);
+    }
     Ok(broken)
 }
 
@@ -55,12 +82,11 @@ pub(crate) fn variables<'a>(
     ensures around { OnOk result (around scope.new ≡ around scope.old) }
 {
     let of = scope.resolved(&variables.type_name);
-    let mut broken = check_type(scope, true, &variables.type_name);
-    for item in variables.variables.as_slice() {
-        let more = variable(alloc, scope, of, item)?;
-        broken = broken.and(more);
-    }
-    Ok(broken)
+    let typed = check_type(scope, true, &variables.type_name);
+    let declared = declare_each(scope, variables.variables.as_slice(), |scope, item| {
+        variable(alloc, scope, of, item)
+    })?;
+    Ok(typed.and(declared))
 }
 
 /// A constant of a type, which is visible behind its own part of the declaration.
@@ -90,12 +116,11 @@ pub(crate) fn constants<'a>(
     ensures around { OnOk result (around scope.new ≡ around scope.old) }
 {
     let of = scope.resolved(&constants.type_name);
-    let mut broken = check_type(scope, false, &constants.type_name);
-    for item in constants.constants.as_slice() {
-        let more = constant(alloc, scope, of, item)?;
-        broken = broken.and(more);
-    }
-    Ok(broken)
+    let typed = check_type(scope, false, &constants.type_name);
+    let declared = declare_each(scope, constants.constants.as_slice(), |scope, item| {
+        constant(alloc, scope, of, item)
+    })?;
+    Ok(typed.and(declared))
 }
 
 pub(crate) fn timers<'a>(scope: &mut Scope<'a>, timers: &'a [Timer]) -> Result<Broken, AllocError>
@@ -103,10 +128,7 @@ pub(crate) fn timers<'a>(scope: &mut Scope<'a>, timers: &'a [Timer]) -> Result<B
     ensures view { OnOk result (view scope.new ≡ spec.behind_timers (view scope.old) timers.now) }
     ensures around { OnOk result (around scope.new ≡ around scope.old) }
 {
-    let mut broken = Broken::nothing();
-    for item in timers {
-        let more = declare(scope, &item.name, Meaning::Timer)?;
-        broken = broken.and(more);
-    }
-    Ok(broken)
+    declare_each(scope, timers, |scope, timer| {
+        declare(scope, &timer.name, Meaning::Timer)
+    })
 }

@@ -3,11 +3,10 @@ ghost use Rattle.std.specs.Prelude.{◌≡◌, [], ◌∷◌, IfOk, OnOk};
 ghost use Rattle.std.specs.Option.{option_map};
 ghost use Rattle.ttcn_syntax.specs.declared.tree.definition.Member.TheVariants as member;
 ghost use Rattle.check_scope.specs.internal.Checking.{around, least, view};
-ghost use Rattle.check_expressions.specs.Declarations.{behind_all, one_by_one};
 ghost use Rattle.check_statements.specs.Definitions as spec;
 ghost use Rattle.check_scope.specs.Names.{declaring, member_entries};
 
-use crate::declaration::{constants, declare, timers};
+use crate::declaration::{constants, declare, declare_each, timers};
 use check_expressions::target::check_type;
 use check_expressions::value::value;
 use check_scope::broken::Broken;
@@ -19,24 +18,6 @@ use std::alloc::{AllocError, Global};
 use ttcn_syntax::{Member, MemberVariable, Name, TypeName, Value};
 
 // ---- ports
-
-/// Ports of a type.
-fn named_ports<'a>(
-    scope: &mut Scope<'a>,
-    of: Option<usize>,
-    names: &'a [Name],
-) -> Result<Broken, AllocError>
-    ensures broken { IfOk result (λ broken. broken ≡ least (one_by_one spec.check_port_name (spec.port_entry of) (view scope.old) names.now)) }
-    ensures view { OnOk result (view scope.new ≡ behind_all (spec.port_entry of) (view scope.old) names.now) }
-    ensures around { OnOk result (around scope.new ≡ around scope.old) }
-{
-    let mut broken = Broken::nothing();
-    for name in names {
-        let more = declare(scope, name, Meaning::Port(of))?;
-        broken = broken.and(more);
-    }
-    Ok(broken)
-}
 
 /// A declaration of ports.
 #[tactic(auto, using(crate::proofs::Leasts::least_append))]
@@ -51,7 +32,9 @@ fn check_ports<'a>(
 {
     let of = port_type_meant(scope.get(port_type.as_bytes()));
     let typed = Broken::unless(of.is_some(), Rule::UnknownName);
-    let named = named_ports(scope, of, names)?;
+    let named = declare_each(scope, names, |scope, name| {
+        declare(scope, name, Meaning::Port(of))
+    })?;
     Ok(typed.and(named))
 }
 
@@ -89,25 +72,6 @@ fn member_variable<'a>(
     Ok(name.and(initial))
 }
 
-/// Variables of a type.
-fn member_variables<'a>(
-    alloc: Global,
-    scope: &mut Scope<'a>,
-    of: Option<DataType>,
-    variables: &'a [MemberVariable],
-) -> Result<Broken, AllocError>
-    ensures broken { IfOk result (λ broken. broken ≡ least (one_by_one (spec.check_member_variable of) (spec.member_variable_entry of) (view scope.old) variables.now)) }
-    ensures view { OnOk result (view scope.new ≡ behind_all (spec.member_variable_entry of) (view scope.old) variables.now) }
-    ensures around { OnOk result (around scope.new ≡ around scope.old) }
-{
-    let mut broken = Broken::nothing();
-    for variable in variables {
-        let more = member_variable(alloc, scope, of, variable)?;
-        broken = broken.and(more);
-    }
-    Ok(broken)
-}
-
 /// A declaration of variables.
 #[tactic(auto, using(crate::proofs::Leasts::least_append))]
 fn check_variables<'a>(
@@ -122,7 +86,9 @@ fn check_variables<'a>(
 {
     let of = scope.resolved(type_name);
     let typed = check_type(scope, true, type_name);
-    let named = member_variables(alloc, scope, of, variables)?;
+    let named = declare_each(scope, variables, |scope, variable| {
+        member_variable(alloc, scope, of, variable)
+    })?;
     Ok(typed.and(named))
 }
 

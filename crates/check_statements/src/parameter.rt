@@ -4,7 +4,7 @@ ghost use Rattle.check_scope.specs.internal.Checking.{around, least, view};
 ghost use Rattle.check_statements.specs.Definitions as spec;
 ghost use Rattle.check_scope.specs.Names.{declaring};
 
-use crate::declaration::declare;
+use crate::declaration::{declare, declare_each};
 use check_expressions::target::check_type;
 use check_scope::broken::Broken;
 use check_scope::names::Meaning;
@@ -34,10 +34,5 @@ pub(crate) fn check_parameters<'a>(
     ensures view { OnOk result (view scope.new ≡ spec.with_parameters (view scope.old) parameters.now) }
     ensures around { OnOk result (around scope.new ≡ around scope.old) }
 {
-    let mut broken = Broken::nothing();
-    for item in parameters {
-        let more = parameter(scope, item)?;
-        broken = broken.and(more);
-    }
-    Ok(broken)
+    declare_each(scope, parameters, parameter)
 }
