@@ -88,10 +88,7 @@ fn check_function<'a>(
     let runs_on = function.runs_on.as_ref();
     let head = go_into_behaviour(alloc, scope, runs_on, function.parameters.as_slice())?;
     found.note(head.and(result), place);
-    let inside = Place {
-        returns,
-        in_branch: false,
-    };
+    let inside = Place::in_body(returns);
     block(alloc, scope, inside, function.body.as_slice(), found)
 }
 
@@ -109,10 +106,7 @@ fn check_altstep<'a>(
     let runs_on = altstep.runs_on.as_ref();
     let head = go_into_behaviour(alloc, scope, runs_on, altstep.parameters.as_slice())?;
     found.note(head, place);
-    let inside = Place {
-        returns: Returns::Nowhere,
-        in_branch: false,
-    };
+    let inside = Place::in_body(Returns::Nowhere);
     branches(alloc, scope, inside, altstep.branches.as_slice(), found)
 }
 
@@ -130,10 +124,7 @@ fn check_testcase<'a>(
     let system = check_component_name(scope, testcase.system.as_ref());
     let head = go_into_behaviour(alloc, scope, Some(&testcase.runs_on), &[])?;
     found.note(head.and(system), place);
-    let inside = Place {
-        returns: Returns::Nowhere,
-        in_branch: false,
-    };
+    let inside = Place::in_body(Returns::Nowhere);
     block(alloc, scope, inside, testcase.body.as_slice(), found)
 }
 

@@ -1,5 +1,5 @@
 //! Where a statement stands in a behaviour.
-ghost use Rattle.std.specs.Prelude.{◌≡◌};
+ghost use Rattle.std.specs.Prelude.{◌≡◌, false};
 ghost use Rattle.check_statements.specs.internal.Places.{place_with};
 ghost use Rattle.check_scope.specs.Names.{Scope};
 ghost use Rattle.check_statements.specs.Statements.{inside_branch};
@@ -25,6 +25,17 @@ pub(crate) struct Place {
 }
 
 impl Place {
+    /// A place in the body of a behaviour, outside its branches.
+    pub(crate) fn in_body(returns: Returns) -> Place
+        ensures returns { result.returns ≡ returns }
+        ensures outside { result.in_branch ≡ false }
+    {
+        Place {
+            returns,
+            in_branch: false,
+        }
+    }
+
     /// A place in the block of a branch.
     pub(crate) fn inside_branch(self) -> Place
         ensures { (scope : Scope) → place_with scope result ≡ inside_branch (place_with scope self) }

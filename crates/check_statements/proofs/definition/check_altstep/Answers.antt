@@ -19,4 +19,4 @@ returns-clause-found c =
     rw (noted_before (least_in c.args.found.now) c.in_ok-head.head (least_in c.note.new.self)
     (check_component_name definitions altstep.runs_on ++ check_parameters scope altstep.parameters)
     (flat_map (λ b. branch b (place_in scope altstep.parameters returns.Nowhere)) altstep.branches) head c.note.ensures)
-    at (rw (c.as_slice-2.ensures, inside) at c.branches.ensures.found)
+    at (rw (c.as_slice-2.ensures, inside, c.in_body-inside.ensures.returns, c.in_body-inside.ensures.outside) at c.branches.ensures.found)

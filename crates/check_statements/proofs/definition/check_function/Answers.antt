@@ -19,4 +19,4 @@ returns-clause-found c =
     (check_component_name definitions function.runs_on) (check_parameters scope function.parameters) (check_result definitions function.returns)
     (statements function.body (place_in scope function.parameters (returns_of definitions function.returns)))
     head result c.and.ensures c.note.ensures)
-    at (rw (c.as_slice-2.ensures, inside, returns) at c.block.ensures.found)
+    at (rw (c.as_slice-2.ensures, inside, c.in_body-inside.ensures.returns, c.in_body-inside.ensures.outside, returns) at c.block.ensures.found)

@@ -17,4 +17,4 @@ returns-clause-found c =
     (check_component_name definitions (Some testcase.runs_on)) (check_component_name definitions testcase.system)
     (statements testcase.body (place_in (scope_on definitions (component_named definitions (Some testcase.runs_on))) [] returns.Nowhere))
     c.in_ok-head.ensures.broken system c.and.ensures c.note.ensures)
-    at (rw (c.as_slice.ensures, c.in_ok-head.ensures.view) at c.block.ensures.found)
+    at (rw (c.as_slice.ensures, c.in_ok-head.ensures.view, c.in_body-inside.ensures.returns, c.in_body-inside.ensures.outside) at c.block.ensures.found)
