@@ -3,7 +3,7 @@ use Rattle.std.proofs.Common.{◌≡◌, ◌<◌, Bool, true, false, ◌&&◌, �
 use Rattle.std.proofs.lemmas.List.Elements.{All-cons, All-head, All-nil, All-tail}
 use Rattle.std.specs.List.{filter, find, fold, list_any}
 use Rattle.ttcn_syntax.specs.declared.tree.statement.Verdict.{Verdict}
-use Rattle.canonical.specs.internal.Husks.{forgotten, husk, is_live, is_over, is_over_if_any, is_terminated, is_terminated_at, live_component, live_components, live_connections, live_going}
+use Rattle.canonical.specs.internal.Husks.{forgotten, husk, is_dead, is_live, is_over, is_over_if_any, is_terminated, is_terminated_at, live_component, live_components, live_connections, live_going}
 use Rattle.step_rules.specs.Configurations as rules
 use Rattle.step_rules.specs.Configurations.{same_path}
 use Rattle.step_rules.specs.LiveParts as live
@@ -124,6 +124,18 @@ going-stays g none = λ i. record {
   connections = sym (connections-stay g.components none g.connections) i;
   forgotten = sym (verdict-stays g.forgotten g.components none) i;
 }
+
+-- ---- where all connections stay
+
+kept-first : (b : Bool) (k : Connection) (ks live : List Connection) → not b ≡ false → live ≡ ks → (if b then k ∷ live else live) ≡ k ∷ ks
+kept-first true k ks live stays rest = ap (λ xs. k ∷ xs) rest
+kept-first false k ks live stays rest = absurd (true≢false stays)
+
+pub none-dead : (xs : List Component) (ks : List Connection) → list_any (is_dead xs) ks ≡ false → live_connections xs ks ≡ ks
+none-dead xs [] none = refl
+none-dead xs (k ∷ ks) none =
+    let p = or-parts (is_dead xs k) (list_any (is_dead xs) ks) none in
+    kept-first (is_live xs k) k ks (live_connections xs ks) p.0 (none-dead xs ks p.1)
 
 -- ---- what remains has positions still
 

@@ -8,6 +8,7 @@ ghost use Rattle.step_rules.specs.LiveParts.{live_part};
 ghost use Rattle.ttcn_config.specs.Legend.{Legend, config_by};
 ghost use Rattle.ttcn_config.specs.Views.{Extent, IsConfigWithin};
 
+use sharing::Shared;
 use std::alloc::{AllocError, Global};
 use ttcn_config::{Cells, Component, Config, Connection, Data, Going, State, TryClone};
 use ttcn_syntax::{Seq, Verdict};
@@ -81,21 +82,45 @@ fn is_live(components: &[Component], connection: &Connection) -> bool
         && is_terminated_at(components, &connection.other.component))
 }
 
+/// Whether some connection doesn't stay.
+fn has_dead(components: &[Component], connections: &[Connection]) -> bool
+    ensures { result ≡ list_any (spec.is_dead components.now) connections.now }
+{
+    connections
+        .iter()
+        .any(|connection| !is_live(components, connection))
+}
+
+/// The connections that stay, in memory of their own.
+fn live_among(
+    alloc: Global,
+    components: &[Component],
+    connections: &[Connection],
+) -> Result<Seq<Connection>, AllocError>
+    ensures { IfOk result (λ live. live ≡ spec.live_connections components.now connections.now) }
+{
+    let mut live = Vec::new(alloc);
+    for connection in connections {
+        if is_live(components, connection) {
+            live.push(connection.try_clone(alloc)?)?;
+        }
+    }
+    Ok(Seq::from_vec(live))
+}
+
 /// The connections that stay.
 fn live_connections(
     alloc: Global,
     components: &[Component],
-    connections: Seq<Connection>,
-) -> Result<Seq<Connection>, AllocError>
+    connections: Shared<Seq<Connection>>,
+) -> Result<Shared<Seq<Connection>>, AllocError>
     ensures { IfOk result (λ live. live ≡ spec.live_connections components.now connections) }
 {
-    let mut live = Vec::new(alloc);
-    for connection in connections.into_vec() {
-        if is_live(components, &connection) {
-            live.push(connection)?;
-        }
+    if !has_dead(components, connections.as_slice()) {
+        return Ok(connections);
     }
-    Ok(Seq::from_vec(live))
+    let live = live_among(alloc, components, connections.as_slice())?;
+    Shared::new(alloc, live)
 }
 
 /// The worst verdict of the components of which nothing but their paths is left.
@@ -112,34 +137,35 @@ fn forgotten(components: &[Component], forgotten: Verdict) -> Verdict
 }
 
 /// A terminated component of which only the path is left.
-fn husk(alloc: Global, path: Path) -> Component
-    ensures { result ≡ spec.husk path }
+fn husk(alloc: Global, path: Path) -> Result<Component, AllocError>
+    ensures { IfOk result (λ left. left ≡ spec.husk path) }
 {
-    Component {
+    let own = Data {
+        members: Cells::new(alloc),
+        calls: Seq::new(alloc),
+        defaults: Seq::new(alloc),
+        activations: 0,
+        children: 0,
+    };
+    Ok(Component {
         itself: ComponentId {
             path,
             component_type: 0,
         },
-        own: Data {
-            members: Cells::new(alloc),
-            calls: Seq::new(alloc),
-            defaults: Seq::new(alloc),
-            activations: 0,
-            children: 0,
-        },
+        own: Shared::new(alloc, own)?,
         state: State::Terminated,
         verdict: Verdict::None,
-        queues: Seq::new(alloc),
-    }
+        queues: Shared::new(alloc, Seq::new(alloc))?,
+    })
 }
 
-fn live_component(alloc: Global, component: Component) -> Component
-    ensures { result ≡ spec.live_component component }
+fn live_component(alloc: Global, component: Component) -> Result<Component, AllocError>
+    ensures { IfOk result (λ live. live ≡ spec.live_component component) }
 {
     if is_terminated(component.state) {
         husk(alloc, component.itself.path)
     } else {
-        component
+        Ok(component)
     }
 }
 
@@ -148,7 +174,7 @@ fn live_components(alloc: Global, components: Seq<Component>) -> Result<Seq<Comp
 {
     let mut live = Vec::with_capacity(alloc, components.len())?;
     for component in components.into_vec() {
-        live.push(live_component(alloc, component))?;
+        live.push(live_component(alloc, component)?)?;
     }
     Ok(Seq::from_vec(live))
 }

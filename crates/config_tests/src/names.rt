@@ -1,5 +1,6 @@
 //! Names get values and timers states, and timers expire.
 use crate::parts::{component, data, frame, path, two};
+use sharing::Shared;
 use std::alloc::{AllocError, Global};
 use std::test::Fail;
 use ttcn_config::{Data, Going, State};
@@ -140,22 +141,21 @@ fn with_timers(
     number: u32,
     timer: TimerState,
 ) -> Result<Going, AllocError> {
-    let mut main = component(alloc, &[])?;
-    main.state = state;
-    main.own
-        .members
-        .timers
-        .push((4, of_frame(0, number, timer)))?;
+    let mut own = data(alloc, 0);
+    own.members.timers.push((4, of_frame(0, number, timer)))?;
     for at in [2, 1] {
         let mut frame = frame(alloc, 0);
         frame.cells.timers.push((4, of_frame(at, number, timer)))?;
-        main.own.calls.push(frame)?;
+        own.calls.push(frame)?;
     }
+    let mut main = component(alloc, &[])?;
+    main.state = state;
+    main.own = Shared::new(alloc, own)?;
     let mut components = Seq::new(alloc);
     components.push(main)?;
     Ok(Going {
         components,
-        connections: Seq::new(alloc),
+        connections: Shared::new(alloc, Seq::new(alloc))?,
         forgotten: Verdict::None,
     })
 }

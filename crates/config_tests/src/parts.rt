@@ -1,4 +1,5 @@
 //! Configurations to begin with.
+use sharing::Shared;
 use std::alloc::{AllocError, Global};
 use ttcn_config::{Cells, Component, Data, End, Frame, Going, Queue, State};
 use ttcn_syntax::{Seq, Verdict};
@@ -67,10 +68,10 @@ pub fn component(alloc: Global, numbers: &[u32]) -> Result<Component, AllocError
     }
     Ok(Component {
         itself: name(alloc, numbers)?,
-        own: data(alloc, 0),
+        own: Shared::new(alloc, data(alloc, 0))?,
         state: State::Created,
         verdict: Verdict::None,
-        queues,
+        queues: Shared::new(alloc, queues)?,
     })
 }
 
@@ -83,7 +84,7 @@ pub fn two(alloc: Global) -> Result<Going, AllocError> {
     components.push(component(alloc, &[1])?)?;
     Ok(Going {
         components,
-        connections: Seq::new(alloc),
+        connections: Shared::new(alloc, Seq::new(alloc))?,
         forgotten: Verdict::None,
     })
 }

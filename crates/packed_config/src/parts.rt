@@ -5,6 +5,7 @@ ghost use Rattle.packed_config.specs.Reading.{read_verdict};
 use crate::byte_reader::ByteReader;
 use crate::number::{put_long, put_number, take_long, take_number};
 use crate::spelled::Spelled;
+use sharing::Shared;
 use std::alloc::{AllocError, Global};
 use ttcn_config::{
     ActiveDefault, Cells, Component, Config, Connection, Data, End, Frame, Going, Message, Queue,
@@ -282,10 +283,10 @@ impl Spelled for Component {
     #[tactic(auto, unfolding(crate::specs::Reading::read_component))]
     fn take(alloc: Global, reader: &mut ByteReader<'_>) -> Result<Component, AllocError> {
         let itself = ComponentId::take(alloc, reader)?;
-        let own = Data::take(alloc, reader)?;
+        let own = Shared::new(alloc, Data::take(alloc, reader)?)?;
         let state = State::take(alloc, reader)?;
         let verdict = Verdict::take(alloc, reader)?;
-        let queues = Seq::take(alloc, reader)?;
+        let queues = Shared::new(alloc, Seq::take(alloc, reader)?)?;
         Ok(Component {
             itself,
             own,
@@ -362,7 +363,7 @@ impl Spelled for Going {
     #[tactic(auto, unfolding(crate::specs::Reading::read_going))]
     fn take(alloc: Global, reader: &mut ByteReader<'_>) -> Result<Going, AllocError> {
         let components = Seq::take(alloc, reader)?;
-        let connections = Seq::take(alloc, reader)?;
+        let connections = Shared::new(alloc, Seq::take(alloc, reader)?)?;
         let forgotten = Verdict::take(alloc, reader)?;
         Ok(Going {
             components,

@@ -1,4 +1,5 @@
 //! Configurations to pack.
+use sharing::Shared;
 use std::alloc::{AllocError, Global};
 use ttcn_config::{
     ActiveDefault, Cells, Component, Config, Connection, Data, End, Frame, Going, Message, Queue,
@@ -43,27 +44,37 @@ fn queue(alloc: Global, port: Slot) -> Queue {
     }
 }
 
-/// A component that runs, with a variable, a timer, a frame of which this remains, and a port.
-fn component(alloc: Global, value: Value, remaining: usize) -> Result<Component, AllocError> {
+/// A variable, a timer, and a frame of which this remains.
+fn data(alloc: Global, value: Value, remaining: usize) -> Result<Data, AllocError> {
     let mut calls = Seq::new(alloc);
     calls.push(Frame {
         remaining,
         cells: no_cells(alloc),
     })?;
+    Ok(Data {
+        members: cells(alloc, value)?,
+        calls,
+        defaults: Seq::new(alloc),
+        activations: 0,
+        children: 1,
+    })
+}
+
+/// A port without messages.
+fn one_queue(alloc: Global) -> Result<Seq<Queue>, AllocError> {
     let mut queues = Seq::new(alloc);
     queues.push(queue(alloc, 7))?;
+    Ok(queues)
+}
+
+/// A component that runs.
+fn component(alloc: Global, own: Data, queues: Seq<Queue>) -> Result<Component, AllocError> {
     Ok(Component {
         itself: name(alloc, &[])?,
-        own: Data {
-            members: cells(alloc, value)?,
-            calls,
-            defaults: Seq::new(alloc),
-            activations: 0,
-            children: 1,
-        },
+        own: Shared::new(alloc, own)?,
         state: State::Running,
         verdict: Verdict::Pass,
-        queues,
+        queues: Shared::new(alloc, queues)?,
     })
 }
 
@@ -72,14 +83,15 @@ fn going(alloc: Global, component: Component) -> Result<Going, AllocError> {
     components.push(component)?;
     Ok(Going {
         components,
-        connections: Seq::new(alloc),
+        connections: Shared::new(alloc, Seq::new(alloc))?,
         forgotten: Verdict::None,
     })
 }
 
 /// One component, with this value and a frame of which this remains.
 pub fn small(alloc: Global, value: Value, remaining: usize) -> Result<Config, AllocError> {
-    Ok(Config::Going(going(alloc, component(alloc, value, remaining)?)?))
+    let component = component(alloc, data(alloc, value, remaining)?, one_queue(alloc)?)?;
+    Ok(Config::Going(going(alloc, component)?))
 }
 
 /// A record in a record, with a field of each kind of value, one without value and one that is omitted.
@@ -126,35 +138,38 @@ fn end(alloc: Global, numbers: &[u32]) -> Result<End, AllocError> {
 
 /// All that a configuration can have.
 pub fn large(alloc: Global, forgotten: Verdict) -> Result<Config, AllocError> {
-    let mut main = component(alloc, record(alloc)?, 5)?;
-    main.own.calls.push(Frame {
+    let mut own = data(alloc, record(alloc)?, 5)?;
+    own.calls.push(Frame {
         remaining: 17_000,
         cells: cells(alloc, Value::Integer(-1))?,
     })?;
-    main.own.defaults.push(active_default(alloc)?)?;
-    main.own.activations = 2;
+    own.defaults.push(active_default(alloc)?)?;
+    own.activations = 2;
     let mut messages = queue(alloc, 8);
     messages.messages.push(message(alloc)?)?;
     messages.messages.push(message(alloc)?)?;
-    main.queues.push(messages)?;
-    let mut going = going(alloc, main)?;
-    let mut other = component(alloc, Value::Null, 0)?;
+    let mut queues = one_queue(alloc)?;
+    queues.push(messages)?;
+    let mut going = going(alloc, component(alloc, own, queues)?)?;
+    let mut other = component(alloc, data(alloc, Value::Null, 0)?, one_queue(alloc)?)?;
     other.itself = name(alloc, &[0])?;
     other.state = State::Created;
     going.components.push(other)?;
-    going.connections.push(Connection {
+    let mut connections = Seq::new(alloc);
+    connections.push(Connection {
         one: end(alloc, &[])?,
         other: end(alloc, &[0])?,
     })?;
+    going.connections = Shared::new(alloc, connections)?;
     going.forgotten = forgotten;
     Ok(Config::Going(going))
 }
 
 /// A component with 10,000 frames more, and a queue of 100,000 messages.
 pub fn long(alloc: Global) -> Result<Config, AllocError> {
-    let mut main = component(alloc, Value::Null, 0)?;
+    let mut own = data(alloc, Value::Null, 0)?;
     for remaining in 0..10_000 {
-        main.own.calls.push(Frame {
+        own.calls.push(Frame {
             remaining,
             cells: no_cells(alloc),
         })?;
@@ -166,6 +181,7 @@ pub fn long(alloc: Global) -> Result<Config, AllocError> {
             sender: name(alloc, &[1])?,
         })?;
     }
-    main.queues.push(messages)?;
-    Ok(Config::Going(going(alloc, main)?))
+    let mut queues = one_queue(alloc)?;
+    queues.push(messages)?;
+    Ok(Config::Going(going(alloc, component(alloc, own, queues)?)?))
 }

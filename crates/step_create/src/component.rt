@@ -6,6 +6,7 @@ ghost use Rattle.ttcn_config.specs.Legend.{component_by, frame_with};
 ghost use Rattle.ttcn_config.specs.Views.{HasSlotsWithin, IsWithin};
 
 use crate::ports::empty_queues;
+use sharing::Shared;
 use std::alloc::{AllocError, Global};
 use step_snapshot::TestCase;
 use ttcn_config::{Cells, Component, Data, State};
@@ -23,17 +24,18 @@ pub fn new_component(
     ensures within { HasSlotsWithin (length test.now.names) members → IfOk result (λ new. IsWithin (extent_of test.now) new.own) }
 {
     let queues = empty_queues(alloc, test, itself.component_type)?;
+    let own = Data {
+        members,
+        calls: Seq::new(alloc),
+        defaults: Seq::new(alloc),
+        activations: 0,
+        children: 0,
+    };
     Ok(Component {
         itself,
-        own: Data {
-            members,
-            calls: Seq::new(alloc),
-            defaults: Seq::new(alloc),
-            activations: 0,
-            children: 0,
-        },
+        own: Shared::new(alloc, own)?,
         state: State::Created,
         verdict: Verdict::None,
-        queues,
+        queues: Shared::new(alloc, queues)?,
     })
 }

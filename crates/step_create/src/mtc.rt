@@ -15,9 +15,10 @@ ghost use Rattle.ttcn_values.specs.Outcomes.{GivesBy};
 
 use crate::component::new_component;
 use crate::members::Maker;
+use sharing::Shared;
 use std::alloc::{AllocError, Global};
 use step_snapshot::TestCase;
-use ttcn_config::{Cells, Component, Config, Frame, Going, State};
+use ttcn_config::{Cells, Component, Config, Frame, Going, State, TryClone};
 use ttcn_syntax::{DefinitionKind, Seq, Verdict};
 use ttcn_values::Fault;
 
@@ -62,7 +63,9 @@ fn new_mtc(
         cells: Cells::new(alloc),
     })?;
     let mut mtc = new_component(alloc, test, test.mtc.try_clone(alloc)?, members)?;
-    mtc.own.calls = calls;
+    let mut own = mtc.own.try_clone(alloc)?;
+    own.calls = calls;
+    mtc.own = Shared::new(alloc, own)?;
     mtc.state = State::Running;
     Ok(mtc)
 }
@@ -75,7 +78,7 @@ fn alone(alloc: Global, mtc: Component) -> Result<Config, AllocError>
     components.push(mtc)?;
     Ok(Config::Going(Going {
         components,
-        connections: Seq::new(alloc),
+        connections: Shared::new(alloc, Seq::new(alloc))?,
         forgotten: Verdict::None,
     }))
 }

@@ -12,9 +12,11 @@ use crate::component::Component;
 use crate::config::{Config, Going};
 use crate::connect::connect;
 use crate::connection::End;
+use crate::copy::TryClone;
 use crate::create::create;
 use crate::frame::{Data, Frame};
 use crate::going::{going_on, send, start, stop};
+use sharing::Shared;
 use std::alloc::Global;
 use ttcn_syntax::{Seq, Verdict};
 use ttcn_values::{ComponentId, Fault, Path, Slot, Value};
@@ -52,21 +54,21 @@ fn done(going: Going, alloc: Global, itself: &ComponentId, act: Act) -> Result<C
     let mut components = components.into_vec();
     match act {
         Act::Continues(own) => {
-            settle(&mut components, &itself.path, own);
+            settle(alloc, &mut components, &itself.path, own)?;
             Ok(going_on(components, connections, forgotten))
         }
         Act::Worsens(verdict, own) => {
-            settle(&mut components, &itself.path, own);
+            settle(alloc, &mut components, &itself.path, own)?;
             worsen(&mut components, &itself.path, verdict);
             Ok(going_on(components, connections, forgotten))
         }
         Act::Removes(port, own) => {
-            settle(&mut components, &itself.path, own);
-            remove_first(alloc, &mut components, &itself.path, port);
+            settle(alloc, &mut components, &itself.path, own)?;
+            remove_first(alloc, &mut components, &itself.path, port)?;
             Ok(going_on(components, connections, forgotten))
         }
         Act::Sends(port, to, value, own) => {
-            settle(&mut components, &itself.path, own);
+            settle(alloc, &mut components, &itself.path, own)?;
             send(
                 alloc,
                 &mut components,
@@ -79,22 +81,24 @@ fn done(going: Going, alloc: Global, itself: &ComponentId, act: Act) -> Result<C
             Ok(going_on(components, connections, forgotten))
         }
         Act::Creates(new, own) => {
-            settle(&mut components, &itself.path, own);
+            settle(alloc, &mut components, &itself.path, own)?;
             create(&mut components, new)?;
             Ok(going_on(components, connections, forgotten))
         }
         Act::Starts(path, frame, own) => {
-            settle(&mut components, &itself.path, own);
+            settle(alloc, &mut components, &itself.path, own)?;
             start(alloc, &mut components, &path, frame)?;
             Ok(going_on(components, connections, forgotten))
         }
         Act::Stops(path, own) => {
-            settle(&mut components, &itself.path, own);
+            settle(alloc, &mut components, &itself.path, own)?;
             Ok(stop(components, connections, forgotten, &path))
         }
         Act::Connects(one, other, own) => {
-            settle(&mut components, &itself.path, own);
+            settle(alloc, &mut components, &itself.path, own)?;
+            let connections = connections.try_clone(alloc)?;
             let connections = connect(alloc, &components, connections, one, other)?;
+            let connections = Shared::new(alloc, connections)?;
             Ok(going_on(components, connections, forgotten))
         }
     }

@@ -4,8 +4,10 @@ ghost use Rattle.std.specs.List.{position};
 ghost use Rattle.ttcn_config.specs.internal.Changes as spec;
 
 use crate::component::{Component, Message, Queue, State};
+use crate::copy::TryClone;
 use crate::frame::{Data, Frame};
 use crate::verdict::worse;
+use sharing::Shared;
 use std::alloc::{AllocError, Global};
 use std::mem;
 use ttcn_syntax::{Seq, Verdict};
@@ -46,12 +48,18 @@ pub(crate) fn is_terminated_at(components: &[Component], path: &Path) -> bool
 
 /// A component has other data.
 #[tactic(auto, using(crate::proofs::Changed::unwritten))]
-pub(crate) fn settle(components: &mut Vec<Component>, path: &Path, own: Data)
-    ensures { components.new.items ≡ spec.touch components.old.items path.now (spec.with_own own) }
+pub(crate) fn settle(
+    alloc: Global,
+    components: &mut Vec<Component>,
+    path: &Path,
+    own: Data,
+) -> Result<(), AllocError>
+    ensures { OnOk result (components.new.items ≡ spec.touch components.old.items path.now (spec.with_own own)) }
 {
     if let Some(at) = live_place(components, path) {
-        components[at].own = own;
+        components[at].own = Shared::new(alloc, own)?;
     }
+    Ok(())
 }
 
 #[tactic(auto, using(crate::proofs::Changed::unwritten))]
@@ -87,7 +95,9 @@ pub(crate) fn begin(
     let mut calls = Seq::new(alloc);
     calls.push(frame)?;
     let component = &mut components[at];
-    component.own.calls = calls;
+    let mut own = component.own.try_clone(alloc)?;
+    own.calls = calls;
+    component.own = Shared::new(alloc, own)?;
     component.state = State::Running;
     Ok(())
 }
@@ -149,20 +159,26 @@ pub(crate) fn deliver(
 {
     if let Some(at) = live_place(components, path) {
         let component = &mut components[at];
-        let queues = mem::replace(&mut component.queues, Seq::new(alloc));
-        component.queues = with_message(queues, port, message)?;
+        let queues = with_message(component.queues.try_clone(alloc)?, port, message)?;
+        component.queues = Shared::new(alloc, queues)?;
     }
     Ok(())
 }
 
 /// The first message of a port of a component is removed.
 #[tactic(auto, using(crate::proofs::Changed::unwritten))]
-pub(crate) fn remove_first(alloc: Global, components: &mut Vec<Component>, path: &Path, port: Slot)
-    ensures { components.new.items ≡ spec.touch components.old.items path.now (spec.with_queues (spec.without_message port)) }
+pub(crate) fn remove_first(
+    alloc: Global,
+    components: &mut Vec<Component>,
+    path: &Path,
+    port: Slot,
+) -> Result<(), AllocError>
+    ensures { OnOk result (components.new.items ≡ spec.touch components.old.items path.now (spec.with_queues (spec.without_message port))) }
 {
     if let Some(at) = live_place(components, path) {
         let component = &mut components[at];
-        let queues = mem::replace(&mut component.queues, Seq::new(alloc));
-        component.queues = without_message(alloc, queues, port);
+        let queues = without_message(alloc, component.queues.try_clone(alloc)?, port);
+        component.queues = Shared::new(alloc, queues)?;
     }
+    Ok(())
 }

@@ -4,6 +4,7 @@ ghost use Rattle.ttcn_config.specs.internal.Changes.{is_terminated};
 ghost use Rattle.ttcn_config.specs.internal.Done.{is_created};
 
 use crate::frame::Data;
+use sharing::Shared;
 use ttcn_syntax::{Seq, Verdict};
 use ttcn_values::{ComponentId, Slot, Value};
 
@@ -49,13 +50,14 @@ pub struct Queue {
     pub messages: Seq<Message>,
 }
 
+/// A component. Configurations share what a step leaves as it was.
 #[derive(Debug, Drop, PartialEq, Eq, Hash)]
 pub struct Component {
     /// Its path, with its type.
     pub itself: ComponentId,
-    pub own: Data,
+    pub own: Shared<Data>,
     pub state: State,
     pub verdict: Verdict,
     /// The ports of its type in the order of their declaration.
-    pub queues: Seq<Queue>,
+    pub queues: Shared<Seq<Queue>>,
 }

@@ -1,6 +1,7 @@
 //! Configurations.
 use crate::component::Component;
 use crate::connection::Connection;
+use sharing::Shared;
 use ttcn_syntax::{Seq, Verdict};
 
 /// A test case that goes on.
@@ -9,7 +10,7 @@ pub struct Going {
     /// The components by their paths, ascending.
     pub components: Seq<Component>,
     /// Ascending.
-    pub connections: Seq<Connection>,
+    pub connections: Shared<Seq<Connection>>,
     /// The worst verdict of the components of which nothing but their paths is left.
     pub forgotten: Verdict,
 }

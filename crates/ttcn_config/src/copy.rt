@@ -1,4 +1,4 @@
-//! Copies in memory of their own.
+//! Copies of configurations and their parts. A copy shares what is `Shared`.
 ghost use Rattle.std.specs.Prelude.{◌≡◌, IfOk};
 
 use crate::component::{Component, Message, Queue};
@@ -105,10 +105,10 @@ impl TryClone for Component {
     fn try_clone(&self, alloc: Global) -> Result<Component, AllocError> {
         Ok(Component {
             itself: self.itself.try_clone(alloc)?,
-            own: self.own.try_clone(alloc)?,
+            own: self.own.share()?,
             state: self.state,
             verdict: self.verdict,
-            queues: self.queues.try_clone(alloc)?,
+            queues: self.queues.share()?,
         })
     }
 }
@@ -135,7 +135,7 @@ impl TryClone for Going {
     fn try_clone(&self, alloc: Global) -> Result<Going, AllocError> {
         Ok(Going {
             components: self.components.try_clone(alloc)?,
-            connections: self.connections.try_clone(alloc)?,
+            connections: self.connections.share()?,
             forgotten: self.forgotten,
         })
     }

@@ -14,7 +14,9 @@ ghost use Rattle.ttcn_values.specs.declared.frame.TimerState.TheVariants.{Expire
 use crate::change::place_of;
 use crate::component::{Component, State};
 use crate::config::Going;
+use crate::copy::TryClone;
 use crate::frame::{Cells, Data, Frame};
+use sharing::Shared;
 use std::alloc::{AllocError, Global};
 use std::mem;
 use ttcn_syntax::Seq;
@@ -126,7 +128,9 @@ fn expire_at(
     if !component.own.runs(number, timer) {
         return Ok(false);
     }
-    component.own.expire(alloc, number, timer)?;
+    let mut own = component.own.try_clone(alloc)?;
+    own.expire(alloc, number, timer)?;
+    component.own = Shared::new(alloc, own)?;
     Ok(true)
 }
 

@@ -10,6 +10,7 @@ use crate::connect::peer;
 use crate::connection::{Connection, End};
 use crate::frame::Frame;
 use crate::verdict::worse;
+use sharing::Shared;
 use std::alloc::Global;
 use ttcn_syntax::{Seq, Verdict};
 use ttcn_values::{ComponentId, Fault, Path, Slot, Value};
@@ -74,7 +75,7 @@ pub(crate) fn overall(components: &[Component], forgotten: Verdict) -> Verdict
 /// The test case goes on.
 pub(crate) fn going_on(
     components: Vec<Component>,
-    connections: Seq<Connection>,
+    connections: Shared<Seq<Connection>>,
     forgotten: Verdict,
 ) -> Config
     ensures { result ≡ spec.going_on components.items connections forgotten }
@@ -96,7 +97,7 @@ fn is_main(path: &Path) -> bool
 /// A component stops. The test case ends where the MTC does.
 pub(crate) fn stop(
     components: Vec<Component>,
-    connections: Seq<Connection>,
+    connections: Shared<Seq<Connection>>,
     forgotten: Verdict,
     path: &Path,
 ) -> Config

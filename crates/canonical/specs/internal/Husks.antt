@@ -36,6 +36,9 @@ is_terminated_at components path = is_over_if_any (find (λ component. same_path
 abbrev pub is_live : List Component → Connection → Bool
 is_live components k = not (is_terminated_at components k.one.component && is_terminated_at components k.other.component)
 
+abbrev pub is_dead : List Component → Connection → Bool
+is_dead components k = not (is_live components k)
+
 abbrev pub live_connections : List Component → List Connection → List Connection
 live_connections components connections = filter (is_live components) connections
 

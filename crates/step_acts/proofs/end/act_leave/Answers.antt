@@ -11,6 +11,7 @@ use Rattle.step_rules.specs.Items.{Item}
 use Rattle.step_rules.specs.Statements as said
 use Rattle.step_snapshot.specs.Seen.{own_by}
 use Rattle.step_snapshot.specs.Slots.{NoneIsMissing}
+use Rattle.ttcn_config.specs.declared.frame.Data.{Data}
 use Rattle.ttcn_config.specs.declared.frame.Frame.{Frame}
 use Rattle.graph_names.specs.Known.{names_of}
 
@@ -25,7 +26,7 @@ returns-in-None-clause-asks c =
     let s = c.args.stand.now in
     let own = ((s.snapshot.now).component.now).own in
     let stand = stand_by s in
-    let below = some-below own.calls (behind_first own.calls) s.frame.now c.in-Some.below.now s.last (sym (slice_get_read c.as_slice.result.now (length c.as_slice.result.now) 1 c.in-Some.below.now refl c.in-Some.ensures.lookup.3.0 c.in-Some.ensures.lookup.1) ∙ ap (λ (calls : List Frame). slice_get calls 1) c.as_slice.ensures) in
+    let below = some-below own.calls (behind_first own.calls) s.frame.now c.in-Some.below.now s.last (sym (slice_get_read c.as_slice.result.now (length c.as_slice.result.now) 1 c.in-Some.below.now refl c.in-Some.ensures.lookup.3.0 c.in-Some.ensures.lookup.1) ∙ ap (λ (calls : List Frame). slice_get calls 1) (c.as_slice.ensures ∙ ap (λ (held : Data). held.calls) c.deref.ensures)) in
     asked (legend_of s) (said.leave stand stand.below c.args.given) (said.Continues (left (own_by s.snapshot.now))) c.go_on_behind.result
     (leave-above (legend_of s) own s.frame.now (behind_first own.calls) s.last stand refl c.in-Some.below.now (more-below (behind_first own.calls)) below c.args.given c.in-None.ensures.none)
     c.go_on_behind.ensures.asks

@@ -1,4 +1,4 @@
-use Rattle.std.proofs.Common.{subst, sym}
+use Rattle.std.proofs.Common.{subst, sym, ◌∙◌}
 use Rattle.step_acts.proofs.end.left_data.Goals as goal
 use Rattle.step_snapshot.specs.Tests.{extent_of}
 use Rattle.ttcn_config.specs.Views.{IsWithin}
@@ -7,4 +7,4 @@ pub returns-clause-within : goal.returns-clause-within
 returns-clause-within c =
     let s = c.args.snapshot.now in
     let size = extent_of s.test.now in
-    c.leave.ensures.within size (subst (IsWithin size) (sym c.in_ok-own.ensures) s.within)
+    c.leave.ensures.within size (subst (IsWithin size) (sym (c.in_ok-own.ensures ∙ c.deref.ensures)) s.within)

@@ -10,11 +10,12 @@ use Rattle.step_choice.specs.internal.Judged.{Is, first_of, test_of}
 use Rattle.step_choice.specs.internal.Later.{or_later}
 use Rattle.step_choice.proofs.choose.choose_default.Goals as goal
 use Rattle.step_snapshot.specs.Seen.{own_by, seen_by}
+use Rattle.ttcn_config.specs.declared.frame.Data.{Data}
 use Rattle.ttcn_types.specs.Limits.{longest_chain}
 
 pub loop-default-init : goal.loop-default-init
 loop-default-init c =
-    ap (first_of_defaults c.args.snapshot.now longest_chain) (sym c.as_slice-default-items.ensures)
+    ap (first_of_defaults c.args.snapshot.now longest_chain) (sym (c.as_slice-default-items.ensures ∙ ap (λ (own : Data). own.defaults) c.deref.ensures))
 
 pub returns-in-Ok-Some : goal.returns-in-Ok-Some
 returns-in-Ok-Some c =

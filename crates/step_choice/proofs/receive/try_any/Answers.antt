@@ -16,7 +16,7 @@ use Rattle.ttcn_values.specs.Frames.{reading}
 pub loop-queue-init : goal.loop-queue-init
 loop-queue-init c site same =
     let s = c.args.snapshot.now in
-    ap (queues-tried (legend_by s.test.now) (test_of s) site (reading c.args.frame.now) c.args.receive.now) (sym c.as_slice-queue-items.ensures)
+    ap (queues-tried (legend_by s.test.now) (test_of s) site (reading c.args.frame.now) c.args.receive.now) (sym (c.as_slice-queue-items.ensures ∙ c.deref.ensures))
 
 pub returns-in-Ok-Some : goal.returns-in-Ok-Some
 returns-in-Ok-Some c site same =

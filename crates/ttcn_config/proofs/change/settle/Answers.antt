@@ -1,10 +1,11 @@
-use Rattle.std.proofs.Common.{sym, ap, ◌∙◌}
+use Rattle.std.proofs.Common.{sym, ap, ◌∙◌, slice_set}
 use Rattle.ttcn_config.proofs.Changed.{written}
 use Rattle.ttcn_config.specs.internal.Changes.{live_place, with_own}
 use Rattle.ttcn_config.proofs.change.settle.Goals as goal
 
-pub returns-in-Some : goal.returns-in-Some
-returns-in-Some c =
-    written c.args.components.now.items c.args.path.now c.in-Some.at c.index_mut.result.now (with_own c.args.own)
+pub returns-in_ok-components : goal.returns-in_ok-components
+returns-in_ok-components c =
+    ap (λ own. slice_set c.args.components.now.items c.in-Some.at (with_own own c.index_mut.result.now)) c.in_ok-components.ensures
+    ∙ written c.args.components.now.items c.args.path.now c.in-Some.at c.index_mut.result.now (with_own c.args.own)
     (ap (λ components. live_place components c.args.path.now) (sym c.deref.ensures.value) ∙ sym c.live_place.ensures.found ∙ c.in-Some.is)
     c.index_mut.ensures.value

@@ -32,7 +32,7 @@ returns-then-not-runs c =
     ∙ ap (λ b. if b && runs_of c.args.number c.args.timer x.own then Some (touch c.args.components.now.items c.args.path.now (with_own (expired_of c.args.number c.args.timer x.own))) else None)
     (sym c.is_running.ensures ∙ c.if-not-is_running.false)
     ∙ ap (λ b. if b then Some (touch c.args.components.now.items c.args.path.now (with_own (expired_of c.args.number c.args.timer x.own))) else None)
-    (sym c.runs.ensures ∙ c.if-not-runs.true)
+    (sym (c.runs.ensures ∙ ap (runs_of c.args.number c.args.timer) c.deref-2.ensures) ∙ c.if-not-runs.true)
 
 pub returns : goal.returns
 returns c =
@@ -44,8 +44,8 @@ returns c =
     ∙ ap (λ b. if b && runs_of c.args.number c.args.timer x.own then Some (touch c.args.components.now.items c.args.path.now (with_own (expired_of c.args.number c.args.timer x.own))) else None)
     running
     ∙ ap (λ b. if b then Some (touch c.args.components.now.items c.args.path.now (with_own (expired_of c.args.number c.args.timer x.own))) else None)
-    (sym c.runs.ensures ∙ c.if-not-runs.false)
-    ∙ ap Some (sym (ap (λ own. slice_set c.args.components.now.items c.in-Some.at (with_own own x)) c.in_ok-expire.ensures
+    (sym (c.runs.ensures ∙ ap (runs_of c.args.number c.args.timer) c.deref-2.ensures) ∙ c.if-not-runs.false)
+    ∙ ap Some (sym (ap (λ own. slice_set c.args.components.now.items c.in-Some.at (with_own own x)) (c.in_ok-component.ensures ∙ c.in_ok-expire.ensures ∙ ap (expired_of c.args.number c.args.timer) (c.in_ok-own.ensures ∙ c.deref-3.ensures))
     ∙ written c.args.components.now.items c.args.path.now c.in-Some.at x (with_own (expired_of c.args.number c.args.timer x.own))
     (live-at c.args.components.now.items c.args.path.now c.in-Some.at x false found
     (ap (λ y. is_terminated y.state) (sym c.index_mut-component.ensures.value) ∙ running-lives x.state running))

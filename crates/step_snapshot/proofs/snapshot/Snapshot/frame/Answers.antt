@@ -7,6 +7,7 @@ use Rattle.step_snapshot.proofs.snapshot.Snapshot.frame.Goals as goal
 use Rattle.step_snapshot.proofs.snapshot.Snapshot.frame.Goals.{then-sees_members, else-sees_members}
 use Rattle.ttcn_config.specs.Views.{AreNames, HasSlotsWithin, view_by}
 use Rattle.ttcn_config.specs.declared.frame.Cells.{Cells}
+use Rattle.ttcn_config.specs.declared.frame.Data.{Data}
 use Rattle.ttcn_values.specs.Chains.{within_chains}
 use Rattle.ttcn_values.specs.Frames.{longest_chain}
 
@@ -21,7 +22,7 @@ returns c site at =
     let Q : Cells → Type 0 = λ cells. HasSlotsWithin (length t.names) cells × (view_by legend cells ≡ seen_members (test_by t) site (members_in (seen_by s) (own_by s))) in
     let outer : Q c.if-sees_members.outer.now =
     elim c.if-sees_members.branch [
-      | then-sees_members w ↦ subst Q (sym (ap (λ (b : Bor Cells). b.now) w.outer-is)) (s.within.members, members-seen s site c.args.behaviour c.sees_members.result at c.sees_members.ensures w.if-sees_members.true)
+      | then-sees_members w ↦ subst Q (sym (ap (λ (b : Bor Cells). b.now) w.outer-is)) (let R : Data → Type 0 = λ own. Q own.members in subst R (sym w.deref.ensures) (s.within.members, members-seen s site c.args.behaviour c.sees_members.result at c.sees_members.ensures w.if-sees_members.true))
       | else-sees_members w ↦ subst Q (sym (ap (λ (b : Bor Cells). b.now) w.outer-is)) (none-within (length t.names) t.nothing t.none, nothing-seen s site c.args.behaviour c.sees_members.result t.nothing t.none at c.sees_members.ensures w.if-sees_members.false)
     ] in
     c.frame_of.ensures legend (test_by t) (seen_by s) named (size c.args.inner.now inner) (size c.if-sees_members.outer.now outer.0) refl t.main s.runs

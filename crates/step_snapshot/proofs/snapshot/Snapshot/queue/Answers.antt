@@ -10,4 +10,4 @@ returns c =
     let legend = legend_by c.args.self.now.test.now in
     let name = c.args.name.now in
     queue-by legend name c.args.self.now.component.now.queues c.queue_named.result
-    (c.queue_named.ensures ∙ ap (find (λ q. bytes_eq (legend.names q.port) name)) c.as_slice.ensures)
+    (c.queue_named.ensures ∙ ap (find (λ q. bytes_eq (legend.names q.port) name)) (c.as_slice.ensures ∙ c.deref.ensures))

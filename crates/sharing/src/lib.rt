@@ -1,0 +1,6 @@
+//! Values with several owners.
+#![tactic(auto)]
+
+mod shared;
+
+pub use shared::Shared;
