@@ -1,18 +1,22 @@
 -- Where nothing is made of the elements of a list, and where something is.
+use native.Mathlib.Omega.{arith}
 use Rattle.std.specs.Prelude.{IfOk, Result}
 use Rattle.std.specs.declared.alloc.AllocError.{AllocError}
 use Rattle.std.specs.declared.alloc.Global.{Global}
 use Rattle.std.specs.declared.vec.Vec.{Vec}
-use Rattle.std.proofs.Common.{◌≡◌, ℕ, ◌+◌, ◌<◌, Bool, true, false, true≢false, List, [], ◌∷◌, ◌++◌, map, length, drop, get_or, refl, sym, subst, suc-ne-zero, ap, ◌∙◌}
+use Rattle.std.proofs.Common.{◌≡◌, ℕ, zero, suc, ◌+◌, ◌<◌, Bool, true, false, true≢false, List, [], ◌∷◌, ◌++◌, map, length, drop, get_or, is_some, refl, sym, subst, suc-ne-zero, ap, ◌∙◌, if◌then◌else◌}
 use Rattle.std.specs.Bool.{◌==◌}
 use Rattle.std.proofs.lemmas.Bool.{eqb-true}
 use Rattle.std.proofs.lemmas.List.{at_drop_more}
-use Rattle.step_rules.specs.Labels.{labels}
-use Rattle.step_rules.specs.Configurations.{Configuration, Ended, Goes}
+use Rattle.step_rules.specs.Labels.{expiries, labels, labels_of_component, statement_labels}
+use Rattle.step_rules.specs.Configurations as rules
+use Rattle.step_rules.specs.Configurations.{Configuration, Ended, Goes, is_running_state, path_of}
 use Rattle.step_rules.specs.Places.{blocked, if_none, standings}
 use Rattle.step_rules.specs.Snapshots.{Test}
-use Rattle.step_rules.specs.Steps.{Label}
-use Rattle.ttcn_step.proofs.Listed.{grown}
+use Rattle.step_rules.specs.Steps.{Label, Statement, statement_step}
+use Rattle.ttcn_config.specs.Legend.{Legend, component_by}
+use Rattle.ttcn_config.specs.declared.component.Component.{Component}
+use Rattle.ttcn_step.proofs.Listed.{grown, parts_of}
 use Rattle.ttcn_step.specs.Standing.{standing_by, standing_of}
 use Rattle.ttcn_step.specs.declared.standing.Standing.{Standing}
 use Rattle.ttcn_syntax.specs.declared.place.Span.{Span}
@@ -32,6 +36,28 @@ pub left-over : {X Y : Type 0} (F : List X → List Y) (xs : List X) (i : ℕ) (
     → F (x ∷ drop (i + 1) xs) ≡ part ++ F (drop (i + 1) xs) → ¬ (part ≡ []) → F (drop i xs) ≡ all → ¬ (all ≡ [])
 left-over F xs i x part all less read made some holds none =
     some (first-none part (F (drop (i + 1) xs)) (sym made ∙ ap (λ y. F (y ∷ drop (i + 1) xs)) read ∙ sym (at_drop_more F xs i x less) ∙ holds ∙ none))
+
+second-none : {Y : Type 0} (part rest : List Y) → part ++ rest ≡ [] → rest ≡ []
+second-none [] rest none = none
+second-none (y ∷ part) rest none = cc
+
+-- where something is made of a component, something is made of all
+pub some-part : (legend : Legend) (f : rules.Component → List Label) (xs : List Component) (i : ℕ) (x : Component) → i < length xs → x ≡ get_or xs i x
+    → ¬ (f (component_by legend x) ≡ []) → ¬ (parts_of legend f xs ≡ [])
+some-part legend f [] i x less read some none = omega (arith, less)
+some-part legend f (y ∷ ys) zero x less read some none =
+    some (ap (λ z. f (component_by legend z)) read ∙ first-none (f (component_by legend y)) (parts_of legend f ys) none)
+some-part legend f (y ∷ ys) (suc i) x less read some none =
+    some-part legend f ys i x (omega (arith, less)) read some (second-none (f (component_by legend y)) (parts_of legend f ys) none)
+
+-- a component that runs, and whose statement has a step, has a label
+pub has-label : (test : Test) (c : rules.Going) (component : rules.Component) → is_running_state component.state ≡ true → is_some (statement_step test c component) ≡ true
+    → ¬ (labels_of_component test c component ≡ [])
+has-label test c component runs steps none =
+    let labels = ap (λ b. if b then statement_labels test c component ++ expiries component else []) runs
+    ∙ ap (λ b. (if b then Statement (path_of component) ∷ [] else []) ++ expiries component) steps in
+    let empty = sym labels ∙ none in
+    cc
 
 -- where no label is enabled, all that run are blocked, and else none is
 pub none-enabled : {A : Type 0} (found : List Label) (standing : List A) → found ≡ [] → if_none found standing ≡ standing

@@ -1,5 +1,5 @@
 //! The labels of a configuration (ES 201 873-4).
-ghost use Rattle.std.specs.Prelude.{◌≡◌, ◌↔◌, ◌<◌, ◌++◌, [], IfOk, IsTrue, OnOk, length, map};
+ghost use Rattle.std.specs.Prelude.{◌≡◌, ◌↔◌, ◌<◌, ◌++◌, [], IfOk, IsTrue, OnOk, length, map, true};
 ghost use Rattle.std.specs.List.{All};
 ghost use Rattle.step_labels.specs.Labels.{label_by};
 ghost use Rattle.step_rules.specs.Configurations as rules;
@@ -15,6 +15,7 @@ ghost use Rattle.ttcn_step.specs.Machines.{Fits, machine_of, said};
 ghost use Rattle.ttcn_step.specs.internal.Steps as spec;
 ghost use Rattle.ttcn_values.specs.Frames.{is_running};
 
+use crate::plain::stands_at_plain;
 use crate::step::{has_step, is_running, slots_are_ordered};
 use std::alloc::{AllocError, Global};
 use step_labels::{Expiry, Label};
@@ -189,11 +190,27 @@ fn labels_at(
     Ok(labels)
 }
 
-/// Whether no label of a configuration that goes on is enabled. The components behind the first that has one are not asked.
+/// Whether a component runs that stands at no `alt`: it has a step, and nothing has to be evaluated to know it.
+fn has_plain_step(test: &TestCase<'_>, going: &Going) -> bool
+    ensures { result ≡ true → ¬ (said_labels.labels (test_by test.now) (rules.Goes (going_by (legend_by test.now) going.now)) ≡ []) }
+{
+    for component in going.components.as_slice() {
+        if is_running(component.state) && stands_at_plain(test, component) {
+            return true;
+        }
+    }
+    false
+}
+
+/// Whether no label of a configuration that goes on is enabled. Nothing is evaluated where a component stands at no `alt`,
+/// and the components behind the first that has a label are not asked.
 fn is_stuck_going(alloc: Global, test: &TestCase<'_>, going: &Going) -> Result<bool, AllocError>
     requires { Fits (machine_of test.now) (config.Going going.now) }
     ensures { IfOk result (λ stuck. IsTrue stuck ↔ said_labels.labels (test_by test.now) (rules.Goes (going_by (legend_by test.now) going.now)) ≡ []) }
 {
+    if has_plain_step(test, going) {
+        return Ok(false);
+    }
     for component in going.components.as_slice() {
         let labels = labels_at(alloc, test, going, component)?;
         if !labels.is_empty() {

@@ -43,3 +43,9 @@ returns-then-not-is_empty c =
           c.loop-component-test.true c.component-item.is refl (λ part. fills label_by labels.items labels.len labels.ok.0 c.if-not-is_empty.ensures (c.in_ok-labels.ensures ∙ part)) c.loop-component.invariant
           (ap (parts_of legend f) c.as_slice-component-items.ensures ∙ none)),
     )
+
+pub returns-then-has_plain_step : goal.returns-then-has_plain_step
+returns-then-has_plain_step c = (
+  λ stuck. absurd (true≢false (sym stuck)),
+  λ none. absurd (c.has_plain_step.ensures c.if-has_plain_step.true none),
+)
