@@ -9,12 +9,13 @@ mod walks;
 
 use anyhow::{Context, Result};
 use refusals::program;
+use std::alloc::Global;
 use std::env;
 use std::rt::Clock;
 use std::time::{Duration, Instant};
 use texts::{ALTERNATIVES, RACE, workers};
 use ttcn_step::Machine;
-use walks::walk;
+use walks::{Walked, walk};
 
 const PARTS: [&str; 3] = ["race", "workers", "alternatives"];
 
@@ -40,18 +41,23 @@ fn number(text: Option<String>, or: u64) -> u64 {
 }
 
 /// Walks over the configurations of the test case of a text.
+fn walk_text(alloc: Global, text: &str, successors: u64) -> Result<Walked> {
+    let program = program(alloc, text)?;
+    let testcase = program.testcase("T").context("no test case")?;
+    let machine = Machine::new(alloc, &program, testcase)?;
+    let walked = walk(alloc, &machine, successors)?;
+    Ok(walked)
+}
+
+/// Walks a text and tells how long that took. What comes before the walk is little beside it.
 fn measure_walk<R: AllocGlobal + Clock + Eprint + Print>(
     rt: &R,
     name: &str,
     text: &str,
     size: &Size,
 ) -> Result<()> {
-    let alloc = rt.alloc();
-    let program = program(alloc, text)?;
-    let testcase = program.testcase("T").context("no test case")?;
-    let machine = Machine::new(alloc, &program, testcase)?;
     let start = Instant::now(rt)?;
-    let walked = walk(alloc, &machine, size.successors)?;
+    let walked = walk_text(rt.alloc(), text, size.successors)?;
     let took = start.elapsed(rt)?;
     println!(rt;
         "{name}: {} successors of {} configurations, {} of which have none",
