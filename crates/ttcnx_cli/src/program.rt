@@ -1,5 +1,5 @@
 //! What the program does: from its words to what it writes and the status that it exits with.
-use explore::NoGate;
+use explore::{NoGate, Plan};
 use std::alloc::AllocError;
 use std::io::{self, ErrorKind, Read};
 use std::rt::{Env, Files};
@@ -75,42 +75,70 @@ where
     let alloc = rt.alloc();
     let words = words(rt)?;
     let texts: Vec<&str> = words.iter().map(|word| word.as_str()).collect(alloc)?;
-    let line = match read_line(alloc, texts.get(1..).unwrap_or(&[])) {
-        Ok(line) => line,
-        Err(LineError::Help(text)) => return Ok(text.into_bytes()),
-        Err(LineError::Bad(text)) => return Err(Stop::Words(text)),
-        Err(LineError::Memory(_)) => return Err(Stop::Fault(Fault::Memory)),
-    };
+    match read_line(alloc, texts.get(1..).unwrap_or(&[])) {
+        Ok(line) => Ok(answer_line(rt, line)?),
+        Err(LineError::Help(text)) => Ok(text.into_bytes()),
+        Err(LineError::Bad(text)) => Err(Stop::Words(text)),
+        Err(LineError::Memory(_)) => Err(Stop::Fault(Fault::Memory)),
+    }
+}
+
+/// What a command is answered.
+fn answer_line<R>(rt: &R, line: Line) -> Result<Vec<u8>, Fault>
+where
+    R: Files + AllocGlobal + Threads + Sync,
+{
     match line {
-        Line::Check { file } => {
-            let text = read_bytes(rt, file, ENOUGH)?;
-            Ok(check_answer(alloc, &text)?.into_bytes())
-        }
+        Line::Check { file } => check(rt, file),
         Line::Run {
             file,
             testcase,
             plan,
             json,
-        } => {
-            let text = read_bytes(rt, file, ENOUGH)?;
-            let report = run_text(rt, alloc, &text, testcase.as_str(), &plan, &NoGate)?;
-            let text = if json {
-                to_json(alloc, &report)?
-            } else {
-                to_text(alloc, &report)?
-            };
-            Ok(text.into_bytes())
-        }
+        } => explore(rt, file, testcase.as_str(), &plan, json),
         Line::Replay {
             file,
             testcase,
             run,
-        } => {
-            let text = read_bytes(rt, file, ENOUGH)?;
-            let run = read_bytes(rt, run, u64::MAX)?;
-            Ok(replay_text(alloc, &text, testcase.as_str(), &run)?)
-        }
+        } => replay(rt, file, testcase.as_str(), run),
     }
+}
+
+fn check<R: Files + AllocGlobal>(rt: &R, file: String) -> Result<Vec<u8>, Fault> {
+    let text = read_bytes(rt, file, ENOUGH)?;
+    Ok(check_answer(rt.alloc(), &text)?.into_bytes())
+}
+
+fn explore<R>(
+    rt: &R,
+    file: String,
+    testcase: &str,
+    plan: &Plan,
+    json: bool,
+) -> Result<Vec<u8>, Fault>
+where
+    R: Files + AllocGlobal + Threads + Sync,
+{
+    let alloc = rt.alloc();
+    let text = read_bytes(rt, file, ENOUGH)?;
+    let report = run_text(rt, alloc, &text, testcase, plan, &NoGate)?;
+    let told = if json {
+        to_json(alloc, &report)?
+    } else {
+        to_text(alloc, &report)?
+    };
+    Ok(told.into_bytes())
+}
+
+fn replay<R: Files + AllocGlobal>(
+    rt: &R,
+    file: String,
+    testcase: &str,
+    run: String,
+) -> Result<Vec<u8>, Fault> {
+    let text = read_bytes(rt, file, ENOUGH)?;
+    let run = read_bytes(rt, run, u64::MAX)?;
+    replay_text(rt.alloc(), &text, testcase, &run)
 }
 
 /// The words of the command line, the program's name first.
