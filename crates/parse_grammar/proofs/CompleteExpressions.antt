@@ -318,7 +318,7 @@ component_reads spelled.mtc (then (this {k = k} {rest = ts} is) end) = λ h. com
 component_reads (spelled.named r) (then (by {rest = rest} (spelled.by (spelled.dotted_name name fields) (spelled.then (spelled.this {k = k} {rest = ts} is) more)) claim) end) = λ h.
     component_at k ts _ is ∙ named_by r (k ∷ ts) rest (claim h)
 
-type_at : (k : Spanned) (ts : List Spanned) (t : Token) → Is k t → read_values.a_type (k ∷ ts) ≡ read.taken (read_values.type_by (Some t)) ts
+type_at : (k : Spanned) (ts : List Spanned) (t : Token) → Is k t → read_values.a_type (k ∷ ts) ≡ read.with_rest (read_values.type_by (Some t)) ts
 unfolding read_values.a_type
 type_at k ts t is = rw is refl
 

@@ -24,7 +24,7 @@ use Rattle.parse_reader.specs.Trees.{link}
 use Rattle.parse_grammar.specs.Grammar as spelled
 use Rattle.parse_reader.specs.internal.Reading.{Parsed, Parser, after_semicolons, and_then, behind, ended, expect, expect_word, head_token, here, is_symbol, is_word, items, items_from, may_end, name, name_of, same_level, second, sees, sees_word, separated, separated_from, separated_until, token_by}
 use Rattle.parse_reader.specs.internal.Expressions.{after_field, after_operator, at_level, behind_field, behind_operator, bracketed, chain, component, component_by, eat_field, eat_operator, expression, expression_from, field_of, fields_from, inner, is_present, links_from, most_links, named_reference, negation, next_field, next_operator, primary, primary_by, reference, referred, runs, signed, tree_of, at_and, at_equality, at_not, at_or, at_order, at_product, at_sum, at_xor}
-use Rattle.parse_grammar.proofs.Tokens.{Begins, expect_is, expect_word_is, first_step, name_is, read_is, sees_is, sees_word_is, taken_is}
+use Rattle.parse_grammar.proofs.Tokens.{Begins, expect_is, expect_word_is, first_step, name_is, read_is, sees_is, sees_word_is, with_rest_is}
 
 -- ---- what is read
 
@@ -87,7 +87,7 @@ pub sound_token : {A : Type 0} (spelt : A → Token) (f : Option Token → Optio
     → ((t : Token) (a : A) → f (Some t) ≡ Some a → t ≡ spelt a) → Sound (λ a. spelled.one (spelt a)) (token_by f)
 sound_token spelt f nothing_there written_so ts =
     record {
-      held = λ x h. (let parts = taken_is f nothing_there ts x h in
+      held = λ x h. (let parts = with_rest_is f nothing_there ts x h in
           rw parts.1 (spelled.this (written_so parts.0.token x.0 parts.2)));
     }
 

@@ -10,7 +10,7 @@ use Rattle.ttcn_syntax.specs.declared.token.Spanned.{Spanned}
 use Rattle.ttcn_syntax.specs.declared.token.Symbol.{Symbol}
 use Rattle.ttcn_syntax.specs.declared.token.Word.{Word}
 use Rattle.parse_limits.specs.Groups.{Is}
-use Rattle.parse_reader.specs.internal.Reading.{Parsed, Parser, and_then, taken, behind, expect, expect_word, head_token, is_symbol, is_word, name, name_of, same_symbol, same_word, sees, sees_word}
+use Rattle.parse_reader.specs.internal.Reading.{Parsed, Parser, and_then, with_rest, behind, expect, expect_word, head_token, is_symbol, is_word, name, name_of, same_symbol, same_word, sees, sees_word}
 
 -- ---- a token that is there is seen
 
@@ -111,16 +111,16 @@ pub first_step : {A B : Type 0} (p : Parsed A) (f : A → Parser B) (y : B × Li
 first_step (Some x) f y h = (x, refl, h)
 first_step None f y h = cc
 
-taken_some : {A : Type 0} (o : Option A) (ts : List Spanned) (x : A × List Spanned) → taken o ts ≡ Some x → (o ≡ Some x.0) × (ts ≡ x.1)
-taken_some None ts x h = cc
-taken_some (Some a) ts x h = let parts = read_is h in (ap Some parts.0, parts.1)
+with_rest_some : {A : Type 0} (o : Option A) (ts : List Spanned) (x : A × List Spanned) → with_rest o ts ≡ Some x → (o ≡ Some x.0) × (ts ≡ x.1)
+with_rest_some None ts x h = cc
+with_rest_some (Some a) ts x h = let parts = read_is h in (ap Some parts.0, parts.1)
 
 -- what is taken of one token comes from that token
-pub taken_is : {A : Type 0} (f : Option Token → Option A) → f None ≡ None → (ts : List Spanned) (x : A × List Spanned)
-    → taken (f (head_token ts)) (behind ts) ≡ Some x → (k : Spanned) × (ts ≡ k ∷ x.1) × (f (Some k.token) ≡ Some x.0)
-taken_is {A = A} f none [] x h = let e : taken {A = A} None [] ≡ Some x = rw none at h in cc
-taken_is {A = A} f none (k ∷ ts) x h =
-    let parts = taken_some (f (Some k.token)) ts x h in (k, ap (λ rest. k ∷ rest) parts.1, parts.0)
+pub with_rest_is : {A : Type 0} (f : Option Token → Option A) → f None ≡ None → (ts : List Spanned) (x : A × List Spanned)
+    → with_rest (f (head_token ts)) (behind ts) ≡ Some x → (k : Spanned) × (ts ≡ k ∷ x.1) × (f (Some k.token) ≡ Some x.0)
+with_rest_is {A = A} f none [] x h = let e : with_rest {A = A} None [] ≡ Some x = rw none at h in cc
+with_rest_is {A = A} f none (k ∷ ts) x h =
+    let parts = with_rest_some (f (Some k.token)) ts x h in (k, ap (λ rest. k ∷ rest) parts.1, parts.0)
 
 named : (t : Token) (bytes : List ℕ) → name_of (Some t) ≡ Some bytes → t ≡ token.Id bytes
 named (token.Id found) bytes h = cc
@@ -129,5 +129,5 @@ named _ bytes h = cc
 pub name_is : (ts : List Spanned) (x : List ℕ × List Spanned) → name ts ≡ Some x → Begins (token.Id x.0) ts x.1
 unfolding name
 name_is ts x h =
-    let parts = taken_is name_of refl ts x h in
+    let parts = with_rest_is name_of refl ts x h in
     record { first = parts.0; is = named parts.0.token x.0 parts.2; all = parts.1 }

@@ -55,21 +55,21 @@ impl<'a> Parser<'a> {
     }
 
     pub fn token(&self) -> Option<&'a Token>
-        ensures { spec.seen result ≡ spec.head_token self.now }
+        ensures { spec.token_behind result ≡ spec.head_token self.now }
     {
         Some(&self.rest.first()?.token)
     }
 
     /// The token behind the next one.
     pub fn second(&self) -> Option<&'a Token>
-        ensures { spec.seen result ≡ spec.second self.now }
+        ensures { spec.token_behind result ≡ spec.second self.now }
     {
         Some(&self.rest.get(1)?.token)
     }
 
     /// The token behind those two.
     pub fn third(&self) -> Option<&'a Token>
-        ensures { spec.seen result ≡ spec.second (spec.behind self.now) }
+        ensures { spec.token_behind result ≡ spec.second (spec.behind self.now) }
     {
         Some(&self.rest.get(2)?.token)
     }
@@ -186,7 +186,7 @@ impl<'a> Parser<'a> {
 /// The token is that symbol.
 #[tactic(auto, unfolding(crate::specs::internal::Reading::same_symbol))]
 pub fn is_symbol(token: Option<&Token>, symbol: Symbol) -> bool
-    ensures { result ≡ spec.is_symbol symbol (spec.seen token.entry) }
+    ensures { result ≡ spec.is_symbol symbol (spec.token_behind token.entry) }
 {
     matches!(token, Some(Token::Symbol(found)) if *found == symbol)
 }
@@ -194,14 +194,14 @@ pub fn is_symbol(token: Option<&Token>, symbol: Symbol) -> bool
 /// The token is that word.
 #[tactic(auto, unfolding(crate::specs::internal::Reading::same_word))]
 pub fn is_word(token: Option<&Token>, word: Word) -> bool
-    ensures { result ≡ spec.is_word word (spec.seen token.entry) }
+    ensures { result ≡ spec.is_word word (spec.token_behind token.entry) }
 {
     matches!(token, Some(Token::Word(found)) if *found == word)
 }
 
 /// The token is a name.
 pub fn is_name(token: Option<&Token>) -> bool
-    ensures { result ≡ spec.is_name (spec.seen token.entry) }
+    ensures { result ≡ spec.is_name (spec.token_behind token.entry) }
 {
     matches!(token, Some(Token::Id(_)))
 }

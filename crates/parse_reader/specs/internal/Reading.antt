@@ -76,10 +76,10 @@ abbrev pub head_token : List Spanned → Option Token
 head_token [] = None
 head_token (k ∷ ts) = Some k.token
 
--- what stands behind a reference
-abbrev pub seen : Option (Bor Token) → Option Token
-seen None = None
-seen (Some token) = Some token.now
+-- the token behind a reference
+abbrev pub token_behind : Option (Bor Token) → Option Token
+token_behind None = None
+token_behind (Some token) = Some token.now
 
 -- two symbols are one
 unfoldable pub same_symbol : Symbol → Symbol → Bool
@@ -141,14 +141,14 @@ abbrev pub name_of : Option Token → Option (List ℕ)
 name_of (Some (token.Id bytes)) = Some bytes
 name_of _ = None
 
--- what is read of one token
-abbrev pub taken : {A : Type 0} → Option A → Parser A
-taken None ts = None
-taken (Some a) ts = Some (a, ts)
+-- what is read of a token, if anything, with the tokens behind it
+abbrev pub with_rest : {A : Type 0} → Option A → Parser A
+with_rest None ts = None
+with_rest (Some a) ts = Some (a, ts)
 
 -- the next token, by what it stands for
 abbrev pub token_by : {A : Type 0} → (Option Token → Option A) → Parser A
-token_by f ts = taken (f (head_token ts)) (behind ts)
+token_by f ts = with_rest (f (head_token ts)) (behind ts)
 
 -- a name
 unfoldable pub name : Parser (List ℕ)
