@@ -212,7 +212,7 @@ pub fn canon_owned(alloc: Global, config: Config) -> Result<Config, AllocError>
     }
 }
 
-/// The canonical form of a configuration, in memory of its own.
+/// The canonical form of a configuration that is lent. Both may share their parts.
 pub fn canon(alloc: Global, config: &Config) -> Result<Config, AllocError>
     ensures live { (legend : Legend) → IfOk result (λ live. config_by legend live ≡ live_part (config_by legend config.now)) }
     ensures within { (size : Extent) → IsConfigWithin size config.now → IfOk result (IsConfigWithin size) }
