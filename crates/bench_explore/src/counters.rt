@@ -1,5 +1,5 @@
 //! A system of many states, each with a list of bytes of its own.
-ghost use Rattle.std.specs.Prelude.{◌≡◌, ◌==◌, ℕ, ◌≤◌, ◌+◌, ◌%◌, length, slice_index};
+ghost use Rattle.std.specs.Prelude.{◌≡◌, ◌==◌, ℕ, ◌≤◌, ◌+◌, ◌%◌, length, slice_index, IfOk};
 ghost use Rattle.std.specs.Cmp.Lexicographic.{bytes_decides};
 ghost use Rattle.std.proofs.Common.{◌∙◌};
 ghost use Rattle.std.proofs.lemmas.List.{length-replicate, length-set};
@@ -22,6 +22,15 @@ impl Counters {
         requires { 1 ≤ values }
     {
         Counters { values }
+    }
+
+    /// A label, with the row that it leads to.
+    fn successor(&self, alloc: Global, row: &Row, label: u8) -> Result<(u8, Row), Memory>
+        requires { length row.now ≡ 96 }
+        ensures { IfOk result (λ pair. pair ≡ (label, (counters self.now.values).after row.now label)) }
+    {
+        let after = row.counted(alloc, usize::from(label % 5), self.values)?;
+        Ok((label, after))
     }
 }
 
@@ -54,6 +63,17 @@ impl System for Counters {
 
     fn next(&self, alloc: Global, row: &Row, label: &u8) -> Result<Row, Memory> {
         row.counted(alloc, usize::from(*label % 5), self.values)
+    }
+
+    fn successors(&self, alloc: Global, row: &Row) -> Result<Vec<(u8, Row)>, Memory> {
+        let all = [
+            self.successor(alloc, row, 0)?,
+            self.successor(alloc, row, 1)?,
+            self.successor(alloc, row, 2)?,
+            self.successor(alloc, row, 3)?,
+            self.successor(alloc, row, 4)?,
+        ];
+        Ok(Vec::from_array(alloc, all)?)
     }
 
     fn copy(&self, _alloc: Global, label: &u8) -> Result<u8, Memory> {

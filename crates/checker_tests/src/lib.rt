@@ -1,5 +1,5 @@
-//! Tests of the checker on trees that are built by hand. Texts and their answers stand in the rows of `checker_corpus`.
+//! Tests of what a program tells of its definitions. Which modules are refused stands in the rows of `checker_corpus`.
 #![tactic(auto)]
 
 #[cfg(test)]
-mod trees;
+mod definitions;

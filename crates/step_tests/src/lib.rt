@@ -1,7 +1,7 @@
-//! Tests of the small layers below the machine: names, labels, and changes of a component's own data.
+//! Tests of what no text shows of the small layers below the machine: the last activation, and names in their order.
 #![tactic(auto)]
 
 #[cfg(test)]
-mod data;
+mod activations;
 #[cfg(test)]
 mod order;
