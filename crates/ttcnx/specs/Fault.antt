@@ -6,6 +6,7 @@ use Rattle.ttcn_syntax.specs.declared.error.LexError.{LexError}
 use Rattle.ttcn_syntax.specs.declared.error.LexError.TheVariants as lexical
 use Rattle.explore.specs.declared.plan.ExploreError.{ExploreError}
 use Rattle.explore.specs.declared.plan.ExploreError.TheVariants as searching
+use Rattle.report.specs.Texts.{place_text}
 use Rattle.report.specs.declared.run.RunError.{RunError}
 use Rattle.report.specs.declared.run.RunError.TheVariants as listing
 use Rattle.ttcn_parse.specs.ParseError.{ParseError}
@@ -31,10 +32,6 @@ refusal_text Unexpected = codes "P1 Unexpected"
 refusal_text TooDeep = codes "P2 TooDeep"
 refusal_text LeftOut = codes "P3 LeftOut"
 refusal_text (Broken rule) = codes "C" ++ decimal (number_of rule) ++ codes " " ++ name_of rule
-
--- a place as line and column
-abbrev pub place_text : Span → List ℕ
-place_text place = decimal place.line ++ codes ":" ++ decimal place.column
 
 -- the line that tells of a fault
 abbrev pub fault_text : Fault → List ℕ

@@ -3,7 +3,7 @@ ghost use Rattle.std.specs.Prelude.{◌≡◌, Some, IfOk, string_bytes};
 ghost use Rattle.ttcnx.specs.Fault.{fault_text, refusal_text, status_of};
 
 use explore::ExploreError;
-use report::RunError;
+use report::{PlaceText, RunError};
 use std::alloc::{AllocError, AllocFailed, Global};
 use std::fmt;
 use ttcn_parse::ParseError;
@@ -71,8 +71,7 @@ impl fmt::Display for Fault {
     fn fmt<W: fmt::Write>(&self, f: &mut fmt::Formatter<W>) -> fmt::Result {
         match self {
             Fault::Refused(refusal, place) => {
-                let (line, column) = (place.line, place.column);
-                write!(f, "refused {refusal} at {line}:{column}")
+                write!(f, "refused {refusal} at {}", PlaceText(*place))
             }
             Fault::NoSuchTestCase => f.write_str("refused U1 NoSuchTestCase"),
             Fault::BadLabel(line) => write!(f, "refused N1 BadLabel at line {line}"),
