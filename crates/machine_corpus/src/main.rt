@@ -1,14 +1,19 @@
-//! Answers rows of modules by whether the calls of a machine say the same behind every short run of a test case.
+//! Answers rows of modules by whether the calls of a machine say the same behind every short run of a test case, or by a
+//! picture of a behaviour's graph.
 #![tactic(auto)]
 
 mod agreement;
 mod behind;
+mod graph;
+mod picture;
 mod runs;
 mod spelled;
+mod words;
 
 use anyhow::Result;
 use behind::{compared_forms, seen_behind};
 use corpus::{Settings, Subject, answer_files};
+use graph::picture_of;
 use refusals::program;
 use runs::compared;
 use std::alloc::{AllocError, Global};
@@ -20,7 +25,9 @@ struct Comparison;
 
 impl Subject for Comparison {
     fn keys(&self) -> &'static [&'static str] {
-        &["behind", "forms", "steps", "testcase", "timers"]
+        &[
+            "behind", "forms", "graph", "lines", "steps", "testcase", "timers",
+        ]
     }
 
     fn answer(
@@ -33,6 +40,9 @@ impl Subject for Comparison {
             Ok(program) => program,
             Err(refusal) => return refusal.to_string(alloc),
         };
+        if let Some(name) = settings.get("graph") {
+            return picture_of(alloc, &program, name, settings);
+        }
         let Some(testcase) = program.testcase(settings.get("testcase").unwrap_or("T")) else {
             return String::from_str(alloc, "no test case");
         };
