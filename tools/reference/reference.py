@@ -8,6 +8,11 @@ equal live parts are one.
 
 The text is taken to be well typed; nothing is checked here.
 
+In one point it reads the rules in another way than the program: a record value
+has no type here.  So where one name is declared with two record types that have
+the same fields, in blocks beside each other, fewer configurations may be told
+apart.  No module can compare such values.
+
     reference.py FILE --testcase NAME --steps N [--limit L]
     reference.py FILE --testcase NAME --replay RUNFILE
 """
@@ -1552,7 +1557,9 @@ class Binder:
 
 
 def read_module(text):
-    """The bound module that the text (one character a byte) is."""
+    """The bound module that the text (one character a byte) is.  Lists of what
+    remains that were made for a module before it are forgotten."""
+    Remaining.made.clear()
     module = Parser(tokens_of(text)).module()
     Binder(module).bind_module()
     return module
