@@ -8,12 +8,15 @@ pub mod Joining
 pub mod Known
 pub mod LayerSteps
 pub mod Lists
+pub mod Newly
 pub mod NotFirst
 pub mod Outcome
 pub mod Placing
+pub mod Quiet
 pub mod RunLabels
 pub mod RunOrder
 pub mod SearchSteps
+pub mod StatesShown
 pub mod StepSums
 pub mod Sums
 pub mod Taken

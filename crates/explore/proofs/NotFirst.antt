@@ -1,5 +1,5 @@
--- A candidate at a position that is not one of the first is known when its turn comes.
-use Rattle.std.proofs.Common.{◌≡◌, ◌≢◌, ℕ, suc, ◌+◌, ◌<◌, ◌≤◌, Bool, true, false, cond, List, [], ◌∷◌, ◌++◌, length, get_or, take, sym, refl, ap, subst, ◌∙◌, arith}
+-- A candidate at one of the first positions is new when its turn comes, and one at another position is known.
+use Rattle.std.proofs.Common.{◌≡◌, ◌≢◌, ℕ, suc, ◌+◌, ◌<◌, ◌≤◌, Bool, true, false, cond, List, [], ◌∷◌, ◌++◌, length, get_or, take, map, sym, refl, ap, subst, ◌∙◌, append_assoc, append-nil, arith}
 use Rattle.std.specs.Cmp.{IsEquivalence}
 use Rattle.std.specs.List.Sorted.{IsStrictlyIncreasing}
 use Rattle.std.proofs.lemmas.List.Kept.{AllPairs-from_increasing}
@@ -7,13 +7,17 @@ use mathlib.Core.Logic.{dite}
 use native.Mathlib.Decide.{dec_le, ℕ_discrete}
 use Rattle.explore.proofs.AllWorked.{stands_behind}
 use Rattle.explore.proofs.Drawing.{stands_at}
-use Rattle.explore.proofs.SearchSteps.{place_all_append}
-use Rattle.std.specs.Prelude.{◌||◌, slice_get, Some}
+use Rattle.std.proofs.lemmas.List.{map-append}
+use Rattle.std.proofs.lemmas.Option.{slice_get_within}
+use Rattle.std.proofs.lemmas.List.Elements.{All-from_get_or}
+use Rattle.explore.proofs.Newly.{all_placed, newly_push}
+use Rattle.explore.specs.internal.Tied.{as_found}
+use Rattle.std.specs.Prelude.{◌||◌, slice_get, Some, All}
 use Rattle.std.specs.List.{list_any}
 use Rattle.summary.specs.Sums.{Join, Observation}
 use Rattle.shared.specs.Totals.{Stands}
 use Rattle.explore.specs.declared.visited.Candidate.{Candidate}
-use Rattle.explore.specs.internal.Search.{Found, place, place_all}
+use Rattle.explore.specs.internal.Search.{Found, state_of, newly}
 use Rattle.explore.specs.internal.Work.{AreFirst}
 use Rattle.explore.proofs.Known.{known_after}
 
@@ -21,21 +25,6 @@ either_known : (a b : Bool) → ((a ≡ false) → (b ≡ false) → ⊥) → (a
 either_known true b h = refl
 either_known false true h = refl
 either_known false false h = absurd (h refl refl)
-
-module _ {C L S : Type 0} (j : Join S) (r : Observation C L S) (eq : C → C → Bool) (transitive : (x y z : C) → eq x y ≡ true → eq y z ≡ true → eq x z ≡ true) where
-  -- placing a candidate that is not one of the first changes nothing
-  pub not_first : (found : Found C L S) (cs : List (Candidate C L)) (firsts : List ℕ) (i : ℕ) (c : Candidate C L) → AreFirst eq found.states cs firsts → slice_get cs i ≡ Some c → (Stands i firsts → ⊥)
-      → place j r eq (place_all j r eq found (take i cs)) c ≡ place_all j r eq found (take i cs)
-  not_first found cs firsts i c h at other =
-      let known : list_any (eq c.state) (place_all j r eq found (take i cs)).states ≡ true =
-      known_after j r eq transitive found c.state (take i cs)
-      ∙ either_known (list_any (eq c.state) found.states) (list_any (λ d. eq c.state d.state) (take i cs)) (λ a b. other ((h.members i).1 (c, at, a, b))) in
-      ap (λ b. cond b (place_all j r eq found (take i cs)) (record {
-        states = (place_all j r eq found (take i cs)).states ++ c.state ∷ [];
-        steps = (place_all j r eq found (take i cs)).steps ++ Some (record { before = c.before; label = c.label }) ∷ [];
-        from = (place_all j r eq found (take i cs)).from;
-        summary = j.join (place_all j r eq found (take i cs)).summary (r.at c.state);
-      })) known
 
 get_middle : {X : Type 0} (front : List X) (x : X) (rest : List X) → slice_get ((front ++ x ∷ []) ++ rest) (length front) ≡ Some x
 get_middle [] x rest = refl
@@ -85,15 +74,67 @@ up_other firsts next at up h other = record {
       (λ apart. let b = h.behind k more near in omega arith);
 }
 
-module _ {C L S : Type 0} (j : Join S) (r : Observation C L S) (eq : C → C → Bool) (laws : IsEquivalence eq) where
-  -- a candidate that is passed over
-  pub passed_over : (found here : Found C L S) (cs : List (Candidate C L)) (firsts : List ℕ) (front rest : List (Candidate C L)) (c : Candidate C L) (at : ℕ)
-      → AreFirst eq found.states cs firsts → cs ≡ (front ++ c ∷ []) ++ rest → at ≡ length front → (Stands at firsts → ⊥) → here ≡ place_all j r eq found front
-      → here ≡ place_all j r eq found (front ++ c ∷ [])
-  passed_over found here cs firsts front rest c at h split at_is other is =
-      let there : slice_get cs at ≡ Some c = (λ i. slice_get (split i) (at_is i)) ∙ get_middle front c rest in
-      let fronts : take at cs ≡ front = (λ i. take (at_is i) (split i)) ∙ take_front front c rest in
-      is
-      ∙ sym (subst (λ fs. place j r eq (place_all j r eq found fs) c ≡ place_all j r eq found fs) fronts
-      (not_first j r eq (λ x y z a b. laws.congr x y z a ∙ b) found cs firsts at c h there other))
-      ∙ sym (place_all_append j r eq found front (c ∷ []))
+-- each position is that of a candidate
+pub positions_within : {C L : Type 0} (eq : C → C → Bool) (known : List C) (cs : List (Candidate C L)) (firsts : List ℕ) → AreFirst eq known cs firsts → All (λ at. at < length cs) firsts
+positions_within eq known cs firsts h = All-from_get_or (λ at. at < length cs) firsts 0 (λ k low.
+    let m = (h.members (get_or firsts k 0)).0 (stands_at firsts k low) in slice_get_within cs (get_or firsts k 0) m.0 m.1)
+
+module _ {C L : Type 0} (eq : C → C → Bool) (laws : IsEquivalence eq) where
+  -- a state is known after candidates were placed, where it was before or is equal to one of theirs
+  known_newly : (known : List C) (x : C) (front : List (Candidate C L))
+      → list_any (eq x) (known ++ map state_of (newly eq known front)) ≡ (list_any (eq x) known || list_any (λ c. eq x c.state) front)
+  known_newly known x front =
+      let found : Found C L (Unit {0}) = as_found known [] 0 tt in
+      let j : Join (Unit {0}) = record { none = tt; join = λ _ _. tt } in
+      let r : Observation C L (Unit {0}) = record { at = λ _. tt; by = λ _ _. tt } in
+      ap (λ (f : Found C L (Unit {0})). list_any (eq x) f.states) (sym (all_placed j r eq found front))
+      ∙ known_after j r eq (λ x y z a b. laws.congr x y z a ∙ b) found x front
+
+  module _ (known : List C) (cs : List (Candidate C L)) (firsts : List ℕ) (front rest : List (Candidate C L)) (c : Candidate C L) (at : ℕ)
+      (h : AreFirst eq known cs firsts) (split : cs ≡ (front ++ c ∷ []) ++ rest) (at_is : at ≡ length front) where
+    there : slice_get cs at ≡ Some c
+    there = (λ i. slice_get (split i) (at_is i)) ∙ get_middle front c rest
+
+    fronts : take at cs ≡ front
+    fronts = (λ i. take (at_is i) (split i)) ∙ take_front front c rest
+
+    -- the candidate at one of the positions is new when its turn comes
+    pub first_is_new : Stands at firsts → list_any (eq c.state) (known ++ map state_of (newly eq known front)) ≡ false
+    first_is_new has =
+        let m = (h.members at).0 has in
+        let same : m.0 ≡ c = cc (m.1, there) in
+        let old : list_any (eq c.state) known ≡ false = ap (λ (d : Candidate C L). list_any (eq d.state) known) (sym same) ∙ m.2 in
+        let earlier : list_any (λ d. eq c.state d.state) front ≡ false =
+        (λ i. list_any (λ (d : Candidate C L). eq (sym same i).state d.state) (sym fronts i)) ∙ m.3 in
+        known_newly known c.state front ∙ (λ i. old i || earlier i)
+
+    -- a candidate elsewhere is known
+    pub other_is_known : (Stands at firsts → ⊥) → list_any (eq c.state) (known ++ map state_of (newly eq known front)) ≡ true
+    other_is_known other =
+        known_newly known c.state front
+        ∙ either_known (list_any (eq c.state) known) (list_any (λ d. eq c.state d.state) front)
+        (λ a b. other ((h.members at).1 (c, there, a, ap (list_any (λ (d : Candidate C L). eq c.state d.state)) fronts ∙ b)))
+
+  -- candidates and one more that is new
+  pub with_new : (known : List C) (front : List (Candidate C L)) (c : Candidate C L) → list_any (eq c.state) (known ++ map state_of (newly eq known front)) ≡ false
+      → newly eq known (front ++ c ∷ []) ≡ newly eq known front ++ c ∷ []
+  with_new known front c new = newly_push eq known front c ∙ ap (λ b. newly eq known front ++ cond b [] (c ∷ [])) new
+
+  -- candidates and one more that is known
+  pub with_known : (known : List C) (front : List (Candidate C L)) (c : Candidate C L) → list_any (eq c.state) (known ++ map state_of (newly eq known front)) ≡ true
+      → newly eq known (front ++ c ∷ []) ≡ newly eq known front
+  with_known known front c old = newly_push eq known front c ∙ ap (λ b. newly eq known front ++ cond b [] (c ∷ [])) old ∙ append-nil (newly eq known front)
+
+  -- what is kept of a new candidate comes behind what was kept
+  pub kept_new : {X : Type 0} (f : Candidate C L → X) (known : List C) (front : List (Candidate C L)) (c : Candidate C L) (old before after : List X)
+      → list_any (eq c.state) (known ++ map state_of (newly eq known front)) ≡ false
+      → before ≡ old ++ map f (newly eq known front) → after ≡ before ++ f c ∷ [] → after ≡ old ++ map f (newly eq known (front ++ c ∷ []))
+  kept_new f known front c old before after new so_far is =
+      is ∙ ap (λ xs. xs ++ f c ∷ []) so_far ∙ append_assoc old (map f (newly eq known front)) (f c ∷ [])
+      ∙ ap (λ xs. old ++ xs) (sym (map-append f (newly eq known front) (c ∷ [])) ∙ ap (map f) (sym (with_new known front c new)))
+
+  -- nothing is kept of a known one
+  pub kept_known : {X : Type 0} (f : Candidate C L → X) (known : List C) (front : List (Candidate C L)) (c : Candidate C L) (old before : List X)
+      → list_any (eq c.state) (known ++ map state_of (newly eq known front)) ≡ true
+      → before ≡ old ++ map f (newly eq known front) → before ≡ old ++ map f (newly eq known (front ++ c ∷ []))
+  kept_known f known front c old before known_is so_far = so_far ∙ ap (λ ds. old ++ map f ds) (sym (with_known known front c known_is))

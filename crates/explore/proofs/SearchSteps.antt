@@ -3,13 +3,12 @@ use Rattle.std.proofs.Common.{◌≡◌, ℕ, zero, suc, ◌+◌, ◌-◌, ◌<�
 use Rattle.std.specs.Prelude.{Option, All, Contains}
 use Rattle.std.specs.List.{list_any}
 use Rattle.std.proofs.lemmas.List.Elements.{All-nil, All-cons, All-head, All-tail, All-append, All-push, Contains-append_left, Contains-push}
-use Rattle.indexmap.specs.IndexSet.{insert_key}
 use Rattle.summary.specs.Graph.{Graph}
 use Rattle.summary.specs.Sums.{Join, Observation}
 use Rattle.explore.specs.declared.visited.Step.{Step}
 use Rattle.explore.specs.declared.visited.Candidate.{Candidate}
 use Rattle.explore.specs.internal.Search.{Found, candidate_of, candidates_of, layer_candidates, with_layer, place, place_all, advanced, next, found_after}
-use Rattle.explore.specs.internal.Tied.{as_found, Places}
+use Rattle.explore.specs.internal.Tied.{as_found}
 
 module _ {C L : Type 0} (g : Graph C L) where
   module _ (F : C → Type 0) (goes : (s : C) (l : L) → F s → Contains (g.enabled s) l → F (g.after s l)) where
@@ -30,18 +29,6 @@ module _ {C L : Type 0} (g : Graph C L) where
 
 module _ {C L S : Type 0} (j : Join S) (r : Observation C L S) where
   module _ (eq : C → C → Bool) where
-    chosen : (b : Bool) (from : ℕ) (xs ys : List C) (ps qs : List (Option (Step L))) (s t : S)
-        → as_found (cond b xs ys) (cond b ps qs) from (cond b s t) ≡ cond b (as_found xs ps from s) (as_found ys qs from t)
-    chosen true from xs ys ps qs s t = refl
-    chosen false from xs ys ps qs s t = refl
-
-    -- what the code's step says, as one equation
-    pub placed : {states : List C} {steps : List (Option (Step L))} {summary : S} {c : Candidate C L} {states' : List C} {steps' : List (Option (Step L))} {summary' : S}
-        → Places j r eq states steps summary c states' steps' summary' → (from : ℕ) → as_found states' steps' from summary' ≡ place j r eq (as_found states steps from summary) c
-    placed {states} {steps} {summary} {c} p from =
-        (λ i. as_found (p.states_are i) (p.steps_are i) from (p.summary_is i))
-        ∙ chosen (list_any (eq c.state) states) from states _ steps _ summary _
-
     pub place_all_append : (found : Found C L S) (xs ys : List (Candidate C L)) → place_all j r eq found (xs ++ ys) ≡ place_all j r eq (place_all j r eq found xs) ys
     place_all_append found [] ys = refl
     place_all_append found (x ∷ xs) ys = place_all_append (place j r eq found x) xs ys
@@ -50,7 +37,8 @@ module _ {C L S : Type 0} (j : Join S) (r : Observation C L S) where
     states_of_cond true x y = refl
     states_of_cond false x y = refl
 
-    pub place_states : (found : Found C L S) (c : Candidate C L) → (place j r eq found c).states ≡ insert_key eq found.states c.state
+    pub place_states : (found : Found C L S) (c : Candidate C L)
+        → (place j r eq found c).states ≡ cond (list_any (eq c.state) found.states) found.states (found.states ++ c.state ∷ [])
     place_states found c = states_of_cond (list_any (eq c.state) found.states) found _
 
     kept : (b : Bool) (x y : Found C L S) → length x.states ≤ length y.states → length x.states ≤ length (cond b x y).states
@@ -74,19 +62,6 @@ module _ {C L S : Type 0} (j : Join S) (r : Observation C L S) where
         → as_found states' steps' k s' ≡ place_all j r eq (as_found states steps k s) cs → length states ≤ length states'
     placed_grows states states' steps steps' k s s' cs e =
         subst (λ (x : Found C L S). length states ≤ length x.states) (sym e) (place_all_grows (as_found states steps k s) cs)
-
-    -- too many after one more is too many after all
-    pub too_many_at : (limit : ℕ) (found here : Found C L S) (front rest all : List (Candidate C L)) (c : Candidate C L)
-        → here ≡ place_all j r eq found front → all ≡ (front ++ c ∷ []) ++ rest → limit < length (insert_key eq here.states c.state)
-        → limit < length (place_all j r eq found all).states
-    too_many_at limit found here front rest all c is split h =
-        let after : Found C L S = place j r eq here c in
-        let reached : place_all j r eq found all ≡ place_all j r eq after rest =
-        ap (place_all j r eq found) split ∙ place_all_append found (front ++ c ∷ []) rest
-        ∙ ap (λ x. place_all j r eq x rest) (place_all_append found front (c ∷ []) ∙ ap (λ x. place j r eq x c) (sym is)) in
-        let here_states : length after.states ≡ length (insert_key eq here.states c.state) = ap length (place_states here c) in
-        let grows : length after.states ≤ length (place_all j r eq after rest).states = place_all_grows after rest in
-        subst (λ (x : Found C L S). limit < length x.states) (sym reached) (omega arith)
 
     module _ (F : C → Type 0) where
       fits_cond : (b : Bool) (x y : Found C L S) → All F x.states → All F y.states → All F (cond b x y).states

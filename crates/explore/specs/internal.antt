@@ -1,4 +1,5 @@
 pub mod Expansion
 pub mod Search
+pub mod Shards
 pub mod Tied
 pub mod Work

@@ -58,11 +58,11 @@ pub fn explore<Y: System, U: Summary<Y>, G: Gate, R: Threads + Sync>(
         return Err(ExploreError::BadPlan);
     }
     let explored = search::<Y, U, G, R>(rt, alloc, system, plan, gate)?;
-    let states = explored.visited.states.as_slice();
-    let complete = is_quiet(alloc, system, &states[explored.from..])?;
+    let states = &explored.visited.states;
+    let complete = is_quiet(alloc, system, states, explored.from)?;
     let best = best_runs(alloc, system, &explored.visited)?;
     let count = states.len() as u64;
-    explored.visited.drop_all(rt, alloc, plan.workers);
+    explored.visited.drop_all(rt);
     Ok(Answer {
         summary: explored.summary,
         count,
@@ -84,7 +84,7 @@ fn best_runs<Y: System>(
     ensures each { IfOk result (λ best. (mark : ℕ) → mark < 8
         → IsKept (Y.graph system.now) visited.now.states.keys visited.now.steps.items mark (slice_index_or best.items mark None)) }
 {
-    let places = first_marked(system, visited.states.as_slice());
+    let places = first_marked(system, &visited.states);
     let mut best = Vec::new(alloc);
     for place in &places {
         best.push(run_kept(alloc, system, visited.steps.as_slice(), *place)?)?;

@@ -1,11 +1,14 @@
 //! The candidates of a layer, by as many threads as rayon starts.
-ghost use Rattle.std.specs.Prelude.{◌≡◌, ◌+◌, ◌^◌, ◌<◌, ◌++◌, ◌∷◌, [], length, All, IfOk, OnOk, flat_map};
+ghost use Rattle.std.specs.Prelude.{◌≡◌, ◌+◌, ◌-◌, ◌<◌, ◌≤◌, ◌++◌, ◌∷◌, [], length, drop, All, IfOk, OnOk, flat_map};
 ghost use Rattle.explore.specs.internal.Search.{layer_candidates};
 ghost use Rattle.explore.specs.internal.Expansion.{candidates_with, candidates_in, IsExpanded};
 
+use crate::leftovers::Leftovers;
 use crate::visited::Candidate;
 use rayon::prelude::*;
+use sharded_set::ShardedSet;
 use std::alloc::{AllocError, Global};
+use std::thread;
 use std::thread::Threads;
 use summary::System;
 
@@ -62,32 +65,60 @@ fn add_candidates<S: Drop, L: Drop>(
     Ok(())
 }
 
-/// The candidates of a layer, whose first state is at place `from`, in the order that one thread makes.
+/// The candidates of the layer that begins at place `from`, in the order that one thread makes.
 pub fn expand_layer<Y: System, R: Threads + Sync>(
     rt: &R,
     alloc: Global,
     system: &Y,
+    states: &ShardedSet<Y::State>,
     from: usize,
-    layer: &[Y::State],
 ) -> Result<Vec<Candidate<Y::State, Y::Label>>, AllocError>
-    requires fits { All (Y.fits system.now) layer.now }
-    requires places { from + length layer.now < 2 ^ 64 }
-    ensures { IfOk result (λ candidates. candidates.items ≡ layer_candidates (Y.graph system.now) from layer.now) }
+    requires fits { All (Y.fits system.now) states.now.keys }
+    requires from { from ≤ length states.now.keys }
+    ensures { IfOk result (λ candidates. candidates.items ≡ layer_candidates (Y.graph system.now) from (drop from states.now.keys)) }
 {
-    let candidates = (0..layer.len())
+    let candidates = (from..states.len())
         .into_par_iter()
         .map(
-            |at: usize| -> Result<Expanded<Y::State, Y::Label>, AllocError>
-                requires { (at < length layer.now) × (from + at < 2 ^ 64) × All (Y.fits system.now) layer.now }
-                ensures { IfOk result (λ e. IsExpanded (Y.graph system.entry.now) from layer.entry.now at e.place e.successors.items) }
+            |place: usize| -> Result<Expanded<Y::State, Y::Label>, AllocError>
+                requires { (place < length states.now.keys) × All (Y.fits system.now) states.now.keys }
+                ensures { IfOk result (λ e. IsExpanded (Y.graph system.entry.now) states.entry.now.keys place e.place e.successors.items) }
             {
                 Ok(Expanded {
-                    place: from + at,
-                    successors: system.successors(alloc, &layer[at])?,
+                    place,
+                    successors: system.successors(alloc, &states[place])?,
                 })
             },
         )
         .collect::<Result<Candidates<Y::State, Y::Label>, AllocError>>(rt, alloc)??;
     let Candidates { list } = candidates;
     Ok(list)
+}
+
+/// The candidates of the layer that begins at place `from`. What is left of the layer before is dropped meanwhile.
+pub fn expand_and_drop<Y: System, R: Threads + Sync>(
+    rt: &R,
+    alloc: Global,
+    system: &Y,
+    states: &ShardedSet<Y::State>,
+    from: usize,
+    leftovers: Leftovers<Candidate<Y::State, Y::Label>>,
+) -> Result<Vec<Candidate<Y::State, Y::Label>>, AllocError>
+    requires fits { All (Y.fits system.now) states.now.keys }
+    requires from { from ≤ length states.now.keys }
+    ensures { IfOk result (λ candidates. candidates.items ≡ layer_candidates (Y.graph system.now) from (drop from states.now.keys)) }
+{
+    if leftovers.are_few() {
+        drop(leftovers);
+        return expand_layer(rt, alloc, system, states, from);
+    }
+    let (candidates, ()) = thread::join(
+        rt,
+        move || -> Result<Vec<Candidate<Y::State, Y::Label>>, AllocError>
+            requires { All (Y.fits system.now) states.now.keys × (from ≤ length states.now.keys) }
+            ensures { IfOk result (λ candidates. candidates.items ≡ layer_candidates (Y.graph system.entry.now) from (drop from states.entry.now.keys)) }
+        { expand_layer(rt, alloc, system, states, from) },
+        move || leftovers.drop_all(rt),
+    );
+    candidates
 }

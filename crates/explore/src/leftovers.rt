@@ -40,6 +40,11 @@ impl<T: Send + Drop> Leftovers<T> {
         let _ = self.last.push(item);
     }
 
+    /// Whether they are too few for threads of their own.
+    pub fn are_few(&self) -> bool {
+        self.parts.is_empty()
+    }
+
     /// Drops all items, each part on a thread of its own where one can be made.
     pub fn drop_all<R: Threads + Sync>(self, rt: &R) {
         let Leftovers {

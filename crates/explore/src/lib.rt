@@ -9,6 +9,7 @@ mod layers;
 mod leftovers;
 mod plan;
 mod runs;
+mod showing;
 mod visited;
 mod workers;
 

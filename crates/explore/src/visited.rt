@@ -1,8 +1,9 @@
-ghost use Rattle.std.specs.Prelude.{◌≡◌, ◌<◌, ◌≤◌, ◌+◌, IfOk};
+ghost use Rattle.std.specs.Prelude.{◌≡◌, ◌∷◌, [], ◌++◌, None, Some, false, IfOk, OnOk};
+ghost use Rattle.std.specs.List.{list_any};
+ghost use Rattle.sharded_set.specs.Sharded.{shard_of};
 
-use crate::leftovers::Leftovers;
-use indexmap::IndexSet;
-use std::alloc::Global;
+use sharded_set::ShardedSet;
+use std::alloc::AllocError;
 use std::hash::{Hash, Hasher};
 use std::thread::Threads;
 
@@ -50,23 +51,35 @@ impl<S: Eq + Hash, L> Hash for Candidate<S, L> {
 /// The states that were found, in the order of their least runs, and the last step of each of these runs.
 #[derive(Drop)]
 pub struct Visited<S: Eq + Hash, L> {
-    pub states: IndexSet<S>,
+    pub states: ShardedSet<S>,
     pub steps: Vec<Option<Step<L>>>,
 }
 
 impl<S: Eq + Hash + Send + Drop, L: Send + Drop> Visited<S, L> {
-    /// Drops the states and the steps. As many threads as there are workers share the states.
-    pub fn drop_all<R: Threads + Sync>(self, rt: &R, alloc: Global, workers: u64)
-        requires { 1 ≤ workers }
+    /// Adds the state of a candidate, which belongs to this shard and was not found before, and its last step.
+    pub fn add(&mut self, shard: usize, candidate: Candidate<S, L>) -> Result<(), AllocError>
+        requires shard { shard ≡ shard_of S.hash_input self.old.states.shards candidate.state }
+        requires new { list_any (S.eq candidate.state) self.old.states.keys ≡ false }
+        ensures states { OnOk result (self.new.states.keys ≡ self.old.states.keys ++ candidate.state ∷ []) }
+        ensures steps { OnOk result (self.new.steps.items ≡ self.old.steps.items ++ Some (record { before = candidate.before; label = candidate.label }) ∷ []) }
+        ensures shards { self.new.states.shards ≡ self.old.states.shards }
     {
+        let Candidate {
+            before,
+            label,
+            state,
+        } = candidate;
+        self.states.push(shard, state)?;
+        self.steps.push(Some(Step { before, label }))?;
+        Ok(())
+    }
+
+    /// Drops the steps, and the states on a thread for each shard.
+    pub fn drop_all<R: Threads + Sync>(self, rt: &R) {
         let Visited {
             states,
             steps: _steps,
         } = self;
-        let mut leftovers = Leftovers::new(alloc, states.len(), workers);
-        for state in states {
-            leftovers.take(state);
-        }
-        leftovers.drop_all(rt);
+        states.drop_all(rt);
     }
 }

@@ -8,8 +8,8 @@ mod turns;
 
 use crate::plan::Gate;
 use crate::visited::Candidate;
-use indexmap::IndexSet;
 pub use layer::find_first;
+use sharded_set::ShardedSet;
 use shared::{Board, BoardSeat, Seen, SeenSeat};
 use std::alloc::AllocError;
 use summary::System;
@@ -20,7 +20,7 @@ pub struct Work<'l, 's, Y: System, G: Gate> {
     pub system: &'l Y,
     pub gate: &'l G,
     pub layer: u64,
-    pub visited: &'l IndexSet<Y::State>,
+    pub visited: &'l ShardedSet<Y::State>,
     pub candidates: &'l [Candidate<Y::State, Y::Label>],
     /// How many candidates a piece has. The last piece may have fewer.
     pub size: usize,

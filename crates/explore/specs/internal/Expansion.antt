@@ -1,5 +1,5 @@
 -- A layer's candidates, put together from the successors of its states.
-use Rattle.std.specs.Prelude.{◌≡◌, ℕ, ◌+◌, ◌<◌, List, map, flat_map, length, slice_index_or, Contains}
+use Rattle.std.specs.Prelude.{◌≡◌, ℕ, ◌<◌, List, map, flat_map, length, slice_index_or, Contains}
 use Rattle.summary.specs.Graph.{Graph, with_after}
 use Rattle.explore.specs.declared.visited.Candidate.{Candidate}
 use Rattle.explore.specs.declared.expand.Expanded.{Expanded}
@@ -14,11 +14,11 @@ module _ {C L : Type 0} where
   candidates_in states = flat_map (λ e. candidates_with e.place e.successors.items) states
 
 module _ {C L : Type 0} (g : Graph C L) where
-  -- the place of a state of the layer that begins at a place, and the state's successors
-  abbrev pub IsExpanded : ℕ → List C → ℕ → ℕ → List (L × C) → Type 0
-  IsExpanded from layer at place pairs =
-      (place ≡ from + at)
-      × (pairs ≡ with_after g (slice_index_or layer at g.first) (g.enabled (slice_index_or layer at g.first)))
+  -- the place of one of these states, and the state's successors
+  abbrev pub IsExpanded : List C → ℕ → ℕ → List (L × C) → Type 0
+  IsExpanded states at place pairs =
+      (place ≡ at)
+      × (pairs ≡ with_after g (slice_index_or states at g.first) (g.enabled (slice_index_or states at g.first)))
 
   -- the candidate is a step from one of these states by an enabled label
   abbrev pub IsStep : List C → Candidate C L → Type 0

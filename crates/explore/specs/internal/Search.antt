@@ -28,6 +28,18 @@ module _ {C L : Type 0} (g : Graph C L) where
   layer_candidates place [] = []
   layer_candidates place (state ∷ states) = candidates_of place state (g.enabled state) ++ layer_candidates (place + 1) states
 
+module _ {C L : Type 0} where
+  abbrev pub state_of : Candidate C L → C
+  state_of c = c.state
+
+  abbrev pub step_of : Candidate C L → Option (Step L)
+  step_of c = Some (record { before = c.before; label = c.label })
+
+  -- of these candidates, those whose state is none of those found before, and no earlier candidate's
+  abbrev pub newly : (C → C → Bool) → List C → List (Candidate C L) → List (Candidate C L)
+  newly eq known [] = []
+  newly eq known (c ∷ cs) = if list_any (eq c.state) known then newly eq known cs else c ∷ newly eq (known ++ c.state ∷ []) cs
+
 module _ {C L S : Type 0} (j : Join S) (r : Observation C L S) where
   -- a summary, and what the steps by these labels show
   abbrev pub with_labels : C → S → List L → S
@@ -43,6 +55,11 @@ module _ {C L S : Type 0} (j : Join S) (r : Observation C L S) where
   abbrev pub with_steps : Graph C L → List C → S → List (Candidate C L) → S
   with_steps g states summary [] = summary
   with_steps g states summary (c ∷ cs) = with_steps g states (j.join summary (r.by (slice_index_or states c.before g.first) c.label)) cs
+
+  -- a summary, and what these states show
+  abbrev pub with_states : S → List C → S
+  with_states summary [] = summary
+  with_states summary (state ∷ states) = with_states (j.join summary (r.at state)) states
 
   module _ (eq : C → C → Bool) where
     -- a candidate is new if no state found so far is equal to its own

@@ -1,24 +1,15 @@
 -- What the code's values stand for.
-use Rattle.std.specs.Prelude.{◌≡◌, ◌≢◌, ℕ, ◌<◌, Bool, List, [], ◌∷◌, ◌++◌, length, slice_index_or, All, Option, None, Some, IfSome, if◌then◌else◌}
-use Rattle.std.specs.List.{list_any}
+use Rattle.std.specs.Prelude.{◌≡◌, ◌≢◌, ℕ, ◌<◌, List, length, slice_index_or, All, Option, None, Some, IfSome}
 use Rattle.summary.specs.Graph.{Graph}
 use Rattle.std.specs.declared.alloc.Global.{Global}
 use Rattle.std.specs.declared.vec.Vec.{Vec}
 use Rattle.summary.specs.Run.{Run, Start, Then, labels_of}
-use Rattle.summary.specs.Sums.{Join, Observation}
 use Rattle.explore.specs.declared.visited.Step.{Step}
-use Rattle.explore.specs.declared.visited.Candidate.{Candidate}
 use Rattle.explore.specs.internal.Search.{Found}
 
 -- these states, steps, place and summary, as what was found
 abbrev pub as_found : {C L S : Type 0} → List C → List (Option (Step L)) → ℕ → S → Found C L S
 as_found states steps from summary = record { states = states; steps = steps; from = from; summary = summary }
-
--- states, steps and summary after the candidate is placed
-pub record Places {C L S : Type 0} (j : Join S) (r : Observation C L S) (eq : C → C → Bool) (states : List C) (steps : List (Option (Step L))) (summary : S) (c : Candidate C L) (states' : List C) (steps' : List (Option (Step L))) (summary' : S) : Type 0 where
-  pub states_are : states' ≡ (if list_any (eq c.state) states then states else states ++ c.state ∷ [])
-  pub steps_are : steps' ≡ (if list_any (eq c.state) states then steps else steps ++ Some (record { before = c.before; label = c.label }) ∷ [])
-  pub summary_is : summary' ≡ (if list_any (eq c.state) states then summary else j.join summary (r.at c.state))
 
 -- the run that is kept at a place
 abbrev pub run_at : {L : Type 0} → List (Run L) → ℕ → Run L

@@ -10,7 +10,7 @@ ghost use Rattle.explore.specs.internal.Work.{in_pieces, AreFirst, AreFirstSeats
 use super::{Work, Worked, Worker};
 use crate::plan::{Gate, Plan};
 use crate::visited::Candidate;
-use indexmap::IndexSet;
+use sharded_set::ShardedSet;
 use shared::{Board, BoardSeat, Seen, SeenSeat};
 use std::alloc::{AllocError, Global};
 use std::thread;
@@ -153,7 +153,7 @@ pub fn find_first<'l, Y: System, U: Summary<Y>, G: Gate, R: Threads + Sync>(
     plan: &Plan,
     gate: &'l G,
     layer: u64,
-    visited: &'l IndexSet<Y::State>,
+    visited: &'l ShardedSet<Y::State>,
     candidates: &'l [Candidate<Y::State, Y::Label>],
 ) -> Result<(Vec<u64>, U), AllocError>
     requires plan { IsWithinLimits plan.now }

@@ -1,12 +1,14 @@
 //! What one worker does.
-ghost use Rattle.std.specs.Prelude.{◌≡◌, ℕ, ◌+◌, ◌*◌, ◌<◌, ◌≤◌, [], true, false, ◌∷◌, length, slice_get, Some, All, IfOk, OnOk};
+ghost use Rattle.std.specs.Prelude.{◌≡◌, ℕ, ◌+◌, ◌*◌, ◌-◌, ◌<◌, ◌≤◌, [], true, false, ◌∷◌, length, slice_get, Some, All, IfOk, OnOk};
 ghost use Rattle.std.specs.Fork.{slice_chunk};
 ghost use Rattle.shared.specs.BoardSeats.{view as board_view, IsSeatOf as IsBoardSeatOf};
 ghost use Rattle.shared.specs.SeenRule.{IsSameSeat};
 ghost use Rattle.shared.specs.SeenSeats.{view, IsSeatOf};
 ghost use Rattle.explore.specs.internal.Expansion.{IsStep};
 ghost use Rattle.explore.specs.internal.Search.{with_steps};
+ghost use Rattle.explore.specs.internal.Shards.{AreShardsFrom};
 ghost use Rattle.explore.specs.internal.Work.{have_same_state, in_pieces, AddsNew, HasPlaced, IsIdle, IsSameBoardSeat, IsReady, IsDone};
+ghost use Rattle.sharded_set.specs.Sharded.{shard_of};
 
 use super::{Work, Worked, Worker};
 use crate::plan::Gate;
@@ -15,15 +17,35 @@ use std::alloc::{AllocError, Global};
 use summary::{Summary, System};
 
 impl<'l, 's, Y: System, G: Gate> Work<'l, 's, Y, G> {
-    /// Places a candidate's position if its state was not found before.
-    fn place(&self, seat: &mut SeenSeat, at: usize)
+    /// The shards that the states of the candidates from one position up to another belong to. No candidate waits for
+    /// the one before, so their bytes come from memory together.
+    fn shards_between(
+        &self,
+        alloc: Global,
+        from: usize,
+        to: usize,
+    ) -> Result<Vec<usize>, AllocError>
+        requires { (from ≤ to) × (to ≤ length self.now.candidates.now) }
+        ensures count { IfOk result (λ shards. length shards.items ≡ to - from) }
+        ensures each { IfOk result (λ shards. AreShardsFrom Y.State.hash_input self.now.visited.now.shards self.now.candidates.now from shards.items) }
+    {
+        let mut shards = Vec::with_capacity(alloc, to - from)?;
+        for at in from..to {
+            shards.push(self.visited.shard_of(&self.candidates[at].state))?;
+        }
+        Ok(shards)
+    }
+
+    /// Places a candidate's position if its state, which belongs to this shard, was not found before.
+    fn place(&self, seat: &mut SeenSeat, at: usize, shard: usize)
         requires own { IsSeatOf (have_same_state Y.State.eq) self.now.seen.now seat.old }
         requires at { at < length self.now.candidates.now }
+        requires shard { (c : _) → slice_get self.now.candidates.now at ≡ Some c → shard ≡ shard_of Y.State.hash_input self.now.visited.now.shards c.state }
         ensures own { IsSeatOf (have_same_state Y.State.eq) self.now.seen.now seat.new }
         ensures kept { IsSameSeat (view seat.old) (view seat.new) }
         ensures placed { AddsNew Y.State.eq self.now.visited.now.keys self.now.candidates.now at (at + 1) (view seat.old).placed (view seat.new).placed }
     {
-        if !self.visited.contains(&self.candidates[at].state) {
+        if !self.visited.contains_in(shard, &self.candidates[at].state) {
             self.seen.place(seat, at);
         }
     }
@@ -65,9 +87,10 @@ impl<'l, 's, Y: System, G: Gate> Work<'l, 's, Y, G> {
     {
         let from = piece as usize * self.size;
         let to = from + self.size.min(self.candidates.len() - from);
+        let shards = self.shards_between(alloc, from, to)?;
         let mut summary = summary;
         for at in from..to {
-            self.place(seat, at);
+            self.place(seat, at, shards[at - from]);
             summary = self.join_step(alloc, at, summary)?;
         }
         Ok(summary)

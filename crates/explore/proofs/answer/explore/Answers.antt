@@ -1,6 +1,4 @@
-use Rattle.std.proofs.Common.{◌≡◌, ◌≤◌, [], ap, sym, subst, ◌∙◌, drop, length}
-use Rattle.std.specs.Prelude.{All}
-use Rattle.std.proofs.lemmas.List.{take_rest}
+use Rattle.std.proofs.Common.{◌≤◌, sym, subst}
 use Rattle.std.proofs.lemmas.Result.{err_from_is_err_and}
 use Rattle.summary.specs.Exploration.{Counts}
 use Rattle.summary.specs.Sums.{IsSemilattice}
@@ -60,7 +58,7 @@ returns-clause-count g c =
     let counted = count_is graph g.Y.Label.Ord.cmp g.Y.State.PartialEq.eq (g.Y.System.fits system) (lawful g system)
     g.U.Summary.joins (g.U.Summary.observation system) (semilattice g) steps
     found.visited.states.keys found.visited.steps.items found.from found.summary c.in_ok-explored.ensures.found in
-    subst (λ states. Counts graph steps (length states) × (length states ≤ limit)) (sym c.as_slice-states.ensures.keys) (counted, c.in_ok-explored.ensures.within)
+    subst (λ n. Counts graph steps n × (n ≤ limit)) (sym c.len-count.ensures.len) (counted, c.in_ok-explored.ensures.within)
 
 pub returns-clause-summary : goal.returns-clause-summary
 returns-clause-summary g c =
@@ -75,13 +73,12 @@ returns-clause-complete g c =
     let system = c.args.system.now in
     let graph = g.Y.System.graph system in
     let found = c.in_ok-explored.explored in
-    let layer = take_rest c.as_slice-states.result.now found.from ∙ ap (drop found.from) c.as_slice-states.ensures.keys in
     let quiet = c.in_ok-complete.ensures in
     let exact = complete_is graph g.Y.Label.Ord.cmp g.Y.State.PartialEq.eq (g.Y.System.fits system) (lawful g system)
     g.U.Summary.joins (g.U.Summary.observation system) (semilattice g) c.args.plan.now.steps
     found.visited.states.keys found.visited.steps.items found.from found.summary c.in_ok-explored.ensures.found in (
-      λ is. exact.0 (subst (All (λ (s : _). graph.enabled s ≡ [])) layer (quiet.0 is)),
-      λ all. quiet.1 (subst (All (λ (s : _). graph.enabled s ≡ [])) (sym layer) (exact.1 all)),
+      λ is. exact.0 (quiet.0 is),
+      λ all. quiet.1 (exact.1 all),
     )
 
 pub returns-clause-best : goal.returns-clause-best
@@ -101,9 +98,8 @@ returns-clause-every_bound g c complete bound le =
     let system = c.args.system.now in
     let graph = g.Y.System.graph system in
     let found = c.in_ok-explored.explored in
-    let layer = take_rest c.as_slice-states.result.now found.from ∙ ap (drop found.from) c.as_slice-states.ensures.keys in
     let more = every_bound graph g.Y.Label.Ord.cmp g.Y.State.PartialEq.eq (g.Y.System.fits system) (lawful g system)
     g.U.Summary.joins (g.U.Summary.observation system) (semilattice g) c.args.plan.now.steps
     found.visited.states.keys found.visited.steps.items found.from found.summary c.in_ok-explored.ensures.found
-    (subst (All (λ (s : _). graph.enabled s ≡ [])) layer (c.in_ok-complete.ensures.0 complete)) bound le in
-    (more.0, subst (λ states. Counts graph bound (length states)) (sym c.as_slice-states.ensures.keys) more.1)
+    (c.in_ok-complete.ensures.0 complete) bound le in
+    (more.0, subst (Counts graph bound) (sym c.len-count.ensures.len) more.1)

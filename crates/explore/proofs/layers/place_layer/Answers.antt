@@ -1,42 +1,59 @@
-use Rattle.std.proofs.Common.{List, ℕ, ◌≡◌, ◌<◌, length, ap, sym, subst, ◌∙◌}
-use Rattle.std.specs.Prelude.{IfOk, IsErrOf}
-use Rattle.summary.specs.Sums.{IsSemilattice}
-use Rattle.explore.specs.declared.plan.ExploreError.TheVariants.{TooMany}
-use Rattle.explore.specs.internal.Search.{with_steps, place_all}
+use Rattle.std.proofs.Common.{◌≡◌, ◌<◌, length, map, drop, ap, sym, subst, ◌∙◌}
+use Rattle.std.specs.Prelude.{All}
+use Rattle.std.proofs.Math.Seq.{drop-append_seam}
+use Rattle.std.proofs.lemmas.Result.{err_from_is_err_and}
+use Rattle.summary.specs.Sums.{IsSemilattice, join_all}
+use Rattle.explore.specs.internal.Search.{Found, newly, state_of, with_steps}
 use Rattle.explore.specs.internal.Tied.{as_found}
 use Rattle.explore.proofs.StepSums.{steps_join}
+use Rattle.explore.proofs.SearchSteps.{place_all_fits}
+use Rattle.explore.proofs.Newly.{all_placed, entered}
 use Rattle.explore.proofs.layers.place_layer.Given.{Over}
 use Rattle.explore.proofs.layers.place_layer.Goals as goal
-use Rattle.explore.proofs.layers.place_layer.Goals.{After-drop-firsts-2}
 
 semilattice : (g : Over) → IsSemilattice g.U.Summary.joins
 semilattice g = (g.met.U.Summary g.world.𝓛 g.world.𝓜 g.world.𝓡 ((λ s x. x), (λ x. x), (λ x. x), λ x. x)).semilattice
 
--- the workers' sum joined to the one before is that of all steps
-joined : (g : Over) (c : After-drop-firsts-2 g) → c.in_ok-summary.summary ≡ with_steps g.U.Summary.joins (g.U.Summary.observation c.args.system.now) (g.Y.System.graph c.args.system.now) c.args.visited.now.states.keys c.args.summary c.args.candidates.items
-joined g c =
+pub returns-in_err-visited-clause-too_many : goal.returns-in_err-visited-clause-too_many
+returns-in_err-visited-clause-too_many g c many from =
+    let joins = g.U.Summary.joins in
+    let observation = g.U.Summary.observation c.args.system.now in
+    let eq = g.Y.State.PartialEq.eq in
+    let keys = c.args.visited.states.keys in
+    let cs = c.args.candidates.items in
+    let p = err_from_is_err_and c.from_residual-in_err-visited.result c.from_residual-in_err-visited.ensures.1 in
+    let found : Found _ _ _ = as_found keys c.args.visited.steps.items from (with_steps joins observation (g.Y.System.graph c.args.system.now) keys c.args.summary cs) in
+    subst (λ (x : Found _ _ _). c.args.plan.now.limit < length x.states) (sym (all_placed joins observation eq found cs))
+    (c.in_err-visited.ensures.too_many (cc (p.1, p.2, many)))
+
+pub show_states-requires-clause-fits : goal.show_states-requires-clause-fits
+show_states-requires-clause-fits g c κs within =
+    let joins = g.U.Summary.joins in
+    let observation = g.U.Summary.observation c.args.system.now in
+    let eq = g.Y.State.PartialEq.eq in
+    let fits = g.Y.System.fits c.args.system.now in
+    let cs = c.args.candidates.items in
+    let found : Found _ _ _ = as_found c.args.visited.states.keys c.args.visited.steps.items 0 c.args.summary in
+    subst (All fits) (sym c.in_ok-visited.ensures.states)
+    (subst (λ (x : Found _ _ _). All fits x.states) (all_placed joins observation eq found cs) (place_all_fits joins observation eq fits found cs c.requires.states c.requires.fits))
+
+pub returns-clause-placed : goal.returns-clause-placed
+returns-clause-placed g c from =
     let joins = g.U.Summary.joins in
     let observation = g.U.Summary.observation c.args.system.now in
     let graph = g.Y.System.graph c.args.system.now in
-    let keys = c.args.visited.now.states.keys in
+    let eq = g.Y.State.PartialEq.eq in
+    let keys = c.args.visited.states.keys in
+    let cs = c.args.candidates.items in
+    let news = map state_of (newly eq keys cs) in
+    let stepped : c.in_ok-summary.summary ≡ with_steps joins observation graph keys c.args.summary cs =
     c.in_ok-summary.ensures
     ∙ ap (joins.join c.args.summary) (c.in_ok-firsts.ensures.summary ∙ ap (with_steps joins observation graph keys joins.none) c.as_slice.ensures.value)
-    ∙ sym (steps_join joins observation graph keys (semilattice g) c.args.summary c.args.candidates.items)
-
-pub returns-clause-placed : goal.returns-clause-placed
-returns-clause-placed g c =
-    let joins = g.U.Summary.joins in
-    let observation = g.U.Summary.observation c.args.system.now in
-    let old = c.args.visited.now in
-    subst (λ t. IfOk c.enter_first-entered.result (λ s. (from : ℕ) → as_found c.enter_first-entered.new.visited.states.keys c.enter_first-entered.new.visited.steps.items from s
-    ≡ place_all joins observation g.Y.State.PartialEq.eq (as_found old.states.keys old.steps.items from t) c.args.candidates.items))
-    (joined g c) c.enter_first-entered.ensures.placed
-
-pub returns-clause-too_many : goal.returns-clause-too_many
-returns-clause-too_many g c =
-    let joins = g.U.Summary.joins in
-    let observation = g.U.Summary.observation c.args.system.now in
-    let old = c.args.visited.now in
-    subst (λ t. IsErrOf c.enter_first-entered.result TooMany → (from : ℕ) → c.args.plan.now.limit
-    < length (place_all joins observation g.Y.State.PartialEq.eq (as_found old.states.keys old.steps.items from t) c.args.candidates.items).states)
-    (joined g c) c.enter_first-entered.ensures.too_many
+    ∙ sym (steps_join joins observation graph keys (semilattice g) c.args.summary cs) in
+    let behind : drop c.len-from.result c.in_ok-visited.visited.states.keys ≡ news =
+    (λ i. drop (c.len-from.ensures.len i) (c.in_ok-visited.ensures.states i)) ∙ drop-append_seam keys news in
+    entered joins observation eq keys c.in_ok-visited.visited.states.keys c.args.visited.steps.items c.in_ok-visited.visited.steps.items from
+    (with_steps joins observation graph keys c.args.summary cs) c.in_ok-shown.shown c.in_ok-summary-2.summary cs (semilattice g)
+    c.in_ok-visited.ensures.states c.in_ok-visited.ensures.steps
+    (c.in_ok-shown.ensures ∙ ap (λ xs. join_all joins (map observation.at xs)) behind)
+    (c.in_ok-summary-2.ensures ∙ ap (λ s. joins.join s c.in_ok-shown.shown) stepped)

@@ -1,9 +1,8 @@
-use Rattle.std.proofs.Common.{List, ◌≡◌, ◌≤◌, ℕ, ap, sym, subst, ◌∙◌, [], length, drop, arith}
+use Rattle.std.proofs.Common.{◌≡◌, ◌≤◌, ℕ, ap, sym, subst, ◌∙◌, [], length, drop, arith}
 use Rattle.std.specs.Prelude.{All}
-use Rattle.std.proofs.lemmas.List.{take_rest}
 use Rattle.std.proofs.lemmas.List.Elements.{All-nil, All-cons, All-drop}
 use Rattle.std.proofs.lemmas.Result.{err_from_is_err_and}
-use Rattle.explore.specs.internal.Search.{Found, found_after, layer_candidates, with_steps}
+use Rattle.explore.specs.internal.Search.{Found, found_after, with_steps}
 use Rattle.explore.specs.internal.Tied.{as_found}
 use Rattle.explore.proofs.SearchSteps.{layer_fits, place_all_fits, placed_grows, layer_done, layer_too_many}
 use Rattle.explore.proofs.LayerSteps.{are_steps, steps_shown}
@@ -23,48 +22,38 @@ loop-layer-init g c =
       from = omega arith;
     }
 
-pub expand_layer-requires-clause-fits : goal.expand_layer-requires-clause-fits
-expand_layer-requires-clause-fits g c κs within =
-    let fits = g.Y.System.fits c.args.system.now in
-    let layer = take_rest c.as_slice-states.result.now c.loop-layer.from ∙ ap (drop c.loop-layer.from) c.as_slice-states.ensures.keys in
-    subst (All fits) (sym layer) (All-drop fits c.loop-layer.from c.loop-layer.visited.states.keys c.loop-layer.invariant.fits)
-
 pub place_layer-requires-clause-steps : goal.place_layer-requires-clause-steps
 place_layer-requires-clause-steps g c κs within =
     let graph = g.Y.System.graph c.args.system.now in
     let keys = c.loop-layer.visited.states.keys in
-    let layer = take_rest c.as_slice-states.result.now c.loop-layer.from ∙ ap (drop c.loop-layer.from) c.as_slice-states.ensures.keys in
     are_steps graph keys c.loop-layer.from c.in_ok-candidates.candidates.items c.loop-layer.invariant.from
-    (c.in_ok-candidates.ensures ∙ ap (layer_candidates graph c.loop-layer.from) layer)
+    c.in_ok-candidates.ensures
 
 pub place_layer-requires-clause-fits : goal.place_layer-requires-clause-fits
 place_layer-requires-clause-fits g c κs within =
     let fits = g.Y.System.fits c.args.system.now in
     let graph = g.Y.System.graph c.args.system.now in
-    let layer = take_rest c.as_slice-states.result.now c.loop-layer.from ∙ ap (drop c.loop-layer.from) c.as_slice-states.ensures.keys in
-    subst (All (λ (k : _). fits k.state)) (sym (c.in_ok-candidates.ensures ∙ ap (layer_candidates graph c.loop-layer.from) layer))
+    subst (All (λ (k : _). fits k.state)) (sym c.in_ok-candidates.ensures)
     (layer_fits graph fits ((g.met.Y.System g.world.𝓛 g.world.𝓜 g.world.𝓡 ((λ s x. x), (λ x. x), (λ x. x), λ x. x)).after_fits c.args.system.now) c.loop-layer.from (drop c.loop-layer.from c.loop-layer.visited.states.keys)
     (All-drop fits c.loop-layer.from c.loop-layer.visited.states.keys c.loop-layer.invariant.fits))
 
-pub returns-in_err-summary-clause-too_many : goal.returns-in_err-summary-clause-too_many
-returns-in_err-summary-clause-too_many g c many =
+pub returns-in_err-placed-clause-too_many : goal.returns-in_err-placed-clause-too_many
+returns-in_err-placed-clause-too_many g c many =
     let graph = g.Y.System.graph c.args.system.now in
     let joins = g.U.Summary.joins in
     let observation = g.U.Summary.observation c.args.system.now in
     let eq = g.Y.State.PartialEq.eq in
-    let p = err_from_is_err_and c.from_residual-in_err-summary.result c.from_residual-in_err-summary.ensures.1 in
-    let states = c.as_slice-states.result.now in
+    let p = err_from_is_err_and c.from_residual-in_err-placed.result c.from_residual-in_err-placed.ensures.1 in
     let keys = c.loop-layer.visited.states.keys in
-    let layer = take_rest states c.loop-layer.from ∙ ap (drop c.loop-layer.from) c.as_slice-states.ensures.keys in
     let shown = with_steps joins observation graph keys c.loop-layer.summary c.in_ok-candidates.candidates.items in
     let shown_is = steps_shown graph keys joins observation c.loop-layer.from c.loop-layer.summary c.in_ok-candidates.candidates.items
-    (c.in_ok-candidates.ensures ∙ ap (layer_candidates graph c.loop-layer.from) layer) in
+    c.in_ok-candidates.ensures in
     layer_too_many graph joins observation eq c.loop-layer.layer c.args.plan.now.steps c.args.plan.now.limit c.loop-layer.from
     c.loop-layer.visited.states.keys c.loop-layer.visited.steps.items c.loop-layer.summary shown c.in_ok-candidates.candidates.items
     c.loop-layer-test.true c.loop-layer.invariant.found
-    (c.in_ok-candidates.ensures ∙ ap (layer_candidates graph c.loop-layer.from) layer)
+    c.in_ok-candidates.ensures
     shown_is
-    (c.in_err-summary.ensures.too_many (cc (p.1, p.2, many)))
+    (c.in_err-placed.ensures.too_many (cc (p.1, p.2, many)))
 
 pub loop-layer-preserved : goal.loop-layer-preserved
 loop-layer-preserved g c =
@@ -73,32 +62,30 @@ loop-layer-preserved g c =
     let joins = g.U.Summary.joins in
     let observation = g.U.Summary.observation c.args.system.now in
     let eq = g.Y.State.PartialEq.eq in
-    let states = c.as_slice-states.result.now in
     let keys = c.loop-layer.visited.states.keys in
-    let layer = take_rest states c.loop-layer.from ∙ ap (drop c.loop-layer.from) c.as_slice-states.ensures.keys in
     let shown = with_steps joins observation graph keys c.loop-layer.summary c.in_ok-candidates.candidates.items in
     let shown_is = steps_shown graph keys joins observation c.loop-layer.from c.loop-layer.summary c.in_ok-candidates.candidates.items
-    (c.in_ok-candidates.ensures ∙ ap (layer_candidates graph c.loop-layer.from) layer) in
-    let cands = c.in_ok-candidates.ensures ∙ ap (layer_candidates graph c.loop-layer.from) layer in
+    c.in_ok-candidates.ensures in
+    let cands = c.in_ok-candidates.ensures in
     let old = as_found c.loop-layer.visited.states.keys c.loop-layer.visited.steps.items 0 shown in
-    let new_states = ap (λ (f : Found _ _ _). f.states) (c.in_ok-summary.ensures.placed 0) in
+    let new_states = ap (λ (f : Found _ _ _). f.states) (c.in_ok-placed.ensures.placed 0) in
     record {
       found = layer_done graph joins observation eq c.loop-layer.layer c.loop-layer.from c.len-from.result
-          c.loop-layer.visited.states.keys c.place_layer.new.visited.states.keys c.loop-layer.visited.steps.items c.place_layer.new.visited.steps.items
-          c.loop-layer.summary shown c.in_ok-summary.summary c.in_ok-candidates.candidates.items
+          c.loop-layer.visited.states.keys c.in_ok-placed.placed.visited.states.keys c.loop-layer.visited.steps.items c.in_ok-placed.placed.visited.steps.items
+          c.loop-layer.summary shown c.in_ok-placed.placed.summary c.in_ok-candidates.candidates.items
           c.loop-layer.invariant.found cands
           shown_is
-          c.len-from.ensures.len c.in_ok-summary.ensures.placed;
+          c.len-from.ensures.len c.in_ok-placed.ensures.placed;
       fits = subst (All fits) (sym new_states)
           (place_all_fits joins observation eq fits old c.in_ok-candidates.candidates.items c.loop-layer.invariant.fits
           (subst (All (λ (k : _). fits k.state)) (sym cands)
           (layer_fits graph fits ((g.met.Y.System g.world.𝓛 g.world.𝓜 g.world.𝓡 ((λ s x. x), (λ x. x), (λ x. x), λ x. x)).after_fits c.args.system.now) c.loop-layer.from (drop c.loop-layer.from c.loop-layer.visited.states.keys)
           (All-drop fits c.loop-layer.from c.loop-layer.visited.states.keys c.loop-layer.invariant.fits))));
-      within = c.in_ok-summary.ensures.within c.loop-layer.invariant.within;
+      within = c.in_ok-placed.ensures.within;
       from =
-          let grown = placed_grows joins observation eq c.loop-layer.visited.states.keys c.place_layer.new.visited.states.keys c.loop-layer.visited.steps.items
-          c.place_layer.new.visited.steps.items 0 shown c.in_ok-summary.summary c.in_ok-candidates.candidates.items (c.in_ok-summary.ensures.placed 0) in
-          subst (λ (k : ℕ). k ≤ length c.place_layer.new.visited.states.keys) (sym c.len-from.ensures.len) grown;
+          let grown = placed_grows joins observation eq c.loop-layer.visited.states.keys c.in_ok-placed.placed.visited.states.keys c.loop-layer.visited.steps.items
+          c.in_ok-placed.placed.visited.steps.items 0 shown c.in_ok-placed.placed.summary c.in_ok-candidates.candidates.items (c.in_ok-placed.ensures.placed 0) in
+          subst (λ (k : ℕ). k ≤ length c.in_ok-placed.placed.visited.states.keys) (sym c.len-from.ensures.len) grown;
     }
 
 pub returns-clause-found : goal.returns-clause-found

@@ -1,0 +1,2 @@
+pub mod Sharded
+pub mod internal

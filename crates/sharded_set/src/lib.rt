@@ -1,0 +1,8 @@
+//! Sets in the order of insertion that several threads fill.
+#![tactic(auto)]
+
+mod place;
+mod set;
+mod shard;
+
+pub use set::ShardedSet;

@@ -1,0 +1,5 @@
+//! Tests of sets that several threads fill.
+#![tactic(auto)]
+
+#[cfg(test)]
+mod numbers;
