@@ -29,10 +29,6 @@ module _ {C L : Type 0} (g : Graph C L) where
 
 module _ {C L S : Type 0} (j : Join S) (r : Observation C L S) where
   module _ (eq : C → C → Bool) where
-    pub place_all_append : (found : Found C L S) (xs ys : List (Candidate C L)) → place_all j r eq found (xs ++ ys) ≡ place_all j r eq (place_all j r eq found xs) ys
-    place_all_append found [] ys = refl
-    place_all_append found (x ∷ xs) ys = place_all_append (place j r eq found x) xs ys
-
     states_of_cond : (b : Bool) (x y : Found C L S) → (cond b x y).states ≡ cond b x.states y.states
     states_of_cond true x y = refl
     states_of_cond false x y = refl
