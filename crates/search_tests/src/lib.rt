@@ -1,0 +1,20 @@
+//! Tests of the search and of what its threads share, of what no clause says: that threads overlap, what worked rows give,
+//! which calls hash and compare, and that calls succeed.
+#![tactic(auto)]
+
+#[cfg(test)]
+mod boards;
+#[cfg(test)]
+mod counted;
+#[cfg(test)]
+mod fork;
+#[cfg(test)]
+mod gate;
+#[cfg(test)]
+mod items;
+#[cfg(test)]
+mod memory;
+#[cfg(test)]
+mod numbers;
+#[cfg(test)]
+mod rings;

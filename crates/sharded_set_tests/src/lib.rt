@@ -1,5 +1,0 @@
-//! Tests of sets that several threads fill.
-#![tactic(auto)]
-
-#[cfg(test)]
-mod numbers;
