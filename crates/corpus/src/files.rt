@@ -1,22 +1,17 @@
 //! Files of rows, and the subject that answers them.
 use crate::{CorpusError, Row, Rows, RowsError, Settings, is_wanted, read_rows};
-use std::alloc::{AllocError, Global};
+use std::alloc::AllocError;
 use std::process::ExitCode;
 use std::rt::{Env, Files};
 use std::{env, fs};
 
-/// What the rows are about.
-pub trait Subject {
+/// What the rows are about. It may use what the program is given.
+pub trait Subject<R> {
     /// The keys that a row may set.
     fn keys(&self) -> &'static [&'static str];
 
     /// The answer for a text, which may have several lines.
-    fn answer(
-        &self,
-        alloc: Global,
-        text: &str,
-        settings: &Settings<'_>,
-    ) -> Result<String, AllocError>;
+    fn answer(&self, rt: &R, text: &str, settings: &Settings<'_>) -> Result<String, AllocError>;
 }
 
 /// How many rows there are, and how many of these are answered otherwise than they want.
@@ -38,7 +33,7 @@ impl Count {
 pub fn answer_files<R, S>(rt: &R, subject: &S) -> Result<ExitCode, CorpusError>
 where
     R: Env + Files + Print + AllocGlobal,
-    S: Subject,
+    S: Subject<R>,
 {
     let mut sum = Count {
         rows: 0,
@@ -59,7 +54,7 @@ where
 fn answer_file<R, S>(rt: &R, subject: &S, file: String) -> Result<Count, CorpusError>
 where
     R: Files + Print + AllocGlobal,
-    S: Subject,
+    S: Subject<R>,
 {
     let alloc = rt.alloc();
     let text = match fs::read_to_string(rt, file.as_str()) {
@@ -84,11 +79,11 @@ fn answer_rows<R, S>(
 ) -> Result<Count, CorpusError>
 where
     R: Print + AllocGlobal,
-    S: Subject,
+    S: Subject<R>,
 {
     let mut otherwise = 0usize;
     for row in &rows.rows {
-        let answer = match answer_of(rt.alloc(), subject, rows, row) {
+        let answer = match answer_of(rt, subject, rows, row) {
             Ok(answer) => answer,
             Err(error) => return Err(CorpusError::Rows { file, error }),
         };
@@ -106,12 +101,12 @@ where
 }
 
 /// The subject's answer for a row.
-fn answer_of<S: Subject>(
-    alloc: Global,
+fn answer_of<R: AllocGlobal, S: Subject<R>>(
+    rt: &R,
     subject: &S,
     rows: &Rows<'_>,
     row: &Row<'_>,
 ) -> Result<String, RowsError> {
-    let text = rows.text(alloc, row)?;
-    Ok(subject.answer(alloc, text.as_str(), &row.settings)?)
+    let text = rows.text(rt.alloc(), row)?;
+    Ok(subject.answer(rt, text.as_str(), &row.settings)?)
 }

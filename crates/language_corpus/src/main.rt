@@ -19,17 +19,13 @@ use ttcn_syntax::{Module, lex};
 
 struct Language;
 
-impl Subject for Language {
+impl<R: AllocGlobal> Subject<R> for Language {
     fn keys(&self) -> &'static [&'static str] {
         &["by", "definitions", "find"]
     }
 
-    fn answer(
-        &self,
-        alloc: Global,
-        text: &str,
-        settings: &Settings<'_>,
-    ) -> Result<String, AllocError> {
+    fn answer(&self, rt: &R, text: &str, settings: &Settings<'_>) -> Result<String, AllocError> {
+        let alloc = rt.alloc();
         match settings.get("by") {
             None => checked(alloc, text),
             Some("parser") => parsed(alloc, text, settings),

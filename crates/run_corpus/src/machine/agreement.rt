@@ -1,8 +1,8 @@
 //! What the calls of a machine say behind a run.
 ghost use Rattle.ttcn_step.specs.Machines.{Fits};
 
-use crate::runs::extended;
-use crate::spelled::spelled;
+use crate::machine::runs::extended;
+use crate::machine::spelled::spelled;
 use std::alloc::{AllocError, Global};
 use step_labels::Label;
 use ttcn_config::Config;

@@ -1,5 +1,5 @@
 //! Pictures of graphs: what stands at the positions that lists lead to, in the order in which they are met.
-use crate::words::item_text;
+use crate::machine::words::item_text;
 use std::alloc::{AllocError, Global};
 use ttcn_graph::Graphs;
 

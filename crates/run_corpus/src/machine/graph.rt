@@ -1,5 +1,5 @@
 //! The graphs that a row asks for.
-use crate::picture::draw;
+use crate::machine::picture::draw;
 use corpus::Settings;
 use std::alloc::{AllocError, Global};
 use ttcn_graph::compile;

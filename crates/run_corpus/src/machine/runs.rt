@@ -1,5 +1,5 @@
 //! All runs up to a number of steps, layer by layer.
-use crate::agreement::agrees;
+use crate::machine::agreement::agrees;
 use report::LabelText;
 use std::alloc::{AllocError, Global};
 use step_labels::Label;

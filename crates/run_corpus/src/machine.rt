@@ -1,7 +1,5 @@
-//! Answers rows of modules by whether the calls of a machine say the same behind every short run of a test case, or by a
-//! picture of a behaviour's graph.
-#![tactic(auto)]
-
+//! What the layers of the machine say of a module: whether the calls of a machine say the same behind every short run of a
+//! test case, or a picture of a behaviour's graph.
 mod agreement;
 mod behind;
 mod graph;
@@ -10,49 +8,37 @@ mod runs;
 mod spelled;
 mod words;
 
-use anyhow::Result;
 use behind::{compared_forms, seen_behind};
-use corpus::{Settings, Subject, answer_files};
+use corpus::Settings;
 use graph::picture_of;
 use refusals::program;
 use runs::compared;
 use std::alloc::{AllocError, Global};
-use std::process::ExitCode;
 use ttcn_step::Machine;
 use ttcn_syntax::Name;
 
-struct Comparison;
-
-impl Subject for Comparison {
-    fn keys(&self) -> &'static [&'static str] {
-        &[
-            "behind", "forms", "graph", "lines", "steps", "testcase", "timers",
-        ]
+/// What is said of the test case or the behaviour that the settings name.
+pub fn answer_of_machine(
+    alloc: Global,
+    text: &str,
+    settings: &Settings<'_>,
+) -> Result<String, AllocError> {
+    let program = match program(alloc, text) {
+        Ok(program) => program,
+        Err(refusal) => return refusal.to_string(alloc),
+    };
+    if let Some(name) = settings.get("graph") {
+        return picture_of(alloc, &program, name, settings);
     }
-
-    fn answer(
-        &self,
-        alloc: Global,
-        text: &str,
-        settings: &Settings<'_>,
-    ) -> Result<String, AllocError> {
-        let program = match program(alloc, text) {
-            Ok(program) => program,
-            Err(refusal) => return refusal.to_string(alloc),
-        };
-        if let Some(name) = settings.get("graph") {
-            return picture_of(alloc, &program, name, settings);
-        }
-        let Some(testcase) = program.testcase(settings.get("testcase").unwrap_or("T")) else {
-            return String::from_str(alloc, "no test case");
-        };
-        let machine = Machine::new(alloc, &program, testcase)?;
-        answer_of(alloc, &machine, settings)
-    }
+    let Some(testcase) = program.testcase(settings.get("testcase").unwrap_or("T")) else {
+        return String::from_str(alloc, "no test case");
+    };
+    let machine = Machine::new(alloc, &program, testcase)?;
+    answer_behind(alloc, &machine, settings)
 }
 
 /// What a machine says behind the runs that the settings name.
-fn answer_of(
+fn answer_behind(
     alloc: Global,
     machine: &Machine<'_>,
     settings: &Settings<'_>,
@@ -82,8 +68,4 @@ fn names(alloc: Global, words: &str) -> Result<Vec<Name>, AllocError> {
         names.push(Name::new(alloc, word.as_bytes())?)?;
     }
     Ok(names)
-}
-
-fn main(rt: HostRuntime) -> Result<ExitCode> {
-    Ok(answer_files(&rt, &Comparison)?)
 }
