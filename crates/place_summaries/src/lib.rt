@@ -13,6 +13,3 @@ pub use key::Key;
 pub use located::Located;
 pub use ordered_set::OrderedSet;
 pub use std::alloc::AllocError as Memory;
-
-#[cfg(test)]
-mod tests;

@@ -1,5 +1,5 @@
-//! Tests of the search and of what its threads share, of what no clause says: that threads overlap, what worked rows give,
-//! which calls hash and compare, and that calls succeed.
+//! Tests of the search, its summaries and what its threads share, of what no clause says: that threads overlap, what worked
+//! rows give, which calls hash and compare, and that calls succeed.
 #![tactic(auto)]
 
 #[cfg(test)]
@@ -16,5 +16,7 @@ mod items;
 mod memory;
 #[cfg(test)]
 mod numbers;
+#[cfg(test)]
+mod places;
 #[cfg(test)]
 mod rings;

@@ -5,7 +5,7 @@ ghost use Rattle.std.proofs.lemmas.Bool.{eqb-true as nat_is};
 ghost use Rattle.place_summaries.specs.Ties.{both_tie};
 ghost use Rattle.std.specs.FinSet.{nat_cmp-IsAntisymmetric as number_one};
 
-use crate::{Blocked, Branches, Key, Located, Memory, OrderedSet};
+use place_summaries::{Blocked, Branches, Key, Located, Memory, OrderedSet};
 use std::alloc::Global;
 use std::process::Abort;
 use std::test::Fail;
