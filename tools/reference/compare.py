@@ -119,7 +119,7 @@ def read_rows(text):
 def is_covered(row):
     """Whether the reference answers rows of this kind: reports, replays and
     the refusals that come after those of the text."""
-    if row.settings.get("command", "run") not in ("run", "replay"):
+    if "by" in row.settings or row.settings.get("command", "run") not in ("run", "replay"):
         return False
     refusal = re.match(r"refused (\S+)", row.answer[-1])
     return refusal is None or refusal[1] in ("E1", "U1", "N1", "N2")

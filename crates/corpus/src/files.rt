@@ -1,17 +1,20 @@
 //! Files of rows, and the subject that answers them.
+ghost use Rattle.std.specs.Thread.{IsSync};
+
 use crate::{CorpusError, Row, Rows, RowsError, Settings, is_wanted, read_rows};
 use std::alloc::AllocError;
 use std::process::ExitCode;
 use std::rt::{Env, Files};
 use std::{env, fs};
 
-/// What the rows are about. It may use what the program is given.
+/// What the rows are about. It may use what the program is given, on several threads.
 pub trait Subject<R> {
     /// The keys that a row may set.
     fn keys(&self) -> &'static [&'static str];
 
     /// The answer for a text, which may have several lines.
-    fn answer(&self, rt: &R, text: &str, settings: &Settings<'_>) -> Result<String, AllocError>;
+    fn answer(&self, rt: &R, text: &str, settings: &Settings<'_>) -> Result<String, AllocError>
+        requires sync { IsSync R.row };
 }
 
 /// How many rows there are, and how many of these are answered otherwise than they want.
@@ -32,7 +35,7 @@ impl Count {
 /// is answered otherwise; and last the sum. The status is 1 where there is such a row.
 pub fn answer_files<R, S>(rt: &R, subject: &S) -> Result<ExitCode, CorpusError>
 where
-    R: Env + Files + Print + AllocGlobal,
+    R: Env + Files + Print + AllocGlobal + Sync,
     S: Subject<R>,
 {
     let mut sum = Count {
@@ -53,7 +56,7 @@ where
 /// Asks about the rows of one file.
 fn answer_file<R, S>(rt: &R, subject: &S, file: String) -> Result<Count, CorpusError>
 where
-    R: Files + Print + AllocGlobal,
+    R: Files + Print + AllocGlobal + Sync,
     S: Subject<R>,
 {
     let alloc = rt.alloc();
@@ -78,7 +81,7 @@ fn answer_rows<R, S>(
     rows: &Rows<'_>,
 ) -> Result<Count, CorpusError>
 where
-    R: Print + AllocGlobal,
+    R: Print + AllocGlobal + Sync,
     S: Subject<R>,
 {
     let mut otherwise = 0usize;
@@ -101,7 +104,7 @@ where
 }
 
 /// The subject's answer for a row.
-fn answer_of<R: AllocGlobal, S: Subject<R>>(
+fn answer_of<R: AllocGlobal + Sync, S: Subject<R>>(
     rt: &R,
     subject: &S,
     rows: &Rows<'_>,
