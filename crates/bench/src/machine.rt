@@ -23,12 +23,10 @@ fn walk_text(alloc: Global, text: &str, successors: u64) -> Result<Walked> {
 }
 
 /// Walks a text and tells how long that took. What comes before the walk is little beside it.
-fn measure_walk<R: AllocGlobal + Clock + Eprint + Print>(
-    rt: &R,
-    name: &str,
-    text: &str,
-    successors: u64,
-) -> Result<()> {
+fn measure_walk<R>(rt: &R, name: &str, text: &str, successors: u64) -> Result<()>
+where
+    R: AllocGlobal + Clock + Eprint + Print,
+{
     let start = Instant::now(rt)?;
     let walked = walk_text(rt.alloc(), text, successors)?;
     let took = start.elapsed(rt)?;
@@ -46,7 +44,10 @@ fn measure_walk<R: AllocGlobal + Clock + Eprint + Print>(
 
 /// Walks what a part names until the first number of successors were made. Of the workers, the second number says how many
 /// there are, and the third how many messages each sends.
-pub fn measure(rt: &HostRuntime, part: &str, numbers: Numbers) -> Result<()> {
+pub fn measure<R>(rt: &R, part: &str, numbers: Numbers) -> Result<()>
+where
+    R: AllocGlobal + Clock + Eprint + Print,
+{
     let successors = numbers.first.unwrap_or(2_000);
     if part == "race" {
         return measure_walk(rt, part, RACE, successors);

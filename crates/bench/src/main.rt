@@ -12,6 +12,8 @@ mod search;
 
 use anyhow::Result;
 use std::env;
+use std::rt::Clock;
+use std::thread::Threads;
 
 /// What can be measured.
 const PARTS: [&str; 6] = [
@@ -37,7 +39,10 @@ fn number(text: Option<String>) -> Option<u64> {
 }
 
 /// Measures one part.
-fn measure(rt: &HostRuntime, part: &str, numbers: Numbers) -> Result<()> {
+fn measure<R>(rt: &R, part: &str, numbers: Numbers) -> Result<()>
+where
+    R: AllocGlobal + Clock + Eprint + Print + Threads + Sync,
+{
     match part {
         "positions" => Ok(positions::measure(rt, numbers)?),
         "modules" => Ok(modules::measure(rt, numbers)?),

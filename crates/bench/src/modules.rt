@@ -25,11 +25,10 @@ fn judgement(judged: &Result<(), CheckError>) -> &'static str {
 }
 
 /// Tells of a text of one shape.
-fn measure_shape<R: AllocGlobal + Clock + Print + Eprint>(
-    rt: &R,
-    shape: &Shape,
-    times: u32,
-) -> io::Result<()> {
+fn measure_shape<R>(rt: &R, shape: &Shape, times: u32) -> io::Result<()>
+where
+    R: AllocGlobal + Clock + Eprint + Print,
+{
     let alloc = rt.alloc();
     let name = shape.name;
     let text = shape.text(alloc, times)?;
@@ -63,7 +62,10 @@ fn measure_shape<R: AllocGlobal + Clock + Print + Eprint>(
 }
 
 /// The first number says how far the modules grow: one with every production in it, and ones that are large in one way.
-pub fn measure(rt: &HostRuntime, numbers: Numbers) -> io::Result<()> {
+pub fn measure<R>(rt: &R, numbers: Numbers) -> io::Result<()>
+where
+    R: AllocGlobal + Clock + Eprint + Print,
+{
     let times = numbers.first.unwrap_or(SMALL).min(1_000_000) as u32;
     for shape in &SHAPES {
         measure_shape(rt, shape, times)?;

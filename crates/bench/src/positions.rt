@@ -8,6 +8,8 @@ use item::Item;
 use runs::{Found, by_four, by_one, by_set, by_two};
 use std::alloc::{AllocError, Global};
 use std::io;
+use std::rt::Clock;
+use std::thread::Threads;
 
 /// How many items there are, if no number is given.
 const SMALL: u64 = 1000;
@@ -31,7 +33,10 @@ fn tell<R: Print + Eprint>(rt: &R, name: &str, count: u64, found: Found) -> io::
 }
 
 /// The first number says how many items of 64 bytes there are, of which each stands twice.
-pub fn measure(rt: &HostRuntime, numbers: Numbers) -> io::Result<()> {
+pub fn measure<R>(rt: &R, numbers: Numbers) -> io::Result<()>
+where
+    R: AllocGlobal + Clock + Eprint + Print + Threads + Sync,
+{
     let items = items(rt.alloc(), numbers.first.unwrap_or(SMALL))?;
     let items = items.as_slice();
     let count = items.len() as u64;

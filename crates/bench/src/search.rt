@@ -7,12 +7,17 @@ use crate::rates::rate;
 use counters::Counters;
 use explore::{NoGate, Plan, explore};
 use std::io;
+use std::rt::Clock;
+use std::thread::Threads;
 use std::time::Instant;
 use summary::Verdicts;
 
 /// The numbers say how many values the five counters go through, how many workers there are, and how many candidates a
 /// piece has.
-pub fn measure(rt: &HostRuntime, numbers: Numbers) -> io::Result<()> {
+pub fn measure<R>(rt: &R, numbers: Numbers) -> io::Result<()>
+where
+    R: AllocGlobal + Clock + Eprint + Print + Threads + Sync,
+{
     let values = numbers.first.unwrap_or(4).clamp(1, 20) as u8;
     let plan = Plan {
         steps: 5 * u64::from(values),
@@ -22,7 +27,7 @@ pub fn measure(rt: &HostRuntime, numbers: Numbers) -> io::Result<()> {
     };
     let counters = Counters::new(values);
     let start = Instant::now(rt)?;
-    let explored = explore::<Counters, Verdicts, NoGate, HostRuntime>(
+    let explored = explore::<Counters, Verdicts, NoGate, R>(
         rt,
         rt.alloc(),
         &counters,
