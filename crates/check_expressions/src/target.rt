@@ -191,6 +191,6 @@ pub fn check_assignment(
 {
     let found = check_target(scope, &assignment.target);
     let target = target_at(scope, &assignment.target);
-    let right = check_rhs(alloc, scope, target, &assignment.value)?;
+    let right = check_rhs(alloc, scope, target, assignment.value.get())?;
     Ok(found.broken.and(right))
 }

@@ -43,7 +43,7 @@ fn check_template<'a>(
     let typed = check_type(scope, false, &definition.type_name);
     let target = Target::of(scope.resolved(&definition.type_name));
     let parameters = check_parameters(scope, definition.parameters.as_slice())?;
-    let body = template(alloc, scope, &definition.template, target)?;
+    let body = template(alloc, scope, definition.template.get(), target)?;
     Ok(typed.and(parameters).and(body))
 }
 

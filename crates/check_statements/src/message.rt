@@ -142,7 +142,7 @@ fn type_of_message(scope: &Scope<'_>, ports: &Passing<'_>, message: &MessageTemp
     if let Some(type_name) = &message.type_name {
         return type_by_itself(ports, Typing::of(scope.resolved(type_name)));
     }
-    match typing_of_template(scope, &message.template) {
+    match typing_of_template(scope, message.template.get()) {
         Some(typing) => type_by_itself(ports, typing),
         None => ports.otherwise(),
     }
@@ -170,7 +170,7 @@ fn check_message(
     let named = check_type_name(scope, message.type_name.as_ref());
     let found = type_of_message(scope, ports, message);
     let target = Target::of(found.typing.known());
-    let matched = template(alloc, scope, &message.template, target)?;
+    let matched = template(alloc, scope, message.template.get(), target)?;
     Ok(named.and(found.broken).and(matched))
 }
 

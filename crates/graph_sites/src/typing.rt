@@ -151,7 +151,7 @@ fn type_of_message(
     if let Some(type_name) = &message.type_name {
         return here.resolved(type_name);
     }
-    match typing_of_template(here, &message.template) {
+    match typing_of_template(here, message.template.get()) {
         Some(typing) => typing.known(),
         None => otherwise,
     }

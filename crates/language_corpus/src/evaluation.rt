@@ -148,7 +148,7 @@ fn template(alloc: Global, frame: &Frame<'_>, at: usize) -> Result<Template, Fau
         return Err(Fault::Dynamic);
     };
     let wanted = frame.definitions.resolved(&named.type_name);
-    eval_template(alloc, &named.template, wanted, frame)
+    eval_template(alloc, named.template.get(), wanted, frame)
 }
 
 fn match_word(matches: bool) -> &'static str {

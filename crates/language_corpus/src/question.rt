@@ -308,7 +308,7 @@ fn assigned(
         Some(Meaning::Record(at)) => Some(DataType::Record(at)),
         _ => None,
     };
-    let value = match &assignment.value {
+    let value = match assignment.value.get() {
         Rhs::Value(Written::Expr(Expr::Int(number))) => {
             Value::Integer(i64::try_from(*number).unwrap_or(i64::MAX))
         }

@@ -64,7 +64,7 @@ fn deepest(alloc: Global, definitions: &Definitions<'_>) -> Result<Template, Fau
         return Err(Fault::Dynamic);
     };
     let wanted = definitions.resolved(&named.type_name);
-    eval_template(alloc, &named.template, wanted, &frame)
+    eval_template(alloc, named.template.get(), wanted, &frame)
 }
 
 /// Whether the last template equals itself and matches 5, and not 6.

@@ -3,11 +3,11 @@ use std::alloc::Global;
 use std::test::Fail;
 use ttcn_parse::{ParseError, parse};
 use ttcn_syntax::{
-    Action, Alternative, Branch, Call, ComponentRef, ComponentType, Definition, DefinitionKind,
-    Direction, Event, Expr, Function, Member, Memory, MessageTemplate, Module, Name, Parameter,
-    PortMessages, PortRef, PortSelector, PortType, Receive, Reference, Rhs, Send, Seq, Span,
-    Spanned, Statement, Template, TemplateBody, Testcase, Timer, TypeName, Value, Variable,
-    Variables, Verdict, lex,
+    Action, Alternative, Boxed, Branch, Call, ComponentRef, ComponentType, Definition,
+    DefinitionKind, Direction, Event, Expr, Function, Member, Memory, MessageTemplate, Module,
+    Name, Parameter, PortMessages, PortRef, PortSelector, PortType, Receive, Reference, Rhs, Send,
+    Seq, Span, Spanned, Statement, Template, TemplateBody, Testcase, Timer, TypeName, Value,
+    Variable, Variables, Verdict, lex,
 };
 
 const X2: &[u8] = b"module R {
@@ -101,14 +101,15 @@ impl Hand {
         Ok(ComponentRef::Named(self.reference(text)?))
     }
 
-    fn message(self, expr: Expr) -> MessageTemplate {
-        MessageTemplate {
+    fn message(self, expr: Expr) -> Result<MessageTemplate, ParseError> {
+        let template = Template {
+            body: TemplateBody::Expr(expr),
+            ifpresent: false,
+        };
+        Ok(MessageTemplate {
             type_name: None,
-            template: Template {
-                body: TemplateBody::Expr(expr),
-                ifpresent: false,
-            },
-        }
+            template: Boxed::new(self.alloc, template)?,
+        })
     }
 
     fn definition(self, line: u32, kind: DefinitionKind) -> Definition {
@@ -227,7 +228,7 @@ impl Hand {
     fn send(self, column: u32, sent: Expr) -> Result<Statement, ParseError> {
         let send = Send {
             port: self.name("q")?,
-            message: self.message(sent),
+            message: self.message(sent)?,
             to: None,
         };
         Ok(self.statement(5, column, Action::Send(send)))
@@ -312,7 +313,7 @@ impl Hand {
         let fail = self.list().with(Ok(self.verdict(15, 16, Verdict::Fail)));
         let branches = self
             .list()
-            .with(self.receive(14, Some(self.message(Expr::Int(1))), pass))
+            .with(self.receive(14, Some(self.message(Expr::Int(1))?), pass))
             .with(self.receive(15, None, fail));
         let body = self
             .list()
@@ -344,7 +345,7 @@ impl Hand {
         let inconc = self.list().with(Ok(self.verdict(13, 16, Verdict::Inconc)));
         let branches = self
             .list()
-            .with(self.receive(12, Some(self.message(Expr::Int(1))), pass))
+            .with(self.receive(12, Some(self.message(Expr::Int(1))?), pass))
             .with(self.timeout(13, inconc));
         let body = self
             .list()

@@ -8,7 +8,8 @@ use crate::expressions::{expression, expression_from};
 use crate::values::{call, is_at_call, is_at_field, type_name};
 use parse_reader::{ParseError, Parser, Shape, is_symbol, is_word};
 use ttcn_syntax::{
-    Bound, Expr, FieldTemplate, MessageTemplate, Seq, Symbol, Template, TemplateBody, Token, Word,
+    Bound, Boxed, Expr, FieldTemplate, MessageTemplate, Seq, Symbol, Template, TemplateBody, Token,
+    Word,
 };
 
 #[tactic(auto, using(crate::proofs::Readers::shape_in_step), unfolding(parse_reader::specs::internal::Templates::a_template, parse_reader::specs::internal::Templates::template_by))]
@@ -34,7 +35,7 @@ pub fn message(parser: &mut Parser<'_>) -> Result<MessageTemplate, ParseError>
     let template = template(parser)?;
     Ok(MessageTemplate {
         type_name: written,
-        template,
+        template: Boxed::new(parser.alloc, template)?,
     })
 }
 

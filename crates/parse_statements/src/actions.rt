@@ -7,8 +7,8 @@ use crate::events::{bare, component_behind, event_behind};
 use parse_expressions::{call, component, expression, is_at_call, message, reference, rhs, value};
 use parse_reader::{Listed, ParseError, Parser, is_name, is_symbol};
 use ttcn_syntax::{
-    Action, Assignment, ComponentRef, LogItem, Name, PortRef, Reference, Send, Seq, Symbol, Token,
-    Verdict, Word,
+    Action, Assignment, Boxed, ComponentRef, LogItem, Name, PortRef, Reference, Send, Seq, Symbol,
+    Token, Verdict, Word,
 };
 
 /// A statement that begins with a name, `parser` or `mtc`.
@@ -50,6 +50,7 @@ fn assignment_to(parser: &mut Parser<'_>, target: Reference) -> Result<Assignmen
 {
     parser.symbol(Symbol::Assign)?;
     let value = rhs(parser)?;
+    let value = Boxed::new(parser.alloc, value)?;
     Ok(Assignment { target, value })
 }
 

@@ -21,7 +21,7 @@ use crate::storing::{declare, declare_timer, forget, store_at};
 use std::alloc::Global;
 use ttcn_config::{Act, Data};
 use ttcn_graph::{Goal, Referred, Target};
-use ttcn_syntax::{Constant, Name, Rhs, Timer, Variable};
+use ttcn_syntax::{Boxed, Constant, Name, Rhs, Timer, Variable};
 use ttcn_types::DataType;
 use ttcn_values::{Fault, Value};
 
@@ -66,7 +66,7 @@ pub(crate) fn act_assignment(
     alloc: Global,
     stand: &Stand<'_, '_>,
     goal: &Goal<'_>,
-    right: &Rhs,
+    right: &Boxed<Rhs>,
 ) -> Result<Option<Act>, Fault>
     requires known { IsKnown stand.now.snapshot.now.test.now.names goal.now.target.reference.name }
     requires ways { ways_of stand.now.snapshot.now.test.now.definitions (list_at stand.now.snapshot.now.test.now stand.now.frame.now.remaining)
@@ -75,7 +75,7 @@ pub(crate) fn act_assignment(
     ensures within { AsksWithin (extent_of stand.now.snapshot.now.test.now) result }
 {
     let own = stand.done(alloc)?;
-    assign(alloc, stand, &goal.target, goal.wanted, own, right)
+    assign(alloc, stand, &goal.target, goal.wanted, own, right.get())
 }
 
 /// A name that is declared, as a target.

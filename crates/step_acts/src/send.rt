@@ -35,7 +35,7 @@ fn sent_value(
     let Some(of) = of else {
         return Err(Fault::Dynamic);
     };
-    let template = stand.template(alloc, &send.message.template, Some(of))?;
+    let template = stand.template(alloc, send.message.template.get(), Some(of))?;
     template.specific_value(alloc)
 }
 

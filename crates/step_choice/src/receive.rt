@@ -72,7 +72,7 @@ fn fits_template(
     let Some(message) = message else {
         return Ok(true);
     };
-    match eval_template(alloc, &message.template, Some(of), frame) {
+    match eval_template(alloc, message.template.get(), Some(of), frame) {
         Ok(template) => Ok(matches(&template, value)),
         Err(fault) => Err(fault),
     }

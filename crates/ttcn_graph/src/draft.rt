@@ -394,6 +394,7 @@ impl<'a> Draft<'a> {
         ensures { IfOk result (λ ways. AreDrawn self.old self.new ways (ways_of_assignment self.old.definitions self.old.site (get_or self.old.lists rest []) assignment.now)) }
     {
         let target = self.target(&assignment.target);
-        self.right(target, &assignment.value, rest)
+        let ways = self.right(target, assignment.value.get(), rest)?;
+        Ok(ways)
     }
 }

@@ -6,9 +6,10 @@ use parse_expressions::{AType, template, type_name};
 use parse_reader::{AName, Listed, ParseError, Parser};
 use parse_statements::{block, branches, constants, initial_value, timers};
 use ttcn_syntax::{
-    Altstep, ComponentType, Definition, DefinitionKind, Direction, EnumNumber, EnumeratedType,
-    Enumerator, Field, Function, Member, MemberVariable, Name, Parameter, PortMessages, PortType,
-    RecordType, Seq, Symbol, TemplateDefinition, Testcase, Token, TypeName, Word,
+    Altstep, Boxed, ComponentType, Definition, DefinitionKind, Direction, EnumNumber,
+    EnumeratedType, Enumerator, Field, Function, Member, MemberVariable, Name, Parameter,
+    PortMessages, PortType, RecordType, Seq, Symbol, TemplateDefinition, Testcase, Token, TypeName,
+    Word,
 };
 
 #[tactic(auto, unfolding(parse_reader::specs::internal::Definitions::definition, parse_reader::specs::internal::Definitions::a_kind))]
@@ -104,7 +105,7 @@ fn template_definition(parser: &mut Parser<'_>) -> Result<DefinitionKind, ParseE
         type_name,
         name,
         parameters,
-        template,
+        template: Boxed::new(parser.alloc, template)?,
     }))
 }
 

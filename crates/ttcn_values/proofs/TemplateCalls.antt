@@ -4,6 +4,7 @@ use Rattle.ttcn_syntax.specs.declared.tree.definition.DefinitionKind.{Definition
 use Rattle.ttcn_syntax.specs.declared.tree.definition.DefinitionKind.TheVariants as kind
 use Rattle.ttcn_syntax.specs.declared.tree.definition.Parameter.{Parameter}
 use Rattle.ttcn_syntax.specs.declared.tree.definition.TemplateDefinition.{TemplateDefinition}
+use Rattle.ttcn_syntax.specs.declared.tree.template.Template as body
 use Rattle.ttcn_syntax.specs.declared.tree.value.Value as written
 use Rattle.check_expressions.specs.Calls.{parameters_of}
 use Rattle.check_scope.specs.Names.{kind_at, module_names, resolved, template_at, template_of}
@@ -32,15 +33,16 @@ module _ (reader : Reader) (at : ℕ) (given : List written.Value) where
 -- ---- the templates that a reading gives
 
 module _ (reader : Reader) (at : ℕ) (values : List Value) (t : TemplateDefinition) (is : template_at reader.frame.now.definitions.now at ≡ Some t) where
-  abbrev given_with : ℕ → List Parameter → List Value → Option DataType → Outcome Template
-  given_with less ps vs of = template_wanted t.template (within_chains less (with_names (given_to ps vs) (facts reader.frame.now))) of
+  abbrev given_with : body.Template → ℕ → List Parameter → List Value → Option DataType → Outcome Template
+  given_with b less ps vs of = template_wanted b (within_chains less (with_names (given_to ps vs) (facts reader.frame.now))) of
 
   -- what it gives with these arguments
-  pub template_gives : (parameters : List Parameter) (less : ℕ) (wanted : Option DataType) → parameters ≡ t.parameters
+  pub template_gives : (b : body.Template) (parameters : List Parameter) (less : ℕ) (wanted : Option DataType) → b ≡ t.template → parameters ≡ t.parameters
       → reader.depth ≡ less + 1 → wanted ≡ resolved (module_names reader.frame.now.definitions.now) t.type_name
-      → (read_by reader).templates at values ≡ given_with less parameters values wanted
-  template_gives parameters less wanted are_parameters next names =
+      → (read_by reader).templates at values ≡ given_with b less parameters values wanted
+  template_gives b parameters less wanted is_body are_parameters next names =
       ap (λ d. (within_chains d (seen_by reader.visible (facts reader.frame.now))).templates at values) (next ∙ add-one less)
       ∙ ap (λ o. template_value (λ names. within_chains less (with_names names (facts reader.frame.now))) o values) is
-      ∙ ap (λ ps. given_with less ps values (resolved (module_names reader.frame.now.definitions.now) t.type_name)) (sym are_parameters)
-      ∙ ap (given_with less parameters values) (sym names)
+      ∙ ap (λ c. given_with c less t.parameters values (resolved (module_names reader.frame.now.definitions.now) t.type_name)) (sym is_body)
+      ∙ ap (λ ps. given_with b less ps values (resolved (module_names reader.frame.now.definitions.now) t.type_name)) (sym are_parameters)
+      ∙ ap (given_with b less parameters values) (sym names)

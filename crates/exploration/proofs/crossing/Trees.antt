@@ -5,6 +5,7 @@ use Rattle.ttcn_syntax.proofs.tree.expression.Expr.TheLaws.TheKnot as expression
 use Rattle.ttcn_syntax.proofs.tree.statement.Action.TheLaws.TheKnot as statements
 use Rattle.ttcn_syntax.proofs.tree.template.TemplateBody.TheLaws.TheKnot as templates
 use Rattle.ttcn_syntax.proofs.tree.value.Value.TheLaws.TheKnot as values
+use Rattle.ttcn_syntax.specs.contracts.boxed.Boxed as boxed
 use Rattle.ttcn_syntax.specs.contracts.name.Name as name
 use Rattle.ttcn_syntax.specs.contracts.place.Span as span
 use Rattle.ttcn_syntax.specs.contracts.seq.Seq as seq
@@ -46,6 +47,9 @@ name-sync = search (crosses, sendable) depth 60 fits 20000
 pub seq-sync : (R : RattleType) → IsSync R → IsSync (seq.the_row R)
 seq-sync R s = search (crosses, sendable) depth 60 fits 20000
 
+pub boxed-sync : (R : RattleType) → IsSync R → IsSync (boxed.the_row R)
+boxed-sync R s = search (crosses, sendable) depth 60 fits 20000
+
 pub option-seq-sync : (R : RattleType) → IsSync R → IsSync (option.the_row (seq.the_row R))
 option-seq-sync R s = search (seq-sync, crosses, sendable) depth 60 fits 20000
 
@@ -59,7 +63,7 @@ pub template-sync : IsSync template.the_field.row
 template-sync = search (expression-sync, value-sync, crosses, templates.crosses, sendable) depth 60 fits 20000
 
 -- what parts of statements hold
-ruleset in_statements = (template-sync, value-sync, expression-sync, option-seq-sync, seq-sync, crosses, sendable)
+ruleset in_statements = (template-sync, value-sync, expression-sync, option-seq-sync, seq-sync, boxed-sync, crosses, sendable)
 
 variables-sync : IsSync variables.the_field.row
 variables-sync = search in_statements depth 60 fits 20000

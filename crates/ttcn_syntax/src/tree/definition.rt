@@ -1,5 +1,7 @@
 //! Modules and their definitions (sections 5, 6, 8, 10 and 16).
-use crate::{Branch, Constants, Name, Seq, Span, Statement, Template, Timer, TypeName, Value};
+use crate::{
+    Boxed, Branch, Constants, Name, Seq, Span, Statement, Template, Timer, TypeName, Value,
+};
 
 /// The definitions of a module, in the order of the text.
 #[derive(PartialEq, Eq)]
@@ -244,7 +246,7 @@ pub struct TemplateDefinition {
     pub type_name: TypeName,
     pub name: Name,
     pub parameters: Seq<Parameter>,
-    pub template: Template,
+    pub template: Boxed<Template>,
 }
 
 impl Drop for TemplateDefinition {

@@ -1,6 +1,7 @@
 //! Statements (sections 11, 19 to 24).
 use crate::{
-    Call, ComponentRef, Expr, MessageTemplate, Name, Reference, Rhs, Seq, Span, TypeName, Value,
+    Boxed, Call, ComponentRef, Expr, MessageTemplate, Name, Reference, Rhs, Seq, Span, TypeName,
+    Value,
 };
 
 /// A statement, and where its first token stands.
@@ -134,7 +135,7 @@ impl Drop for Timer {
 #[derive(PartialEq, Eq)]
 pub struct Assignment {
     pub target: Reference,
-    pub value: Rhs,
+    pub value: Boxed<Rhs>,
 }
 
 impl Drop for Assignment {

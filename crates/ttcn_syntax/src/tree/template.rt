@@ -1,5 +1,5 @@
 //! Templates (section 15).
-use crate::{Call, Expr, Name, Seq, TypeName};
+use crate::{Boxed, Call, Expr, Name, Seq, TypeName};
 
 /// A template: its body, and whether `ifpresent` stands behind it.
 #[cycle(template)]
@@ -69,7 +69,7 @@ impl Drop for Bound {
 #[derive(PartialEq, Eq)]
 pub struct MessageTemplate {
     pub type_name: Option<TypeName>,
-    pub template: Template,
+    pub template: Boxed<Template>,
 }
 
 impl Drop for MessageTemplate {

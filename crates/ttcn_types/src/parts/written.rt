@@ -97,7 +97,7 @@ fn push_template<'a>(
 {
     let parameters = template.parameters.as_slice();
     let within = Surroundings::of_template(alloc, around.scope, around.numbers, parameters)?;
-    things.push(within.template(alloc, &template.template)?)?;
+    things.push(within.template(alloc, template.template.get())?)?;
     Ok(())
 }
 

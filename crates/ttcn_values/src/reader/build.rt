@@ -108,6 +108,6 @@ impl Reader<'_> {
             constants: &[],
         };
         let wanted = self.frame.definitions.resolved(&template.type_name);
-        reader.template(alloc, &template.template, wanted)
+        reader.template(alloc, template.template.get(), wanted)
     }
 }

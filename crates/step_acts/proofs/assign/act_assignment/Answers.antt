@@ -5,9 +5,11 @@ use Rattle.step_acts.specs.internal.Stands.{legend_of, site_of, stand_by}
 use Rattle.step_rules.specs.Configurations.{Data}
 use Rattle.step_rules.specs.Statements as said
 use Rattle.graph_items.specs.Standing.{target_of}
+use Rattle.ttcn_syntax.specs.declared.tree.value.Rhs.{Rhs}
 
 pub returns-clause-asks : goal.returns-clause-asks
 returns-clause-asks c =
     let s = c.args.stand.now in
     let to = c.args.goal.now in
-    subst (λ (d : Data). Asks (legend_of s) (said.assign (stand_by s) (site_of s) (target_of to.target) to.wanted d c.args.right.now) c.assign.result) c.in_ok-own.ensures.own c.assign.ensures.asks
+    subst (λ (right : Rhs). Asks (legend_of s) (said.assign (stand_by s) (site_of s) (target_of to.target) to.wanted (said.done (stand_by s)) right) c.assign.result) c.get.ensures
+    (subst (λ (d : Data). Asks (legend_of s) (said.assign (stand_by s) (site_of s) (target_of to.target) to.wanted d c.get.result.now) c.assign.result) c.in_ok-own.ensures.own c.assign.ensures.asks)

@@ -25,8 +25,8 @@ build-returns-in_err-advance t c =
 pub called-returns : goal.called-returns
 called-returns t c =
     gives_same ((read_by c.args.self.now).templates c.args.at c.args.values.now) _ c.template-2.result
-    (template_gives c.args.self.now c.args.at c.args.values.now c.in-Some-template.template.now (sym c.in-Some-template.ensures) c.as_slice.result.now c.in-Some.depth c.resolved-wanted.result
-    c.as_slice.ensures (omega (arith, c.in-Some.ensures)) c.resolved-wanted.ensures)
+    (template_gives c.args.self.now c.args.at c.args.values.now c.in-Some-template.template.now (sym c.in-Some-template.ensures) c.get.result.now c.as_slice.result.now c.in-Some.depth c.resolved-wanted.result
+    c.get.ensures c.as_slice.ensures (omega (arith, c.in-Some.ensures)) c.resolved-wanted.ensures)
     c.template-2.ensures
 
 pub template-returns-in_err-templates : goal.template-returns-in_err-templates
