@@ -1,3 +1,7 @@
+pub mod Choosing
+pub mod Forms
+pub mod Leading
+pub mod Packing
 pub mod Assembly
 pub mod Best
 pub mod Longer

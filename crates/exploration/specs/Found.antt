@@ -3,7 +3,7 @@ use Rattle.std.specs.Prelude.{◌≡◌, ℕ, List, length, map, slice_index_or,
 use Rattle.std.specs.Option.{option_map}
 use Rattle.ttcn_syntax.specs.declared.place.Span.{Span}
 use Rattle.ttcn_syntax.specs.declared.tree.statement.Verdict.{Verdict}
-pub use Rattle.canonical_runs.specs.Orders.{place_cmp, standing_cmp}
+pub use Rattle.exploration.specs.Orders.{place_cmp, standing_cmp}
 use Rattle.exploration.specs.declared.exploration.Exploration.{Exploration}
 use Rattle.live_laws.specs.Parts.{CountsParts}
 use Rattle.live_laws.specs.PlaceReadings.{blocked_reading, branch_reading}

@@ -1,2 +1,14 @@
+pub mod SameItems
+pub mod SameConfigurations
+pub mod CodeEquality
+pub mod Codes
+pub mod CodesBack
+pub mod Going
+pub mod Labels
+pub mod Laws
+pub mod Orders
+pub mod Runs
+pub mod Schemes
+pub mod States
 pub mod Found
 pub mod internal

@@ -11,7 +11,7 @@ ghost use Rattle.live_laws.specs.Parts.{CountsParts, IsCompleteByParts};
 ghost use Rattle.ttcn_step.specs.Standing.{standing_by};
 
 use crate::search::search;
-use canonical_runs::{BlockedComponent, BranchPlace, Runs, Scheme, StepLabel};
+use crate::{BlockedComponent, BranchPlace, Runs, Scheme, StepLabel};
 use explore::{Answer, ExploreError, Gate, Plan};
 use place_summaries::{Blocked, Branches, OrderedSet};
 use std::alloc::{AllocError, Global};

@@ -1,7 +1,21 @@
-//! What is found of a test case by all its runs up to a bound.
+//! A test case as a system whose states are canonical configurations, and what is found of it by all its runs up to a bound.
 #![tactic(auto)]
 
+pub mod equality;
 mod exploration;
+mod keys;
+mod label;
+mod laws;
+mod places;
+mod runs;
+mod scheme;
 mod search;
+mod state;
 
 pub use exploration::{Exploration, explore_runs};
+pub use keys::{BlockedComponent, BranchPlace};
+pub use label::StepLabel;
+pub use laws::canonical_forms_are_equal_for_equal_live_parts;
+pub use runs::Runs;
+pub use scheme::Scheme;
+pub use state::State;

@@ -41,8 +41,8 @@ use Rattle.ttcn_syntax.specs.declared.place.Span.{Span}
 use Rattle.ttcn_syntax.specs.declared.tree.statement.Verdict.{Verdict}
 use Rattle.ttcn_values.specs.declared.path.Path.{Path}
 use Rattle.ttcnx.specs.Tells.{Tells, all_verdicts, labels_in, outcome_of, standing_in}
-use Rattle.canonical_runs.specs.Labels.{label_total}
-use Rattle.canonical_runs.specs.Orders.{place_total, standing_total}
+use Rattle.exploration.specs.Labels.{label_total}
+use Rattle.exploration.specs.Orders.{place_total, standing_total}
 
 -- ---- a mark has one best run
 

@@ -4,9 +4,9 @@ use denote.Param.Send.{IsSend, IsSync, recorded_send, recorded_sync, sendable, s
 use denote.Struct.Declared.{shape}
 use Rattle.std.proofs.Crossing.{crosses}
 use Rattle.std.proofs.marker.PhantomData.TheSendSync as phantom
-use Rattle.canonical_runs.specs.contracts.state.State as state
-use Rattle.canonical_runs.specs.contracts.state.State.TheInside as inside
-use Rattle.canonical_runs.specs.declared.scheme.Scheme.{Ghosts}
+use Rattle.exploration.specs.contracts.state.State as state
+use Rattle.exploration.specs.contracts.state.State.TheInside as inside
+use Rattle.exploration.specs.declared.scheme.Scheme.{Ghosts}
 use Rattle.packed_config.specs.contracts.packed.Packed as packed
 use Rattle.ttcn_config.specs.contracts.frame.Cells as cells
 use Rattle.ttcn_values.proofs.value.Value.TheLaws.TheKnot as values

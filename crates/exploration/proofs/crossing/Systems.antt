@@ -4,8 +4,8 @@ use denote.Param.Send.{IsSync, sendable}
 use denote.Ref.{NamedLft}
 use Rattle.std.proofs.Crossing.{crosses}
 use Rattle.std.proofs.marker.PhantomData.TheSendSync as phantom
-use Rattle.canonical_runs.specs.contracts.runs.Runs as runs
-use Rattle.canonical_runs.specs.declared.scheme.Scheme.{Ghosts}
+use Rattle.exploration.specs.contracts.runs.Runs as runs
+use Rattle.exploration.specs.declared.scheme.Scheme.{Ghosts}
 use Rattle.exploration.proofs.crossing.Machines.{machine-sync}
 
 pub runs-sync : (l m : NamedLft) (K : RattleType) (g : Ghosts K.Denot) → IsSync (runs.the_field l m K g).row

@@ -1,4 +1,0 @@
-pub mod Choosing
-pub mod Forms
-pub mod Leading
-pub mod Packing

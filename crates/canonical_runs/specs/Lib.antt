@@ -1,7 +1,0 @@
-pub mod Going
-pub mod Labels
-pub mod Laws
-pub mod Orders
-pub mod Runs
-pub mod Schemes
-pub mod States

@@ -1,5 +1,0 @@
-pub mod SameItems
-pub mod SameConfigurations
-pub mod CodeEquality
-pub mod Codes
-pub mod CodesBack
