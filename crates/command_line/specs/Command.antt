@@ -6,8 +6,8 @@ use Rattle.clap.specs.Values.{bool_text}
 use Rattle.clap.specs.Kinds.{IsAmong, Kinds}
 use Rattle.clap.specs.declared.error.kind.ErrorKind.{ErrorKind}
 use Rattle.clap.specs.declared.error.kind.ErrorKind.TheVariants.{DisplayHelp}
-use Rattle.explore.specs.Limits.{IsWithinLimits}
-use Rattle.explore.specs.declared.plan.Plan.{Plan}
+use Rattle.search_layer.specs.Limits.{IsWithinLimits}
+use Rattle.search_layer.specs.declared.plan.Plan.{Plan}
 use Rattle.command_line.specs.declared.command.Line.{Line}
 use Rattle.command_line.specs.declared.command.Line.TheVariants.{Check, Run, Replay}
 use Rattle.command_line.specs.declared.command.LineError.{LineError}

@@ -4,7 +4,7 @@ ghost use Rattle.std.specs.Prelude.{option_map, string_bytes};
 ghost use Rattle.clap.specs.Words.{Row, fault_of, found_of, kind_of, rows_of, subcommand_of};
 ghost use Rattle.clap.specs.Words.{subcommand_rows_of, takes};
 ghost use Rattle.clap.specs.Walk.{texts};
-ghost use Rattle.explore.specs.Limits.{IsWithinLimits};
+ghost use Rattle.search_layer.specs.Limits.{IsWithinLimits};
 ghost use Rattle.command_line.specs.App.{ttcnx_app};
 ghost use Rattle.command_line.specs.Command.{HasNumbers, HasValues, IsExplained, IsFlag, IsMemory};
 ghost use Rattle.command_line.specs.Command.{IsNumber, IsText, StaysWithinLimits, subcommand_for};

@@ -3,11 +3,11 @@ use Rattle.std.proofs.Common.{◌≡◌, ℕ, ◌<◌, ◌≤◌, map, length, s
 use lib.ListN.{length-map}
 use Rattle.std.specs.Prelude.{◌↔◌, IsTrue, Ok, Err}
 use Rattle.explore.specs.Best.{AreBest}
-use Rattle.explore.specs.Limits.{IsWithinLimits}
+use Rattle.search_layer.specs.Limits.{IsWithinLimits}
 use Rattle.explore.specs.declared.answer.Answer.{Answer}
-use Rattle.explore.specs.declared.plan.ExploreError.{ExploreError}
-use Rattle.explore.specs.declared.plan.ExploreError.TheVariants as refused
-use Rattle.explore.specs.declared.plan.Plan.{Plan}
+use Rattle.search_layer.specs.declared.plan.ExploreError.{ExploreError}
+use Rattle.search_layer.specs.declared.plan.ExploreError.TheVariants as refused
+use Rattle.search_layer.specs.declared.plan.Plan.{Plan}
 use Rattle.exploration.proofs.Best.{best_run}
 use Rattle.exploration.proofs.Longer.{best_later}
 use Rattle.exploration.proofs.Parts.{Shown}

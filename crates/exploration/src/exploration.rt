@@ -1,6 +1,6 @@
 //! All runs of a test case up to a bound (ES 201 873-4).
 ghost use Rattle.std.specs.Prelude.{◌≡◌, ◌↔◌, ℕ, ◌<◌, ◌≤◌, IfOk, IsErrOf, IsTrue, OnOk, map};
-ghost use Rattle.explore.specs.Limits.{IsWithinLimits};
+ghost use Rattle.search_layer.specs.Limits.{IsWithinLimits};
 ghost use Rattle.exploration.specs.Found.{AreFound, place_cmp, standing_cmp};
 ghost use Rattle.exploration.specs.internal.Explored.{IsExplored};
 ghost use Rattle.exploration.specs.internal.Kept.{labels_by, labels_in};

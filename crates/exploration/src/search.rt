@@ -2,7 +2,7 @@
 ghost use Rattle.std.specs.Prelude.{◌↔◌, ◌≡◌, ℕ, ◌<◌, ◌≤◌, IfOk, IsErrOf, IsTrue, OnOk};
 ghost use Rattle.exploration.specs.internal.Sums.{blocked_of, branches_of};
 ghost use Rattle.explore.specs.Best.{AreBest};
-ghost use Rattle.explore.specs.Limits.{IsWithinLimits};
+ghost use Rattle.search_layer.specs.Limits.{IsWithinLimits};
 ghost use Rattle.summary.specs.Exploration.{Counts, IsComplete};
 
 use explore::{Answer, ExploreError, Gate, Plan, explore};

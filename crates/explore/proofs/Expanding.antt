@@ -5,10 +5,10 @@ use Rattle.std.specs.List.{AllZip, range_with_len}
 use Rattle.std.proofs.lemmas.List.{get_or-drop}
 use Rattle.std.specs.declared.alloc.AllocError.{AllocError}
 use Rattle.summary.specs.Graph.{Graph, with_after}
-use Rattle.explore.specs.declared.visited.Candidate.{Candidate}
+use Rattle.search_layer.specs.declared.visited.Candidate.{Candidate}
 use Rattle.explore.specs.declared.expand.Expanded.{Expanded}
 use Rattle.explore.specs.declared.expand.Candidates.{Candidates}
-use Rattle.explore.specs.internal.Search.{candidate_of, candidates_of, layer_candidates}
+use Rattle.search_layer.specs.internal.Search.{candidate_of, candidates_of, layer_candidates}
 use Rattle.explore.specs.internal.Expansion.{candidates_with, candidates_in, IsExpanded}
 
 module _ {C L : Type 0} (g : Graph C L) where

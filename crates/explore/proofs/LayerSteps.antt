@@ -5,9 +5,8 @@ use Rattle.std.proofs.lemmas.List.{get_or-drop, length-drop}
 use Rattle.std.proofs.lemmas.List.Elements.{All-nil, All-cons, All-append, Contains-append_left, Contains-push}
 use Rattle.summary.specs.Graph.{Graph}
 use Rattle.summary.specs.Sums.{Join, Observation}
-use Rattle.explore.specs.declared.visited.Candidate.{Candidate}
-use Rattle.explore.specs.internal.Search.{candidate_of, candidates_of, layer_candidates, with_labels, with_layer, with_steps}
-use Rattle.explore.specs.internal.Expansion.{IsStep}
+use Rattle.search_layer.specs.declared.visited.Candidate.{Candidate}
+use Rattle.search_layer.specs.internal.Search.{candidate_of, candidates_of, layer_candidates, with_labels, with_layer, with_steps, IsStep}
 
 module _ {C L : Type 0} (g : Graph C L) (states : List C) where
   -- these states stand among all from a place on

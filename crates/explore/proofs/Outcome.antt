@@ -9,10 +9,10 @@ use Rattle.summary.specs.Graph.{Graph}
 use Rattle.summary.specs.Run.{Run, Start, steps_of, end_of}
 use Rattle.summary.specs.Sums.{Join, IsSemilattice, Observation, sum_of}
 use Rattle.summary.specs.Exploration.{Counts, IsComplete}
-use Rattle.explore.specs.declared.visited.Step.{Step}
+use Rattle.search_layer.specs.declared.visited.Step.{Step}
 use Rattle.explore.specs.Best.{IsBestOf}
-use Rattle.explore.specs.internal.Search.{Found, found_after}
-use Rattle.explore.specs.internal.Tied.{as_found, run_at, GoBack, AreLastSteps, IsFirstMarked, IsKept}
+use Rattle.search_layer.specs.internal.Search.{Found, found_after, as_found}
+use Rattle.explore.specs.internal.Tied.{run_at, GoBack, AreLastSteps, IsFirstMarked, IsKept}
 use Rattle.explore.proofs.Lists.{Each, In, each_in, each_from_in, each_all, all_each, in_left, in_cases, in_map, from_map}
 use Rattle.explore.proofs.Visits.{IsLawful, visits}
 use Rattle.explore.proofs.Covering.{AreVisited, are_visited, Covers, covers, covers_more}

@@ -3,7 +3,7 @@ use Rattle.std.proofs.Common.{◌≡◌, ℕ, ◌<◌, List, [], ◌∷◌, ◌+
 use Rattle.std.specs.Prelude.{reverse, Option, None, Some, IfSome}
 use Rattle.std.proofs.lemmas.List.{reverse-append}
 use Rattle.summary.specs.Run.{Run, Start, Then, labels_of}
-use Rattle.explore.specs.declared.visited.Step.{Step}
+use Rattle.search_layer.specs.declared.visited.Step.{Step}
 use Rattle.explore.specs.internal.Tied.{run_at, step_at, GoBack, Tells, AreLastSteps}
 
 module _ {L : Type 0} where

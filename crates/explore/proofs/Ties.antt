@@ -7,9 +7,9 @@ use Rattle.std.proofs.lemmas.Bool.{cases_lt}
 use Rattle.summary.specs.Graph.{Graph}
 use Rattle.summary.specs.Run.{Run, Start, Then, end_of, longer}
 use Rattle.summary.specs.Sums.{Join, IsSemilattice, Observation}
-use Rattle.explore.specs.declared.visited.Step.{Step}
-use Rattle.explore.specs.declared.visited.Candidate.{Candidate}
-use Rattle.explore.specs.internal.Search.{Found, candidates_of, layer_candidates, with_labels, with_layer, place, place_all, begin, advanced, found_after}
+use Rattle.search_layer.specs.declared.visited.Step.{Step}
+use Rattle.search_layer.specs.declared.visited.Candidate.{Candidate}
+use Rattle.search_layer.specs.internal.Search.{Found, candidates_of, layer_candidates, with_labels, with_layer, place, place_all, begin, advanced, found_after}
 use Rattle.explore.specs.internal.Tied.{run_at, step_at, GoBack, Tells, AreLastSteps}
 use Rattle.explore.proofs.Lists.{In, in_left, in_right, in_cases, in_map, from_map}
 use Rattle.explore.proofs.Conclusions.{Below, below_trans, below_left, below_right, below_both}

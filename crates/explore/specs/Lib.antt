@@ -1,4 +1,3 @@
 pub mod Best
-pub mod Limits
 pub mod Ring
 pub mod internal

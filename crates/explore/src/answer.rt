@@ -2,13 +2,12 @@ ghost use Rattle.std.specs.Prelude.{◌≡◌, ◌↔◌, ℕ, ◌<◌, ◌≤�
 ghost use Rattle.summary.specs.Exploration.{Counts, IsComplete};
 ghost use Rattle.summary.specs.Sums.{sum_of};
 ghost use Rattle.explore.specs.Best.{AreBest};
-ghost use Rattle.explore.specs.Limits.{IsWithinLimits};
+ghost use Rattle.search_layer.specs.Limits.{IsWithinLimits};
 ghost use Rattle.explore.specs.internal.Tied.{GoBack, IsKept, IsRunKept};
 
 use crate::layers::search;
-use crate::plan::{ExploreError, Gate, Plan};
 use crate::runs::{first_marked, is_quiet, run_to};
-use crate::visited::{Step, Visited};
+use search_layer::{ExploreError, Gate, Plan, Step, Visited};
 use std::alloc::{AllocError, Global};
 use std::thread::Threads;
 use summary::{Summary, System};

@@ -1,11 +1,10 @@
 //! The candidates of a layer, by as many threads as rayon starts.
 ghost use Rattle.std.specs.Prelude.{◌≡◌, ◌+◌, ◌-◌, ◌<◌, ◌≤◌, ◌++◌, ◌∷◌, [], length, drop, All, IfOk, OnOk, flat_map};
-ghost use Rattle.explore.specs.internal.Search.{layer_candidates};
+ghost use Rattle.search_layer.specs.internal.Search.{layer_candidates};
 ghost use Rattle.explore.specs.internal.Expansion.{candidates_with, candidates_in, IsExpanded};
 
-use crate::leftovers::Leftovers;
-use crate::visited::Candidate;
 use rayon::prelude::*;
+use search_layer::{Candidate, Leftovers};
 use sharded_set::ShardedSet;
 use std::alloc::{AllocError, Global};
 use std::thread;

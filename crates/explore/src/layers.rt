@@ -1,16 +1,11 @@
 ghost use Rattle.std.specs.Prelude.{◌≡◌, ◌≢◌, ◌+◌, ◌^◌, ◌<◌, ◌≤◌, ℕ, [], ◌∷◌, ◌++◌, length, None, All, IfOk, OnOk, IsErrOf};
-ghost use Rattle.explore.specs.Limits.{IsWithinLimits};
-ghost use Rattle.explore.specs.internal.Expansion.{IsStep};
-ghost use Rattle.explore.specs.internal.Search.{with_steps, place_all, found_after};
-ghost use Rattle.explore.specs.internal.Tied.{as_found};
+ghost use Rattle.search_layer.specs.Limits.{IsWithinLimits};
+ghost use Rattle.search_layer.specs.internal.Search.{IsStep, with_steps, place_all, found_after, as_found};
 
-use crate::entering::enter_layer;
 use crate::expand::expand_and_drop;
-use crate::leftovers::Leftovers;
-use crate::plan::{ExploreError, Gate, Plan};
-use crate::showing::show_states;
-use crate::visited::{Candidate, Visited};
-use crate::workers::find_first;
+use search_layer::{
+    Candidate, ExploreError, Gate, Leftovers, Plan, Visited, enter_layer, find_first, show_states,
+};
 use sharded_set::ShardedSet;
 use std::alloc::{AllocError, Global};
 use std::hash::Hash;
@@ -51,7 +46,7 @@ fn place_layer<Y: System, U: Summary<Y>, G: Gate, R: Threads + Sync>(
         (with_steps U.joins (U.observation system.now) (Y.graph system.now) visited.states.keys summary candidates.items)) candidates.items).states }
     ensures planned { result ≢ Err ExploreError.BadPlan }
 {
-    let (firsts, shown) = find_first::<Y, U, G, R>(
+    let (firsts, stepped) = find_first::<Y, U, G, R>(
         rt,
         alloc,
         system,
@@ -61,7 +56,7 @@ fn place_layer<Y: System, U: Summary<Y>, G: Gate, R: Threads + Sync>(
         &visited.states,
         candidates.as_slice(),
     )?;
-    let summary = summary.join(alloc, shown)?;
+    let summary = summary.join(alloc, stepped)?;
     let from = visited.states.len();
     let (visited, leftovers) = enter_layer(
         rt,

@@ -2,16 +2,10 @@
 #![tactic(auto)]
 
 mod answer;
-mod entering;
 pub mod example;
 mod expand;
 mod layers;
-mod leftovers;
-mod plan;
 mod runs;
-mod showing;
-mod visited;
-mod workers;
 
 pub use answer::{Answer, explore};
-pub use plan::{ExploreError, Gate, NoGate, Plan};
+pub use search_layer::{ExploreError, Gate, NoGate, Plan};

@@ -2,7 +2,7 @@ ghost use Rattle.std.specs.Prelude.{◌≡◌, ◌↔◌, ◌<◌, ◌≤◌, []
 ghost use Rattle.summary.specs.Run.{Run, labels_of};
 ghost use Rattle.explore.specs.internal.Tied.{GoBack, AreLastSteps, run_at, AreFirstMarked};
 
-use crate::visited::Step;
+use search_layer::Step;
 use sharded_set::ShardedSet;
 use std::alloc::{AllocError, Global};
 use summary::System;

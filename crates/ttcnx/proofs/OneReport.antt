@@ -14,7 +14,7 @@ use Rattle.summary.specs.Graph.{Graph}
 use Rattle.summary.specs.Run.{Run, Before, NoLater, labels_of}
 use Rattle.summary.specs.Exploration.{IsBest}
 use Rattle.explore.proofs.RunOrder.{before_trans}
-use Rattle.explore.specs.declared.plan.Plan.{Plan}
+use Rattle.search_layer.specs.declared.plan.Plan.{Plan}
 use Rattle.exploration.specs.Found.{AreBlocked, AreBranches, IsBestRun, place_cmp, standing_cmp}
 use Rattle.live_laws.proofs.PartCounts.{counts_once}
 use Rattle.place_summaries.proofs.OneAscent.{one_ascent}

@@ -4,10 +4,10 @@ use Rattle.std.specs.Prelude.{◌⊎◌, ◌↔◌, Option, Some, None, Result, 
 use Rattle.std.specs.Option.{option_map}
 use Rattle.std.specs.Result.{IsErr, IsErrAnd}
 use Rattle.std.proofs.lemmas.Bool.{cases_lt}
-use Rattle.explore.specs.Limits.{IsWithinLimits}
-use Rattle.explore.specs.declared.plan.ExploreError.{ExploreError}
-use Rattle.explore.specs.declared.plan.ExploreError.TheVariants as searching
-use Rattle.explore.specs.declared.plan.Plan.{Plan}
+use Rattle.search_layer.specs.Limits.{IsWithinLimits}
+use Rattle.search_layer.specs.declared.plan.ExploreError.{ExploreError}
+use Rattle.search_layer.specs.declared.plan.ExploreError.TheVariants as searching
+use Rattle.search_layer.specs.declared.plan.Plan.{Plan}
 use Rattle.live_laws.specs.Parts.{CountsParts}
 use Rattle.step_rules.specs.Snapshots.{Test}
 use Rattle.ttcn_syntax.specs.Cut.{Stops, at_fault, past_gap, past_token, no_piece, unended_comment, unended_text, number_too_large}

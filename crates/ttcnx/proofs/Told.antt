@@ -2,7 +2,7 @@
 use Rattle.std.proofs.Common.{◌≡◌, ◌≤◌, ℕ, Bool, List, map, sym, subst, ◌∙◌}
 use Rattle.std.specs.Prelude.{◌↔◌, IsTrue, string_bytes}
 use Rattle.std.specs.List.{filter_map, zip}
-use Rattle.explore.specs.declared.plan.Plan.{Plan}
+use Rattle.search_layer.specs.declared.plan.Plan.{Plan}
 use Rattle.exploration.specs.Found.{AreBlocked, AreBranches, AreFound}
 use Rattle.exploration.specs.declared.exploration.Exploration.{Exploration}
 use Rattle.live_laws.specs.Parts.{CountsParts, IsCompleteByParts}

@@ -1,8 +1,8 @@
 -- What is answered for a text, the name of a test case and a plan, want of memory aside. Stage by stage: the plan, the
 -- text and its module, the test case.
 use Rattle.std.specs.Prelude.{◌≡◌, ℕ, ◌<◌, List, Result, Ok, Err}
-use Rattle.explore.specs.Limits.{IsWithinLimits}
-use Rattle.explore.specs.declared.plan.Plan.{Plan}
+use Rattle.search_layer.specs.Limits.{IsWithinLimits}
+use Rattle.search_layer.specs.declared.plan.Plan.{Plan}
 use Rattle.live_laws.specs.Parts.{CountsParts}
 use Rattle.report.specs.Json.{json_text}
 use Rattle.report.specs.Texts.{report_text}

@@ -4,8 +4,8 @@ use Rattle.std.specs.Fmt.{decimal}
 use Rattle.ttcn_syntax.specs.declared.place.Span.{Span}
 use Rattle.ttcn_syntax.specs.declared.error.LexError.{LexError}
 use Rattle.ttcn_syntax.specs.declared.error.LexError.TheVariants as lexical
-use Rattle.explore.specs.declared.plan.ExploreError.{ExploreError}
-use Rattle.explore.specs.declared.plan.ExploreError.TheVariants as searching
+use Rattle.search_layer.specs.declared.plan.ExploreError.{ExploreError}
+use Rattle.search_layer.specs.declared.plan.ExploreError.TheVariants as searching
 use Rattle.report.specs.Texts.{place_text}
 use Rattle.report.specs.declared.run.RunError.{RunError}
 use Rattle.report.specs.declared.run.RunError.TheVariants as listing

@@ -11,7 +11,7 @@ use Rattle.ttcn_values.specs.declared.path.Path.{Path}
 use Rattle.step_rules.specs.Snapshots.{Test}
 use Rattle.step_labels.specs.declared.label.Label.{Label}
 use Rattle.live_laws.specs.Parts.{CountsParts, IsCompleteByParts}
-use Rattle.explore.specs.declared.plan.Plan.{Plan}
+use Rattle.search_layer.specs.declared.plan.Plan.{Plan}
 use Rattle.exploration.specs.Found.{AreBlocked, AreBranches, IsBestRun}
 use Rattle.report.specs.declared.report.Outcome.{Outcome}
 use Rattle.report.specs.declared.report.Report.{Report}

@@ -1,7 +1,7 @@
 //! From the text of a module to the report on one of its test cases.
 ghost use Rattle.std.specs.Prelude.{◌≡◌, ℕ, ◌<◌, ◌≤◌, ◌⊎◌, ◌↔◌, length, Err, IfOk, IsErrOf, IsTrue, map, string_bytes};
 ghost use Rattle.std.specs.List.{filter_map, zip};
-ghost use Rattle.explore.specs.Limits.{IsWithinLimits};
+ghost use Rattle.search_layer.specs.Limits.{IsWithinLimits};
 ghost use Rattle.step_rules.specs.Snapshots.{Test};
 ghost use Rattle.ttcn_step.specs.Standing.{standing_by};
 ghost use Rattle.ttcn_syntax.specs.Limits.{longest_text};

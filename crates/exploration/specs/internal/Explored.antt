@@ -1,9 +1,9 @@
 -- What exploring a test case answers, as one fact.
 use Rattle.std.specs.Prelude.{◌↔◌, ℕ, ◌<◌, ◌≤◌, IfOk, IsErrOf, IsTrue, OnOk, Result}
-use Rattle.explore.specs.Limits.{IsWithinLimits}
-use Rattle.explore.specs.declared.plan.ExploreError.{ExploreError}
-use Rattle.explore.specs.declared.plan.ExploreError.TheVariants as refused
-use Rattle.explore.specs.declared.plan.Plan.{Plan}
+use Rattle.search_layer.specs.Limits.{IsWithinLimits}
+use Rattle.search_layer.specs.declared.plan.ExploreError.{ExploreError}
+use Rattle.search_layer.specs.declared.plan.ExploreError.TheVariants as refused
+use Rattle.search_layer.specs.declared.plan.Plan.{Plan}
 use Rattle.exploration.specs.Found.{AreFound}
 use Rattle.exploration.specs.declared.exploration.Exploration.{Exploration}
 use Rattle.live_laws.specs.Parts.{CountsParts, IsCompleteByParts}

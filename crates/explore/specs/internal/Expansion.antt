@@ -1,7 +1,7 @@
 -- A layer's candidates, put together from the successors of its states.
-use Rattle.std.specs.Prelude.{◌≡◌, ℕ, ◌<◌, List, map, flat_map, length, slice_index_or, Contains}
+use Rattle.std.specs.Prelude.{◌≡◌, ℕ, List, map, flat_map, slice_index_or}
 use Rattle.summary.specs.Graph.{Graph, with_after}
-use Rattle.explore.specs.declared.visited.Candidate.{Candidate}
+use Rattle.search_layer.specs.declared.visited.Candidate.{Candidate}
 use Rattle.explore.specs.declared.expand.Expanded.{Expanded}
 
 module _ {C L : Type 0} where
@@ -19,7 +19,3 @@ module _ {C L : Type 0} (g : Graph C L) where
   IsExpanded states at place pairs =
       (place ≡ at)
       × (pairs ≡ with_after g (slice_index_or states at g.first) (g.enabled (slice_index_or states at g.first)))
-
-  -- the candidate is a step from one of these states by an enabled label
-  abbrev pub IsStep : List C → Candidate C L → Type 0
-  IsStep states c = (c.before < length states) × Contains (g.enabled (slice_index_or states c.before g.first)) c.label

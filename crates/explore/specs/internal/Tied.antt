@@ -4,12 +4,7 @@ use Rattle.summary.specs.Graph.{Graph}
 use Rattle.std.specs.declared.alloc.Global.{Global}
 use Rattle.std.specs.declared.vec.Vec.{Vec}
 use Rattle.summary.specs.Run.{Run, Start, Then, labels_of}
-use Rattle.explore.specs.declared.visited.Step.{Step}
-use Rattle.explore.specs.internal.Search.{Found}
-
--- these states, steps, place and summary, as what was found
-abbrev pub as_found : {C L S : Type 0} → List C → List (Option (Step L)) → ℕ → S → Found C L S
-as_found states steps from summary = record { states = states; steps = steps; from = from; summary = summary }
+use Rattle.search_layer.specs.declared.visited.Step.{Step}
 
 -- the run that is kept at a place
 abbrev pub run_at : {L : Type 0} → List (Run L) → ℕ → Run L

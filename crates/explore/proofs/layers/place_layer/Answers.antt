@@ -3,11 +3,10 @@ use Rattle.std.specs.Prelude.{All}
 use Rattle.std.proofs.Math.Seq.{drop-append_seam}
 use Rattle.std.proofs.lemmas.Result.{err_from_is_err_and}
 use Rattle.summary.specs.Sums.{IsSemilattice, join_all}
-use Rattle.explore.specs.internal.Search.{Found, newly, state_of, with_steps}
-use Rattle.explore.specs.internal.Tied.{as_found}
-use Rattle.explore.proofs.StepSums.{steps_join}
-use Rattle.explore.proofs.SearchSteps.{place_all_fits}
-use Rattle.explore.proofs.Newly.{all_placed, entered}
+use Rattle.search_layer.specs.internal.Search.{Found, newly, state_of, with_steps, as_found}
+use Rattle.search_layer.proofs.StepSums.{steps_join}
+use Rattle.search_layer.proofs.SearchSteps.{place_all_fits}
+use Rattle.search_layer.proofs.Newly.{all_placed, entered}
 use Rattle.explore.proofs.layers.place_layer.Given.{Over}
 use Rattle.explore.proofs.layers.place_layer.Goals as goal
 

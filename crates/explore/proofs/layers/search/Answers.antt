@@ -2,9 +2,8 @@ use Rattle.std.proofs.Common.{◌≡◌, ◌≤◌, ℕ, ap, sym, subst, ◌∙�
 use Rattle.std.specs.Prelude.{All}
 use Rattle.std.proofs.lemmas.List.Elements.{All-nil, All-cons, All-drop}
 use Rattle.std.proofs.lemmas.Result.{err_from_is_err_and}
-use Rattle.explore.specs.internal.Search.{Found, found_after, with_steps}
-use Rattle.explore.specs.internal.Tied.{as_found}
-use Rattle.explore.proofs.SearchSteps.{layer_fits, place_all_fits, placed_grows, layer_done, layer_too_many}
+use Rattle.search_layer.specs.internal.Search.{Found, found_after, with_steps, as_found}
+use Rattle.search_layer.proofs.SearchSteps.{layer_fits, place_all_fits, placed_grows, layer_done, layer_too_many}
 use Rattle.explore.proofs.LayerSteps.{are_steps, steps_shown}
 use Rattle.explore.proofs.layers.search.Goals as goal
 

@@ -1,7 +1,6 @@
 use Rattle.std.proofs.Common.{◌≡◌, ◌≤◌, length}
 use Rattle.std.specs.Prelude.{All}
-use Rattle.explore.specs.internal.Search.{found_after}
-use Rattle.explore.specs.internal.Tied.{as_found}
+use Rattle.search_layer.specs.internal.Search.{found_after, as_found}
 use Rattle.explore.proofs.layers.search.Given as goal
 
 abbrev pub invariant-loop-layer : goal.invariant-loop-layer

@@ -1,9 +1,0 @@
-use Rattle.std.proofs.Common.{◌≡◌, ◌-◌, length}
-use Rattle.explore.specs.internal.Shards.{AreShardsFrom}
-use Rattle.explore.proofs.workers.Work.shards_between.Given as goal
-
-abbrev pub invariant-loop-at : goal.invariant-loop-at
-invariant-loop-at g l = record {
-  count : length l.shards.items ≡ l.at - l.from;
-  each : AreShardsFrom g.Y.State.Hash.hash_input l.self.visited.now.shards l.self.candidates.now l.from l.shards.items;
-}

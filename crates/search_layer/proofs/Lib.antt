@@ -1,0 +1,11 @@
+pub mod AllWorked
+pub mod Drawing
+pub mod Joining
+pub mod Known
+pub mod Newly
+pub mod NotFirst
+pub mod Placing
+pub mod SearchSteps
+pub mod StatesShown
+pub mod StepSums
+pub mod Taken

@@ -1,0 +1,16 @@
+//! A layer of the search: the workers find its new states, which enter those that were found before.
+#![tactic(auto)]
+
+mod entering;
+mod leftovers;
+mod plan;
+mod showing;
+mod visited;
+mod workers;
+
+pub use entering::enter_layer;
+pub use leftovers::Leftovers;
+pub use plan::{ExploreError, Gate, NoGate, Plan};
+pub use showing::show_states;
+pub use visited::{Candidate, Step, Visited};
+pub use workers::find_first;
