@@ -10,6 +10,3 @@ mod template;
 mod value;
 
 pub use exact::{Exact, are_one};
-
-#[cfg(test)]
-mod trees;

@@ -1,0 +1,125 @@
+//! Command lines that are read, and such that are refused.
+use explore::Plan;
+use std::test::Fail;
+use ttcnx::{Line, LineError, read_line};
+
+const RUN: [&str; 6] = ["run", "a b.ttcn", "--testcase", "T", "--steps", "100000"];
+
+#[test]
+fn commands(rt: HostRuntime) -> Result<(), Fail> {
+    let plan = Plan {
+        steps: 100_000,
+        limit: 1_000_000,
+        workers: 1,
+        piece: 256,
+    };
+    let line = read_line(rt.alloc(), &RUN)?;
+    let is_read = matches!(&line, Line::Run { file, testcase, plan: found, json: false }
+        if file.as_str() == "a b.ttcn" && testcase.as_str() == "T" && *found == plan);
+    assert!(rt; is_read, "{line:?}");
+    let words = [
+        "run",
+        "--steps=0",
+        "--piece",
+        "65536",
+        "--workers",
+        "64",
+        "--limit",
+        "10000000",
+        "--testcase=",
+        "--json",
+        "f",
+    ];
+    let plan = Plan {
+        steps: 0,
+        limit: 10_000_000,
+        workers: 64,
+        piece: 65_536,
+    };
+    let line = read_line(rt.alloc(), &words)?;
+    let is_read = matches!(&line, Line::Run { file, testcase, plan: found, json: true }
+        if file.as_str() == "f" && testcase.as_str() == "" && *found == plan);
+    assert!(rt; is_read, "{line:?}");
+    let words = ["replay", "f", "--run", "a run", "--testcase", "T"];
+    let line = read_line(rt.alloc(), &words)?;
+    let is_read = matches!(&line, Line::Replay { file, testcase, run }
+        if file.as_str() == "f" && testcase.as_str() == "T" && run.as_str() == "a run");
+    assert!(rt; is_read, "{line:?}");
+    let line = read_line(rt.alloc(), &["check", "a b.ttcn"])?;
+    let is_read = matches!(&line, Line::Check { file } if file.as_str() == "a b.ttcn");
+    assert!(rt; is_read, "{line:?}");
+    Ok(())
+}
+
+#[test]
+fn faulty_lines(rt: HostRuntime) -> Result<(), Fail> {
+    let alloc = rt.alloc();
+    let numbers = [
+        ("--steps", "100001"),
+        ("--steps", "-1"),
+        ("--steps", "x"),
+        ("--limit", "0"),
+        ("--limit", "10000001"),
+        ("--workers", "0"),
+        ("--workers", "65"),
+        ("--piece", "0"),
+        ("--piece", "65537"),
+        ("--other", "1"),
+        ("--testcase", "U"),
+    ];
+    for (name, value) in numbers {
+        let words = ["run", "f", "--testcase", "T", name, value];
+        let refused = matches!(read_line(alloc, &words), Err(LineError::Bad(_)));
+        assert!(rt; refused, "{name} {value}");
+    }
+    let lines: [&[&str]; 12] = [
+        &[],
+        &["walk"],
+        &["check"],
+        &["check", "f", "g"],
+        &["check", "f", "--steps", "1"],
+        &["run"],
+        &["run", "f", "--testcase", "T"],
+        &["run", "f", "g", "--testcase", "T", "--steps", "1"],
+        &[
+            "run",
+            "f",
+            "--testcase",
+            "T",
+            "--steps",
+            "1",
+            "--json",
+            "yes",
+        ],
+        &["replay", "f", "--testcase", "T"],
+        &["replay", "f", "--run", "g"],
+        &[
+            "replay",
+            "f",
+            "--testcase",
+            "T",
+            "--run",
+            "g",
+            "--steps",
+            "1",
+        ],
+    ];
+    for words in lines {
+        assert!(rt;
+            matches!(read_line(alloc, words), Err(LineError::Bad(_))),
+            "{words:?}"
+        );
+    }
+    for words in [
+        ["--help", ""],
+        ["run", "--help"],
+        ["check", "--help"],
+        ["replay", "--help"],
+    ] {
+        assert!(rt;
+            matches!(read_line(alloc, &words), Err(LineError::Help(_))),
+            "{words:?}"
+        );
+    }
+    Ok(())
+}

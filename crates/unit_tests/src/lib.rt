@@ -1,0 +1,37 @@
+//! Tests of what no row of texts shows: of the language, of the layers below the machine, and of files of rows.
+#![tactic(auto)]
+
+#[cfg(test)]
+mod activations;
+#[cfg(test)]
+mod deep;
+#[cfg(test)]
+mod definitions;
+#[cfg(test)]
+mod equality;
+#[cfg(test)]
+mod expressions;
+#[cfg(test)]
+mod files;
+#[cfg(test)]
+mod graphs;
+#[cfg(test)]
+mod letter;
+#[cfg(test)]
+mod lexer;
+#[cfg(test)]
+mod lists;
+#[cfg(test)]
+mod long;
+#[cfg(test)]
+mod matching;
+#[cfg(test)]
+mod order;
+#[cfg(test)]
+mod parts;
+#[cfg(test)]
+mod round;
+#[cfg(test)]
+mod slots;
+#[cfg(test)]
+mod trees;
