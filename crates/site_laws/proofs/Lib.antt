@@ -1,0 +1,12 @@
+pub mod Asked
+pub mod Awaited
+pub mod Blocks
+pub mod Changes
+pub mod Firsts
+pub mod Frames
+pub mod Outside
+pub mod Ports
+pub mod Repeats
+pub mod Runs
+pub mod Sites
+pub mod Ways
