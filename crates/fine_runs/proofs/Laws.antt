@@ -1,0 +1,180 @@
+-- Fine runs of modules that are accepted.
+use Rattle.std.proofs.Common.{◌≡◌, ℕ, true, false, List, [], ◌∷◌, map, bytes_eq, Option, Some, None, Ok, IfSome, ◌↔◌, refl, sym, subst}
+use Rattle.std.specs.List.{AllPairs}
+use Rattle.std.specs.Option.{option_and_then}
+use Rattle.ttcn_syntax.specs.declared.tree.statement.Action.{Action}
+use Rattle.ttcn_syntax.specs.declared.tree.statement.Action.TheOpen.{Action-F, Alternative-F}
+use Rattle.ttcn_syntax.specs.declared.tree.statement.Alternative.{Alternative, out-Alternative}
+use Rattle.ttcn_syntax.specs.declared.tree.statement.Branch.{Branch, out-Branch}
+use Rattle.ttcn_syntax.specs.declared.tree.statement.Conditional.{Conditional}
+use Rattle.ttcn_syntax.specs.declared.tree.statement.Event.{Event}
+use Rattle.ttcn_syntax.specs.declared.tree.statement.Event.TheVariants as event
+use Rattle.ttcn_syntax.specs.declared.tree.statement.Statement.{Statement}
+use Rattle.ttcn_syntax.specs.declared.tree.statement.Verdict.{Verdict}
+use Rattle.fine_runs.proofs.EarlySteps.{expires-to}
+use Rattle.fine_runs.proofs.Fronts.{PortsDiffer}
+use Rattle.fine_runs.proofs.Kept.{IsApart, IsApartAt}
+use Rattle.fine_runs.proofs.Lapses.{lapsed}
+use Rattle.fine_runs.proofs.Leading.{fine_of, fine_run}
+use Rattle.fine_runs.proofs.Moves.{moves}
+use Rattle.fine_runs.proofs.Origins.{HasEvent, WaitsFor}
+use Rattle.fine_runs.proofs.Replays.{coarse-runs, doubled_runs, fine-leads, start-sound}
+use Rattle.fine_runs.proofs.Sound.{HoldsIn, IsKeptBySteps, IsSound, IsSoundIn, Stores, found-stands, moved-sound}
+use Rattle.fine_runs.proofs.Stays.{AscendsIn}
+use Rattle.fine_runs.specs.Doubling.{doubled}
+use Rattle.fine_runs.specs.Fates.{coarse}
+use Rattle.fine_runs.specs.Fine.{Fine, FineLabel, Stored, fine_next, fine_replay, fine_start, is_found, stands_at_alt, stored_at}
+use Rattle.fine_runs.specs.Verdicts.{EndsFinelyWith, EndsWith}
+use Rattle.site_laws.proofs.Awaited.{awaited_outside}
+use Rattle.site_laws.proofs.Firsts.{queues_differ}
+use Rattle.site_laws.proofs.Runs.{apply_stands, expiry_stands, start_stands}
+use Rattle.site_laws.specs.Awaiting.{AwaitsTimeout, BeginsByTimeout, IsTimeout}
+use Rattle.site_laws.specs.Standing.{StandsByRules}
+use Rattle.step_laws.proofs.Runs.{start_ordered}
+use Rattle.step_laws.specs.Order.{IsInOrder, StandsInOrder}
+use Rattle.step_rules.proofs.Pairs.{pairs-map}
+use Rattle.step_rules.specs.Configurations.{Component, Configuration, Ended, Frame, Goes, Going, Queue, component_at}
+use Rattle.step_rules.specs.Items.{Does, Doing, From, Item, Last, Loop, Mark, Name, Start, Waiting, Whole, action_of}
+use Rattle.step_rules.specs.Runs.{replay, start}
+use Rattle.step_rules.specs.Snapshots.{Snapshot, Test, front_at}
+use Rattle.step_rules.specs.Statements.{act}
+use Rattle.step_rules.specs.Steps.{apply, settled}
+use Rattle.ttcn_types.specs.Rules.{AreWellTyped}
+use Rattle.ttcn_values.specs.Outcomes.{Fails, IfYields, Outcome, Yields}
+use Rattle.ttcn_values.specs.declared.path.Path.{Path}
+
+-- ---- what the rules of the checker say of each configuration
+
+abbrev Stands : Test → Going → Type 0
+Stands test c = StandsByRules test (Goes c)
+
+ports-differ : (queues : List Queue) → AllPairs (λ q r. bytes_eq q.0 r.0 ≡ false) queues → PortsDiffer (map front_at queues)
+ports-differ queues differ = pairs-map (λ d e. bytes_eq d.0 e.0 ≡ false) front_at queues differ
+
+timeout-is : (name : List ℕ) (e : Event) → e ≡ event.Timeout name → IsTimeout name e
+timeout-is name e is = subst (IsTimeout name) (sym is) refl
+
+branch-awaits : (name : List ℕ) (x : Alternative-F Action Alternative Branch Conditional Statement) → HasEvent (event.Timeout name) x → BeginsByTimeout name x
+branch-awaits name (Alternative-F.«Alternative::Event» guard event block) is = timeout-is name event is
+branch-awaits name (Alternative-F.«Alternative::Call» guard call block) is = is
+branch-awaits name (Alternative-F.Else block) is = is
+
+waits-awaits : (name : List ℕ) (x : Does) → WaitsFor x (event.Timeout name) → AwaitsTimeout name x
+waits-awaits name (Action-F.Alt branches) is = (is.0, is.1, branch-awaits name (out-Alternative (out-Branch is.0).alternative) is.2)
+waits-awaits name (Action-F.«Action::Event» event) is = timeout-is name event is
+waits-awaits name (Action-F.Variables vs) is = is
+waits-awaits name (Action-F.Constants cs) is = is
+waits-awaits name (Action-F.Timers timers) is = is
+waits-awaits name (Action-F.Assign a) is = is
+waits-awaits name (Action-F.«Action::Call» call) is = is
+waits-awaits name Action-F.Repeat is = is
+waits-awaits name (Action-F.If conditionals last) is = is
+waits-awaits name (Action-F.While condition block) is = is
+waits-awaits name (Action-F.DoWhile block condition) is = is
+waits-awaits name (Action-F.For start condition step block) is = is
+waits-awaits name (Action-F.Return v) is = is
+waits-awaits name Action-F.Stop is = is
+waits-awaits name (Action-F.Log logged) is = is
+waits-awaits name (Action-F.Setverdict verdict reasons) is = is
+waits-awaits name (Action-F.Connect one other) is = is
+waits-awaits name (Action-F.Send send) is = is
+waits-awaits name (Action-F.StartComponent reference call) is = is
+waits-awaits name (Action-F.StartTimer timer) is = is
+waits-awaits name (Action-F.StopOf reference) is = is
+waits-awaits name (Action-F.Activate call) is = is
+waits-awaits name (Action-F.Deactivate reference) is = is
+
+items-apart : (test : Test) (c : Going) (p : Path) (x : Component) (frame : Frame) (below : List Frame) (items : List Item) → Stands test c → component_at c p ≡ Some x → x.own.calls ≡ frame ∷ below → frame.remaining ≡ items
+    → IsApartAt test frame items
+items-apart test c p x frame below (Doing site s Whole ∷ rest) is there calls remains =
+    λ name waits own. awaited_outside test c p x frame below site s rest name is there calls remains (waits-awaits name (action_of s) waits) own
+items-apart test c p x frame below [] is there calls remains = tt
+items-apart test c p x frame below (Doing site s (Name k) ∷ rest) is there calls remains = tt
+items-apart test c p x frame below (Doing site s (From k) ∷ rest) is there calls remains = tt
+items-apart test c p x frame below (Doing site s Start ∷ rest) is there calls remains = tt
+items-apart test c p x frame below (Doing site s Loop ∷ rest) is there calls remains = tt
+items-apart test c p x frame below (Doing site s Last ∷ rest) is there calls remains = tt
+items-apart test c p x frame below (Mark site s ∷ rest) is there calls remains = tt
+items-apart test c p x frame below (Waiting target ∷ rest) is there calls remains = tt
+
+calls-apart : (test : Test) (c : Going) (p : Path) (x : Component) (calls : List Frame) → Stands test c → component_at c p ≡ Some x → x.own.calls ≡ calls → IsApart test calls
+calls-apart test c p x [] is there calls = tt
+calls-apart test c p x (frame ∷ below) is there calls = items-apart test c p x frame below frame.remaining is there calls refl
+
+holds-of : (test : Test) (d : Configuration) → StandsByRules test d → HoldsIn (Stands test) d
+holds-of test (Ended v) is = tt
+holds-of test (Goes c) is = is
+
+outcome-holds : (test : Test) (o : Outcome Configuration) → StandsByRules test (settled o) → IfYields o (HoldsIn (Stands test))
+outcome-holds test (Yields d) is = holds-of test d is
+outcome-holds test (Fails why) is = tt
+
+option-holds : (test : Test) (o : Option (Outcome Configuration)) → IfSome o (λ out. StandsByRules test (settled out)) → IfSome o (λ out. IfYields out (HoldsIn (Stands test)))
+option-holds test None is = tt
+option-holds test (Some o) is = outcome-holds test o is
+
+stands-kept : (test : Test) → AreWellTyped test.definitions → IsKeptBySteps test (Stands test)
+stands-kept test well = record {
+  differ = λ c is p x there. ports-differ x.queues (queues_differ test c p x is there);
+  apart = λ c is p x there. calls-apart test c p x x.own.calls is there refl;
+  acts = λ c is p x there runs snapshot. option-holds test (apply test c x.itself (act test snapshot x.own)) (apply_stands test snapshot c p x well is there);
+  expires = λ c is p n name x there runs ran. expiry_stands test c p x n name (lapsed n name x.own) is there (expires-to n name x.own ran);
+}
+
+-- ---- the start
+
+ascends-of : (d : Configuration) → StandsInOrder d → AscendsIn d
+ascends-of (Ended v) is = tt
+ascends-of (Goes c) is = let order : IsInOrder c = is in order.ordered.components
+
+start-ascends : (test : Test) → AscendsIn (start test)
+start-ascends test = ascends-of (start test) (start_ordered test)
+
+start-holds : (test : Test) → AreWellTyped test.definitions → HoldsIn (Stands test) (start test)
+start-holds test well = holds-of test (start test) (start_stands test well)
+
+-- ---- verdicts
+
+pub coarse_runs : (test : Test) (labels : List FineLabel) (f : Fine) (v : Verdict) → AreWellTyped test.definitions → fine_replay test labels ≡ Ok f → f.now ≡ Ended v → replay test (coarse test labels) ≡ Ok (Ended v)
+coarse_runs test labels f v well e ends = coarse-runs (Stands test) test (stands-kept test well) (start-ascends test) (start-holds test well) labels f v e ends
+
+pub same_verdicts : (test : Test) (v : Verdict) → AreWellTyped test.definitions → EndsFinelyWith test v ↔ EndsWith test v
+same_verdicts test v well = (
+  λ fine. record { run = coarse test fine.labels; ends = coarse_runs test fine.labels fine.behind v well fine.leads fine.ends },
+  λ is. record { labels = doubled test is.run; behind = fine_of (Ended v) []; leads = doubled_runs test is.run (Ended v) is.ends; ends = refl },
+)
+
+-- ---- stored snapshots
+
+abbrev Sound : Test → Fine → Type 0
+Sound test f = IsSoundIn (Stands test) test f.now f.stored
+
+in-sound : (test : Test) → AreWellTyped test.definitions → (now : Configuration) (stored : Stored) (label : FineLabel) (f : Fine) → IsSoundIn (Stands test) test now stored → fine_next test (fine_of now stored) label ≡ Some f → Sound test f
+in-sound test well (Ended v) stored label f sound e = absurd (let no = e in cc)
+in-sound test well (Goes c) stored label f sound e = moved-sound (Stands test) test (stands-kept test well) c stored label f sound (moves test c stored label f e)
+
+some-sound : (test : Test) → AreWellTyped test.definitions → (labels : List FineLabel) (before g : Fine) (label : FineLabel) (o : Option Fine) → ((f : Fine) → Sound test f → fine_run test labels f ≡ Some g → Sound test g)
+    → Sound test before → fine_next test before label ≡ o → option_and_then (fine_run test labels) o ≡ Some g → Sound test g
+some-sound test well labels before g label None rest sound next e = absurd (let no = e in cc)
+some-sound test well labels before g label (Some f) rest sound next e = rest f (in-sound test well before.now before.stored label f sound next) e
+
+some-is : {A : Type 0} (P : A → Type 0) (a b : A) → Some a ≡ Some b → P a → P b
+some-is P a b e is = subst P (let found : a ≡ b = let same = e in cc in found) is
+
+run-sound : (test : Test) → AreWellTyped test.definitions → (labels : List FineLabel) (f g : Fine) → Sound test f → fine_run test labels f ≡ Some g → Sound test g
+run-sound test well [] f g sound e = some-is (Sound test) f g e sound
+run-sound test well (label ∷ labels) f g sound e =
+    some-sound test well labels f g label (fine_next test f label) (λ h also is. run-sound test well labels h g also is) sound refl e
+
+stands-of : (test : Test) → AreWellTyped test.definitions → (f : Fine) (c : Going) (p : Path) (s : Snapshot) → Sound test f → f.now ≡ Goes c → stored_at f.stored p ≡ Some s → is_found (stands_at_alt test) (component_at c p) ≡ true
+stands-of test well f c p s sound at has =
+    let is : IsSound (Stands test) test c f.stored = subst (λ n. IsSoundIn (Stands test) test n f.stored) at sound in
+    let mine : Stores test c p s = is.stores p s has in
+    found-stands (Stands test) test (stands-kept test well) c p mine.x mine.there mine.runs mine.alt
+
+-- only components that run and stand at an `alt` have stored snapshots
+pub stored_stand : (test : Test) (labels : List FineLabel) (f : Fine) (c : Going) (p : Path) (s : Snapshot) → AreWellTyped test.definitions → fine_replay test labels ≡ Ok f → f.now ≡ Goes c → stored_at f.stored p ≡ Some s
+    → is_found (stands_at_alt test) (component_at c p) ≡ true
+stored_stand test labels f c p s well e at has =
+    stands-of test well f c p s
+    (run-sound test well labels (fine_start test) f (start-sound (Stands test) test (start test) (start-ascends test) (start-holds test well)) (fine-leads test labels 1 (fine_start test) f e)) at has

@@ -1,0 +1,4 @@
+pub mod Fine
+pub mod Fates
+pub mod Doubling
+pub mod Verdicts

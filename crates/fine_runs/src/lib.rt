@@ -1,0 +1,42 @@
+//! Laws of fine runs, in which a component's snapshot and its choice by that snapshot are two steps: they end with the verdicts
+//! of runs (ES 201 873-1, 20.2, and 873-4). They run no code.
+#![tactic(auto)]
+
+ghost use Rattle.std.specs.Prelude.{◌≡◌, ◌≤◌, List, [], Ok, Some, length, true, ◌↔◌};
+ghost use Rattle.fine_runs.specs.Doubling.{doubled};
+ghost use Rattle.fine_runs.specs.Fates.{coarse};
+ghost use Rattle.fine_runs.specs.Fine.{Fine, FineLabel, fine_replay, is_found, stands_at_alt, stored_at};
+ghost use Rattle.fine_runs.specs.Verdicts.{EndsFinelyWith, EndsWith};
+ghost use Rattle.step_rules.specs.Configurations.{Configuration, Ended, Goes, Going, component_at};
+ghost use Rattle.step_rules.specs.Runs.{replay};
+ghost use Rattle.step_rules.specs.Snapshots.{Snapshot, Test};
+ghost use Rattle.step_rules.specs.Steps.{Label};
+ghost use Rattle.ttcn_syntax.specs.declared.tree.statement.Verdict.{Verdict};
+ghost use Rattle.ttcn_types.specs.Rules.{AreWellTyped};
+ghost use Rattle.ttcn_values.specs.declared.path.Path.{Path};
+
+/// Taking snapshots and choices apart loses and adds no verdict: in a module that is accepted, fine runs end with the verdicts
+/// of runs.
+pub fn fine_runs_reach_the_same_verdicts()
+    ensures { (test : Test) (v : Verdict) → AreWellTyped test.definitions → EndsFinelyWith test v ↔ EndsWith test v }
+{}
+
+/// A fine run that ends with a verdict becomes a run that ends with it where each choice is moved to the place of its snapshot.
+/// That has no more labels.
+#[tactic(auto, using(crate::proofs::Laws::coarse_runs, crate::proofs::Replays::coarse_short))]
+pub fn choices_move_to_their_snapshots()
+    ensures run { (test : Test) (labels : List FineLabel) (f : Fine) (v : Verdict) → AreWellTyped test.definitions → fine_replay test labels ≡ Ok f → f.now ≡ Ended v → replay test (coarse test labels) ≡ Ok (Ended v) }
+    ensures short { (test : Test) (labels : List FineLabel) → length (coarse test labels) ≤ length labels }
+{}
+
+/// The doubling of a run is a fine run with the same end, and leaves no snapshot.
+#[tactic(auto, using(crate::proofs::Replays::doubled_runs))]
+pub fn doublings_are_fine_runs()
+    ensures { (test : Test) (run : List Label) (d : Configuration) → replay test run ≡ Ok d → fine_replay test (doubled test run) ≡ Ok (record { now = d; stored = [] }) }
+{}
+
+/// In a module that is accepted, only components that run and stand at an `alt` have stored snapshots.
+#[tactic(auto, using(crate::proofs::Laws::stored_stand))]
+pub fn snapshots_are_stored_at_alts()
+    ensures { (test : Test) (labels : List FineLabel) (f : Fine) (c : Going) (p : Path) (s : Snapshot) → AreWellTyped test.definitions → fine_replay test labels ≡ Ok f → f.now ≡ Goes c → stored_at f.stored p ≡ Some s → is_found (stands_at_alt test) (component_at c p) ≡ true }
+{}
