@@ -4,6 +4,7 @@ pub mod Coarse
 pub mod Doubled
 pub mod Early
 pub mod EarlySteps
+pub mod Ends
 pub mod Finding
 pub mod Fronts
 pub mod Kept

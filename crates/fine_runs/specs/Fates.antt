@@ -1,5 +1,5 @@
 -- The run that a fine run stands for: each choice is moved to the place of its snapshot.
-use Rattle.std.specs.Prelude.{Bool, List, [], ◌∷◌, Option, Some, None, if◌then◌else◌}
+use Rattle.std.specs.Prelude.{Bool, false, List, [], ◌∷◌, Option, Some, None, if◌then◌else◌}
 use Rattle.step_rules.specs.Configurations.{Component, Configuration, Ended, Goes, component_at, same_path}
 use Rattle.step_rules.specs.Runs.{option_elim}
 use Rattle.step_rules.specs.Snapshots.{Snapshot, Test}
@@ -36,8 +36,8 @@ judged_in test snapshot path (Goes c) = judged test snapshot (component_at c pat
 -- a label is the choice of the component with a path
 abbrev pub is_choice_of : Path → FineLabel → Bool
 is_choice_of path (Choose other) = same_path other path
-is_choice_of path (Snap other) = Bool.false
-is_choice_of path (Plain label) = Bool.false
+is_choice_of path (Snap other) = false
+is_choice_of path (Plain label) = false
 
 -- where a fine label leads; where it can't follow, nothing changes
 abbrev pub fine_after : Test → Fine → FineLabel → Fine

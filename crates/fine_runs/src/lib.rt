@@ -6,7 +6,7 @@ ghost use Rattle.std.specs.Prelude.{◌≡◌, ◌≤◌, List, [], Ok, Some, le
 ghost use Rattle.fine_runs.specs.Doubling.{doubled};
 ghost use Rattle.fine_runs.specs.Fates.{coarse};
 ghost use Rattle.fine_runs.specs.Fine.{Fine, FineLabel, fine_replay, is_found, stands_at_alt, stored_at};
-ghost use Rattle.fine_runs.specs.Verdicts.{EndsFinelyWith, EndsWith};
+ghost use Rattle.fine_runs.specs.Verdicts.{EndsFinelyWith, EndsWith, HasRun};
 ghost use Rattle.step_rules.specs.Configurations.{Configuration, Ended, Goes, Going, component_at};
 ghost use Rattle.step_rules.specs.Runs.{replay};
 ghost use Rattle.step_rules.specs.Snapshots.{Snapshot, Test};
@@ -39,4 +39,9 @@ pub fn doublings_are_fine_runs()
 #[tactic(auto, using(crate::proofs::Laws::stored_stand))]
 pub fn snapshots_are_stored_at_alts()
     ensures { (test : Test) (labels : List FineLabel) (f : Fine) (c : Going) (p : Path) (s : Snapshot) → AreWellTyped test.definitions → fine_replay test labels ≡ Ok f → f.now ≡ Goes c → stored_at f.stored p ≡ Some s → is_found (stands_at_alt test) (component_at c p) ≡ true }
+{}
+
+/// Labels that lead to a verdict one after the other are those of a run.
+pub fn labels_lead_where_runs_end()
+    ensures { (test : Test) (v : Verdict) → EndsWith test v ↔ HasRun test v }
 {}

@@ -1,5 +1,6 @@
 pub mod Checks
 pub mod Following
+pub mod Listed
 pub mod OneAnswer
 pub mod OneReplay
 pub mod OneReport

@@ -1,6 +1,6 @@
 -- A text, the name of a test case and a plan have one answer.
 use Rattle.std.proofs.Common.{◌≡◌, ℕ, List, refl, sym, subst, ◌∙◌, arith}
-use Rattle.std.specs.Prelude.{Some, None}
+use Rattle.std.specs.Prelude.{Some}
 use Rattle.search_layer.specs.declared.plan.Plan.{Plan}
 use Rattle.live_laws.proofs.PartCounts.{counts_once}
 use Rattle.step_rules.specs.Snapshots.{Test}

@@ -1,5 +1,5 @@
 -- A text, the name of a test case and a run file have one answer.
-use Rattle.std.proofs.Common.{◌≡◌, ℕ, List, refl, sym, ap, subst, ◌∙◌}
+use Rattle.std.proofs.Common.{◌≡◌, ℕ, List, sym, ap, subst, ◌∙◌}
 use Rattle.std.specs.Prelude.{Result, Ok, Err, map}
 use Rattle.report.proofs.Lines.{first_bad_same, run_has_no_bad, run_same}
 use Rattle.report.specs.Runs.{ReadsRun, lines_of}
@@ -8,7 +8,7 @@ use Rattle.step_labels.specs.declared.label.Label.{Label}
 use Rattle.step_rules.specs.Configurations.{Configuration}
 use Rattle.step_rules.specs.Runs.{replay}
 use Rattle.step_rules.specs.Snapshots.{Test}
-use Rattle.ttcnx.specs.Replayed.{Answer, HasOneReplay, IsReplay, OfRun, SameReplay, bad_label, lacking, named, not_enabled, replayed, replayed_text}
+use Rattle.ttcnx.specs.Replayed.{Answer, HasOneReplay, OfRun, SameReplay, bad_label, lacking, named, not_enabled, replayed, replayed_text}
 use Rattle.ttcnx.specs.declared.fault.Fault.TheVariants as fault
 use Rattle.ttcnx.proofs.OneAnswer.{not_both, one_reason, one_test}
 

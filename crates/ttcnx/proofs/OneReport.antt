@@ -1,5 +1,5 @@
 -- A test case has one report.
-use Rattle.std.proofs.Common.{◌≡◌, ℕ, ◌≤◌, Bool, true, false, List, [], ◌∷◌, ◌++◌, length, map, refl, sym, ap, ◌∙◌, arith, inl, inr}
+use Rattle.std.proofs.Common.{◌≡◌, ℕ, Bool, true, false, List, [], ◌∷◌, ◌++◌, length, map, refl, sym, ap, ◌∙◌, arith, inl, inr}
 use Rattle.std.specs.Prelude.{◌↔◌, Option, Some, None, IsTrue, codes, string_bytes}
 use Rattle.std.specs.List.{cons_option, filter_map, flat_map}
 use Rattle.std.specs.Option.{option_map}
@@ -15,7 +15,7 @@ use Rattle.summary.specs.Run.{Run, Before, NoLater, labels_of}
 use Rattle.summary.specs.Exploration.{IsBest}
 use Rattle.explore.proofs.RunOrder.{before_trans}
 use Rattle.search_layer.specs.declared.plan.Plan.{Plan}
-use Rattle.exploration.specs.Found.{AreBlocked, AreBranches, IsBestRun, place_cmp, standing_cmp}
+use Rattle.exploration.specs.Found.{AreBlocked, AreBranches, IsBestRun}
 use Rattle.live_laws.proofs.PartCounts.{counts_once}
 use Rattle.place_summaries.proofs.OneAscent.{one_ascent}
 use Rattle.place_summaries.specs.Ascent.{Ascends}

@@ -1,7 +1,6 @@
 -- Refusals and faults: what is printed of them, and the status that they lead to.
 use Rattle.std.specs.Prelude.{◌≡◌, ℕ, List, ◌++◌, codes, string_bytes}
 use Rattle.std.specs.Fmt.{decimal}
-use Rattle.ttcn_syntax.specs.declared.place.Span.{Span}
 use Rattle.ttcn_syntax.specs.declared.error.LexError.{LexError}
 use Rattle.ttcn_syntax.specs.declared.error.LexError.TheVariants as lexical
 use Rattle.search_layer.specs.declared.plan.ExploreError.{ExploreError}

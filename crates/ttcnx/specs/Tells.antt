@@ -1,5 +1,5 @@
 -- What a report says about the runs of a test case (ES 201 873-4).
-use Rattle.std.specs.Prelude.{◌≡◌, ◌≤◌, ◌↔◌, ℕ, List, [], ◌∷◌, Option, None, Some, IsTrue, map, string_bytes}
+use Rattle.std.specs.Prelude.{◌≡◌, ◌≤◌, ◌↔◌, ℕ, List, [], ◌∷◌, Contains, Option, None, Some, IsTrue, map, string_bytes}
 use Rattle.std.specs.List.{filter_map}
 use Rattle.std.specs.Option.{option_map}
 use Rattle.std.specs.declared.alloc.Global.{Global}
@@ -48,6 +48,10 @@ pub record TellsOfRuns (test : Test) (n : ℕ) (report : Report) : Type 0 where
   pub outcomes : report.outcomes.items ≡ outcomes_of run_of
   pub branches : AreBranches test n report.branches.items
   pub blocked : AreBlocked test n (map standing_in report.blocked.items)
+
+-- the report lists a verdict
+abbrev pub Lists : Report → Verdict → Type 0
+Lists report v = Contains (map (λ outcome. outcome.verdict) report.outcomes.items) v
 
 -- the report has the test case's name and the plan's steps, is true of the runs of at most so many steps, and says whether
 -- longer runs reach no other configuration

@@ -1,14 +1,16 @@
 //! From the text of a module to the report on one of its test cases.
 ghost use Rattle.std.specs.Prelude.{◌≡◌, ℕ, ◌<◌, ◌≤◌, ◌⊎◌, ◌↔◌, length, Err, IfOk, IsErrOf, IsTrue, map, string_bytes};
 ghost use Rattle.std.specs.List.{filter_map, zip};
+ghost use Rattle.fine_runs.specs.Verdicts.{EndsFinelyWith, EndsWith};
 ghost use Rattle.search_layer.specs.Limits.{IsWithinLimits};
 ghost use Rattle.step_rules.specs.Snapshots.{Test};
 ghost use Rattle.ttcn_step.specs.Standing.{standing_by};
 ghost use Rattle.ttcn_syntax.specs.Limits.{longest_text};
+ghost use Rattle.ttcn_syntax.specs.declared.tree.statement.Verdict as tree;
 ghost use Rattle.ttcnx.specs.Answer.{HasOneAnswer, IsAnswer};
 ghost use Rattle.ttcnx.specs.Fault.{lexical_fault};
 ghost use Rattle.ttcnx.specs.Named.{IsTestOf};
-ghost use Rattle.ttcnx.specs.Tells.{TellsOfRuns, all_verdicts, outcome_of, standing_in};
+ghost use Rattle.ttcnx.specs.Tells.{Lists, TellsOfRuns, all_verdicts, outcome_of, standing_in};
 
 use crate::fault::Fault;
 use crate::testcase::testcase_of;
@@ -49,6 +51,10 @@ pub fn run_text<G: Gate, R: Threads + Sync>(
     // Where it is complete, the report is true of the runs of every greater bound.
     ensures every_bound { IfOk result (λ report. IsTrue report.complete → (test : Test) → IsTestOf text.now name.now test
         → (bound : ℕ) → plan.now.steps ≤ bound → TellsOfRuns test bound report) }
+
+    // It then lists the verdicts of all runs, and of all in which snapshots and choices are two steps.
+    ensures every_verdict { IfOk result (λ report. IsTrue report.complete → (test : Test) → IsTestOf text.now name.now test
+        → (v : tree.Verdict) → (Lists report v ↔ EndsWith test v) × (Lists report v ↔ EndsFinelyWith test v)) }
 
     // These two are decided before memory is asked for.
     ensures bad_plan { IsErrOf result Fault.BadPlan ↔ (IsWithinLimits plan.now → ⊥) }

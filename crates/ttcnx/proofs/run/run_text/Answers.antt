@@ -1,7 +1,7 @@
 use Rattle.std.proofs.Common.{◌≡◌, inl, inr, refl, sym, ap, subst}
 use Rattle.std.specs.Prelude.{◌⊎◌, Err}
-use Rattle.search_layer.specs.Limits.{IsWithinLimits}
 use Rattle.step_rules.specs.Snapshots.{Test}
+use Rattle.ttcnx.proofs.Listed.{lists_verdicts}
 use Rattle.ttcnx.proofs.OneAnswer.{one_test}
 use Rattle.ttcnx.proofs.Stages.{as_error, name_answers, search_answers}
 use Rattle.ttcnx.proofs.Told.{IsMadeOf, complete_found, tells, tells_of_runs}
@@ -70,3 +70,7 @@ returns-clause-every_bound g c =
     λ complete test is_test bound above.
     subst (λ (t : Test). TellsOfRuns t bound report) (one_test c.args.text.now c.args.name.now machine.test test is is_test)
     (tells_of_runs machine.test bound found report made (c.in_ok-found.ensures.every_bound (complete_found found report made complete) bound above))
+
+pub returns-clause-every_verdict : goal.returns-clause-every_verdict
+returns-clause-every_verdict g c =
+    λ complete test is_test. lists_verdicts c.args.text.now c.args.name.now test c.args.plan.now.steps c.in_ok-report_of.field-0 is_test (returns-clause-every_bound g c complete test is_test)
