@@ -4,10 +4,10 @@ use Rattle.std.specs.Option.{option_and_then}
 use Rattle.ttcn_syntax.specs.declared.tree.statement.Verdict.{Verdict}
 use Rattle.ttcn_syntax.specs.declared.tree.statement.Verdict.TheVariants as verdict
 use Rattle.fine_runs.proofs.Choices.{IsOfAlt, act-of-alt}
-use Rattle.fine_runs.proofs.Early.{Pending, early, early-at, early_in, hastened, hastened-state, made_if, next_early, snapshot-early}
-use Rattle.fine_runs.proofs.EarlySteps.{IsMore, IsOnly, OutcomeIs, chosen_early, expiry_early, first-early, made_at, only-early, outcome-is}
+use Rattle.fine_runs.proofs.Early.{Pending, early, early-at, early_in, hastened, hastened-state, next_early, snapshot-early}
+use Rattle.fine_runs.proofs.EarlySteps.{IsMore, IsOnly, OutcomeIs, chosen_early, expiry_early, first-early, made_at, only-early, outcome-is, free}
 use Rattle.fine_runs.proofs.Moves.{HasChosen, HasExpired, HasMoved, HasSnapped, HasStepped, has_expired, moves}
-use Rattle.fine_runs.proofs.Pending.{StaysStored, after-is, all-ready, all-run, chosen-gone, early-in-same, early-same, fate-here, fate-now, fate-on, is-bound, is-free, moved-other, pending, pending-is, pending-none, pending-not, pending-on, stored-stays, takes, touches, unstored}
+use Rattle.fine_runs.proofs.Pending.{StaysStored, fine-after-is, all-ready, all-run, chosen-gone, early-in-same, early-same, fate-here, fate-now, fate-on, is-bound, is-free, moved-other, pending, pending-is, pending-none, pending-not, pending-on, stored-stays, takes, touches, unstored}
 use Rattle.fine_runs.proofs.Sound.{IsKeptBySteps, IsSound, IsSoundIn, Stores, consed-at, moved-sound, only-there}
 use Rattle.fine_runs.specs.Fates.{Fate, Faults, Lapses, Takes, by_fate, coarse_from, fate, fate_of, is_choice_of, judged}
 use Rattle.fine_runs.specs.Fine.{Choose, Fine, FineLabel, Plain, Snap, Stored, chosen, fine_next, is_at_alt, stored_at, without_stored}
@@ -24,7 +24,7 @@ use Rattle.ttcn_values.specs.declared.value.ComponentId.{ComponentId}
 
 -- ---- what is asked for, by its fate
 
-lapsing : (test : Test) (c : Going) (itself : ComponentId) (a : Act) → fate_of a ≡ Lapses → apply test c itself a ≡ None
+pub lapsing : (test : Test) (c : Going) (itself : ComponentId) (a : Act) → fate_of a ≡ Lapses → apply test c itself a ≡ None
 lapsing test c itself Waits is = refl
 lapsing test c itself (Errs why) is = absurd (let no = is in cc)
 lapsing test c itself (Continues own) is = absurd (let no = is in cc)
@@ -36,7 +36,7 @@ lapsing test c itself (Starts path frame own) is = absurd (let no = is in cc)
 lapsing test c itself (Stops path own) is = absurd (let no = is in cc)
 lapsing test c itself (Connects d e own) is = absurd (let no = is in cc)
 
-faulting : (test : Test) (c : Going) (itself : ComponentId) (a : Act) → fate_of a ≡ Faults → option_map settled (apply test c itself a) ≡ Some (Ended verdict.Error)
+pub faulting : (test : Test) (c : Going) (itself : ComponentId) (a : Act) → fate_of a ≡ Faults → option_map settled (apply test c itself a) ≡ Some (Ended verdict.Error)
 faulting test c itself Waits is = absurd (let no = is in cc)
 faulting test c itself (Errs why) is = refl
 faulting test c itself (Continues own) is = absurd (let no = is in cc)
@@ -62,13 +62,10 @@ taking test c x (Connects d e own) is alt outcome = absurd alt
 
 -- ---- the step of a component that chooses at once
 
-free : (test : Test) (pending : Pending) (x : Component) → pending (path_of x) ≡ None → hastened test pending x ≡ x
-free test pending x none = ap (λ o. made_if test o x) none
-
 asked-early : (test : Test) (pending : Pending) (c : Going) (p : Path) (x : Component) → component_at c p ≡ Some x → is_running_state x.state ≡ true → pending (path_of x) ≡ None
     → next test (Goes (early test pending c)) (Statement p) ≡ option_map settled (apply test (early test pending c) x.itself (act test (snapshot_of c x) x.own))
 asked-early test pending c p x there runs none =
-    ap (λ o. option_map settled (option_and_then (statement_step test (early test pending c)) o)) (early-at test pending c p ∙ ap (option_map (hastened test pending)) there ∙ ap Some (free test pending x none))
+    ap (λ o. option_map settled (option_and_then (statement_step test (early test pending c)) o)) (early-at test pending c p ∙ ap (option_map (hastened test pending)) there ∙ ap Some (free test pending (path_of x) x refl none))
     ∙ ap (λ b. option_map settled (if b then apply test (early test pending c) x.itself (act test (snapshot_of (early test pending c) x) x.own) else None)) runs
     ∙ ap (λ s. option_map settled (apply test (early test pending c) x.itself (act test s x.own))) (snapshot-early test pending c x)
 
@@ -218,7 +215,7 @@ module _ (Lawful : Going → Type 0) (test : Test) (laws : IsKeptBySteps test La
       → leads test (coarse_from test (fine_of (Goes c) stored) (Plain label ∷ labels)) (Goes (early test (pending test (fine_of (Goes c) stored) (Plain label ∷ labels)) c)) ≡ Some (Ended v)
   plain-leads c stored label labels f g v sound none next is run later =
       ap (λ h. option_and_then (leads test (coarse_from test h labels)) (steps.next test (Goes (early test (pending test (fine_of (Goes c) stored) (Plain label ∷ labels)) c)) label))
-      (after-is test (fine_of (Goes c) stored) f (Plain label) next)
+      (fine-after-is test (fine_of (Goes c) stored) f (Plain label) next)
       ∙ ap (option_and_then (leads test (coarse_from test f labels))) (stepped-early c stored label labels f sound next is)
       ∙ later f.now f.stored (moved-sound Lawful test laws c stored (Plain label) f sound is)
       (faults-next c stored (Plain label) labels f none next is (λ p s at. absurd (let no = at in cc))) run
@@ -333,7 +330,7 @@ module _ (Lawful : Going → Type 0) (test : Test) (laws : IsKeptBySteps test La
       → leads test (coarse_from test (fine_of (Goes c) stored) (Snap r ∷ labels)) (Goes (early test (pending test (fine_of (Goes c) stored) (Snap r ∷ labels)) c)) ≡ Some (Ended v)
   snap-leads c stored r labels f g v sound none next is run ends later =
       ap (λ h. leads test (by_fate r (fate test r h labels) (coarse_from test h labels)) (Goes (early test (pending test (fine_of (Goes c) stored) (Snap r ∷ labels)) c)))
-      (after-is test (fine_of (Goes c) stored) f (Snap r) next)
+      (fine-after-is test (fine_of (Goes c) stored) f (Snap r) next)
       ∙ fate-leads c stored r labels f g v (fate test r f labels) sound none next is run ends later refl
 
   -- ---- choices
@@ -416,7 +413,7 @@ module _ (Lawful : Going → Type 0) (test : Test) (laws : IsKeptBySteps test La
       → fine_next test (fine_of (Goes c) stored) (Choose r) ≡ Some f → HasChosen test c stored r f → fine_run test labels f ≡ Some g → LeadsOn labels g v
       → leads test (coarse_from test (fine_of (Goes c) stored) (Choose r ∷ labels)) (Goes (early test (pending test (fine_of (Goes c) stored) (Choose r ∷ labels)) c)) ≡ Some (Ended v)
   choose-leads c stored r labels f g v sound none next is run later =
-      ap (λ h. leads test (coarse_from test h labels) (Goes (early test (pending test (fine_of (Goes c) stored) (Choose r ∷ labels)) c))) (after-is test (fine_of (Goes c) stored) f (Choose r) next)
+      ap (λ h. leads test (coarse_from test h labels) (Goes (early test (pending test (fine_of (Goes c) stored) (Choose r ∷ labels)) c))) (fine-after-is test (fine_of (Goes c) stored) f (Choose r) next)
       ∙ ap (leads test (coarse_from test f labels)) (choice-same c stored r labels f (fate_of (act test is.snapshot is.x.own)) sound none next is refl)
       ∙ later f.now f.stored (moved-sound Lawful test laws c stored (Choose r) f sound is) (choice-none c stored r labels f none next is) run
 

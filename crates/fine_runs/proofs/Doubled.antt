@@ -16,23 +16,23 @@ use Rattle.ttcn_values.specs.Outcomes.{Outcome}
 use Rattle.ttcn_values.specs.declared.path.Path.{Path}
 
 -- no snapshot is left of none
-none-still : (d : Configuration) → still_stored d [] ≡ []
+pub none-still : (d : Configuration) → still_stored d [] ≡ []
 none-still (Ended v) = refl
 none-still (Goes c) = refl
 
 -- a label that is no statement of an `alt`
-plain-next : (test : Test) (c : Going) (label : Label) (d : Configuration) → is_of_alt test c label ≡ false → next test (Goes c) label ≡ Some d → fine_next test (fine_of (Goes c) []) (Plain label) ≡ Some (fine_of d [])
+pub plain-next : (test : Test) (c : Going) (label : Label) (d : Configuration) → is_of_alt test c label ≡ false → next test (Goes c) label ≡ Some d → fine_next test (fine_of (Goes c) []) (Plain label) ≡ Some (fine_of d [])
 plain-next test c label d other e =
     ap (λ b. if b then None else option_map (behind []) (next test (Goes c) label)) other ∙ ap (option_map (behind [])) e ∙ ap Some (ap (fine_of d) (none-still d))
 
-found-stands : (test : Test) (c : Going) (p : Path) (x : Component) → component_at c p ≡ Some x → is_found (stands_at_alt test) (component_at c p) ≡ true → stands_at_alt test x ≡ true
-found-stands test c p x there is = sym (ap (is_found (stands_at_alt test)) there) ∙ is
+pub stands-found : (test : Test) (c : Going) (p : Path) (x : Component) → component_at c p ≡ Some x → is_found (stands_at_alt test) (component_at c p) ≡ true → stands_at_alt test x ≡ true
+stands-found test c p x there is = sym (ap (is_found (stands_at_alt test)) there) ∙ is
 
-abbrev stored_of : Going → Component → Stored
+abbrev pub stored_of : Going → Component → Stored
 stored_of c x = (path_of x, snapshot_of c x) ∷ []
 
 -- the snapshot
-snap-next : (test : Test) (c : Going) (p : Path) (x : Component) → component_at c p ≡ Some x → stands_at_alt test x ≡ true → fine_next test (fine_of (Goes c) []) (Snap p) ≡ Some (fine_of (Goes c) (stored_of c x))
+pub snap-next : (test : Test) (c : Going) (p : Path) (x : Component) → component_at c p ≡ Some x → stands_at_alt test x ≡ true → fine_next test (fine_of (Goes c) []) (Snap p) ≡ Some (fine_of (Goes c) (stored_of c x))
 snap-next test c p x there is =
     ap (option_and_then (snap test c [])) there ∙ ap (λ b. if b && true then Some (fine_of (Goes c) (stored_of c x)) else None) is
 
@@ -40,7 +40,7 @@ without-one : (c : Going) (x : Component) → without_stored (path_of x) (stored
 without-one c x = ap (λ b. if not b then stored_of c x else []) (path-same (path_of x))
 
 -- the choice by it
-choose-next : (test : Test) (c : Going) (p : Path) (x : Component) (o : Outcome Configuration) → component_at c p ≡ Some x → apply test c x.itself (act test (snapshot_of c x) x.own) ≡ Some o
+pub choose-next : (test : Test) (c : Going) (p : Path) (x : Component) (o : Outcome Configuration) → component_at c p ≡ Some x → apply test c x.itself (act test (snapshot_of c x) x.own) ≡ Some o
     → fine_next test (fine_of (Goes c) (stored_of c x)) (Choose p) ≡ Some (fine_of (settled o) [])
 choose-next test c p x o there applied =
     ap (option_and_then (λ y. choose test c (stored_of c x) y (stored_at (stored_of c x) p))) there
@@ -54,7 +54,7 @@ alt-next : (test : Test) (c : Going) (p : Path) (d : Configuration) (others : Li
     → fine_run test (Snap p ∷ Choose p ∷ others) (fine_of (Goes c) []) ≡ fine_run test others (fine_of d [])
 alt-next test c p d others is e =
     let at : HasActed test c p d = acted test c p d e in
-    ap (option_and_then (fine_run test (Choose p ∷ others))) (snap-next test c p at.x at.there (found-stands test c p at.x at.there is))
+    ap (option_and_then (fine_run test (Choose p ∷ others))) (snap-next test c p at.x at.there (stands-found test c p at.x at.there is))
     ∙ ap (option_and_then (fine_run test others)) (choose-next test c p at.x at.outcome at.there at.applied)
     ∙ ap (λ x. fine_run test others (fine_of x [])) (sym at.to)
 

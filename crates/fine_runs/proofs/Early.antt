@@ -148,7 +148,7 @@ touched-one test pending p change other x same =
     ∙ ap (λ st. if same_path (path_of x) p then (if is_terminated_state st then hastened test pending x else other (hastened test pending x)) else hastened test pending x) (hastened-state test pending x)
     ∙ touched-told (hastened test pending) change other x (same_path (path_of x) p) (is_terminated_state x.state) same
 
-abbrev with_components : Going → List Component → Going
+abbrev pub with_components : Going → List Component → Going
 with_components c xs = record { components = xs; connections = c.connections; forgotten = c.forgotten }
 
 pub touch-early : (test : Test) (pending : Pending) (c : Going) (p : Path) (change other : Component → Component) → All (AgreesAt test pending p change other) c.components
@@ -300,9 +300,6 @@ deliver-early : (test : Test) (pending : Pending) (c : Going) (message : Message
 deliver-early test pending c message [] ready = refl
 deliver-early test pending c message (e ∷ []) ready = ap Yields (touch-queue test pending c e.component e.port message ready)
 deliver-early test pending c message (d ∷ e ∷ ends) ready = refl
-
-none-told : (pending : Pending) (p : Path) (state : State) → (is_running_state state ≡ false → pending p ≡ None) → state ≡ Created → pending p ≡ None
-none-told pending p state run is = run (ap is_running_state is)
 
 start-in-early : (test : Test) (pending : Pending) (c : Going) (p : Path) (frame : Frame) (state : State) → (is_running_state state ≡ false → pending p ≡ None)
     → start_in (early test pending c) p frame state ≡ outcome_map (early test pending) (start_in c p frame state)

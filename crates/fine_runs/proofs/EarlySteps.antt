@@ -4,7 +4,7 @@ use Rattle.std.specs.List.{All}
 use Rattle.std.specs.Option.{option_and_then}
 use Rattle.std.proofs.lemmas.List.Elements.{All-cons, All-head, All-nil, All-tail}
 use Rattle.fine_runs.proofs.Choices.{IfData, IsOfAlt, IsSafeIn, act_lapses, act-of-alt, act-timer, asked}
-use Rattle.fine_runs.proofs.Early.{Pending, early, early-at, hastened, hastened-path, made, made_by, made_if, map-all, map-map, touch-early}
+use Rattle.fine_runs.proofs.Early.{Pending, early, early-at, hastened, hastened-path, made, made_by, made_if, map-all, map-map, touch-early, with_components}
 use Rattle.fine_runs.proofs.Lapses.{expired-is, expiring, lapsed, timer_in, uncovered-lapses, uncovered-timer}
 use Rattle.fine_runs.specs.Fine.{is_at_alt}
 use Rattle.fine_runs.proofs.Finding.{alive, path-is}
@@ -22,9 +22,6 @@ use Rattle.ttcn_values.specs.declared.path.Path.{Path}
 -- the component that is found at a path is the only one there
 abbrev pub IsOnly : Path → Component → Going → Type 0
 IsOnly p x c = All (λ y. same_path (path_of y) p ≡ true → y ≡ x) c.components
-
-abbrev with_components : Going → List Component → Going
-with_components c xs = record { components = xs; connections = c.connections; forgotten = c.forgotten }
 
 -- ---- a choice
 
@@ -106,7 +103,7 @@ made-path (Stops path own) x = refl
 made-path (Connects d e own) x = refl
 
 -- a component that hasn't to choose is as it is
-free : (test : Test) (pending : Pending) (p : Path) (y : Component) → path_of y ≡ p → pending p ≡ None → hastened test pending y ≡ y
+pub free : (test : Test) (pending : Pending) (p : Path) (y : Component) → path_of y ≡ p → pending p ≡ None → hastened test pending y ≡ y
 free test pending p y at none = ap (λ o. made_if test o y) (ap pending at ∙ none)
 
 -- one that has to has done what it asks for

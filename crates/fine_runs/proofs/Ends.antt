@@ -27,17 +27,17 @@ more-leads test (label ∷ one) other c = told (next test c label) (more-leads t
     told None rest = refl
     told (Some d) rest = rest d
 
-stepped : (o : Option (Outcome Configuration)) → is_some o ≡ true → (d : Configuration) × (option_map settled o ≡ Some d)
-stepped None is = absurd (let no = is in cc)
-stepped (Some out) is = (settled out, refl)
+some-settled : (o : Option (Outcome Configuration)) → is_some o ≡ true → (d : Configuration) × (option_map settled o ≡ Some d)
+some-settled None is = absurd (let no = is in cc)
+some-settled (Some out) is = (settled out, refl)
 
-after-is : (test : Test) (c d : Configuration) (label : Label) → next test c label ≡ Some d → (graph_of test).after c label ≡ d
-after-is test c d label e = ap (option_elim c (λ x. x)) e
+graph-after : (test : Test) (c d : Configuration) (label : Label) → next test c label ≡ Some d → (graph_of test).after c label ≡ d
+graph-after test c d label e = ap (option_elim c (λ x. x)) e
 
 -- an enabled label leads on
 next-some : (test : Test) (ls : List Label) (c : Configuration) (label : Label) → replay test ls ≡ Ok c → Contains (labels test c) label → (d : Configuration) × (next test c label ≡ Some d)
 next-some test ls (Ended v) label e h = let lt = h.1 in absurd (omega (arith, lt))
-next-some test ls (Goes c) label e h = stepped (step test (Goes c) label) ((labels_step_in_runs test ls c e label).0 h)
+next-some test ls (Goes c) label e h = some-settled (step test (Goes c) label) ((labels_step_in_runs test ls c e label).0 h)
 
 -- what leads on is enabled
 some-step : (o : Option (Outcome Configuration)) (d : Configuration) → option_map settled o ≡ Some d → is_some o ≡ true
@@ -51,7 +51,7 @@ enabled test ls (Goes c) d label e leads-on = (labels_step_in_runs test ls c e l
 -- ---- runs of the graph
 
 last-leads : (test : Test) (c d : Configuration) (label : Label) → next test c label ≡ Some d → leads test (label ∷ []) c ≡ Some ((graph_of test).after c label)
-last-leads test c d label e = ap (option_and_then (leads test [])) e ∙ ap Some (sym (after-is test c d label e))
+last-leads test c d label e = ap (option_and_then (leads test [])) e ∙ ap Some (sym (graph-after test c d label e))
 
 -- a run leads to its end
 run-leads : (test : Test) (run : Run Label) → IsRun (graph_of test) run → leads test (labels_of run) (start test) ≡ Some (end_of (graph_of test) run)
@@ -71,7 +71,7 @@ grown test run label labels d None rest is e leads-on = absurd (let no = leads-o
 grown test run label labels d (Some c) rest is e leads-on =
     rest (Then run label)
     (is, enabled test (labels_of run) (end_of (graph_of test) run) c label (leads-replay test (labels_of run) 1 (start test) (end_of (graph_of test) run) (run-leads test run is)) e)
-    (ap (leads test labels) (after-is test (end_of (graph_of test) run) c label e) ∙ leads-on)
+    (ap (leads test labels) (graph-after test (end_of (graph_of test) run) c label e) ∙ leads-on)
 
 grows : (test : Test) (labels : List Label) (d : Configuration) (run : Run Label) → IsRun (graph_of test) run → leads test labels (end_of (graph_of test) run) ≡ Some d → Reaches test d
 grows test [] d run is e = (run, is, some-is (end_of (graph_of test) run) d e)

@@ -1,5 +1,5 @@
 -- Finding components by their paths, and what is found behind a change.
-use Rattle.std.proofs.Common.{◌≡◌, Bool, true, false, List, [], ◌∷◌, map, Option, Some, option_map, refl, ap, subst, ◌∙◌, if◌then◌else◌}
+use Rattle.std.proofs.Common.{◌≡◌, Bool, true, false, List, [], ◌∷◌, map, Option, Some, None, option_map, refl, ap, subst, ◌∙◌, if◌then◌else◌}
 use Rattle.std.specs.List.{find}
 use Rattle.std.proofs.lemmas.Slice.Eq.{bytes_eq-Decides}
 use Rattle.step_rules.specs.Configurations.{Component, Created, Going, Running, State, Terminated, component_at, is_running_state, is_terminated_state, path_of, same_path}
@@ -7,6 +7,10 @@ use Rattle.ttcn_values.specs.declared.path.Path.{Path}
 
 pub some-is : {A : Type 0} (a b : A) → Some a ≡ Some b → a ≡ b
 some-is a b e = let found = e in cc
+
+pub none-if : {A : Type 0} (b : Bool) (o : Option A) → o ≡ None → (if b then o else None) ≡ None
+none-if true o is = is
+none-if false o is = refl
 
 -- ---- what is found passes the test
 

@@ -1,5 +1,5 @@
--- Fine runs of modules that are accepted.
-use Rattle.std.proofs.Common.{◌≡◌, ℕ, true, false, List, [], ◌∷◌, map, bytes_eq, Option, Some, None, Ok, IfSome, ◌↔◌, refl, sym, subst}
+-- Fine runs of modules that break no rule of the checker.
+use Rattle.std.proofs.Common.{◌≡◌, ◌∙◌, ℕ, true, false, List, [], ◌∷◌, map, bytes_eq, Option, Some, None, Ok, IfSome, ◌↔◌, refl, sym, subst, ap}
 use Rattle.std.specs.List.{AllPairs}
 use Rattle.std.specs.Option.{option_and_then}
 use Rattle.ttcn_syntax.specs.declared.tree.statement.Action.{Action}
@@ -16,14 +16,14 @@ use Rattle.fine_runs.proofs.Fronts.{PortsDiffer}
 use Rattle.fine_runs.proofs.Kept.{IsApart, IsApartAt}
 use Rattle.fine_runs.proofs.Lapses.{lapsed}
 use Rattle.fine_runs.proofs.Leading.{fine_of, fine_run}
-use Rattle.fine_runs.proofs.Moves.{moves}
+use Rattle.fine_runs.proofs.Moves.{HasMoved, moves}
 use Rattle.fine_runs.proofs.Origins.{HasEvent, WaitsFor}
 use Rattle.fine_runs.proofs.Replays.{coarse-runs, doubled_runs, fine-leads, start-sound}
 use Rattle.fine_runs.proofs.Sound.{HoldsIn, IsKeptBySteps, IsSound, IsSoundIn, Stores, found-stands, moved-sound}
 use Rattle.fine_runs.proofs.Stays.{AscendsIn}
 use Rattle.fine_runs.specs.Doubling.{doubled}
 use Rattle.fine_runs.specs.Fates.{coarse}
-use Rattle.fine_runs.specs.Fine.{Fine, FineLabel, Stored, fine_next, fine_replay, fine_start, is_found, stands_at_alt, stored_at}
+use Rattle.fine_runs.specs.Fine.{Choose, Fine, FineLabel, Plain, Snap, Stored, fine_next, fine_replay, chosen, fine_start, is_found, stands_at_alt, still_stored, stored_at, without_stored}
 use Rattle.fine_runs.specs.Verdicts.{EndsFinelyWith, EndsWith}
 use Rattle.site_laws.proofs.Awaited.{awaited_outside}
 use Rattle.site_laws.proofs.Firsts.{queues_differ}
@@ -33,7 +33,7 @@ use Rattle.site_laws.specs.Standing.{StandsByRules}
 use Rattle.step_laws.proofs.Runs.{start_ordered}
 use Rattle.step_laws.specs.Order.{IsInOrder, StandsInOrder}
 use Rattle.step_rules.proofs.Pairs.{pairs-map}
-use Rattle.step_rules.specs.Configurations.{Component, Configuration, Ended, Frame, Goes, Going, Queue, component_at}
+use Rattle.step_rules.specs.Configurations.{Component, Configuration, Ended, Frame, Goes, Going, Queue, component_at, path_of}
 use Rattle.step_rules.specs.Items.{Does, Doing, From, Item, Last, Loop, Mark, Name, Start, Waiting, Whole, action_of}
 use Rattle.step_rules.specs.Runs.{replay, start}
 use Rattle.step_rules.specs.Snapshots.{Snapshot, Test, front_at}
@@ -178,3 +178,40 @@ pub stored_stand : (test : Test) (labels : List FineLabel) (f : Fine) (c : Going
 stored_stand test labels f c p s well e at has =
     stands-of test well f c p s
     (run-sound test well labels (fine_start test) f (start-sound (Stands test) test (start test) (start-ascends test) (start-holds test well)) (fine-leads test labels 1 (fine_start test) f e)) at has
+
+-- ---- the end
+
+still-none : (d : Configuration) (v : Verdict) (stored : Stored) → d ≡ Ended v → still_stored d stored ≡ []
+still-none d v stored ended = ap (λ x. still_stored x stored) ended
+
+chosen-none : (c : Going) (others : Stored) (o : Option (Outcome Configuration)) (v : Verdict) → (chosen c others o).now ≡ Ended v → (chosen c others o).stored ≡ []
+chosen-none c others None v ended = absurd (let no = ended in cc)
+chosen-none c others (Some outcome) v ended = still-none (settled outcome) v others ended
+
+moved-none : (test : Test) (c : Going) (stored : Stored) (label : FineLabel) (f : Fine) (v : Verdict) → HasMoved test c stored label f → f.now ≡ Ended v → f.stored ≡ []
+moved-none test c stored (Snap p) f v is ended = absurd (let no : Goes c ≡ Ended v = sym (ap (λ (g : Fine). g.now) is.to) ∙ ended in cc)
+moved-none test c stored (Choose p) f v is ended =
+    ap (λ (g : Fine). g.stored) is.to
+    ∙ chosen-none c (without_stored (path_of is.x) stored) (apply test c is.x.itself (act test is.snapshot is.x.own)) v (sym (ap (λ (g : Fine). g.now) is.to) ∙ ended)
+moved-none test c stored (Plain label) f v is ended =
+    ap (λ (g : Fine). g.stored) is.to ∙ still-none is.d v stored (sym (ap (λ (g : Fine). g.now) is.to) ∙ ended)
+
+-- a test case that has ended has no stored snapshots
+abbrev IsEmptyWhereEnded : Fine → Type 0
+IsEmptyWhereEnded f = (v : Verdict) → f.now ≡ Ended v → f.stored ≡ []
+
+next-none : (test : Test) (now : Configuration) (stored : Stored) (label : FineLabel) (f : Fine) → fine_next test (fine_of now stored) label ≡ Some f → IsEmptyWhereEnded f
+next-none test (Ended w) stored label f e = absurd (let no = e in cc)
+next-none test (Goes c) stored label f e = λ v ended. moved-none test c stored label f v (moves test c stored label f e) ended
+
+some-none : (test : Test) (labels : List FineLabel) (before g : Fine) (label : FineLabel) (o : Option Fine) → ((f : Fine) → IsEmptyWhereEnded f → fine_run test labels f ≡ Some g → IsEmptyWhereEnded g)
+    → fine_next test before label ≡ o → option_and_then (fine_run test labels) o ≡ Some g → IsEmptyWhereEnded g
+some-none test labels before g label None rest next e = absurd (let no = e in cc)
+some-none test labels before g label (Some f) rest next e = rest f (next-none test before.now before.stored label f next) e
+
+run-none : (test : Test) (labels : List FineLabel) (f g : Fine) → IsEmptyWhereEnded f → fine_run test labels f ≡ Some g → IsEmptyWhereEnded g
+run-none test [] f g is e = some-is IsEmptyWhereEnded f g e is
+run-none test (label ∷ labels) f g is e = some-none test labels f g label (fine_next test f label) (λ h also on. run-none test labels h g also on) refl e
+
+pub ended_none : (test : Test) (labels : List FineLabel) (f : Fine) (v : Verdict) → fine_replay test labels ≡ Ok f → f.now ≡ Ended v → f.stored ≡ []
+ended_none test labels f v e ended = run-none test labels (fine_start test) f (λ w same. refl) (fine-leads test labels 1 (fine_start test) f e) v ended

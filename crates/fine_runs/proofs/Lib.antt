@@ -16,5 +16,6 @@ pub mod Origins
 pub mod Pending
 pub mod Puts
 pub mod Replays
+pub mod Returning
 pub mod Sound
 pub mod Stays

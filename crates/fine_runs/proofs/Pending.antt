@@ -10,7 +10,7 @@ use Rattle.fine_runs.proofs.Sound.{IsKeptBySteps, IsSound, IsSoundIn, Stores, co
 use Rattle.fine_runs.proofs.Stays.{each-found}
 use Rattle.fine_runs.specs.Fates.{Fate, Faults, Lapses, Takes, fate, fate_of, fine_after, is_choice_of, judged, judged_in}
 use Rattle.fine_runs.specs.Fine.{Choose, Fine, FineLabel, Plain, Snap, Stored, behind, chosen, fine_next, is_found, stands_at_alt, still_stored, stored_at, without_stored}
-use Rattle.fine_runs.proofs.Finding.{found-path, path-is, path-same, some-is}
+use Rattle.fine_runs.proofs.Finding.{found-path, path-is, path-same, some-is, none-if}
 use Rattle.fine_runs.proofs.Leading.{ended-run, fine_of, fine_run}
 use Rattle.step_rules.proofs.Pairs.{All-more}
 use Rattle.step_rules.specs.Configurations.{Component, Configuration, Ended, Goes, Going, component_at, is_running_state, path_of, same_path}
@@ -23,8 +23,8 @@ use Rattle.ttcn_values.specs.declared.path.Path.{Path}
 
 -- ---- fates
 
-pub after-is : (test : Test) (f g : Fine) (label : FineLabel) → fine_next test f label ≡ Some g → fine_after test f label ≡ g
-after-is test f g label e = ap (option_elim f (λ next. next)) e
+pub fine-after-is : (test : Test) (f g : Fine) (label : FineLabel) → fine_next test f label ≡ Some g → fine_after test f label ≡ g
+fine-after-is test f g label e = ap (option_elim f (λ next. next)) e
 
 pub unstored : (test : Test) (p : Path) (f : Fine) (labels : List FineLabel) → stored_at f.stored p ≡ None → fate test p f labels ≡ Lapses
 unstored test p f [] none = refl
@@ -36,7 +36,7 @@ pub fate-on : (test : Test) (p : Path) (f g : Fine) (s : Snapshot) (label : Fine
 fate-on test p f g s label labels has other e =
     ap (option_elim Lapses (λ t. if is_choice_of p label then judged_in test t p f.now else fate test p (fine_after test f label) labels)) has
     ∙ ap (λ b. if b then judged_in test s p f.now else fate test p (fine_after test f label) labels) other
-    ∙ ap (λ h. fate test p h labels) (after-is test f g label e)
+    ∙ ap (λ h. fate test p h labels) (fine-after-is test f g label e)
 
 pub fate-here : (test : Test) (p : Path) (f : Fine) (s : Snapshot) (label : FineLabel) (labels : List FineLabel) → stored_at f.stored p ≡ Some s → is_choice_of p label ≡ true
     → fate test p f (label ∷ labels) ≡ judged_in test s p f.now
@@ -120,10 +120,6 @@ takes Faults = false
 -- by its snapshot, where a branch will be taken by it
 abbrev pub pending : Test → Fine → List FineLabel → Pending
 pending test f labels p = if takes (fate test p f labels) then stored_at f.stored p else None
-
-none-if : (b : Bool) (o : Option Snapshot) → o ≡ None → (if b then o else None) ≡ None
-none-if true o is = is
-none-if false o is = refl
 
 pub pending-none : (test : Test) (f : Fine) (labels : List FineLabel) (p : Path) → stored_at f.stored p ≡ None → pending test f labels p ≡ None
 pending-none test f labels p none = none-if (takes (fate test p f labels)) (stored_at f.stored p) none

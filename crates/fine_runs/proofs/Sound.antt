@@ -13,7 +13,7 @@ use Rattle.fine_runs.proofs.Puts.{entry-own, entry_other}
 use Rattle.fine_runs.proofs.Stays.{Ascends, AscendsIn, IsSteady, Stays, apply-ascends, apply-stays, each-found, touch-ascends, touched-at}
 use Rattle.fine_runs.specs.Fates.{fate_of, is_choice_of}
 use Rattle.fine_runs.specs.Fine.{Choose, Fine, FineLabel, Plain, Snap, Stored, chosen, is_at_alt, is_found, is_of_alt, stands_at_alt, still_stored, stored_at, without_stored}
-use Rattle.fine_runs.proofs.Finding.{alive, found-path, path-is, path-same, some-is}
+use Rattle.fine_runs.proofs.Finding.{alive, found-path, path-is, path-same, some-is, none-if}
 use Rattle.step_rules.proofs.Pairs.{All-more}
 use Rattle.step_rules.specs.Configurations.{Component, Configuration, Data, Ended, Frame, Goes, Going, Queue, component_at, is_running_state, is_terminated_state, path_of, same_path}
 use Rattle.step_rules.specs.Entries.{Entries, put}
@@ -78,13 +78,9 @@ filtered-told keep p e stored false true keeps is rest =
     ∙ sym (ap (λ t. if t then Some e.1 else None) (ap keep (sym (path-is e.0 p is)) ∙ keeps))
 filtered-told keep p e stored false false keeps is rest = rest
 
-none-if : (b : Bool) (o : Option Snapshot) → o ≡ None → o ≡ (if b then o else None)
-none-if true o is = refl
-none-if false o is = is
-
 -- the snapshots of some paths
 pub filtered-at : (keep : Path → Bool) (p : Path) (stored : Stored) → stored_at (filter (λ d. keep d.0) stored) p ≡ (if keep p then stored_at stored p else None)
-filtered-at keep p [] = none-if (keep p) (stored_at [] p) refl
+filtered-at keep p [] = sym (none-if (keep p) (stored_at [] p) refl)
 filtered-at keep p (e ∷ stored) = filtered-told keep p e stored (keep e.0) (same_path e.0 p) refl refl (filtered-at keep p stored)
 
 abbrev entry_of : Path → Snapshot → Path × Snapshot

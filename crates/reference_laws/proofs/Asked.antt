@@ -34,11 +34,12 @@ use Rattle.reference_laws.proofs.Ports.{empty-named, port-named}
 use Rattle.reference_laws.proofs.Sending.{sent-gives}
 use Rattle.reference_laws.proofs.Stored.{KeepsReferences, calls-refer, declare-keeps, declare-timer-keeps, forget-keeps, frame-refers, going-on-refers, in-last-refers, last-refers, remaining-keeps, set-timer-refers, store-refers}
 use Rattle.reference_laws.proofs.Templates.{arguments-give}
-use Rattle.reference_laws.proofs.Values.{all-of, component-refers, default-refers, map-gives, then-any, then-gives, unmet-gives}
+use Rattle.reference_laws.proofs.Values.{all-of, component-refers, default-refers, then-any}
 use Rattle.reference_laws.proofs.Ways.{ChanceRefers, ChoiceRefers, WayRefers, alt-refers, choice-refers, defaults-refer}
 use Rattle.reference_laws.specs.Acts.{ActRefersTo, HoldsOrIs, IsPathOf}
 use Rattle.reference_laws.specs.References.{ComponentRefersTo, DataReferTo, DefaultRefersTo, FrameRefersTo, MessageRefersTo, QueueRefersTo, ReadingRefersTo, RefersTo, SnapshotRefersTo}
 use Rattle.reference_laws.specs.There.{HasItsPorts, port_names}
+use Rattle.step_laws.proofs.Outcomes.{map-yields, then-yields, unmet-yields}
 use Rattle.step_rules.specs.Branches.{Chance, Written, written_alt, written_defaults}
 use Rattle.step_rules.specs.Configurations.{Data, End, Frame, path_of}
 use Rattle.step_rules.specs.Creating.{child_of, new_component, new_members, ports_of}
@@ -134,7 +135,7 @@ module _ (P : ComponentId → Type 0) (stand : Stand) (is : StandsAmong P stand)
   frame-at-refers : (site : Site) (at : ℕ) (values : List written.Value) (body : Option (List Statement)) → IfYields (frame_at stand site at values body) (FrameRefersTo P)
   frame-at-refers site at values None = tt
   frame-at-refers site at values (Some body) =
-      map-gives (All (RefersTo P)) (FrameRefersTo P) (λ found. function_frame stand.test at found body)
+      map-yields (All (RefersTo P)) (FrameRefersTo P) (λ found. function_frame stand.test at found body)
       (arguments (reads stand site) (parameters_of (kind_at stand.test.definitions at)) values)
       (λ found all. frame-refers P stand.test.definitions at found (items stand.test.definitions (beginning at) body) all) (given site at values)
 
@@ -168,7 +169,7 @@ module _ (P : ComponentId → Type 0) (stand : Stand) (is : StandsAmong P stand)
   activated-at : (site : Site) (call : Call) (own : Data) (at : Option ℕ) → DataReferTo P own → IfYields (activated_at stand site call own at) (DataReferTo P)
   activated-at site call own None also = tt
   activated-at site call own (Some at) also =
-      then-gives (All (RefersTo P)) (DataReferTo P) (λ values. if nat_lt own.activations most then Yields (activate at own values) else dynamic_error)
+      then-yields (All (RefersTo P)) (DataReferTo P) (λ values. if nat_lt own.activations most then Yields (activate at own values) else dynamic_error)
       (arguments (reads stand site) (parameters_of (kind_at stand.test.definitions at)) call.arguments)
       (λ values all. activate-if at own values (nat_lt own.activations most) also all) (given site at call.arguments)
 
@@ -335,7 +336,7 @@ module _ (P : ComponentId → Type 0) (stand : Stand) (is : StandsAmong P stand)
 
   to-is : (site : Site) (to : Option ComponentRef) → IfYields (sent_to stand site to) (λ o. IfSome o (IsPathOf P))
   to-is site None = tt
-  to-is site (Some reference) = map-gives P (λ o. IfSome o (IsPathOf P)) (λ (c : ComponentId). Some c.path) (component_meant_at stand site reference) path-of (meant-is site reference)
+  to-is site (Some reference) = map-yields P (λ o. IfSome o (IsPathOf P)) (λ (c : ComponentId). Some c.path) (component_meant_at stand site reference) path-of (meant-is site reference)
 
   sent-refers : (site : Site) (send : Send) (of : Option DataType) → Gives P (sent_value stand site send of)
   sent-refers site send None = tt
@@ -396,7 +397,7 @@ module _ (P : ComponentId → Type 0) (stand : Stand) (is : StandsAmong P stand)
   all-stored : (site : Site) (redirects : List Redirect) (own : Data) → All (λ redirect. RefersTo P redirect.value) redirects → DataReferTo P own → IfYields (store_all stand.test site redirects own) (DataReferTo P)
   all-stored site [] own all also = also
   all-stored site (redirect ∷ redirects) own all also =
-      then-gives (DataReferTo P) (DataReferTo P) (store_all stand.test site redirects) (store stand.test (target_meant stand.test site redirect.reference) redirect.value own)
+      then-yields (DataReferTo P) (DataReferTo P) (store_all stand.test site redirects) (store stand.test (target_meant stand.test site redirect.reference) redirect.value own)
       (λ next refers. all-stored site redirects next (All-tail (λ redirect. RefersTo P redirect.value) redirect redirects all) refers)
       (store-refers P stand.test (target_meant stand.test site redirect.reference) redirect.value own (All-head (λ redirect. RefersTo P redirect.value) redirect redirects all) also)
 
@@ -422,7 +423,7 @@ module _ (P : ComponentId → Type 0) (stand : Stand) (is : StandsAmong P stand)
   choice-asks site s (Taken chance effect) of =
       acting-asks (DataReferTo P) (act_port (port_taken effect)) (outcome_and_then (λ own. with_frames own.calls own) (taken stand.test site s stand.rest chance effect stand.own))
       (λ own also. port-asks (port_taken effect) own also)
-      (then-gives (DataReferTo P) (DataReferTo P) (λ own. with_frames own.calls own) (taken stand.test site s stand.rest chance effect stand.own)
+      (then-yields (DataReferTo P) (DataReferTo P) (λ own. with_frames own.calls own) (taken stand.test site s stand.rest chance effect stand.own)
       (λ own also. frames-refer own.calls own also also.calls) (taken-refers site s chance effect of.0 of.1))
 
   alt-or-asks : (other : Act) (site : Site) (s : Statement) (o : Option Choice) → Asks other → IfSome o (ChoiceRefers P) → Asks (act_alt_or other stand site s o)
@@ -445,8 +446,8 @@ module _ (P : ComponentId → Type 0) (stand : Stand) (is : StandsAmong P stand)
   repeat-asks : Asks (continuing (repeat_alt stand.own))
   repeat-asks =
       continuing-asks (repeat_alt stand.own)
-      (map-gives (All (FrameRefersTo P)) (DataReferTo P) (λ calls. with_calls calls stand.own) (or_unmet (repeated stand.own.calls)) left-refers
-      (unmet-gives (All (FrameRefersTo P)) (repeated stand.own.calls) (repeat-refers stand.own.calls is.own.calls)))
+      (map-yields (All (FrameRefersTo P)) (DataReferTo P) (λ calls. with_calls calls stand.own) (or_unmet (repeated stand.own.calls)) left-refers
+      (unmet-yields (All (FrameRefersTo P)) (repeated stand.own.calls) (repeat-refers stand.own.calls is.own.calls)))
 
   -- ---- statements
 

@@ -9,8 +9,9 @@ use Rattle.check_scope.specs.Names.{fields_at}
 use Rattle.check_scope.specs.declared.types.DataType.{DataType}
 use Rattle.check_scope.specs.declared.types.DataType.TheVariants as type
 use Rattle.reference_laws.proofs.Expressions.{Gives}
-use Rattle.reference_laws.proofs.Values.{LevelRefersTo, StateRefersTo, all-of, get-each, map-gives, record-refers, refers-out, then-gives, unmet-gives}
+use Rattle.reference_laws.proofs.Values.{LevelRefersTo, StateRefersTo, all-of, get-each, record-refers, refers-out}
 use Rattle.reference_laws.specs.References.{RefersTo}
+use Rattle.step_laws.proofs.Outcomes.{map-yields, then-yields, unmet-yields}
 use Rattle.ttcn_values.specs.Outcomes.{Fails, IfYields, Outcome, Yields, or_unmet, outcome_and_then, outcome_map}
 use Rattle.ttcn_values.specs.Values.{is_omit, record_in, record_of}
 use Rattle.ttcn_values.specs.declared.value.ComponentId.{ComponentId}
@@ -19,10 +20,10 @@ use Rattle.ttcn_values.specs.declared.value.Value.TheOpen.{Value-F}
 
 -- with what is made of the value first, by which its type is known
 map-known : {A B : Type 0} (f : A → B) (o : Outcome A) (P : A → Type 0) (Q : B → Type 0) → ((a : A) → P a → Q (f a)) → IfYields o P → IfYields (outcome_map f o) Q
-map-known f o P Q more is = map-gives P Q f o more is
+map-known f o P Q more is = map-yields P Q f o more is
 
 then-known : {A B : Type 0} (f : A → Outcome B) (o : Outcome A) (P : A → Type 0) (Q : B → Type 0) → ((a : A) → P a → IfYields (f a) Q) → IfYields o P → IfYields (outcome_and_then f o) Q
-then-known f o P Q more is = then-gives P Q f o more is
+then-known f o P Q more is = then-yields P Q f o more is
 
 any-gives : {A : Type 0} (o : Outcome A) → IfYields o (λ a. Unit {0})
 any-gives (Yields a) = tt
@@ -54,7 +55,7 @@ module _ (P : ComponentId → Type 0) where
 
   record-if : (definitions : List Definition) (data_type : Option DataType) (v : Value) (b : Bool) → RefersTo P v → IfYields (if b then blank definitions data_type else or_unmet (record_of v)) RecordRefers
   record-if definitions data_type v true is = blank-refers definitions data_type
-  record-if definitions data_type v false is = unmet-gives RecordRefers (record_of v) (level-record (out-Value v) (refers-out P v is))
+  record-if definitions data_type v false is = unmet-yields RecordRefers (record_of v) (level-record (out-Value v) (refers-out P v is))
 
   record-refers-for : (definitions : List Definition) (data_type : Option DataType) (held : Option Value) → StateRefersTo P held → IfYields (record_for definitions data_type held) RecordRefers
   record-refers-for definitions data_type None is = blank-refers definitions data_type
@@ -66,7 +67,7 @@ module _ (P : ComponentId → Type 0) where
       (λ field. Unit {0}) (λ gap. GapRefers gap.fields gap.held)
       (λ field any. map-known (gap_in definitions whole place field) (or_unmet (slice_get whole.1 place)) (StateRefersTo P) (λ gap. GapRefers gap.fields gap.held)
       (λ held of. record { states = All-set (StateRefersTo P) whole.1 place None tt is; state = of })
-      (unmet-gives (StateRefersTo P) (slice_get whole.1 place) (get-each (StateRefersTo P) whole.1 place is)))
+      (unmet-yields (StateRefersTo P) (slice_get whole.1 place) (get-each (StateRefersTo P) whole.1 place is)))
       (any-gives (or_unmet (slice_get (fields_at definitions whole.0) place)))
 
   gap-at-field : (definitions : List Definition) (name : List ℕ) (whole : Record) → RecordRefers whole → IfYields (gap_at_field definitions name whole) (λ gap. GapRefers gap.fields gap.held)

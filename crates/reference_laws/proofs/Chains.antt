@@ -10,8 +10,9 @@ use Rattle.check_scope.specs.declared.types.DataType.{DataType}
 use Rattle.reference_laws.proofs.Expressions.{Gives}
 use Rattle.reference_laws.proofs.Literals.{value-gives}
 use Rattle.reference_laws.proofs.Templates.{GivesTemplate, template-gives}
-use Rattle.reference_laws.proofs.Values.{get-at, unmet-gives}
+use Rattle.reference_laws.proofs.Values.{get-at}
 use Rattle.reference_laws.specs.References.{FactsReferTo, ReadingRefersTo, RefersTo}
+use Rattle.step_laws.proofs.Outcomes.{unmet-yields}
 use Rattle.ttcn_values.specs.Chains.{constant_value, given_to, template_value, with_names, within_chains}
 use Rattle.ttcn_values.specs.Outcomes.{Outcome, unmet}
 use Rattle.ttcn_values.specs.Readings.{Reading}
@@ -25,7 +26,7 @@ module _ (P : ComponentId → Type 0) where
 
   given-gives : (parameters : List Parameter) (values : List Value) (name : List ℕ) → All (RefersTo P) values → Gives P (given_to parameters values name)
   given-gives parameters values name all =
-      unmet-gives (RefersTo P) (option_and_then (slice_get values) (position (λ p. bytes_eq p.name name) parameters)) (get-at (RefersTo P) values (position (λ p. bytes_eq p.name name) parameters) all)
+      unmet-yields (RefersTo P) (option_and_then (slice_get values) (position (λ p. bytes_eq p.name name) parameters)) (get-at (RefersTo P) values (position (λ p. bytes_eq p.name name) parameters) all)
 
   template-value-gives : (reading : (List ℕ → Outcome Value) → Reading) (t : Option TemplateDefinition) (values : List Value)
       → ((names : List ℕ → Outcome Value) → ((name : List ℕ) → Gives P (names name)) → ReadingRefersTo P (reading names)) → All (RefersTo P) values → GivesTemplate P (template_value reading t values)

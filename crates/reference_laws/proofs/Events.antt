@@ -14,9 +14,10 @@ use Rattle.check_scope.specs.Names.{Scope}
 use Rattle.check_scope.specs.Typings.{same_type}
 use Rattle.check_scope.specs.declared.types.DataType.{DataType}
 use Rattle.check_statements.specs.Messages.{incoming, received_type}
-use Rattle.reference_laws.proofs.Values.{component-refers, map-gives}
+use Rattle.reference_laws.proofs.Values.{component-refers}
 use Rattle.reference_laws.specs.References.{MessageRefersTo, RefersTo, SnapshotRefersTo}
 use Rattle.step_laws.proofs.Changes.{found-each}
+use Rattle.step_laws.proofs.Outcomes.{map-yields}
 use Rattle.step_rules.specs.Branches.{Judge, read_by}
 use Rattle.step_rules.specs.Configurations.{Data, Message, same_path}
 use Rattle.step_rules.specs.Events.{Effect, Elapses, Faulty, Happened, Passed, Plain, Receives, Redirect, Trial, fits_sender, from_fits, happened_if, happened_or_passed, or_next, redirected_sender, redirected_value, redirects, template_fits, timer_seen, tried, try_all_done, try_chance, try_event, try_front, try_fronts, try_port, try_receive, try_template, try_timeout, try_type, try_typed, type_of}
@@ -86,7 +87,7 @@ module _ (P : ComponentId → Type 0) where
 
   redirects-refer : (scope : Scope) (receive : Receive) (message : Message) → MessageRefersTo P message → IfYields (redirects scope receive message) (All RedirectRefers)
   redirects-refer scope receive message is =
-      map-gives (All RedirectRefers) (All RedirectRefers) (λ stored. redirected_value receive.value message.value ++ stored) (redirected_sender scope receive.sender message.sender)
+      map-yields (All RedirectRefers) (All RedirectRefers) (λ stored. redirected_value receive.value message.value ++ stored) (redirected_sender scope receive.sender message.sender)
       (λ stored all. All-append RedirectRefers (redirected_value receive.value message.value) stored (value-redirected receive.value message.value is.value) all)
       (sender-redirected scope receive.sender message.sender is.sender)
 

@@ -18,8 +18,9 @@ use Rattle.arithmetic.specs.Integers.{calculated}
 use Rattle.check_scope.specs.Names.{fields_at, kind_at, module_names}
 use Rattle.check_scope.specs.declared.names.Meaning.{Meaning}
 use Rattle.check_scope.specs.declared.names.Meaning.TheVariants as meaning
-use Rattle.reference_laws.proofs.Values.{LevelRefersTo, StateRefersTo, boolean-refers, component-refers, enumerated-refers, get-at, integer-refers, map-any, null-refers, refers-out, then-any, then-gives, unmet-gives}
+use Rattle.reference_laws.proofs.Values.{LevelRefersTo, StateRefersTo, boolean-refers, component-refers, enumerated-refers, get-at, integer-refers, map-any, null-refers, refers-out, then-any}
 use Rattle.reference_laws.specs.References.{ReadingRefersTo, RefersTo}
+use Rattle.step_laws.proofs.Outcomes.{then-yields, unmet-yields}
 use Rattle.ttcn_values.specs.Evaluation.{Evaluation, after, expression_step, joined, link, link_step, value_of}
 use Rattle.ttcn_values.specs.Operations.{applied, both, compared, decides, fitting, logical, negated, ordered, truth, under_sign, with_sign}
 use Rattle.ttcn_values.specs.Outcomes.{IfYields, Outcome, Yields, dynamic_error, or_error, or_unmet, outcome_and_then}
@@ -48,7 +49,7 @@ module _ (P : ComponentId → Type 0) where
 
   level-state : (definitions : List Definition) (name : List ℕ) (x : Value-F Value) → LevelRefersTo P x → IfYields (state_in definitions name (record_in x)) (StateRefersTo P)
   level-state definitions name (Value-F.Record at fields) is =
-      unmet-gives (StateRefersTo P) _ (get-at (StateRefersTo P) fields (position (λ field. bytes_eq field.name name) (fields_at definitions at)) is)
+      unmet-yields (StateRefersTo P) _ (get-at (StateRefersTo P) fields (position (λ field. bytes_eq field.name name) (fields_at definitions at)) is)
   level-state definitions name (Value-F.Integer n) is = tt
   level-state definitions name (Value-F.Boolean b) is = tt
   level-state definitions name (Value-F.Enumerated at n) is = tt
@@ -59,13 +60,13 @@ module _ (P : ComponentId → Type 0) where
 
   field-gives : (definitions : List Definition) (name : List ℕ) (v : Value) → RefersTo P v → Gives (field definitions name v)
   field-gives definitions name v is =
-      then-gives (StateRefersTo P) (RefersTo P) read (state_of_field definitions name v) read-gives (level-state definitions name (out-Value v) (refers-out P v is))
+      then-yields (StateRefersTo P) (RefersTo P) read (state_of_field definitions name v) read-gives (level-state definitions name (out-Value v) (refers-out P v is))
 
   along-gives : (definitions : List Definition) (names : List (List ℕ)) (found : Outcome Value) → Gives found → Gives (along definitions names found)
   along-gives definitions [] found is = is
   along-gives definitions (name ∷ names) found is =
       along-gives definitions names (outcome_and_then (field definitions name) found)
-      (then-gives (RefersTo P) (RefersTo P) (field definitions name) found (field-gives definitions name) is)
+      (then-yields (RefersTo P) (RefersTo P) (field definitions name) found (field-gives definitions name) is)
 
   -- ---- operators
 
@@ -157,7 +158,7 @@ module _ (P : ComponentId → Type 0) where
 
     pub referred-is : (c : ComponentRef) → IfYields (component_referred reading c) P
     referred-is c =
-        then-gives (RefersTo P) P values.component (component_at reading c) (λ v of. level-component (out-Value v) (refers-out P v of)) (component-gives c)
+        then-yields (RefersTo P) P values.component (component_at reading c) (λ v of. level-component (out-Value v) (refers-out P v of)) (component-gives c)
 
     -- ---- chains
 
@@ -169,7 +170,7 @@ module _ (P : ComponentId → Type 0) where
     links-give [] found of = of
     links-give (l ∷ links) found of =
         links-give links (outcome_and_then (joined reading (link l)) found)
-        (then-gives (RefersTo P) (RefersTo P) (joined reading (link l)) found (λ left also. decided-gives (link l).0 (link l).1 left (decides (link l).0 left) also) of)
+        (then-yields (RefersTo P) (RefersTo P) (joined reading (link l)) found (λ left also. decided-gives (link l).0 (link l).1 left (decides (link l).0 left) also) of)
 
   -- ---- expressions
 

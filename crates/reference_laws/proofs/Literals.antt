@@ -10,9 +10,10 @@ use Rattle.ttcn_syntax.specs.declared.tree.value.Value.TheOpen.{FieldValue-F, Va
 use Rattle.check_scope.specs.Names.{fields_at}
 use Rattle.check_scope.specs.declared.types.DataType.{DataType}
 use Rattle.reference_laws.proofs.Expressions.{Gives, expression-gives}
-use Rattle.reference_laws.proofs.Values.{StateRefersTo, all-of, each-gives, map-gives, omit-refers, record-refers, zip-last}
+use Rattle.reference_laws.proofs.Values.{StateRefersTo, all-of, each-gives, omit-refers, record-refers, zip-last}
 use Rattle.reference_laws.specs.References.{ReadingRefersTo, RefersTo}
 use Rattle.step_laws.proofs.Changes.{found-each}
+use Rattle.step_laws.proofs.Outcomes.{map-yields}
 use Rattle.step_rules.proofs.Pairs.{All-more}
 use Rattle.ttcn_values.specs.Literals.{Wanted, by_name, element, element_named, field_value, field_value_step, given_by_name, in_order, record_at, type_of_field, value_step, value_wanted, wanted_record}
 use Rattle.ttcn_values.specs.Outcomes.{Fails, IfYields, Outcome, Yields, each, unmet}
@@ -42,7 +43,7 @@ module _ (P : ComponentId → Type 0) where
 
     element-gives : (pair : Field × Wanted) → RefersToRead pair.1 → IfYields (element reading pair) (StateRefersTo P)
     element-gives pair refers =
-        map-gives (RefersTo P) (StateRefersTo P) Some (pair.1 reading (type_of_field reading pair.0)) (λ v of. of) (refers reading is (type_of_field reading pair.0))
+        map-yields (RefersTo P) (StateRefersTo P) Some (pair.1 reading (type_of_field reading pair.0)) (λ v of. of) (refers reading is (type_of_field reading pair.0))
 
     ordered-give : (fields : List Field) (elements : List Wanted) → All RefersToRead elements → States (in_order reading fields elements)
     ordered-give fields elements all =
@@ -65,7 +66,7 @@ module _ (P : ComponentId → Type 0) where
         one f = named-gives f (find (λ e. bytes_eq e.0 f.name) elements) (found-each NamedRefers (λ e. bytes_eq e.0 f.name) elements all)
 
     record-gives : (wanted : Outcome ℕ) (fields : ℕ → Outcome (List (Option Value))) → ((at : ℕ) → States (fields at)) → Gives P (record_at wanted fields)
-    record-gives (Yields at) fields give = map-gives (All (StateRefersTo P)) (RefersTo P) (value.Record at) (fields at) (record-refers P at) (give at)
+    record-gives (Yields at) fields give = map-yields (All (StateRefersTo P)) (RefersTo P) (value.Record at) (fields at) (record-refers P at) (give at)
     record-gives (Fails why) fields give = tt
 
   -- ---- values

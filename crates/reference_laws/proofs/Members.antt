@@ -9,8 +9,9 @@ use Rattle.check_scope.specs.declared.types.DataType.{DataType}
 use Rattle.reference_laws.proofs.Chains.{chains-refer}
 use Rattle.reference_laws.proofs.Literals.{value-gives}
 use Rattle.reference_laws.proofs.Stored.{declare-keeps, declare-timer-keeps, forget-keeps, seen-refers}
-use Rattle.reference_laws.proofs.Values.{error-gives, map-gives, then-gives}
+use Rattle.reference_laws.proofs.Values.{error-gives}
 use Rattle.reference_laws.specs.References.{DataReferTo, EntriesReferTo, FactsReferTo, FrameRefersTo, ReadingRefersTo, RefersTo}
+use Rattle.step_laws.proofs.Outcomes.{map-yields, then-yields}
 use Rattle.step_rules.specs.Configurations.{Data, Frame}
 use Rattle.step_rules.specs.Creating.{declared_in_turn, declared_member, declared_variable, declared_with, empty_frame, new_members, reading_of_members}
 use Rattle.step_rules.specs.Sites.{Site, runs_on}
@@ -58,12 +59,12 @@ module _ (P : ComponentId → Type 0) (test : Test) (snapshot : Snapshot) (mtc :
         → (parts : List A) (frame : Frame) → FrameRefersTo P frame → IfYields (declared_in_turn declared parts frame) (FrameRefersTo P)
     turn-refers declared keeps [] frame all = all
     turn-refers declared keeps (a ∷ others) frame all =
-        then-gives (FrameRefersTo P) (FrameRefersTo P) (declared_in_turn declared others) (declared frame a)
+        then-yields (FrameRefersTo P) (FrameRefersTo P) (declared_in_turn declared others) (declared frame a)
         (λ next also. turn-refers declared keeps others next also) (keeps frame a all)
 
     with-refers : (of : Option DataType) (frame : Frame) (name : List ℕ) (v : written.Value) → FrameRefersTo P frame → IfYields (declared_with test itself snapshot of frame name v) (FrameRefersTo P)
     with-refers of frame name v all =
-        map-gives (RefersTo P) (FrameRefersTo P) (λ found. declare name found frame) (value_wanted v (reading_of_members test itself snapshot frame) of)
+        map-yields (RefersTo P) (FrameRefersTo P) (λ found. declare name found frame) (value_wanted v (reading_of_members test itself snapshot frame) of)
         (λ found new. declare-keeps P name found new frame all) (value-gives P v (reading_of_members test itself snapshot frame) (members-read frame all) of)
 
     variable-refers : (of : Option DataType) (frame : Frame) (name : List ℕ) (v : Option written.Value) → FrameRefersTo P frame → IfYields (declared_variable test itself snapshot of frame name v) (FrameRefersTo P)

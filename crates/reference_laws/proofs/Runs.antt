@@ -11,12 +11,13 @@ use Rattle.reference_laws.proofs.Changes.{LeadsToReferred, applied, exchanged-ge
 use Rattle.reference_laws.proofs.Members.{members-refer}
 use Rattle.reference_laws.proofs.Ports.{empty-named}
 use Rattle.reference_laws.proofs.There.{found-itself, found-there, same-itself, there-by}
-use Rattle.reference_laws.proofs.Values.{all-of, map-gives, then-any}
+use Rattle.reference_laws.proofs.Values.{all-of, then-any}
 use Rattle.reference_laws.specs.References.{ComponentRefersTo, DataReferTo, DefaultRefersTo, FrameRefersTo, MessageRefersTo, QueueRefersTo, RefersTo, SnapshotRefersTo}
 use Rattle.reference_laws.specs.There.{HasAllReferred, HasItsPorts, IsThere, StandsWithAllReferred}
 use Rattle.step_laws.proofs.Changes.{found-each}
 use Rattle.step_laws.proofs.Families.{replay_family}
 use Rattle.step_laws.specs.Families.{IsFamily, StandsInFamily}
+use Rattle.step_laws.proofs.Outcomes.{map-yields}
 use Rattle.step_rules.proofs.Pairs.{All-more}
 use Rattle.step_rules.specs.Configurations.{Component, Configuration, Data, Ended, Frame, Goes, Going, Message, component_at, is_running_state, path_of, same_path}
 use Rattle.step_rules.specs.Creating.{new_members, ports_of}
@@ -155,7 +156,7 @@ first-stands test body members all =
 
 started-stands : (test : Test) (body : List tree.Statement) → IfYields (started test body) (StandsWithAllReferred test)
 started-stands test body =
-    map-gives (FrameRefersTo (IsMtc test)) (StandsWithAllReferred test) (λ members. Goes (first-going test body members)) (new_members test (mtc_of test) (first_snapshot test))
+    map-yields (FrameRefersTo (IsMtc test)) (StandsWithAllReferred test) (λ members. Goes (first-going test body members)) (new_members test (mtc_of test) (first_snapshot test))
     (first-stands test body) (members-refer (IsMtc test) test (first_snapshot test) refl (mtc_of test) refl)
 
 pub start_stands : (test : Test) → StandsWithAllReferred test (start test)

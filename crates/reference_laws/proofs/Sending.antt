@@ -6,9 +6,10 @@ use Rattle.ttcn_syntax.specs.declared.tree.template.Template as tree
 use Rattle.check_scope.specs.declared.types.DataType.{DataType}
 use Rattle.reference_laws.proofs.Expressions.{Gives}
 use Rattle.reference_laws.proofs.Templates.{LevelPattern, PatternRefersTo, references_in_pattern, template-gives, template-out}
-use Rattle.reference_laws.proofs.Values.{StateRefersTo, flat-each, map-each, omit-refers, record-refers, then-gives}
+use Rattle.reference_laws.proofs.Values.{StateRefersTo, flat-each, map-each, omit-refers, record-refers}
 use Rattle.reference_laws.specs.References as references
 use Rattle.reference_laws.specs.References.{ReadingRefersTo, RefersTo, TemplateRefersTo, pattern_step, references_in_template}
+use Rattle.step_laws.proofs.Outcomes.{then-yields}
 use Rattle.ttcn_values.specs.Matching.{all_fields, before_fields, record_with, specific_step, specific_template_step, specific_value, specific_value_of_pattern}
 use Rattle.ttcn_values.specs.Outcomes.{Fails, IfYields, Outcome, Yields, dynamic_error, outcome_and_then}
 use Rattle.ttcn_values.specs.Readings.{Reading}
@@ -104,4 +105,4 @@ module _ (P : ComponentId → Type 0) where
 
   -- the value that is sent for a template of the text
   pub sent-gives : (t : tree.Template) (reading : Reading) → ReadingRefersTo P reading → (wanted : Option DataType) → Gives P (outcome_and_then specific_value (template_wanted t reading wanted))
-  sent-gives t reading is wanted = then-gives (TemplateRefersTo P) (RefersTo P) specific_value (template_wanted t reading wanted) specific-gives (template-gives P t reading is wanted)
+  sent-gives t reading is wanted = then-yields (TemplateRefersTo P) (RefersTo P) specific_value (template_wanted t reading wanted) specific-gives (template-gives P t reading is wanted)

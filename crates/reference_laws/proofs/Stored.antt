@@ -12,9 +12,10 @@ use Rattle.assignment.specs.Assignment.{assigned}
 use Rattle.check_expressions.specs.Calls.{parameters_of}
 use Rattle.check_scope.specs.Names.{kind_at}
 use Rattle.reference_laws.proofs.Assigned.{assigned-gives}
-use Rattle.reference_laws.proofs.Values.{StateRefersTo, map-gives, zip-last}
+use Rattle.reference_laws.proofs.Values.{StateRefersTo, zip-last}
 use Rattle.reference_laws.specs.References.{DataReferTo, EntriesReferTo, FrameRefersTo, RefersTo}
 use Rattle.step_laws.proofs.Changes.{found-each}
+use Rattle.step_laws.proofs.Outcomes.{map-yields}
 use Rattle.step_rules.specs.Branches.{frame_with, with_arguments}
 use Rattle.step_rules.specs.Configurations.{Data, Frame}
 use Rattle.step_rules.specs.Entries.{Entries, name_cmp, put, without}
@@ -127,7 +128,7 @@ module _ (P : ComponentId → Type 0) where
 
   pub store-refers : (test : Test) (target : Target) (v : Value) (own : Data) → RefersTo P v → DataReferTo P own → IfYields (store test target v own) (DataReferTo P)
   store-refers test target v own of is =
-      map-gives (RefersTo P) (DataReferTo P) (λ new. in_frame target.own (λ frame. with_values (put target.reference.name new frame.values) frame) own)
+      map-yields (RefersTo P) (DataReferTo P) (λ new. in_frame target.own (λ frame. with_values (put target.reference.name new frame.values) frame) own)
       (assigned test.definitions target.data_type (entry (values_in target.own own) target.reference.name) target.reference.fields v)
       (λ new also. in-frame-refers target.own (λ frame. with_values (put target.reference.name new frame.values) frame) (put-value-keeps target.reference.name new also) own is)
       (assigned-gives P test.definitions target.data_type (entry (values_in target.own own) target.reference.name) target.reference.fields v

@@ -17,10 +17,11 @@ use Rattle.check_scope.specs.Names.{fields_at, kind_at, module_names, resolved}
 use Rattle.check_scope.specs.declared.types.DataType.{DataType}
 use Rattle.reference_laws.proofs.Expressions.{expression-gives}
 use Rattle.reference_laws.proofs.Literals.{if-unmet, value-gives}
-use Rattle.reference_laws.proofs.Values.{all-of, each-gives, map-any, map-gives, then-any, then-gives, zip-last}
+use Rattle.reference_laws.proofs.Values.{all-of, each-gives, map-any, then-any, zip-last}
 use Rattle.reference_laws.specs.References.{ReadingRefersTo, RefersTo, TemplateRefersTo, pattern_step, references_in_template}
 use Rattle.reference_laws.specs.References as references
 use Rattle.step_laws.proofs.Changes.{found-each}
+use Rattle.step_laws.proofs.Outcomes.{map-yields, then-yields}
 use Rattle.step_rules.proofs.Pairs.{All-flat, All-more}
 use Rattle.ttcn_values.specs.Evaluation.{value_of}
 use Rattle.ttcn_values.specs.Literals.{type_of_field, wanted_record}
@@ -137,12 +138,12 @@ module _ (P : ComponentId → Type 0) where
     called-gives : (at : Option ℕ) (given : List written.Value) → GivesTemplate (template_called reading at given)
     called-gives None given = tt
     called-gives (Some at) given =
-        then-gives (All (RefersTo P)) (TemplateRefersTo P) (reading.templates at) (arguments reading (parameters_of (kind_at reading.definitions at)) given)
+        then-yields (All (RefersTo P)) (TemplateRefersTo P) (reading.templates at) (arguments reading (parameters_of (kind_at reading.definitions at)) given)
         (is.templates at) (arguments-give (parameters_of (kind_at reading.definitions at)) given)
 
     expression-template : (e : Expr) (at : Option ℕ) → GivesTemplate (template_of_expression reading e at)
     expression-template e None =
-        then-gives (RefersTo P) (TemplateRefersTo P) as_pattern (value_of e reading) (λ v of. as-if v (is_complete v) of) (expression-gives P e reading is)
+        then-yields (RefersTo P) (TemplateRefersTo P) as_pattern (value_of e reading) (λ v of. as-if v (is_complete v) of) (expression-gives P e reading is)
     expression-template e (Some at) = called-gives (Some at) []
 
     range-gives : (low high : Bound) → GivesTemplate (template_of_range reading low high)
@@ -182,7 +183,7 @@ module _ (P : ComponentId → Type 0) where
         one f = named-gives f (find (λ e. bytes_eq e.0 f.name) elements) (found-each NamedRead (λ e. bytes_eq e.0 f.name) elements all)
 
     record-gives : (wanted : Outcome ℕ) (parts : ℕ → Outcome (List Template)) → ((at : ℕ) → GivesParts (parts at)) → GivesTemplate (record_at wanted parts)
-    record-gives (Yields at) parts give = map-gives (All (TemplateRefersTo P)) (TemplateRefersTo P) (λ ps. plain (pattern.Record at ps)) (parts at) (record-pattern at) (give at)
+    record-gives (Yields at) parts give = map-yields (All (TemplateRefersTo P)) (TemplateRefersTo P) (λ ps. plain (pattern.Record at ps)) (parts at) (record-pattern at) (give at)
     record-gives (Fails why) parts give = tt
 
   -- ---- templates
@@ -212,10 +213,10 @@ module _ (P : ComponentId → Type 0) where
   body-held TemplateBody-F.AnyOrOmit = λ reading is wanted. any-or-omit-pattern
   body-held TemplateBody-F.Omit = λ reading is wanted. omit-pattern
   body-held (TemplateBody-F.Complement parts) = λ reading is wanted.
-      map-gives (All (TemplateRefersTo P)) (TemplateRefersTo P) (λ ps. plain (pattern.Complement ps)) (parts_of reading wanted (map template_wanted (map (λ p. p.0) parts)))
+      map-yields (All (TemplateRefersTo P)) (TemplateRefersTo P) (λ ps. plain (pattern.Complement ps)) (parts_of reading wanted (map template_wanted (map (λ p. p.0) parts)))
       complement-pattern (parts-give reading is wanted (map template_wanted (map (λ p. p.0) parts)) (all-held parts))
   body-held (TemplateBody-F.List parts) = λ reading is wanted.
-      map-gives (All (TemplateRefersTo P)) (TemplateRefersTo P) (λ ps. plain (pattern.List ps)) (parts_of reading wanted (map template_wanted (map (λ p. p.0) parts)))
+      map-yields (All (TemplateRefersTo P)) (TemplateRefersTo P) (λ ps. plain (pattern.List ps)) (parts_of reading wanted (map template_wanted (map (λ p. p.0) parts)))
       list-pattern (parts-give reading is wanted (map template_wanted (map (λ p. p.0) parts)) (all-held parts))
   body-held (TemplateBody-F.Range low high) = λ reading is wanted. range-gives reading is low high
   body-held (TemplateBody-F.Call call) = λ reading is wanted. called-gives reading is (template_of_name reading (Some call.name)) call.arguments
@@ -238,7 +239,7 @@ module _ (P : ComponentId → Type 0) where
 
   template-held : (y : Template-F HeldBody HeldField Held) → LevelTemplate (map-Template HeldBody HeldField Held TemplateBody FieldTemplate tree.Template (λ b. b.0) (λ f. f.0) (λ t. t.0) y)
   template-held y = λ reading is wanted.
-      map-gives (TemplateRefersTo P) (TemplateRefersTo P) (with_ifpresent y.ifpresent) (body_wanted y.body.0 reading wanted)
+      map-yields (TemplateRefersTo P) (TemplateRefersTo P) (with_ifpresent y.ifpresent) (body_wanted y.body.0 reading wanted)
       (λ p of. template-in (with_ifpresent y.ifpresent p) (template-out p of)) (y.body.1 reading is wanted)
 
   pub template-gives : (t : tree.Template) → TemplateRead (template_wanted t)

@@ -4,8 +4,9 @@ use Rattle.std.specs.List.{All, flat_map, slice_get, zip}
 use Rattle.std.specs.Option.{option_and_then}
 use Rattle.std.proofs.lemmas.List.Elements.{All-cons, All-head, All-map, All-nil, All-tail}
 use Rattle.reference_laws.specs.References.{RefersTo, references, references_in_field, references_step}
+use Rattle.step_laws.proofs.Outcomes.{map-yields}
 use Rattle.step_rules.proofs.Pairs.{All-flat, All-more}
-use Rattle.ttcn_values.specs.Outcomes.{Fails, IfYields, Outcome, Yields, each, or_error, or_unmet, outcome_and_then, outcome_map}
+use Rattle.ttcn_values.specs.Outcomes.{Fails, IfYields, Outcome, Yields, each, or_error, outcome_and_then, outcome_map}
 use Rattle.ttcn_values.specs.declared.value.ComponentId.{ComponentId}
 use Rattle.ttcn_values.specs.declared.value.Value.{Value, fold_out-Value, out-Value, roll-Value}
 use Rattle.ttcn_values.specs.declared.value.Value.TheFolds.{fold-roll-Value, map-Value}
@@ -55,14 +56,6 @@ all-of P all xs k d lt = all (get_or xs k d)
 
 -- ---- outcomes
 
-pub map-gives : {A B : Type 0} (P : A → Type 0) (Q : B → Type 0) (f : A → B) (o : Outcome A) → ((a : A) → P a → Q (f a)) → IfYields o P → IfYields (outcome_map f o) Q
-map-gives P Q f (Yields a) more is = more a is
-map-gives P Q f (Fails why) more is = tt
-
-pub then-gives : {A B : Type 0} (P : A → Type 0) (Q : B → Type 0) (f : A → Outcome B) (o : Outcome A) → ((a : A) → P a → IfYields (f a) Q) → IfYields o P → IfYields (outcome_and_then f o) Q
-then-gives P Q f (Yields a) more is = more a is
-then-gives P Q f (Fails why) more is = tt
-
 pub map-any : {A B : Type 0} (Q : B → Type 0) (f : A → B) (o : Outcome A) → ((a : A) → Q (f a)) → IfYields (outcome_map f o) Q
 map-any Q f (Yields a) more = more a
 map-any Q f (Fails why) more = tt
@@ -70,10 +63,6 @@ map-any Q f (Fails why) more = tt
 pub then-any : {A B : Type 0} (Q : B → Type 0) (f : A → Outcome B) (o : Outcome A) → ((a : A) → IfYields (f a) Q) → IfYields (outcome_and_then f o) Q
 then-any Q f (Yields a) more = more a
 then-any Q f (Fails why) more = tt
-
-pub unmet-gives : {A : Type 0} (P : A → Type 0) (o : Option A) → IfSome o P → IfYields (or_unmet o) P
-unmet-gives P None is = tt
-unmet-gives P (Some a) is = is
 
 pub error-gives : {A : Type 0} (P : A → Type 0) (o : Option A) → IfSome o P → IfYields (or_error o) P
 error-gives P None is = tt
@@ -84,7 +73,7 @@ pub each-gives : {A : Type 0} (P : A → Type 0) (os : List (Outcome A)) → All
 each-gives P [] all = All-nil P
 each-gives P (Fails why ∷ os) all = tt
 each-gives P (Yields a ∷ os) all =
-    map-gives (All P) (All P) (λ others. a ∷ others) (each os) (λ others rest. All-cons P a others (All-head (λ o. IfYields o P) (Yields a) os all) rest)
+    map-yields (All P) (All P) (λ others. a ∷ others) (each os) (λ others rest. All-cons P a others (All-head (λ o. IfYields o P) (Yields a) os all) rest)
     (each-gives P os (All-tail (λ o. IfYields o P) (Yields a) os all))
 
 -- ---- values

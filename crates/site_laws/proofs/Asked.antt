@@ -28,7 +28,7 @@ use Rattle.check_scope.specs.declared.types.DataType.{DataType}
 use Rattle.check_statements.specs.Statements.{statement, statements}
 use Rattle.site_laws.proofs.Blocks.{block-fine, block-fine-if, for-fine, parts-of, place}
 use Rattle.site_laws.proofs.Frames.{AreOpen, IsDataIn, IsFineData, KeepsFrame, all-in, declare-kept, declare-timer-kept, effect-kept, entered-in, forget-kept, last-kept, last-remaining, open-in, set-timer-kept, store-kept}
-use Rattle.site_laws.proofs.Outside.{Begins, beginning-fine, body-fine, new-unseen}
+use Rattle.site_laws.proofs.Outside.{Begins, beginning-fine, body-fine}
 use Rattle.site_laws.proofs.Ports.{new-queues}
 use Rattle.site_laws.proofs.Repeats.{repeat-each}
 use Rattle.site_laws.proofs.Sites.{new-free}
@@ -36,6 +36,7 @@ use Rattle.site_laws.proofs.Ways.{IsFineChance, IsFineChoice, IsFineWay, alt-fin
 use Rattle.site_laws.specs.Standing.{IsFineComponent, IsFineFrame, IsFineItem, IsFineLoop, IsFineName, IsFinePart, IsFineSite, IsFineStep, IsFrameOf, IsFree, IsIf, IsNoDeclaration, PlaceIn}
 use Rattle.statement_laws.specs.Parts.{HasFineParts, IsFineConditional, IsFineIfAny}
 use Rattle.step_laws.proofs.Outcomes.{any-yields, map-yields, then-yields, unmet-yields}
+use Rattle.statement_laws.proofs.Growing.{new-unseen}
 use Rattle.step_rules.specs.Branches.{Chance, Written, written_alt, written_defaults}
 use Rattle.step_rules.specs.Configurations.{Data, Frame}
 use Rattle.step_rules.specs.Creating.{new_component, new_members}

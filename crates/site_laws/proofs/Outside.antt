@@ -1,7 +1,6 @@
 -- Names that are visible outside of blocks are visible within, parameters have other names, and bodies break no rule.
-use Rattle.std.proofs.Common.{◌≡◌, ℕ, true, false, List, [], ◌∷◌, ◌++◌, Option, Some, None, IfSome, is_none, refl, subst, ◌≢◌}
+use Rattle.std.proofs.Common.{◌≡◌, ℕ, true, false, List, [], ◌∷◌, ◌++◌, Option, Some, None, IfSome, refl, subst, ◌≢◌}
 use Rattle.std.specs.List.{All, flat_map}
-use Rattle.std.specs.Option.{option_or}
 use Rattle.std.proofs.lemmas.List.Elements.{All-cons, All-nil}
 use Rattle.ttcn_syntax.specs.declared.tree.definition.Definition.{Definition}
 use Rattle.ttcn_syntax.specs.declared.tree.definition.DefinitionKind.{DefinitionKind}
@@ -13,18 +12,17 @@ use Rattle.check_expressions.specs.Calls.{component_named, parameters_of}
 use Rattle.check_expressions.specs.Declarations.{behind_all, one_by_one}
 use Rattle.check_expressions.specs.Targets.{check_new_name, check_type}
 use Rattle.check_expressions.specs.Templates.{template}
-use Rattle.check_scope.specs.Names.{Entry, Names, Scope, declaring, kind_at, listed, resolved}
+use Rattle.check_scope.specs.Names.{Entry, Scope, declaring, kind_at, listed, resolved}
 use Rattle.check_scope.specs.Scopes.{module_scope, scope_on}
 use Rattle.check_scope.specs.Typings.{target_of}
-use Rattle.check_scope.specs.declared.names.Meaning.{Meaning}
 use Rattle.check_scope.specs.declared.rule.Rule.{Rule}
-use Rattle.check_scope.specs.declared.rule.Rule.TheVariants as rule
 use Rattle.check_statements.specs.Definitions.{check_component_name, check_parameter, check_parameters, check_result, parameter_entry, place_in, returns_of, with_parameters}
 use Rattle.check_statements.specs.Statements.{Check, Place, branch, check_return, statements, with_scope}
-use Rattle.checker_laws.proofs.Nothing.{kept, nothing-first, nothing-rest}
+use Rattle.checker_laws.proofs.Nothing.{nothing-first, nothing-rest}
 use Rattle.checker_laws.proofs.Whole.{behaviour_whole, definition_is_fine, parameters_whole}
 use Rattle.site_laws.specs.Standing.{IsFineSite, IsFree, MayReturn, PlaceIn, place_at}
 use Rattle.statement_laws.specs.Results.{branches}
+use Rattle.statement_laws.proofs.Growing.{new-unseen, or-unseen}
 use Rattle.step_rules.proofs.Pairs.{All-more}
 use Rattle.step_rules.specs.Branches.{branches_of}
 use Rattle.step_rules.specs.Runs.{testcase_body}
@@ -33,17 +31,6 @@ use Rattle.step_rules.specs.Statements.{body_of}
 use Rattle.ttcn_types.specs.Rules.{AreWellTyped}
 
 -- ---- names
-
-pub or-unseen : (one before : Option Meaning) → option_or one before ≡ None → before ≡ None
-or-unseen None before unseen = unseen
-or-unseen (Some m) before unseen = absurd (let e = unseen in cc)
-
-none-is : (o : Option Meaning) → is_none o ≡ true → o ≡ None
-none-is None is = refl
-none-is (Some m) is = absurd (let e = is in cc)
-
-pub new-unseen : (names : Names) (name : List ℕ) → check_new_name names name ≡ [] → names name ≡ None
-new-unseen names name nothing = none-is (names name) (kept (is_none (names name)) rule.DuplicateName nothing)
 
 -- what isn't visible behind declarations isn't in front of them
 pub unseen-before : (scope : Scope) (entries : List Entry) (name : List ℕ) → (scope_with scope entries).names name ≡ None → scope.names name ≡ None

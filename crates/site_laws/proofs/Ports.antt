@@ -20,8 +20,9 @@ use Rattle.check_scope.specs.declared.rule.Rule.TheVariants as rule
 use Rattle.check_statements.specs.Definitions.{check_member, check_members, check_port_name, port_entry}
 use Rattle.checker_laws.proofs.Nothing.{nothing-first, nothing-rest}
 use Rattle.checker_laws.proofs.Whole.{definition_is_fine}
-use Rattle.site_laws.proofs.Outside.{each-unseen, new-unseen, or-unseen}
+use Rattle.site_laws.proofs.Outside.{each-unseen}
 use Rattle.site_laws.specs.Standing.{HasQueuesByName}
+use Rattle.statement_laws.proofs.Growing.{new-unseen, or-unseen}
 use Rattle.step_rules.proofs.Pairs.{All-both, All-more, pairs-append, pairs-head, pairs-map, pairs-nil, pairs-tail}
 use Rattle.step_rules.specs.Configurations.{Message, Queue}
 use Rattle.step_rules.specs.Creating.{empty_queues, ports_of}

@@ -12,17 +12,15 @@ use Rattle.ttcn_syntax.specs.declared.tree.statement.Variable.{Variable}
 use Rattle.ttcn_syntax.specs.declared.tree.statement.Variables.{Variables}
 use Rattle.check_expressions.specs.Calls.{parameters_of}
 use Rattle.check_expressions.specs.Declarations.{behind_all, one_by_one}
-use Rattle.check_expressions.specs.Targets.{check_constant, check_constants, check_initial, check_new_name, check_timer_name, check_timers, check_type, check_variable, check_variables, constant_entry, variable_entry}
-use Rattle.check_expressions.specs.Values.{value}
+use Rattle.check_expressions.specs.Targets.{check_constant, check_constants, check_timer_name, check_timers, check_type, check_variable, check_variables, constant_entry, variable_entry}
 use Rattle.check_scope.specs.Names.{Entry, Scope, kind_at, resolved}
-use Rattle.check_scope.specs.Typings.{target_of}
 use Rattle.check_scope.specs.declared.names.Meaning.{Meaning}
 use Rattle.check_scope.specs.declared.names.Meaning.TheVariants as meaning
 use Rattle.check_scope.specs.declared.rule.Rule.{Rule}
 use Rattle.check_scope.specs.declared.types.DataType.{DataType}
 use Rattle.checker_laws.proofs.Nothing.{nothing-first, nothing-rest}
 use Rattle.checker_laws.specs.Laws.{IsKnown}
-use Rattle.site_laws.proofs.Outside.{new-unseen, parameters-free, unseen-before, unseen-in-front}
+use Rattle.site_laws.proofs.Outside.{parameters-free, unseen-before, unseen-in-front}
 use Rattle.site_laws.specs.Standing.{IsFineItem, IsFineName, IsFineSite, IsFineVariable, IsFree}
 use Rattle.statement_laws.proofs.Growing.{new_name_within, within_both, within_itself}
 use Rattle.statement_laws.proofs.Members.{name_leaves_whole}
@@ -30,6 +28,7 @@ use Rattle.statement_laws.proofs.Naming.{same-name}
 use Rattle.statement_laws.proofs.Typing.{type_known}
 use Rattle.statement_laws.proofs.Within.{type_stays}
 use Rattle.statement_laws.specs.Within.{IsWithin}
+use Rattle.statement_laws.proofs.Growing.{constant-new, new-unseen, variable-new}
 use Rattle.step_rules.specs.Items.{Doing, Name, action_of, declarations}
 use Rattle.step_rules.specs.Sites.{Site, behaviour_scope, constant_entries, is_own, runs_on, scope_at, site_behind, site_with, timer_entries, variable_entries}
 use Rattle.check_statements.specs.Definitions.{parameter_entry}
@@ -128,12 +127,6 @@ module _ {A : Type 0} (definitions : List Definition) (at : ℕ) (rules : Scope 
 
 there : {A : Type 0} (P : A → Type 0) (o : Option A) (x : A) → o ≡ Some x → P x → IsSomeAnd o P
 there P o x is holds = subst (λ o. IsSomeAnd o P) (sym is) holds
-
-variable-new : (of : Option DataType) (s : Scope) (v : Variable) → check_variable of s v ≡ [] → s.names v.name ≡ None
-variable-new of s v fine = new-unseen s.names v.name (nothing-first (check_new_name s.names v.name) (check_initial s (target_of of) v.value) fine)
-
-constant-new : (of : Option DataType) (s : Scope) (c : Constant) → check_constant of s c ≡ [] → s.names c.name ≡ None
-constant-new of s c fine = new-unseen s.names c.name (nothing-first (check_new_name s.names c.name) (value c.value s (target_of of)) fine)
 
 module _ (definitions : List Definition) (at : ℕ) (site : Site) (fine : IsFineSite definitions at site) where
   abbrev here : Scope

@@ -1,4 +1,4 @@
--- What remains to be done in each frame breaks no rule of the checker where it stands, as in all runs of modules that are accepted.
+-- What remains to be done in each frame breaks no rule of the checker where it stands, as in all runs of modules that break none.
 use Rattle.std.specs.Prelude.{◌≡◌, ◌≢◌, ℕ, false, List, [], Option, Some, None, AllPairs, IsSomeAnd, bytes_eq, slice_get}
 use Rattle.std.specs.List.{All}
 use Rattle.ttcn_syntax.specs.declared.tree.definition.Definition.{Definition}

@@ -1,4 +1,4 @@
-//! Laws of runs of accepted modules: what remains to be done breaks no rule where it stands. They run no code.
+//! Laws of runs of modules that break no rule of the checker: what remains to be done breaks no rule where it stands. They run no code.
 #![tactic(auto)]
 
 ghost use Rattle.std.specs.Prelude.{◌≡◌, ℕ, List, ◌∷◌, None, Some, Ok, All, AllPairs, IfSome, bytes_eq, false, find, true};

@@ -100,7 +100,7 @@ none-is : (o : Option Meaning) → is_none o ≡ true → o ≡ None
 none-is None is = refl
 none-is (Some m) is = absurd (let e = is in cc)
 
-new-unseen : (names : Names) (name : List ℕ) → check_new_name names name ≡ [] → names name ≡ None
+pub new-unseen : (names : Names) (name : List ℕ) → check_new_name names name ≡ [] → names name ≡ None
 new-unseen names name nothing = none-is (names name) (kept (is_none (names name)) rule.DuplicateName nothing)
 
 -- ---- names that are declared one behind the other
@@ -114,7 +114,7 @@ module _ {A : Type 0} (rules : Scope → A → List Rule) (entry : Scope → A �
       (unseen-within s (entry s x ∷ []) (new s x (nothing-first (rules s x) (one_by_one rules entry next items) nothing), tt))
       (items-grow next items (nothing-rest (rules s x) (one_by_one rules entry next items) nothing))
 
-or-unseen : (one before : Option Meaning) → option_or one before ≡ None → before ≡ None
+pub or-unseen : (one before : Option Meaning) → option_or one before ≡ None → before ≡ None
 or-unseen None before unseen = unseen
 or-unseen (Some m) before unseen = absurd (let e = unseen in cc)
 
@@ -139,10 +139,10 @@ parameters_within s ps nothing =
     items-grow check_parameter parameter_entry
     (λ s p fine. new-unseen s.names p.name (nothing-first (check_new_name s.names p.name) (check_type s.names true p.type_name) fine)) s ps nothing
 
-variable-new : (of : Option DataType) (s : Scope) (v : Variable) → check_variable of s v ≡ [] → s.names v.name ≡ None
+pub variable-new : (of : Option DataType) (s : Scope) (v : Variable) → check_variable of s v ≡ [] → s.names v.name ≡ None
 variable-new of s v fine = new-unseen s.names v.name (nothing-first (check_new_name s.names v.name) (check_initial s (target_of of) v.value) fine)
 
-constant-new : (of : Option DataType) (s : Scope) (c : Constant) → check_constant of s c ≡ [] → s.names c.name ≡ None
+pub constant-new : (of : Option DataType) (s : Scope) (c : Constant) → check_constant of s c ≡ [] → s.names c.name ≡ None
 constant-new of s c fine = new-unseen s.names c.name (nothing-first (check_new_name s.names c.name) (value c.value s (target_of of)) fine)
 
 -- the scope in front of a statement is within the one behind it

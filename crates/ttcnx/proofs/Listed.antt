@@ -85,7 +85,6 @@ run-kept : (test : Test) (n : ℕ) (v : Verdict) (o : Option (Vec Label Global))
 run-kept test n v None run less best = absurd (best run.run (record { is_run = run.has.is_run; short = let short = run.has.short in omega (arith, short, less); marked = run.has.marked }))
 run-kept test n v (Some kept) run less best = refl
 
--- a report that is true of the runs of every greater bound lists the verdicts of all runs
 listed-has : (test : Test) (n : ℕ) (report : Report) (v : Verdict) → TellsOfRuns test n report → Lists report v → HasRun test v
 listed-has test n report v tells lists =
     kept-run test n v (tells.run_of v)
@@ -98,6 +97,7 @@ has-listed test n report v tells run less =
     subst (λ (outcomes : List Outcome). Contains (map (λ outcome. outcome.verdict) outcomes) v) (sym tells.outcomes)
     (some-listed tells.run_of v (run-kept test n v (tells.run_of v) run less (tells.best v)))
 
+-- a report that is true of the runs of every greater bound lists the verdicts of all runs
 lists_all : (test : Test) (n : ℕ) (report : Report) → ((bound : ℕ) → n ≤ bound → TellsOfRuns test bound report) → (v : Verdict) → Lists report v ↔ HasRun test v
 lists_all test n report every v = (
   listed-has test n report v (every n (omega arith)),

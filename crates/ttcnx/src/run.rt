@@ -52,7 +52,7 @@ pub fn run_text<G: Gate, R: Threads + Sync>(
     ensures every_bound { IfOk result (λ report. IsTrue report.complete → (test : Test) → IsTestOf text.now name.now test
         → (bound : ℕ) → plan.now.steps ≤ bound → TellsOfRuns test bound report) }
 
-    // It then lists the verdicts of all runs, and of all in which snapshots and choices are two steps.
+    // It then lists the verdicts of all runs, which are those of all fine runs: there snapshot and choice are two steps.
     ensures every_verdict { IfOk result (λ report. IsTrue report.complete → (test : Test) → IsTestOf text.now name.now test
         → (v : tree.Verdict) → (Lists report v ↔ EndsWith test v) × (Lists report v ↔ EndsFinelyWith test v)) }
 
