@@ -195,41 +195,41 @@ reached-next : (test : Test) (label : Label) (c d : Configuration) → IsReached
 reached-next test label c d is goes = (is.0 ++ label ∷ [], more-from test is.0 label 1 (start test) c d goes is.1)
 
 -- both
-abbrev Stands : Test → Configuration → Type 0
-Stands test c = IsReached test c × StandsWithAllReferred test c
+abbrev pub ReachedStands : Test → Configuration → Type 0
+ReachedStands test c = IsReached test c × StandsWithAllReferred test c
 
-start-both : (test : Test) → Stands test (start test)
+pub start-both : (test : Test) → ReachedStands test (start test)
 start-both test = (([], refl), start_stands test)
 
-next-both : (test : Test) (c : Configuration) (label : Label) (o : Option Configuration) → next test c label ≡ o → Stands test c → IfSome o (Stands test)
+pub next-both : (test : Test) (c : Configuration) (label : Label) (o : Option Configuration) → next test c label ≡ o → ReachedStands test c → IfSome o (ReachedStands test)
 next-both test c label None e is = tt
 next-both test c label (Some d) e is = (reached-next test label c d is.0 e, next_stands test c d label (reached-family test c is.0) is.1 e)
 
 abbrev Holds : Test → Result Configuration ℕ → Type 0
-Holds test (Ok c) = Stands test c
+Holds test (Ok c) = ReachedStands test c
 Holds test (Err number) = Unit {0}
 
-goes-on : (test : Test) (number : ℕ) (more : Configuration → Result Configuration ℕ) (o : Option Configuration) → ((c : Configuration) → Stands test c → Holds test (more c)) → IfSome o (Stands test)
+goes-on : (test : Test) (number : ℕ) (more : Configuration → Result Configuration ℕ) (o : Option Configuration) → ((c : Configuration) → ReachedStands test c → Holds test (more c)) → IfSome o (ReachedStands test)
     → Holds test (option_elim (Err number) more o)
 goes-on test number more None fine is = tt
 goes-on test number more (Some c) fine is = fine c is
 
-replays-from : (test : Test) (run : List Label) (number : ℕ) (c : Configuration) → Stands test c → Holds test (replay_from test run number c)
+replays-from : (test : Test) (run : List Label) (number : ℕ) (c : Configuration) → ReachedStands test c → Holds test (replay_from test run number c)
 replays-from test [] number c is = is
 replays-from test (label ∷ others) number c is =
     goes-on test number (replay_from test others (number + 1)) (next test c label) (λ d also. replays-from test others (number + 1) d also) (next-both test c label (next test c label) refl is)
 
-replayed : (test : Test) (run : List Label) (c : Configuration) → replay test run ≡ Ok c → Stands test c
+replayed : (test : Test) (run : List Label) (c : Configuration) → replay test run ≡ Ok c → ReachedStands test c
 replayed test run c e = subst (Holds test) e (replays-from test run 1 (start test) (start-both test))
 
 pub replay_stands : (test : Test) (run : List Label) (c : Configuration) → replay test run ≡ Ok c → StandsWithAllReferred test c
 replay_stands test run c e = (replayed test run c e).1
 
-after-both : (test : Test) (c : Configuration) (o : Option Configuration) → Stands test c → IfSome o (Stands test) → Stands test (option_elim c (λ d. d) o)
+after-both : (test : Test) (c : Configuration) (o : Option Configuration) → ReachedStands test c → IfSome o (ReachedStands test) → ReachedStands test (option_elim c (λ d. d) o)
 after-both test c None is found = is
 after-both test c (Some d) is found = found
 
-ends : (test : Test) (run : Run Label) → Stands test (end_of (graph_of test) run)
+ends : (test : Test) (run : Run Label) → ReachedStands test (end_of (graph_of test) run)
 ends test Start = start-both test
 ends test (Then run label) =
     after-both test (end_of (graph_of test) run) (next test (end_of (graph_of test) run) label) (ends test run)

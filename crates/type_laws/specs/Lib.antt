@@ -1,0 +1,4 @@
+pub mod Fitting
+pub mod Steps
+pub mod Typed
+pub mod internal
