@@ -8,9 +8,11 @@ use Rattle.evaluation_laws.specs.Uses.{GivesOnly}
 use Rattle.step_rules.specs.Configurations.{Component, Configuration, Data, Frame, Goes, Message, component_at}
 use Rattle.step_rules.specs.Creating.{ports_of}
 use Rattle.step_rules.specs.Items.{Doing, Item, action_of}
+use Rattle.step_rules.specs.Runs.{graph_of}
 use Rattle.step_rules.specs.Snapshots.{Snapshot, Test}
 use Rattle.step_rules.specs.Steps.{Label, Statement, next}
 use Rattle.step_rules.specs.Taking.{repeat_alt}
+use Rattle.summary.specs.Run.{Run, Start, Then, end_of}
 use Rattle.ttcn_values.specs.Frames.{entry}
 use Rattle.type_laws.specs.Typed.{FitsData, FitsMessage}
 
@@ -48,7 +50,12 @@ abbrev pub FindsItsAlt : Test → Configuration → Label → Type 0
 FindsItsAlt test (Goes c) (Statement path) = IfSome (component_at c path) (FindsAlt test)
 FindsItsAlt test c label = Unit {0}
 
--- and in each step of a run from a configuration
+-- and in each step of labels one after the other, from a configuration
 abbrev pub FindsItsAlts : Test → List Label → Configuration → Type 0
 FindsItsAlts test [] c = Unit {0}
 FindsItsAlts test (label ∷ run) c = FindsItsAlt test c label × IfSome (next test c label) (FindsItsAlts test run)
+
+-- and in each step of a run of the graph
+abbrev pub FindsItsAltsIn : Test → Run Label → Type 0
+FindsItsAltsIn test Start = Unit {0}
+FindsItsAltsIn test (Then run label) = FindsItsAltsIn test run × FindsItsAlt test (end_of (graph_of test) run) label

@@ -14,16 +14,17 @@ ghost use Rattle.statement_laws.specs.Within.{IsWithin};
 ghost use Rattle.step_laws.specs.Order.{StandsInOrder};
 ghost use Rattle.step_rules.specs.Configurations.{Component, Configuration, Data, Frame, Goes, Going, component_at};
 ghost use Rattle.step_rules.specs.Creating.{new_members};
-ghost use Rattle.step_rules.specs.Runs.{replay, start, started, testcase_body};
+ghost use Rattle.step_rules.specs.Runs.{graph_of, replay, start, started, testcase_body};
 ghost use Rattle.step_rules.specs.Sites.{Site, scope_at};
 ghost use Rattle.step_rules.specs.Snapshots.{Snapshot, Test, View, members_in, reading_in};
 ghost use Rattle.step_rules.specs.Statements.{act};
 ghost use Rattle.step_rules.specs.Steps.{Label, apply, next, step};
+ghost use Rattle.summary.specs.Run.{Run, end_of};
 ghost use Rattle.ttcn_types.specs.Rules.{AreWellTyped};
 ghost use Rattle.ttcn_values.specs.Outcomes.{or_unmet, outcome_and_then};
 ghost use Rattle.ttcn_values.specs.declared.path.Path.{Path};
 ghost use Rattle.ttcn_values.specs.declared.value.ComponentId.{ComponentId};
-ghost use Rattle.type_laws.specs.Steps.{FindsAlt, FindsItsAlt, FindsItsAlts, Sees};
+ghost use Rattle.type_laws.specs.Steps.{FindsAlt, FindsItsAlt, FindsItsAlts, FindsItsAltsIn, Sees};
 ghost use Rattle.type_laws.specs.Fitting.{DeclaresLocals, FitsMembers, FitsSite, RunsOn, scope_seen, view_of};
 ghost use Rattle.type_laws.specs.Typed.{AreDeclared, FitsTypes, IsOutside, site_of};
 
@@ -65,8 +66,9 @@ pub fn steps_keep_types()
     ensures next { (test : Test) (c d : Configuration) (label : Label) → AreWellTyped test.definitions → StandsByRules test c → StandsInOrder c → StandsWithAllReferred test c → FitsTypes test c → FindsItsAlt test c label → next test c label ≡ Some d → FitsTypes test d }
 {}
 
-/// So all values are of their types in each configuration that a run leads to, along which each `repeat` finds its `alt`.
-#[tactic(auto, using(crate::proofs::Running::replay_fits))]
+/// So all values are of their types in each configuration that a run leads to along which each `repeat` finds its `alt`.
+#[tactic(auto, using(crate::proofs::Running::replay_fits, crate::proofs::Running::ends_fit))]
 pub fn runs_keep_types()
-    ensures { (test : Test) (run : List Label) (c : Configuration) → AreWellTyped test.definitions → is_some (testcase_body (kind_at test.definitions test.testcase)) ≡ true → FindsItsAlts test run (start test) → replay test run ≡ Ok c → FitsTypes test c }
+    ensures replayed { (test : Test) (run : List Label) (c : Configuration) → AreWellTyped test.definitions → is_some (testcase_body (kind_at test.definitions test.testcase)) ≡ true → FindsItsAlts test run (start test) → replay test run ≡ Ok c → FitsTypes test c }
+    ensures ends { (test : Test) (run : Run Label) → AreWellTyped test.definitions → is_some (testcase_body (kind_at test.definitions test.testcase)) ≡ true → FindsItsAltsIn test run → FitsTypes test (end_of (graph_of test) run) }
 {}
