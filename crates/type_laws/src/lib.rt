@@ -66,9 +66,11 @@ pub fn steps_keep_types()
     ensures next { (test : Test) (c d : Configuration) (label : Label) → AreWellTyped test.definitions → StandsByRules test c → StandsInOrder c → StandsWithAllReferred test c → FitsTypes test c → FindsItsAlt test c label → next test c label ≡ Some d → FitsTypes test d }
 {}
 
-/// So all values are of their types in each configuration that a run leads to along which each `repeat` finds its `alt`.
-#[tactic(auto, using(crate::proofs::Running::replay_fits, crate::proofs::Running::ends_fit))]
+/// So all values are of their types in each configuration that a run leads to along which each `repeat` finds its `alt`, and
+/// the next step meets nothing that no checked module has.
+#[tactic(auto, using(crate::proofs::Running::replay_fits, crate::proofs::Running::replay_meets, crate::proofs::Running::ends_fit))]
 pub fn runs_keep_types()
     ensures replayed { (test : Test) (run : List Label) (c : Configuration) → AreWellTyped test.definitions → is_some (testcase_body (kind_at test.definitions test.testcase)) ≡ true → FindsItsAlts test run (start test) → replay test run ≡ Ok c → FitsTypes test c }
+    ensures met { (test : Test) (run : List Label) (c : Configuration) (label : Label) → AreWellTyped test.definitions → is_some (testcase_body (kind_at test.definitions test.testcase)) ≡ true → FindsItsAlts test run (start test) → replay test run ≡ Ok c → FindsItsAlt test c label → IfSome (step test c label) (λ out. GivesOnly out (FitsTypes test)) }
     ensures ends { (test : Test) (run : Run Label) → AreWellTyped test.definitions → is_some (testcase_body (kind_at test.definitions test.testcase)) ≡ true → FindsItsAltsIn test run → FitsTypes test (end_of (graph_of test) run) }
 {}
