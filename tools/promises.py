@@ -50,23 +50,24 @@ def members(crate):
 
 
 def read_file(text, clauses, words):
-    """Adds the clauses and the words of one file of code."""
+    """Adds the clauses and the words of one file of code. A ghost member is a clause of its type or trait."""
     owner, keys = None, []
     for line in text.splitlines():
+        words.update(re.findall(r"\w+", line.split("//")[0]))
         begun = re.match(r"impl(?:<.*?>)? (?:.* for )?(\w+)", line) or re.match(r"(?:pub )?trait (\w+)", line)
-        if begun:
-            owner, keys = begun.group(1), [begun.group(1)]
-        elif re.match(r"\S", line):
-            owner = owner if line.startswith(("}", "where", ")")) else None
-        function = re.match(r"(\s*)(?:pub(?:\(\w+\))? )?(?:const )?fn (\w+)", line)
-        if function:
-            inside = owner if function.group(1) else None
-            keys = [function.group(2)] + ([f"{inside}::{function.group(2)}"] if inside else [])
-        clause = re.match(r"\s*ensures (\w+) ", line)
+        function = re.match(r"( *)(?:pub(?:\(\w+\))? )?(?:const )?fn (\w+)", line)
+        clause = re.match(r" +ensures (\w+) ", line)
         ghost = re.match(r"    ghost (\w+)(?::| =)", line)
+        if begun:
+            owner, keys = begun.group(1), []
+            clauses.setdefault(owner, set())
+        elif re.match(r"\w", line):
+            owner, keys = None, []
+        if function:
+            name = function.group(2)
+            keys = [name, f"{owner}::{name}"] if owner else [name]
         for key in [owner] if ghost and owner else keys:
             clauses.setdefault(key, set()).update(found.group(1) for found in (clause, ghost) if found)
-        words.update(re.findall(r"\w+", line.split("//")[0]))
 
 
 def missing(crate):
