@@ -43,7 +43,8 @@ use Rattle.type_laws.proofs.Nested.{nest-block, nest-block-if, nest-for, nest-on
 use Rattle.type_laws.proofs.Rights.{activated-fits, assignment-asks, name-asks}
 use Rattle.type_laws.proofs.Sends.{send-asks}
 use Rattle.type_laws.proofs.Stands.{Asks, At, NestHere, StandsAt, awaits-none, call-asks, continuing-fits, fine-site, fits-at, goes-on, kind-of, meant-there, members-fit, remains, runs-there, wide, within}
-use Rattle.type_laws.specs.Steps.{FitFronts, IsAtRepeat, Sees}
+use Rattle.repeat_laws.specs.Marks.{IsAtRepeat}
+use Rattle.type_laws.specs.Steps.{FitFronts, Sees}
 use Rattle.type_laws.specs.internal.Asked.{FitsAct, IsMeant}
 use Rattle.type_laws.specs.Typed.{FitBelow, FitCalls, FitsData, FitsFrame, FitsOwn, Leaves, Nest, StandsIn, result_of}
 

@@ -35,7 +35,7 @@ use Rattle.ttcn_values.specs.declared.frame.TimerState.TheVariants as timer
 use Rattle.type_laws.proofs.Branches.{FitsChance, FitsWritten, defaults-fit}
 use Rattle.type_laws.proofs.Data.{DataAt, data-fits, stored-of, timer-set}
 use Rattle.type_laws.proofs.Events.{FitsEffect, FitsJudge, FitsRedirect, FitsTrial, chance-fits, judge-fine, judge-locals}
-use Rattle.type_laws.proofs.Nested.{outside-itself}
+use Rattle.repeat_laws.proofs.Outside.{outside-itself}
 use Rattle.type_laws.proofs.Stands.{Asks, NestHere, StandsAt, acting-fits, frames-fit, kind-of, members-fit, remains, view-fits}
 use Rattle.type_laws.proofs.Visible.{Says, site-says}
 use Rattle.type_laws.specs.Steps.{FitFronts}

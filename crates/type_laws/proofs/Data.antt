@@ -37,7 +37,8 @@ use Rattle.type_laws.proofs.Declared.{by-name, declared-fine, outside-declared, 
 use Rattle.type_laws.proofs.Entries.{put-other, put-own}
 use Rattle.type_laws.proofs.Readings.{seen_whole}
 use Rattle.type_laws.specs.Fitting.{FitsMembers, FitsNames, IsMemberValue, IsValueOf, RunsOn, or_timer, scope_seen, view_of}
-use Rattle.type_laws.specs.Typed.{AreDeclared, FitBelow, FitCalls, FitsData, FitsDefault, FitsFrame, HasFrames, IsOutside, IsTarget, Nest, result_of}
+use Rattle.repeat_laws.specs.Following.{IsOutside}
+use Rattle.type_laws.specs.Typed.{AreDeclared, FitBelow, FitCalls, FitsData, FitsDefault, FitsFrame, HasFrames, IsTarget, Nest, result_of}
 
 -- ---- the last frame
 

@@ -31,7 +31,8 @@ use Rattle.ttcn_values.specs.declared.value.Value.{Value}
 use Rattle.type_laws.proofs.Entries.{put-other, put-own, without-other, without-own}
 use Rattle.type_laws.proofs.Visible.{site-definitions}
 use Rattle.type_laws.specs.Fitting.{DeclaresLocals, FitsSite, IsLocal, IsValueOf, view_of}
-use Rattle.type_laws.specs.Typed.{AreDeclared, IsOutside, site_of}
+use Rattle.repeat_laws.specs.Following.{IsOutside}
+use Rattle.type_laws.specs.Typed.{AreDeclared, site_of}
 
 -- ---- names
 

@@ -14,6 +14,7 @@ pub mod Nested
 pub mod NewFrames
 pub mod NewMembers
 pub mod Readings
+pub mod Repeating
 pub mod Rights
 pub mod Running
 pub mod Sends

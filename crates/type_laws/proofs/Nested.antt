@@ -42,7 +42,9 @@ use Rattle.statement_laws.specs.Within.{IsWithin}
 use Rattle.step_rules.specs.Items.{Does, Doing, Item, Loop, Mark, Part, Start, Waiting, Whole, action_of, declarations, items, items_if_any, items_of_action, items_of_statement, site_after, site_in_for, start_items}
 use Rattle.step_rules.specs.Sites.{Site, constant_entries, entries_of, scope_at, site_behind, site_with, timer_entries, variable_entries}
 use Rattle.type_laws.proofs.Declared.{new-unseen}
-use Rattle.type_laws.specs.Typed.{Declares, DeclaresVariable, IsOutside, Leaves, Nest, StandsIn}
+use Rattle.repeat_laws.proofs.Outside.{outside-behind, outside-both, outside-itself, outside-one}
+use Rattle.repeat_laws.specs.Following.{IsOutside}
+use Rattle.type_laws.specs.Typed.{Declares, DeclaresVariable, Leaves, Nest, StandsIn}
 
 -- ---- what is said of one level of a statement
 
@@ -51,22 +53,6 @@ told x = action_step (map-Action Action Alternative Branch Conditional Statement
 
 told-is : (s : Statement) → statement s ≡ told (action_of s)
 told-is s = statement_out s ∙ fold_out-Action StatementRules Check Check Check StatementRules action_step alternative_step branch_step conditional_step statement_step (out-Statement s).action
-
--- ---- further in
-
-pub outside-itself : (declared : List Entry) → IsOutside declared declared
-outside-itself declared = ([], refl)
-
-pub outside-both : (one other more : List Entry) → IsOutside one other → IsOutside other more → IsOutside one more
-outside-both one other more first next = (next.0 ++ first.0, append_assoc next.0 first.0 one ∙ ap (λ es. next.0 ++ es) first.1 ∙ next.1)
-
-pub outside-one : (declared : List Entry) (e : Entry) → IsOutside declared (e ∷ declared)
-outside-one declared e = (e ∷ [], refl)
-
-pub outside-behind : (site : Site) (entries : List Entry) → IsOutside site.declared (site_behind site entries).declared
-outside-behind site [] = outside-itself site.declared
-outside-behind site (e ∷ entries) =
-    outside-both site.declared (e ∷ site.declared) (site_behind (site_with site e) entries).declared (outside-one site.declared e) (outside-behind (site_with site e) entries)
 
 module _ (definitions : List Definition) (at : ℕ) where
   abbrev NestAt : List Entry → List Item → Type 0

@@ -67,7 +67,7 @@ use Rattle.ttcn_values.specs.declared.value.Value.TheOpen.{Value-F}
 use Rattle.ttcn_values.specs.declared.value.Value.TheVariants as value
 use Rattle.type_laws.proofs.Data.{Any, data-changed, data-going, stored, stored-of}
 use Rattle.type_laws.proofs.Declared.{new-unseen, own-behind, seen-declared, seen-forgotten, seen-timer}
-use Rattle.type_laws.proofs.Nested.{outside-itself}
+use Rattle.repeat_laws.proofs.Outside.{outside-itself}
 use Rattle.type_laws.proofs.NewFrames.{IsPart, module-meant}
 use Rattle.type_laws.proofs.NewMembers.{new_members_fit}
 use Rattle.type_laws.proofs.Stands.{Asks, At, NestHere, StandsAt, acting-fits, always-fits, call-asks, differ, fine-site, fit, fits-at, has, kind-of, known, locals, reading, remains, runs-there, value-function, function-alone, view, whole, wide, within}

@@ -34,7 +34,10 @@ use Rattle.ttcn_values.specs.declared.value.ComponentId.{ComponentId}
 use Rattle.type_laws.proofs.Asked.{asked-fits}
 use Rattle.type_laws.proofs.Changes.{apply-fits}
 use Rattle.type_laws.proofs.Expiring.{LikeOwn, exchanged-fits, own-expires}
-use Rattle.type_laws.specs.Steps.{FindsAlt, FindsItsAlt, Sees, StandsAtRepeat}
+use Rattle.repeat_laws.specs.Following.{lists_of}
+use Rattle.repeat_laws.specs.Marks.{AllAreMarked, StandsAtRepeat, StandsMarked}
+use Rattle.type_laws.proofs.Repeating.{FindsAlt, finds-alt}
+use Rattle.type_laws.specs.Steps.{Sees}
 use Rattle.type_laws.specs.internal.Asked.{AreOfType, FitsAct, IsFound, IsMeant}
 use Rattle.type_laws.specs.Typed.{FitQueues, FitsComponent, FitsData, FitsMessage, FitsOwn, FitsTypes, HasFrames}
 
@@ -161,27 +164,30 @@ asked-by test snapshot x frame below well here calls same seen repeats fine mark
 
 -- the step of a component's statement, by any such snapshot
 pub asked_fits : (test : Test) (snapshot : Snapshot) (c : Going) (p : Path) (x : Component) (frame : Frame) (below : List Frame) → AreWellTyped test.definitions → StandsByRules test (Goes c) → StandsInOrder (Goes c) → StandsWithAllReferred test (Goes c)
-    → FitsTypes test (Goes c) → component_at c p ≡ Some x → x.own.calls ≡ frame ∷ below → snapshot.itself ≡ x.itself → Sees test.definitions snapshot x.own frame → FindsAlt test x
+    → StandsMarked test (Goes c) → FitsTypes test (Goes c) → component_at c p ≡ Some x → x.own.calls ≡ frame ∷ below → snapshot.itself ≡ x.itself → Sees test.definitions snapshot x.own frame
     → IfSome (apply test c x.itself (act test snapshot x.own)) (λ out. GivesOnly out (FitsTypes test))
-asked_fits test snapshot c p x frame below well rules order referred fits found calls same seen repeats =
+asked_fits test snapshot c p x frame below well rules order referred marked fits found calls same seen =
     let here : FitsComponent test.definitions x = some-of (FitsComponent test.definitions) (component_at c p) x found (found-each (FitsComponent test.definitions) (λ component. same_path (path_of component) p) c.components fits) in
     let marks : HasNoMarkFirst x = some-of HasNoMarkFirst (component_at c p) x found (found-each HasNoMarkFirst (λ component. same_path (path_of component) p) c.components order.marks) in
+    let places : AllAreMarked (lists_of x.own.calls) =
+    some-of (λ (component : Component). AllAreMarked (lists_of component.own.calls)) (component_at c p) x found
+    (found-each (λ (component : Component). AllAreMarked (lists_of component.own.calls)) (λ component. same_path (path_of component) p) c.components marked) in
     apply-fits test c x.itself fits (types-in p c.components x order.ordered.components found) (IsMeant test snapshot x.own frame) (meant-found test snapshot c p x frame below order referred found calls same) (act test snapshot x.own)
-    (asked-by test snapshot x frame below well here calls same seen repeats (last_frame test c p x frame below rules found calls) marks)
+    (asked-by test snapshot x frame below well here calls same seen (finds-alt test well x here places) (last_frame test c p x frame below rules found calls) marks)
 
 -- by its own
 statement-fits : (test : Test) (c : Going) (p : Path) (x : Component) (frame : Frame) (below : List Frame) → AreWellTyped test.definitions → StandsByRules test (Goes c) → StandsInOrder (Goes c) → StandsWithAllReferred test (Goes c)
-    → FitsTypes test (Goes c) → component_at c p ≡ Some x → x.own.calls ≡ frame ∷ below → FindsAlt test x
+    → StandsMarked test (Goes c) → FitsTypes test (Goes c) → component_at c p ≡ Some x → x.own.calls ≡ frame ∷ below
     → IfSome (apply test c x.itself (act test (snapshot_of c x) x.own)) (λ out. GivesOnly out (FitsTypes test))
-statement-fits test c p x frame below well rules order referred fits found calls repeats =
+statement-fits test c p x frame below well rules order referred marked fits found calls =
     let here : FitsComponent test.definitions x = some-of (FitsComponent test.definitions) (component_at c p) x found (found-each (FitsComponent test.definitions) (λ component. same_path (path_of component) p) c.components fits) in
-    asked_fits test (snapshot_of c x) c p x frame below well rules order referred fits found calls refl (sees test.definitions c x frame below here calls) repeats
+    asked_fits test (snapshot_of c x) c p x frame below well rules order referred marked fits found calls refl (sees test.definitions c x frame below here calls)
 
 framed : (test : Test) (c : Going) (p : Path) (x : Component) (frames : List Frame) → AreWellTyped test.definitions → StandsByRules test (Goes c) → StandsInOrder (Goes c) → StandsWithAllReferred test (Goes c)
-    → FitsTypes test (Goes c) → component_at c p ≡ Some x → x.own.calls ≡ frames → HasFrames frames → FindsAlt test x
+    → StandsMarked test (Goes c) → FitsTypes test (Goes c) → component_at c p ≡ Some x → x.own.calls ≡ frames → HasFrames frames
     → IfSome (apply test c x.itself (act test (snapshot_of c x) x.own)) (λ out. GivesOnly out (FitsTypes test))
-framed test c p x [] well rules order referred fits found calls has repeats = absurd has
-framed test c p x (frame ∷ below) well rules order referred fits found calls has repeats = statement-fits test c p x frame below well rules order referred fits found calls repeats
+framed test c p x [] well rules order referred marked fits found calls has = absurd has
+framed test c p x (frame ∷ below) well rules order referred marked fits found calls has = statement-fits test c p x frame below well rules order referred marked fits found calls
 
 -- what was found, where a component runs
 running-fits : (test : Test) (x : Component) (b : Bool) (o : Option (Outcome Configuration)) → is_running_state x.state ≡ b → (is_running_state x.state ≡ true → IfSome o (λ out. GivesOnly out (FitsTypes test)))
@@ -203,15 +209,15 @@ expiry-if test c x None fits types here runs like = tt
 expiry-if test c x (Some own) fits types here runs like = exchanged-fits test.definitions c (path_of x) x own types here like fits runs
 
 -- the step of a label
-pub step_fits : (test : Test) (c : Configuration) (label : Label) → AreWellTyped test.definitions → StandsByRules test c → StandsInOrder c → StandsWithAllReferred test c → FitsTypes test c → FindsItsAlt test c label
+pub step_fits : (test : Test) (c : Configuration) (label : Label) → AreWellTyped test.definitions → StandsByRules test c → StandsInOrder c → StandsWithAllReferred test c → StandsMarked test c → FitsTypes test c
     → IfSome (step test c label) (λ out. GivesOnly out (FitsTypes test))
-step_fits test (Ended v) label well rules order referred fits finds = tt
-step_fits test (Goes c) (Statement path) well rules order referred fits finds =
+step_fits test (Ended v) label well rules order referred marked fits = tt
+step_fits test (Goes c) (Statement path) well rules order referred marked fits =
     then-fits test (statement_step test c) (component_at c path)
     (λ x found. let here : FitsComponent test.definitions x = component-fits-at test c path x fits found in
     running-fits test x (is_running_state x.state) (apply test c x.itself (act test (snapshot_of c x) x.own)) refl
-    (λ runs. framed test c path x x.own.calls well rules order referred fits found refl (here.running runs) (some-of (FindsAlt test) (component_at c path) x found finds)))
-step_fits test (Goes c) (Expiry path number name) well rules order referred fits finds =
+    (λ runs. framed test c path x x.own.calls well rules order referred marked fits found refl (here.running runs)))
+step_fits test (Goes c) (Expiry path number name) well rules order referred marked fits =
     then-fits test (expiry_step c number name) (component_at c path)
     (λ x found. running-fits test x (is_running_state x.state) (option_map (λ own. Yields (Goes (touch c (path_of x) (exchanged own)))) (expired number name x.own)) refl
     (λ runs. expiry-if test c x (expired number name x.own) fits (types-in path c.components x order.ordered.components found) (component-fits-at test c path x fits found) runs (own-expires number name x.own)))
@@ -227,5 +233,5 @@ settled-keeps test (Some (Fails why)) d fits is = subst (FitsTypes test) (some-c
     some-conf : {a b : Configuration} → Some a ≡ Some b → a ≡ b
     some-conf h = cc
 
-pub next_fits : (test : Test) (c d : Configuration) (label : Label) → AreWellTyped test.definitions → StandsByRules test c → StandsInOrder c → StandsWithAllReferred test c → FitsTypes test c → FindsItsAlt test c label → next test c label ≡ Some d → FitsTypes test d
-next_fits test c d label well rules order referred fits finds is = settled-keeps test (step test c label) d (step_fits test c label well rules order referred fits finds) is
+pub next_fits : (test : Test) (c d : Configuration) (label : Label) → AreWellTyped test.definitions → StandsByRules test c → StandsInOrder c → StandsWithAllReferred test c → StandsMarked test c → FitsTypes test c → next test c label ≡ Some d → FitsTypes test d
+next_fits test c d label well rules order referred marked fits is = settled-keeps test (step test c label) d (step_fits test c label well rules order referred marked fits) is

@@ -1,4 +1,5 @@
 pub mod Fitting
+pub mod Runs
 pub mod Steps
 pub mod Typed
 pub mod internal

@@ -1,4 +1,4 @@
--- What a component sees in its step, and what isn't known by the types of values alone: that a `repeat` finds its `alt`.
+-- What a component sees in its step.
 use Rattle.std.specs.Prelude.{◌≡◌, ℕ, List, [], ◌∷◌, map, Option, is_some, IfSome}
 use Rattle.std.specs.List.{All, flat_map}
 use Rattle.ttcn_syntax.specs.declared.tree.definition.Definition.{Definition}
@@ -16,8 +16,6 @@ use Rattle.summary.specs.Run.{Run, Start, Then, end_of}
 use Rattle.ttcn_values.specs.Frames.{entry}
 use Rattle.type_laws.specs.Typed.{FitsData, FitsMessage}
 
--- ---- what is seen
-
 -- the ports that are seen are those of the component's type, and their first messages fit
 pub record FitFronts (definitions : List Definition) (component_type : ℕ) (fronts : List (List ℕ × Option Message)) : Type 0 where
   pub ports : map (λ front. front.0) fronts ≡ flat_map ports_of (members_of (kind_at definitions component_type))
@@ -28,34 +26,3 @@ pub record Sees (definitions : List Definition) (snapshot : Snapshot) (own : Dat
   pub timers : (name : List ℕ) → is_some (entry snapshot.timers name) ≡ is_some (entry frame.timers name)
   pub member_timers : (name : List ℕ) → is_some (entry snapshot.member_timers name) ≡ is_some (entry own.members.timers name)
   pub fronts : FitFronts definitions snapshot.itself.component_type snapshot.fronts
-
--- ---- `repeat`
-
--- an item is a `repeat`
-abbrev pub IsAtRepeat : List Item → Type 0
-IsAtRepeat (Doing site s part ∷ items) = action_of s ≡ Action-F.Repeat
-IsAtRepeat _ = ⊥
-
--- a component stands at a `repeat`
-abbrev pub StandsAtRepeat : List Frame → Type 0
-StandsAtRepeat [] = ⊥
-StandsAtRepeat (frame ∷ frames) = IsAtRepeat frame.remaining
-
--- where a component stands at a `repeat`, its `alt` is found, and what then remains fits
-abbrev pub FindsAlt : Test → Component → Type 0
-FindsAlt test component = StandsAtRepeat component.own.calls → GivesOnly (repeat_alt component.own) (FitsData test.definitions component.itself.component_type)
-
--- and so in the step of a label
-abbrev pub FindsItsAlt : Test → Configuration → Label → Type 0
-FindsItsAlt test (Goes c) (Statement path) = IfSome (component_at c path) (FindsAlt test)
-FindsItsAlt test c label = Unit {0}
-
--- and in each step of labels one after the other, from a configuration
-abbrev pub FindsItsAlts : Test → List Label → Configuration → Type 0
-FindsItsAlts test [] c = Unit {0}
-FindsItsAlts test (label ∷ run) c = FindsItsAlt test c label × IfSome (next test c label) (FindsItsAlts test run)
-
--- and in each step of a run of the graph
-abbrev pub FindsItsAltsIn : Test → Run Label → Type 0
-FindsItsAltsIn test Start = Unit {0}
-FindsItsAltsIn test (Then run label) = FindsItsAltsIn test run × FindsItsAlt test (end_of (graph_of test) run) label

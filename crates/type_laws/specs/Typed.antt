@@ -15,6 +15,7 @@ use Rattle.check_scope.specs.declared.types.DataType.{DataType}
 use Rattle.check_scope.specs.declared.types.Typing.TheVariants as typing
 use Rattle.checker_laws.specs.Laws.{IsKnown}
 use Rattle.evaluation_laws.specs.Types.{AreGiven, is_of}
+use Rattle.repeat_laws.specs.Following.{IsOutside}
 use Rattle.step_rules.specs.Configurations.{ActiveDefault, Component, Configuration, Data, Ended, Frame, Goes, Message, Queue, is_running_state}
 use Rattle.step_rules.specs.Creating.{ports_of}
 use Rattle.step_rules.specs.Events.{type_of}
@@ -36,10 +37,6 @@ abbrev pub AreDeclared : List Definition → ℕ → List Entry → Type 0
 AreDeclared definitions at [] = Unit {0}
 AreDeclared definitions at (e ∷ entries) =
     IsLocal e.1 × IsKnown definitions e.1 × ((scope_at definitions (site_of at entries)).names e.0 ≡ None) × AreDeclared definitions at entries
-
--- what is declared further out: the same names but for some of the last ones
-abbrev pub IsOutside : List Entry → List Entry → Type 0
-IsOutside outer inner = (more : List Entry) × (more ++ outer ≡ inner)
 
 -- one of the names that a declaration of variables declares
 abbrev pub DeclaresVariable : Scope → Variables → ℕ → Entry → Type 0

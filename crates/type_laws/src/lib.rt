@@ -24,9 +24,12 @@ ghost use Rattle.ttcn_types.specs.Rules.{AreWellTyped};
 ghost use Rattle.ttcn_values.specs.Outcomes.{or_unmet, outcome_and_then};
 ghost use Rattle.ttcn_values.specs.declared.path.Path.{Path};
 ghost use Rattle.ttcn_values.specs.declared.value.ComponentId.{ComponentId};
-ghost use Rattle.type_laws.specs.Steps.{FindsAlt, FindsItsAlt, FindsItsAlts, FindsItsAltsIn, Sees};
+ghost use Rattle.repeat_laws.specs.Marks.{StandsMarked};
+ghost use Rattle.type_laws.specs.Steps.{Sees};
 ghost use Rattle.type_laws.specs.Fitting.{DeclaresLocals, FitsMembers, FitsSite, RunsOn, scope_seen, view_of};
-ghost use Rattle.type_laws.specs.Typed.{AreDeclared, FitsTypes, IsOutside, site_of};
+ghost use Rattle.repeat_laws.specs.Following.{IsOutside};
+ghost use Rattle.type_laws.specs.Runs.{StaysWellTyped};
+ghost use Rattle.type_laws.specs.Typed.{AreDeclared, FitsTypes, site_of};
 
 /// What is read at a site fits the scope there, and has all that the scope knows, where what is seen of the frame and of the
 /// component's members does. The scope has the timers, too, that are there from blocks that ended; what breaks no rule at the
@@ -58,19 +61,24 @@ pub fn runs_start_with_their_types()
     ensures start { (test : Test) → AreWellTyped test.definitions → is_some (testcase_body (kind_at test.definitions test.testcase)) ≡ true → FitsTypes test (start test) }
 {}
 
-/// A step meets nothing that no checked module has, and leaves all values of their types, where a `repeat` finds its `alt`: that
-/// of each statement, by whatever snapshot in which the component sees its own timers and fitting messages, and each expiry.
+/// A step meets nothing that no checked module has, and leaves all values of their types: that of each statement, by whatever
+/// snapshot in which the component sees its own timers and fitting messages, and each expiry.
 pub fn steps_keep_types()
-    ensures asked { (test : Test) (snapshot : Snapshot) (c : Going) (p : Path) (x : Component) (frame : Frame) (below : List Frame) → AreWellTyped test.definitions → StandsByRules test (Goes c) → StandsInOrder (Goes c) → StandsWithAllReferred test (Goes c) → FitsTypes test (Goes c) → component_at c p ≡ Some x → x.own.calls ≡ frame ∷ below → snapshot.itself ≡ x.itself → Sees test.definitions snapshot x.own frame → FindsAlt test x → IfSome (apply test c x.itself (act test snapshot x.own)) (λ out. GivesOnly out (FitsTypes test)) }
-    ensures met { (test : Test) (c : Configuration) (label : Label) → AreWellTyped test.definitions → StandsByRules test c → StandsInOrder c → StandsWithAllReferred test c → FitsTypes test c → FindsItsAlt test c label → IfSome (step test c label) (λ out. GivesOnly out (FitsTypes test)) }
-    ensures next { (test : Test) (c d : Configuration) (label : Label) → AreWellTyped test.definitions → StandsByRules test c → StandsInOrder c → StandsWithAllReferred test c → FitsTypes test c → FindsItsAlt test c label → next test c label ≡ Some d → FitsTypes test d }
+    ensures asked { (test : Test) (snapshot : Snapshot) (c : Going) (p : Path) (x : Component) (frame : Frame) (below : List Frame) → AreWellTyped test.definitions → StandsByRules test (Goes c) → StandsInOrder (Goes c) → StandsWithAllReferred test (Goes c) → StandsMarked test (Goes c) → FitsTypes test (Goes c) → component_at c p ≡ Some x → x.own.calls ≡ frame ∷ below → snapshot.itself ≡ x.itself → Sees test.definitions snapshot x.own frame → IfSome (apply test c x.itself (act test snapshot x.own)) (λ out. GivesOnly out (FitsTypes test)) }
+    ensures met { (test : Test) (c : Configuration) (label : Label) → AreWellTyped test.definitions → StandsByRules test c → StandsInOrder c → StandsWithAllReferred test c → StandsMarked test c → FitsTypes test c → IfSome (step test c label) (λ out. GivesOnly out (FitsTypes test)) }
+    ensures next { (test : Test) (c d : Configuration) (label : Label) → AreWellTyped test.definitions → StandsByRules test c → StandsInOrder c → StandsWithAllReferred test c → StandsMarked test c → FitsTypes test c → next test c label ≡ Some d → FitsTypes test d }
 {}
 
-/// So all values are of their types in each configuration that a run leads to along which each `repeat` finds its `alt`, and
-/// the next step meets nothing that no checked module has.
-#[tactic(auto, using(crate::proofs::Running::replay_fits, crate::proofs::Running::replay_meets, crate::proofs::Running::ends_fit))]
+/// So all values are of their types in each configuration that a run leads to, and the next step meets nothing that no checked
+/// module has.
+#[tactic(auto, using(crate::proofs::Running::replay_fits, crate::proofs::Running::replay_meets))]
 pub fn runs_keep_types()
-    ensures replayed { (test : Test) (run : List Label) (c : Configuration) → AreWellTyped test.definitions → is_some (testcase_body (kind_at test.definitions test.testcase)) ≡ true → FindsItsAlts test run (start test) → replay test run ≡ Ok c → FitsTypes test c }
-    ensures met { (test : Test) (run : List Label) (c : Configuration) (label : Label) → AreWellTyped test.definitions → is_some (testcase_body (kind_at test.definitions test.testcase)) ≡ true → FindsItsAlts test run (start test) → replay test run ≡ Ok c → FindsItsAlt test c label → IfSome (step test c label) (λ out. GivesOnly out (FitsTypes test)) }
-    ensures ends { (test : Test) (run : Run Label) → AreWellTyped test.definitions → is_some (testcase_body (kind_at test.definitions test.testcase)) ≡ true → FindsItsAltsIn test run → FitsTypes test (end_of (graph_of test) run) }
+    ensures replayed { (test : Test) (run : List Label) (c : Configuration) → AreWellTyped test.definitions → is_some (testcase_body (kind_at test.definitions test.testcase)) ≡ true → replay test run ≡ Ok c → FitsTypes test c }
+    ensures met { (test : Test) (run : List Label) (c : Configuration) (label : Label) → AreWellTyped test.definitions → is_some (testcase_body (kind_at test.definitions test.testcase)) ≡ true → replay test run ≡ Ok c → IfSome (step test c label) (λ out. GivesOnly out (FitsTypes test)) }
+    ensures ends { (test : Test) (run : Run Label) → AreWellTyped test.definitions → is_some (testcase_body (kind_at test.definitions test.testcase)) ≡ true → FitsTypes test (end_of (graph_of test) run) }
+{}
+
+/// So every run of a test case stays well typed.
+pub fn runs_stay_well_typed()
+    ensures { (test : Test) → AreWellTyped test.definitions → is_some (testcase_body (kind_at test.definitions test.testcase)) ≡ true → StaysWellTyped test }
 {}

@@ -1,0 +1,96 @@
+-- What remains to be done in the frames of a component, and what comes of it in a step (ES 201 873-1, 16 and 19 to 22).
+use Rattle.std.specs.Prelude.{◌≡◌, ◌⊎◌, ℕ, false, List, [], ◌∷◌, ◌++◌, map, Option, Some, None}
+use Rattle.std.specs.List.{All}
+use Rattle.ttcn_syntax.specs.declared.tree.definition.Definition.{Definition}
+use Rattle.ttcn_syntax.specs.declared.tree.statement.Statement.{Statement}
+use Rattle.check_scope.specs.Names.{Entry, kind_at}
+use Rattle.check_statements.specs.Statements.{Place, statement}
+use Rattle.checker_laws.specs.Laws.{IsWhole}
+use Rattle.step_rules.specs.Configurations.{Frame}
+use Rattle.step_rules.specs.Items.{Doing, Item, Mark, Part, Waiting, items}
+use Rattle.step_rules.specs.Runs.{testcase_body}
+use Rattle.step_rules.specs.Sites.{Site, beginning}
+use Rattle.step_rules.specs.Statements.{body_of}
+use Rattle.step_rules.specs.Taking.{from_mark, without_marks}
+
+-- ---- frames
+
+-- what remains in each frame, the last one first
+abbrev pub lists_of : List Frame → List (List Item)
+lists_of calls = map (λ frame. frame.remaining) calls
+
+-- the lists from this one on where it has a mark, and else what those below give
+abbrev pub repeated_from : List (List Item) → Option (List Item) → Option (List (List Item)) → Option (List (List Item))
+repeated_from lists None below = below
+repeated_from lists (Some remaining) below = Some (remaining ∷ lists)
+
+-- `repeat`: the lists from the last one on that has a mark, with the marked `alt` put back
+abbrev pub repeated_lists : List (List Item) → Option (List (List Item))
+repeated_lists [] = None
+repeated_lists (remaining ∷ lists) = repeated_from lists (from_mark remaining) (repeated_lists lists)
+
+-- ---- items
+
+-- what is declared further out: the same names but for some of the last ones
+abbrev pub IsOutside : List Entry → List Entry → Type 0
+IsOutside outer inner = (more : List Entry) × (more ++ outer ≡ inner)
+
+-- an item that is no mark and stands at a site, or further in; a target that waits for a result has no site
+abbrev pub IsInside : Site → Item → Type 0
+IsInside site (Doing inner s part) = IsOutside site.declared inner.declared
+IsInside site (Mark inner s) = ⊥
+IsInside site (Waiting target) = Unit {0}
+
+-- an item that is no mark
+abbrev pub IsUnmarked : Item → Type 0
+IsUnmarked (Doing site s part) = Unit {0}
+IsUnmarked (Mark site s) = ⊥
+IsUnmarked (Waiting target) = Unit {0}
+
+-- a statement breaks no rule where no branch is around it: each `repeat` in it stands in the block of a branch within
+abbrev pub IsClosed : Statement → Type 0
+IsClosed s = (place : Place) × IsWhole place.scope × (place.in_branch ≡ false) × ((statement s).broken place ≡ [])
+
+-- an item of such a statement
+abbrev pub IsClosedItem : Item → Type 0
+IsClosedItem (Doing site s part) = IsClosed s
+IsClosedItem (Mark site s) = IsClosed s
+IsClosedItem (Waiting target) = Unit {0}
+
+-- what a statement at a site leaves to be done in its place: items that stand there or further in, and are closed where the statement is
+pub record IsMade (site : Site) (s : Statement) (made : List Item) : Type 0 where
+  pub inside : All (IsInside site) made
+  pub closed : IsClosed s → All IsClosedItem made
+
+-- the body of the function or test case at a position
+abbrev pub IsBody : List Definition → ℕ → List Statement → Type 0
+IsBody definitions at body = (body_of (kind_at definitions at) ≡ Some body) ⊎ (testcase_body (kind_at definitions at) ≡ Some body)
+
+-- ---- steps
+
+-- what remains in a component's frames before a step of its own, and behind it
+pub data Follows (definitions : List Definition) (before after : List (List Item)) : Type 0 where
+  -- the first item of the last frame is done, and what it makes stands in its place
+  Replaced : (site : Site) (s : Statement) (part : Part) (made rest : List Item) (lists : List (List Item))
+      → before ≡ (Doing site s part ∷ rest) ∷ lists → IsMade site s made → after ≡ (made ++ rest) ∷ lists → Follows definitions before after
+  -- so it is, and a frame with the body of a function comes on top
+  Entered : (site : Site) (s : Statement) (part : Part) (made rest : List Item) (lists : List (List Item)) (at : ℕ) (body : List Statement)
+      → before ≡ (Doing site s part ∷ rest) ∷ lists → IsMade site s made → IsBody definitions at body
+      → after ≡ items definitions (beginning at) body ∷ (made ++ rest) ∷ lists → Follows definitions before after
+  -- a branch is taken: its block and a mark stand in the place of the `alt`, and frames without marks come on top
+  Branched : (site : Site) (s : Statement) (part : Part) (block rest : List Item) (lists frames : List (List Item))
+      → before ≡ (Doing site s part ∷ rest) ∷ lists → All (IsInside site) block → All (All IsUnmarked) frames
+      → after ≡ frames ++ (block ++ Mark site s ∷ rest) ∷ lists → Follows definitions before after
+  -- the last frame goes
+  Left : (remaining : List Item) (lists : List (List Item)) → before ≡ remaining ∷ lists → after ≡ lists → Follows definitions before after
+  -- the last frame goes, with a result for which the one below waits
+  GaveBack : (remaining : List Item) (first : Item) (rest : List Item) (lists : List (List Item)) → before ≡ remaining ∷ (first ∷ rest) ∷ lists → after ≡ rest ∷ lists → Follows definitions before after
+  -- the `alt` of the last mark is put back
+  Repeated : repeated_lists before ≡ Some after → Follows definitions before after
+
+-- what holds of the lists that remain in each component's frames, where it holds at the beginning of bodies and stays with steps and with marks that go
+pub record IsLasting (definitions : List Definition) (Holds : List (List Item) → Type 0) : Type 0 where
+  pub none : Holds []
+  pub begun : (at : ℕ) (body : List Statement) → IsBody definitions at body → Holds (items definitions (beginning at) body ∷ [])
+  pub followed : (before after : List (List Item)) → Follows definitions before after → Holds before → Holds after
+  pub uncovered : (remaining : List Item) (lists : List (List Item)) → Holds (remaining ∷ lists) → Holds (without_marks remaining ∷ lists)
