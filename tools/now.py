@@ -61,7 +61,7 @@ def file_words(words):
 
 
 def copy(name, to):
-    """Copies a file, and tells whether it can be read."""
+    """Copies a file, and returns whether it can be read."""
     try:
         with open(name.encode(), "rb") as file, open(to, "wb") as made:
             while part := file.read(1 << 20):
