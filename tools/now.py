@@ -103,11 +103,9 @@ def try_program(words, options):
 def write(out, error, status):
     """Writes what the program wrote, and returns the status."""
     try:
-        sys.stdout.buffer.write(out)
-        sys.stdout.buffer.flush()
+        while out:
+            out = out[os.write(1, out):]
     except OSError:
-        # Python writes what is left at its end, and would fail again.
-        os.dup2(os.open(os.devnull, os.O_WRONLY), 1)
         error, status = b"cannot write\n", 5
     sys.stderr.buffer.write(error)
     return status
