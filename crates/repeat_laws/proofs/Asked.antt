@@ -1,5 +1,5 @@
 -- What remains in a component's frames behind its step follows from what remained before.
-use Rattle.std.proofs.Common.{◌≡◌, ℕ, zero, suc, ◌+◌, Bool, true, false, List, [], ◌∷◌, ◌++◌, append_assoc, map, length, Option, Some, None, IfSome, nat_lt, option_map, slice_get, refl, sym, ap, subst, ◌∙◌, inl, if◌then◌else◌}
+use Rattle.std.proofs.Common.{◌≡◌, ℕ, ◌+◌, Bool, true, false, List, [], ◌∷◌, ◌++◌, append_assoc, length, Option, Some, None, IfSome, nat_lt, option_map, slice_get, refl, sym, ap, ◌∙◌, inl, if◌then◌else◌}
 use Rattle.std.specs.List.{All}
 use Rattle.std.proofs.lemmas.List.Elements.{All-append, All-cons, All-head, All-nil, All-tail}
 use Rattle.ttcn_syntax.specs.declared.tree.definition.Definition.{Definition}
@@ -27,17 +27,17 @@ use Rattle.check_scope.specs.Names.{component_meant, kind_at, module_names, reso
 use Rattle.check_scope.specs.declared.types.DataType.{DataType}
 use Rattle.repeat_laws.proofs.Blocks.{IfClosedBlock, IsClosedBlock, conditional-closed, do-closed, for-closed, for-made, last-closed, made-block, made-block-if, made-both, made-none, made-part, made-waiting, while-closed}
 use Rattle.repeat_laws.proofs.Ways.{HasNoMark, IsChanceAt, IsChoiceAt, IsWayAt, alt-ways, choice-at, default-ways}
-use Rattle.repeat_laws.specs.Following.{Branched, Entered, Follows, GaveBack, IsBody, IsClosed, IsMade, IsUnmarked, Left, Repeated, Replaced, lists_of, repeated_from, repeated_lists}
-use Rattle.step_laws.proofs.Outcomes.{any-yields, map-yields, then-yields, unmet-yields}
+use Rattle.repeat_laws.specs.Following.{Branched, Entered, Follows, GaveBack, IsFollowed, IsNewFrame, IsClosed, IsMade, IsUnmarked, Left, Repeated, Replaced, lists_of, repeated_from, repeated_lists}
+use Rattle.step_laws.proofs.Outcomes.{any-yields, map-yields, then-yields}
 use Rattle.step_rules.specs.Branches.{Chance, Written, written_alt, written_defaults}
-use Rattle.step_rules.specs.Configurations.{Component, Data, Frame}
+use Rattle.step_rules.specs.Configurations.{Data, Frame}
 use Rattle.step_rules.specs.Creating.{new_component, new_members}
 use Rattle.step_rules.specs.Entries.{put}
 use Rattle.step_rules.specs.Events.{Choice, Effect, Elapses, Nothing, Plain, Receives, Redirect, Refused, Taken}
 use Rattle.step_rules.specs.Items.{Does, Doing, From, Item, Last, Loop, Mark, Name, Part, Start, Target, Waiting, Whole, action_of, items, items_if_any, site_in_for, start_items}
 use Rattle.step_rules.specs.Sites.{Site, beginning, is_own, scope_at}
 use Rattle.step_rules.specs.Snapshots.{Snapshot, Test}
-use Rattle.step_rules.specs.Statements.{Act, Connects, Continues, Creates, Errs, Removes, Sends, Stand, Starts, Stops, Waits, Worsens, act, act_alt_or, act_assignment, act_choice, act_conditional, act_connect, act_constant, act_deactivate, act_end, act_first, act_for_start, act_for_step, act_from, act_if, act_in, act_initial, act_loop, act_name, act_part, act_port, act_return, act_send, act_start, act_test, act_timer, act_variable, act_while, act_whole, acting, activate, activated, activated_at, ask_connection, assign, body_of, call_function, called_frame, choice_at, choose_from, component_meant_at, continuing, create, created, declared, declared_target, done, enter, frame_at, frame_of_call, function_frame, give_back, go_either, go_on, judge_at, leave, may_connect, most, name_in, new_id, otherwise, reads, result_at, sent_to, sent_type, sent_value, stop_meant, waits_first, with_child, with_frames, without_default}
+use Rattle.step_rules.specs.Statements.{Act, Connects, Continues, Creates, Errs, Sends, Stand, Starts, Stops, act, act_alt_or, act_assignment, act_choice, act_conditional, act_connect, act_constant, act_deactivate, act_end, act_first, act_for_start, act_for_step, act_from, act_if, act_in, act_initial, act_loop, act_name, act_part, act_port, act_return, act_send, act_start, act_test, act_timer, act_variable, act_while, act_whole, acting, activate, activated, activated_at, ask_connection, assign, body_of, call_function, called_frame, choice_at, choose_from, component_meant_at, continuing, create, created, declared, declared_target, done, enter, frame_at, frame_of_call, function_frame, give_back, go_either, judge_at, leave, may_connect, most, name_in, new_id, otherwise, reads, result_at, sent_to, sent_type, sent_value, stop_meant, waits_first, with_child, with_frames, without_default}
 use Rattle.step_rules.specs.Storing.{declare, declare_timer, forget, going_on, in_frame, in_last, set_timer, store, target_meant, values_in, with_calls, with_remaining, with_timers, with_values}
 use Rattle.step_rules.specs.Taking.{effected, entered, from_mark, marked, port_taken, repeat_alt, repeat_in, repeated, store_all, taken}
 use Rattle.ttcn_values.specs.Evaluation.{condition_of}
@@ -121,44 +121,26 @@ lists-repeated (frame ∷ frames) = found-lists frame frames (from_mark frame.re
 
 -- ---- what a component asks for
 
-module _ (definitions : List Definition) where
-  -- a frame in which the body of a function remains
-  abbrev pub IsNewFrame : Frame → Type 0
-  IsNewFrame frame = (at : ℕ) × (body : List Statement) × IsBody definitions at body × (frame.remaining ≡ items definitions (beginning at) body)
+module _ (definitions : List Definition) (before : List (List Item)) where
+  abbrev Follow : Data → Type 0
+  Follow own = Follows definitions before (lists own)
 
-  -- behind a step what remains follows from this; a new component has no frames, and one that starts the body of a function
-  abbrev pub IsFollowed : List (List Item) → Act → Type 0
-  IsFollowed before Waits = Unit {0}
-  IsFollowed before (Errs why) = Unit {0}
-  IsFollowed before (Continues own) = Follows definitions before (lists own)
-  IsFollowed before (Worsens v own) = Follows definitions before (lists own)
-  IsFollowed before (Removes port own) = Follows definitions before (lists own)
-  IsFollowed before (Sends port to v own) = Follows definitions before (lists own)
-  IsFollowed before (Creates new own) = (new.own.calls ≡ []) × Follows definitions before (lists own)
-  IsFollowed before (Starts path frame own) = IsNewFrame frame × Follows definitions before (lists own)
-  IsFollowed before (Stops path own) = Follows definitions before (lists own)
-  IsFollowed before (Connects d e own) = Follows definitions before (lists own)
+  acting-followed : {A : Type 0} (P : A → Type 0) (f : A → Act) (o : Outcome A) → ((a : A) → P a → IsFollowed definitions before (f a)) → IfYields o P → IsFollowed definitions before (acting f o)
+  acting-followed P f (Yields a) more is = more a is
+  acting-followed P f (Fails why) more is = tt
 
-  module _ (before : List (List Item)) where
-    abbrev Follow : Data → Type 0
-    Follow own = Follows definitions before (lists own)
+  -- of what nothing is known
+  acting-any : {A : Type 0} (f : A → Act) (o : Outcome A) → ((a : A) → IsFollowed definitions before (f a)) → IsFollowed definitions before (acting f o)
+  acting-any f (Yields a) more = more a
+  acting-any f (Fails why) more = tt
 
-    acting-followed : {A : Type 0} (P : A → Type 0) (f : A → Act) (o : Outcome A) → ((a : A) → P a → IsFollowed before (f a)) → IfYields o P → IsFollowed before (acting f o)
-    acting-followed P f (Yields a) more is = more a is
-    acting-followed P f (Fails why) more is = tt
+  continuing-followed : (o : Outcome Data) → IfYields o Follow → IsFollowed definitions before (continuing o)
+  continuing-followed (Yields own) is = is
+  continuing-followed (Fails why) is = tt
 
-    -- of what nothing is known
-    acting-any : {A : Type 0} (f : A → Act) (o : Outcome A) → ((a : A) → IsFollowed before (f a)) → IsFollowed before (acting f o)
-    acting-any f (Yields a) more = more a
-    acting-any f (Fails why) more = tt
-
-    continuing-followed : (o : Outcome Data) → IfYields o Follow → IsFollowed before (continuing o)
-    continuing-followed (Yields own) is = is
-    continuing-followed (Fails why) is = tt
-
-    yields-more : (P : Data → Type 0) → ((own : Data) → P own → Follow own) → (o : Outcome Data) → IfYields o P → IfYields o Follow
-    yields-more P more (Yields own) is = more own is
-    yields-more P more (Fails why) is = tt
+  yields-more : (P : Data → Type 0) → ((own : Data) → P own → Follow own) → (o : Outcome Data) → IfYields o P → IfYields o Follow
+  yields-more P more (Yields own) is = more own is
+  yields-more P more (Fails why) is = tt
 
 -- ---- where a component stands
 
@@ -574,5 +556,5 @@ frames-ask test snapshot own [] e = tt
 frames-ask test snapshot own (frame ∷ below) e = first-asks test snapshot own frame below frame.remaining e refl
 
 -- what remains behind the step of a component's statement, by whatever snapshot
-pub asked-followed : (test : Test) (snapshot : Snapshot) (own : Data) → IsFollowed test.definitions (lists own) (act test snapshot own)
-asked-followed test snapshot own = frames-ask test snapshot own own.calls refl
+pub asked_followed : (test : Test) (snapshot : Snapshot) (own : Data) → IsFollowed test.definitions (lists own) (act test snapshot own)
+asked_followed test snapshot own = frames-ask test snapshot own own.calls refl

@@ -1,5 +1,5 @@
 -- What remains of blocks stands at their site or further in, and is closed where they break no rule outside of branches.
-use Rattle.std.proofs.Common.{◌≡◌, ℕ, zero, suc, ◌+◌, false, List, [], ◌∷◌, ◌++◌, Option, Some, None, IfSome, slice_get, refl, subst}
+use Rattle.std.proofs.Common.{◌≡◌, ℕ, zero, suc, ◌+◌, false, List, [], ◌∷◌, ◌++◌, Option, Some, None, IfSome, slice_get, subst}
 use Rattle.std.specs.List.{All}
 use Rattle.std.proofs.lemmas.List.Elements.{All-append, All-cons, All-head, All-nil, All-tail}
 use Rattle.ttcn_syntax.specs.declared.tree.definition.Definition.{Definition}
@@ -20,7 +20,7 @@ use Rattle.repeat_laws.specs.Following.{IsClosed, IsClosedItem, IsInside, IsMade
 use Rattle.statement_laws.proofs.Descent.{statement_fine}
 use Rattle.statement_laws.specs.Parts.{HasFineParts, IsFineConditional, IsFineIfAny}
 use Rattle.step_rules.proofs.Pairs.{All-more}
-use Rattle.step_rules.specs.Items.{Does, Doing, From, Item, Last, Loop, Mark, Name, Part, Start, Target, Waiting, Whole, action_of, declarations, items, items_if_any, items_of_action, items_of_statement, site_after, site_in_for, start_items}
+use Rattle.step_rules.specs.Items.{Does, Doing, Item, Loop, Mark, Name, Part, Start, Target, Waiting, Whole, action_of, declarations, items, items_if_any, items_of_action, items_of_statement, site_after, site_in_for, start_items}
 use Rattle.step_rules.specs.Sites.{Site, constant_entries, entries_of, entries_of_start, scope_at, site_with, timer_entries, variable_entries}
 
 -- ---- at a site or further in

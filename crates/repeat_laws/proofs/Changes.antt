@@ -1,39 +1,33 @@
 -- What lasts of the lists of each component stays with what is done among the components.
-use Rattle.std.proofs.Common.{◌≡◌, ℕ, ◌+◌, Bool, true, false, ◌||◌, List, [], ◌∷◌, ◌++◌, map, Option, Some, None, IfSome, is_some, length, nat_eq, option_map, refl, sym, ap, subst, if◌then◌else◌}
+use Rattle.std.proofs.Common.{◌≡◌, ℕ, ◌+◌, Bool, true, false, ◌||◌, List, [], ◌∷◌, ◌++◌, Option, Some, None, IfSome, is_some, length, nat_eq, option_map, inr, Result, Ok, Err, refl, sym, ap, subst, if◌then◌else◌}
 use Rattle.std.specs.List.{All, filter}
 use Rattle.std.specs.Option.{option_and_then}
 use Rattle.std.proofs.lemmas.List.Elements.{All-cons, All-map, All-nil}
 use Rattle.ttcn_syntax.specs.declared.tree.definition.Definition.{Definition}
 use Rattle.ttcn_syntax.specs.declared.tree.statement.Statement as tree
-use Rattle.ttcn_syntax.specs.declared.tree.statement.Verdict.{Verdict}
 use Rattle.ttcn_syntax.specs.declared.tree.statement.Verdict.TheVariants as verdict
 use Rattle.check_scope.specs.Names.{kind_at}
-use Rattle.repeat_laws.proofs.Asked.{IsFollowed, IsNewFrame, asked-followed}
-use Rattle.repeat_laws.specs.Following.{Follows, IsBody, IsLasting, lists_of}
+use Rattle.repeat_laws.proofs.Asked.{asked_followed}
+use Rattle.repeat_laws.specs.Following.{Follows, IsFollowed, IsLasting, IsNewFrame, lists_of}
 use Rattle.step_laws.proofs.Changes.{found-each, insert-each}
-use Rattle.step_laws.proofs.Outcomes.{any-yields, map-yields, then-yields, unmet-yields}
-use Rattle.step_laws.proofs.Runs.{some-of}
+use Rattle.step_laws.proofs.Outcomes.{any-yields, map-yields}
 use Rattle.step_rules.proofs.Pairs.{All-more}
 use Rattle.step_rules.specs.Configurations.{Component, Configuration, Created, Data, End, Ended, Frame, Goes, Going, Message, Running, State, Terminated, component_at, is_running_state, is_terminated_state, overall, path_of, same_path}
 use Rattle.step_rules.specs.Creating.{new_members}
-use Rattle.step_rules.specs.Items.{items}
+use Rattle.step_rules.specs.Entries.{Entries}
+use Rattle.step_rules.specs.Items.{Item}
 use Rattle.step_rules.specs.Runs.{body_frame, first_snapshot, graph_of, mtc_with, option_elim, replay, replay_from, start, started, testcase_body}
-use Rattle.step_rules.specs.Sites.{beginning}
-use Rattle.step_rules.specs.Snapshots.{Snapshot, Test, mtc_of, snapshot_of}
+use Rattle.step_rules.specs.Snapshots.{Test, mtc_of, snapshot_of}
 use Rattle.step_rules.specs.Statements.{Act, Connects, Continues, Creates, Errs, Removes, Sends, Starts, Stops, Waits, Worsens, act}
-use Rattle.step_rules.specs.Steps.{Expiry, Label, Statement, addressed, apply, at_queue, begin, connect, connection, deliver, ending, exchanged, expire_in, expired, expired_call, expired_frame, expiry_step, insert, is_double, is_terminated_at, next, peers, send, settle, settled, start_component, start_created, start_in, statement_step, step, step_in, stop, touch, unless_terminated, with_connection, with_data, with_new, with_state, with_verdict, without_first}
+use Rattle.step_rules.specs.Steps.{Expiry, Label, Statement, addressed, apply, at_queue, begin, connect, connection, deliver, ending, exchanged, expire_in, expired, expired_call, expired_frame, expiry_step, insert, is_double, is_terminated_at, next, peers, send, settle, settled, start_component, start_created, start_in, statement_step, step, step_in, touch, unless_terminated, with_connection, with_data, with_state, with_verdict, without_first}
 use Rattle.step_rules.specs.Storing.{in_last, with_calls, with_members, with_remaining, with_timers}
 use Rattle.step_rules.specs.Taking.{without_marks}
 use Rattle.summary.specs.Run.{Run, Start, Then, end_of}
 use Rattle.ttcn_values.specs.Frames.{entry}
-use Rattle.ttcn_values.specs.Outcomes.{Fails, IfYields, Outcome, Yields, dynamic_error, or_unmet, outcome_and_then, outcome_map}
+use Rattle.ttcn_values.specs.Outcomes.{Fails, IfYields, Outcome, Yields, dynamic_error, or_unmet, outcome_and_then}
 use Rattle.ttcn_values.specs.declared.frame.TimerState.{TimerState}
 use Rattle.ttcn_values.specs.declared.path.Path.{Path}
 use Rattle.ttcn_values.specs.declared.value.ComponentId.{ComponentId}
-use Rattle.std.proofs.Common.{inr}
-use Rattle.step_rules.specs.Entries.{Entries}
-use Rattle.step_rules.specs.Items.{Item}
-use Rattle.std.proofs.Common.{Result, Ok, Err}
 
 module _ (test : Test) (Lasts : List (List Item) → Type 0) (lasting : IsLasting test.definitions Lasts) where
   abbrev ds : List Definition
@@ -205,7 +199,7 @@ module _ (test : Test) (Lasts : List (List Item) → Type 0) (lasting : IsLastin
   statement-stands : (c : Going) (x : Component) → AllStand c → Stands x → LeadsToStanding (statement_step test c x)
   statement-stands c x all is =
       running-stands (is_running_state x.state) (apply test c x.itself (act test (snapshot_of c x) x.own))
-      (apply-stands c x.itself all (lists_of x.own.calls) is (act test (snapshot_of c x) x.own) (asked-followed test (snapshot_of c x) x.own))
+      (apply-stands c x.itself all (lists_of x.own.calls) is (act test (snapshot_of c x) x.own) (asked_followed test (snapshot_of c x) x.own))
 
   expiry-stands : (c : Going) (number : ℕ) (name : List ℕ) (x : Component) → AllStand c → Stands x → LeadsToStanding (expiry_step c number name x)
   expiry-stands c number name x all is =

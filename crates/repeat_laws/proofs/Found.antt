@@ -1,6 +1,5 @@
 -- In runs a component that stands at a `repeat` finds its `alt`.
 use Rattle.std.proofs.Common.{◌≡◌, List, Some, Ok, is_some, true}
-use Rattle.std.specs.List.{All}
 use Rattle.repeat_laws.proofs.Repeats.{repeat-found, replay_marked}
 use Rattle.repeat_laws.specs.Following.{lists_of}
 use Rattle.repeat_laws.specs.Marks.{AllAreMarked, StandsAtRepeat}

@@ -1,5 +1,5 @@
 -- Marks stay where `repeat` needs them, and further out than what comes before them.
-use Rattle.std.proofs.Common.{◌≡◌, ℕ, Bool, true, false, ◌||◌, List, [], ◌∷◌, ◌++◌, append-nil, Option, Some, None, IfSome, is_some, refl, sym, ap, subst, ◌∙◌, ⊎_elim}
+use Rattle.std.proofs.Common.{◌≡◌, ℕ, Bool, true, false, ◌||◌, List, [], ◌∷◌, ◌++◌, append-nil, Option, Some, None, IfSome, refl, sym, ap, subst, ◌∙◌, ⊎_elim}
 use Rattle.std.specs.List.{All}
 use Rattle.std.proofs.lemmas.List.Elements.{All-append, All-cons, All-head, All-nil, All-tail}
 use Rattle.ttcn_syntax.specs.declared.tree.definition.Definition.{Definition}
@@ -10,7 +10,7 @@ use Rattle.check_expressions.specs.Calls.{component_named}
 use Rattle.check_scope.specs.Names.{Entry, Scope, kind_at}
 use Rattle.check_scope.specs.Scopes.{scope_on}
 use Rattle.check_scope.specs.declared.rule.Rule.{Rule}
-use Rattle.check_statements.specs.Definitions.{check_component_name, check_parameters, check_result, place_in, returns_of, with_parameters}
+use Rattle.check_statements.specs.Definitions.{check_component_name, check_parameters, check_result, place_in, returns_of}
 use Rattle.check_statements.specs.Statements.{Place, statements}
 use Rattle.checker_laws.proofs.Nothing.{nothing-first, nothing-rest}
 use Rattle.checker_laws.proofs.Whole.{behaviour_whole, definition_is_fine, parameters_whole}
@@ -18,10 +18,10 @@ use Rattle.checker_laws.specs.Laws.{IsWhole}
 use Rattle.repeat_laws.proofs.Blocks.{IsClosedBlock, block-closed, block-inside}
 use Rattle.repeat_laws.proofs.Outside.{outside-both, outside-itself}
 use Rattle.repeat_laws.proofs.Ways.{inside-unmarked}
-use Rattle.repeat_laws.specs.Following.{Branched, Entered, Follows, GaveBack, IsBody, IsClosed, IsClosedItem, IsInside, IsLasting, IsMade, IsOutside, IsUnmarked, Left, Repeated, Replaced, repeated_from, repeated_lists}
-use Rattle.repeat_laws.specs.Marks.{AllAreMarked, AreMarked, FindsMark, IsMarkOutside, has_mark, some_marked}
+use Rattle.repeat_laws.specs.Following.{Branched, Entered, Follows, GaveBack, IsBody, IsClosedItem, IsInside, IsLasting, IsMade, IsOutside, IsUnmarked, Left, Repeated, Replaced, repeated_from, repeated_lists}
+use Rattle.repeat_laws.specs.Marks.{AllAreMarked, AreMarked, IsMarkOutside, has_mark, some_marked}
 use Rattle.step_rules.proofs.Pairs.{All-more}
-use Rattle.step_rules.specs.Items.{Doing, Item, Mark, Part, Waiting, Whole, items}
+use Rattle.step_rules.specs.Items.{Doing, Item, Mark, Part, Waiting, items}
 use Rattle.step_rules.specs.Runs.{testcase_body}
 use Rattle.step_rules.specs.Sites.{Site, beginning}
 use Rattle.step_rules.specs.Statements.{body_of}

@@ -1,10 +1,7 @@
 -- A `repeat` finds its `alt`.
-use Rattle.std.proofs.Common.{◌≡◌, ◌≢◌, ℕ, Bool, true, false, ◌||◌, List, [], ◌∷◌, Option, Some, None, Result, Ok, IfSome, is_some, option_map, refl, sym, ap, subst, ◌∙◌}
-use Rattle.std.specs.List.{All}
-use Rattle.ttcn_syntax.specs.declared.tree.definition.Definition.{Definition}
+use Rattle.std.proofs.Common.{◌≡◌, Bool, true, false, ◌||◌, List, [], ◌∷◌, Option, Some, None, Ok, IfSome, is_some, option_map, refl, sym, ap, subst, ◌∙◌}
 use Rattle.ttcn_syntax.specs.declared.tree.statement.Action.TheOpen.{Action-F}
 use Rattle.ttcn_syntax.specs.declared.tree.statement.Statement.{Statement}
-use Rattle.check_statements.specs.Statements.{Place}
 use Rattle.repeat_laws.proofs.Asked.{lists-repeated}
 use Rattle.repeat_laws.proofs.Changes.{IsStanding, end-stands, next-stands, replay-stands, start-stands-so}
 use Rattle.repeat_laws.proofs.Marks.{marks-last}
@@ -12,7 +9,7 @@ use Rattle.repeat_laws.specs.Following.{IsClosed, lists_of, repeated_from, repea
 use Rattle.repeat_laws.specs.Marks.{AllAreMarked, AreMarked, IsAtRepeat, StandsAtRepeat, StandsMarked, has_mark, some_marked}
 use Rattle.statement_laws.proofs.Descent.{statement_fine}
 use Rattle.statement_laws.specs.Parts.{HasFineParts}
-use Rattle.step_rules.specs.Configurations.{Component, Configuration, Ended, Frame, Goes}
+use Rattle.step_rules.specs.Configurations.{Configuration, Ended, Frame, Goes}
 use Rattle.step_rules.specs.Items.{Doing, Item, Mark, Waiting, action_of}
 use Rattle.step_rules.specs.Runs.{graph_of, replay, start}
 use Rattle.step_rules.specs.Snapshots.{Test}

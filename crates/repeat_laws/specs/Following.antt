@@ -10,7 +10,7 @@ use Rattle.step_rules.specs.Configurations.{Frame}
 use Rattle.step_rules.specs.Items.{Doing, Item, Mark, Part, Waiting, items}
 use Rattle.step_rules.specs.Runs.{testcase_body}
 use Rattle.step_rules.specs.Sites.{Site, beginning}
-use Rattle.step_rules.specs.Statements.{body_of}
+use Rattle.step_rules.specs.Statements.{Act, Connects, Continues, Creates, Errs, Removes, Sends, Starts, Stops, Waits, Worsens, body_of}
 use Rattle.step_rules.specs.Taking.{from_mark, without_marks}
 
 -- ---- frames
@@ -87,6 +87,23 @@ pub data Follows (definitions : List Definition) (before after : List (List Item
   GaveBack : (remaining : List Item) (first : Item) (rest : List Item) (lists : List (List Item)) → before ≡ remaining ∷ (first ∷ rest) ∷ lists → after ≡ rest ∷ lists → Follows definitions before after
   -- the `alt` of the last mark is put back
   Repeated : repeated_lists before ≡ Some after → Follows definitions before after
+
+-- a frame in which the body of a function or test case remains
+abbrev pub IsNewFrame : List Definition → Frame → Type 0
+IsNewFrame definitions frame = (at : ℕ) × (body : List Statement) × IsBody definitions at body × (frame.remaining ≡ items definitions (beginning at) body)
+
+-- what a component asks for where this remained before: what remains behind follows. A new component has no frames, and one that starts has one in which a body remains
+abbrev pub IsFollowed : List Definition → List (List Item) → Act → Type 0
+IsFollowed definitions before Waits = Unit {0}
+IsFollowed definitions before (Errs why) = Unit {0}
+IsFollowed definitions before (Continues own) = Follows definitions before (lists_of own.calls)
+IsFollowed definitions before (Worsens v own) = Follows definitions before (lists_of own.calls)
+IsFollowed definitions before (Removes port own) = Follows definitions before (lists_of own.calls)
+IsFollowed definitions before (Sends port to v own) = Follows definitions before (lists_of own.calls)
+IsFollowed definitions before (Creates new own) = (new.own.calls ≡ []) × Follows definitions before (lists_of own.calls)
+IsFollowed definitions before (Starts path frame own) = IsNewFrame definitions frame × Follows definitions before (lists_of own.calls)
+IsFollowed definitions before (Stops path own) = Follows definitions before (lists_of own.calls)
+IsFollowed definitions before (Connects d e own) = Follows definitions before (lists_of own.calls)
 
 -- what holds of the lists that remain in each component's frames, where it holds at the beginning of bodies and stays with steps and with marks that go
 pub record IsLasting (definitions : List Definition) (Holds : List (List Item) → Type 0) : Type 0 where

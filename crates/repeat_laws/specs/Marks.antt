@@ -4,7 +4,7 @@ use Rattle.std.specs.List.{All}
 use Rattle.ttcn_syntax.specs.declared.tree.statement.Action.TheOpen.{Action-F}
 use Rattle.check_scope.specs.Names.{Entry}
 use Rattle.repeat_laws.specs.Following.{IsClosedItem, IsOutside, lists_of}
-use Rattle.step_rules.specs.Configurations.{Component, Configuration, Ended, Frame, Goes}
+use Rattle.step_rules.specs.Configurations.{Configuration, Ended, Frame, Goes}
 use Rattle.step_rules.specs.Items.{Doing, Item, Mark, Waiting, action_of}
 use Rattle.step_rules.specs.Snapshots.{Test}
 use Rattle.step_rules.specs.Taking.{from_mark}

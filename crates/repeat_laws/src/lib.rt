@@ -2,18 +2,24 @@
 //! no rule each `repeat` finds its `alt`. They run no code.
 #![tactic(auto)]
 
-ghost use Rattle.std.specs.Prelude.{◌≡◌, List, ◌∷◌, Some, Ok, is_some, true};
-ghost use Rattle.repeat_laws.specs.Following.{Follows, lists_of};
-ghost use Rattle.repeat_laws.specs.Marks.{AllAreMarked, StandsAtRepeat, StandsMarked};
-ghost use Rattle.step_rules.specs.Configurations.{Component, Configuration, Data, Frame, Goes, Going, component_at};
+ghost use Rattle.std.specs.Prelude.{◌≡◌, List, Some, Ok, is_some, true};
+ghost use Rattle.repeat_laws.specs.Following.{IsFollowed, lists_of};
+ghost use Rattle.repeat_laws.specs.Marks.{StandsAtRepeat, StandsMarked};
+ghost use Rattle.step_rules.specs.Configurations.{Component, Configuration, Data, Goes, Going, component_at};
 ghost use Rattle.step_rules.specs.Runs.{graph_of, replay, start};
 ghost use Rattle.step_rules.specs.Snapshots.{Snapshot, Test};
-ghost use Rattle.step_rules.specs.Statements.{Continues, act};
+ghost use Rattle.step_rules.specs.Statements.{act};
 ghost use Rattle.step_rules.specs.Steps.{Label, next};
 ghost use Rattle.step_rules.specs.Taking.{repeated};
 ghost use Rattle.summary.specs.Run.{Run, end_of};
 ghost use Rattle.ttcn_types.specs.Rules.{AreWellTyped};
 ghost use Rattle.ttcn_values.specs.declared.path.Path.{Path};
+
+/// What remains in a component's frames behind its step follows from what remained before, in any module and by any snapshot.
+#[tactic(auto, using(crate::proofs::Asked::asked_followed))]
+pub fn what_remains_follows()
+    ensures { (test : Test) (snapshot : Snapshot) (own : Data) → IsFollowed test.definitions (lists_of own.calls) (act test snapshot own) }
+{}
 
 /// In runs of a module that breaks no rule each `repeat` has the mark of its `alt` behind it or below: so it is at the start,
 /// behind each step, and where runs lead.

@@ -42,7 +42,7 @@ use Rattle.statement_laws.specs.Within.{IsWithin}
 use Rattle.step_rules.specs.Items.{Does, Doing, Item, Loop, Mark, Part, Start, Waiting, Whole, action_of, declarations, items, items_if_any, items_of_action, items_of_statement, site_after, site_in_for, start_items}
 use Rattle.step_rules.specs.Sites.{Site, constant_entries, entries_of, scope_at, site_behind, site_with, timer_entries, variable_entries}
 use Rattle.type_laws.proofs.Declared.{new-unseen}
-use Rattle.repeat_laws.proofs.Outside.{outside-behind, outside-both, outside-itself, outside-one}
+use Rattle.repeat_laws.proofs.Outside.{outside-behind, outside-both, outside-itself}
 use Rattle.repeat_laws.specs.Following.{IsOutside}
 use Rattle.type_laws.specs.Typed.{Declares, DeclaresVariable, Leaves, Nest, StandsIn}
 

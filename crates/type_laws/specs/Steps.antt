@@ -1,20 +1,13 @@
 -- What a component sees in its step.
-use Rattle.std.specs.Prelude.{◌≡◌, ℕ, List, [], ◌∷◌, map, Option, is_some, IfSome}
+use Rattle.std.specs.Prelude.{◌≡◌, ℕ, List, map, Option, is_some, IfSome}
 use Rattle.std.specs.List.{All, flat_map}
 use Rattle.ttcn_syntax.specs.declared.tree.definition.Definition.{Definition}
-use Rattle.ttcn_syntax.specs.declared.tree.statement.Action.TheOpen.{Action-F}
 use Rattle.check_scope.specs.Names.{kind_at, members_of}
-use Rattle.evaluation_laws.specs.Uses.{GivesOnly}
-use Rattle.step_rules.specs.Configurations.{Component, Configuration, Data, Frame, Goes, Message, component_at}
+use Rattle.step_rules.specs.Configurations.{Data, Frame, Message}
 use Rattle.step_rules.specs.Creating.{ports_of}
-use Rattle.step_rules.specs.Items.{Doing, Item, action_of}
-use Rattle.step_rules.specs.Runs.{graph_of}
-use Rattle.step_rules.specs.Snapshots.{Snapshot, Test}
-use Rattle.step_rules.specs.Steps.{Label, Statement, next}
-use Rattle.step_rules.specs.Taking.{repeat_alt}
-use Rattle.summary.specs.Run.{Run, Start, Then, end_of}
+use Rattle.step_rules.specs.Snapshots.{Snapshot}
 use Rattle.ttcn_values.specs.Frames.{entry}
-use Rattle.type_laws.specs.Typed.{FitsData, FitsMessage}
+use Rattle.type_laws.specs.Typed.{FitsMessage}
 
 -- the ports that are seen are those of the component's type, and their first messages fit
 pub record FitFronts (definitions : List Definition) (component_type : ℕ) (fronts : List (List ℕ × Option Message)) : Type 0 where

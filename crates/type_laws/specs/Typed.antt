@@ -1,5 +1,5 @@
 -- Configurations in which each value is of the type that the checker gives its name, as in all runs of modules that are accepted (ES 201 873-1, 5.2, 6, 16, 20.5 and 22).
-use Rattle.std.specs.Prelude.{◌≡◌, ℕ, true, List, [], ◌∷◌, ◌++◌, map, Option, Some, None, IsSomeAnd, slice_get}
+use Rattle.std.specs.Prelude.{◌≡◌, ℕ, true, List, [], ◌∷◌, map, Option, Some, None, IsSomeAnd, slice_get}
 use Rattle.std.specs.List.{All, flat_map}
 use Rattle.std.specs.Option.{option_and_then}
 use Rattle.ttcn_syntax.specs.declared.tree.definition.Definition.{Definition}
