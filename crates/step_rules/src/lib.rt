@@ -7,7 +7,7 @@ ghost use Rattle.std.specs.declared.cmp.Ordering.TheVariants.{Less};
 ghost use Rattle.ttcn_syntax.specs.declared.tree.statement.Verdict.{Verdict};
 ghost use Rattle.step_rules.specs.Canonical.{SeesLiveParts, canonical_graph};
 ghost use Rattle.step_rules.specs.Configurations.{Component, Configuration, Connection, Ended, Goes, Going, path_of};
-ghost use Rattle.step_rules.specs.Examples.{CreatesComponent, Repeats, RepeatsOutside, SetsVerdict, StartsTheTest, TakesDefault, TakesElse};
+ghost use Rattle.step_rules.specs.Examples.{AwaitsDone, ConnectsPorts, CreatesComponent, Expires, Repeats, RepeatsInner, RepeatsOutside, SendsBehind, SetsVerdict, StartsTheTest, StaysQuiet, TakesDefault, TakesDone, TakesElse};
 ghost use Rattle.step_rules.specs.Labels.{label_cmp, labels};
 ghost use Rattle.step_rules.specs.LiveParts.{live_going, live_part};
 ghost use Rattle.step_rules.specs.Order.{IsOrdered};
@@ -48,16 +48,23 @@ pub fn labels_have_steps()
     ensures { (test : Test) (c : Going) → IsOrdered c → (label : Label) → Contains (labels test (Goes c)) label ↔ (is_some (step test (Goes c) label) ≡ true) }
 {}
 
-/// Worked examples: what single statements do.
-#[tactic(auto, using(crate::proofs::Examples::sets_verdict, crate::proofs::Examples::takes_else, crate::proofs::Examples::takes_default, crate::proofs::Examples::repeats, crate::proofs::Examples::repeats_outside, crate::proofs::Examples::creates, crate::proofs::Examples::starts))]
+/// Worked examples: what single statements and expiries do.
+#[tactic(auto, using(crate::proofs::Examples::sets_verdict, crate::proofs::Examples::takes_else, crate::proofs::Examples::takes_default, crate::proofs::Examples::repeats, crate::proofs::Examples::repeats_inner, crate::proofs::Examples::repeats_outside, crate::proofs::Examples::creates, crate::proofs::Examples::starts, crate::proofs::Examples::sends_behind, crate::proofs::Examples::connects_ports, crate::proofs::Examples::expires, crate::proofs::Examples::stays_quiet))]
 pub fn examples_hold()
     ensures setverdict { SetsVerdict }
     ensures else_branch { TakesElse }
     ensures default { TakesDefault }
     ensures repeat { Repeats }
+    ensures repeat_inner { RepeatsInner }
     ensures repeat_outside { RepeatsOutside }
+    ensures done { TakesDone }
+    ensures done_awaited { AwaitsDone }
     ensures create { CreatesComponent }
     ensures start { StartsTheTest }
+    ensures send { SendsBehind }
+    ensures connect { ConnectsPorts }
+    ensures expiry { Expires }
+    ensures no_expiry { StaysQuiet }
 {}
 
 /// A change of one component has the same live part from a configuration and from its live part.
