@@ -2,6 +2,7 @@
 use corpus::{CorpusError, RowsError};
 use std::alloc::{AllocError, Global};
 use std::fmt::Display;
+use std::io::{self, ErrorKind};
 use std::test::Fail;
 use ttcn_parse::ParseError;
 use ttcn_syntax::{LexError, Span};
@@ -178,6 +179,19 @@ fn errors_of_rows(rt: HostRuntime) -> Result<(), Fail> {
         let error = CorpusError::Rows { file, error };
         assert!(rt; has_text(alloc, &error, text)?, "{error}");
     }
+    let error = CorpusError::File {
+        file: String::from_str(alloc, "a.rows")?,
+        error: io::Error::from(ErrorKind::NotFound),
+    };
+    assert!(rt;
+        has_text(alloc, &error, "a.rows: entity not found")?,
+        "{error}"
+    );
+    let error = CorpusError::Io(io::Error::from(ErrorKind::UnexpectedEof));
+    assert!(rt;
+        has_text(alloc, &error, "unexpected end of file")?,
+        "{error}"
+    );
     let error = CorpusError::Memory(AllocError);
     assert!(rt;
         has_text(alloc, &error, "memory allocation failed")?,
