@@ -1,68 +1,141 @@
-"""Runs the built program with command lines of each kind, and compares its statuses and lines with those wanted.
+"""Runs the built program with command lines of each kind, and compares its statuses and texts with those wanted.
 
 Usage: statuses.py PROGRAM. The last line tells how many were answered otherwise; the status is 0 where none was.
+
+The texts of help, and one of each kind of refusal of a command line, stand in the folder statuses/, byte for byte. They are
+mostly words of `clap`, so they are what the program wrote once, read and found right: a change of them is to be read again.
 """
 import os
 import subprocess
 import sys
 import tempfile
 
-EXAMPLES = os.path.join(os.path.dirname(os.path.dirname(os.path.realpath(__file__))), "examples")
+TOOLS = os.path.dirname(os.path.realpath(__file__))
+EXAMPLES = os.path.join(os.path.dirname(TOOLS), "examples")
 X1, X2 = f"{EXAMPLES}/x1.ttcn", f"{EXAMPLES}/x2.ttcn"
 
+# the longest text that is a module
+LONGEST = 1 << 20
 
-def rows(folder):
-    """Returns for each command line its words, the status, and what standard output and error begin with."""
-    missing, module, run = f"{folder}/missing", f"{folder}/module", f"{folder}/run"
-    with open(module, "w") as file:
-        file.write("module M {")
-    with open(run, "w") as file:
-        file.write("mtc\n\nmtc.01\n")
-    test = ["--testcase", "T"]
+
+def stored(name):
+    """Returns a text of the folder statuses/."""
+    with open(f"{TOOLS}/statuses/{name}.txt", "rb") as file:
+        return file.read()
+
+
+def help_rows():
+    """Returns the command lines that ask for help, each with its status and the whole text that is wanted."""
     return [
-        (["check", X1], 0, "ok\n", ""),
-        (["run", X1, *test, "--steps", "2"], 0, "testcase T\nsteps 2\nconfigurations 3\n", ""),
-        (["run", X1, *test, "--steps", "2", "--json"], 0, '{"blocked":[]', ""),
-        (["replay", X2, *test, "--run", f"{EXAMPLES}/x2.pass.run"], 0, "replayed 10\nended pass\n", ""),
-        (["--help"], 0, "", ""),
-        (["check", module], 1, "", "refused P1 Unexpected at "),
-        (["run", X1, "--testcase", "t", "--steps", "2"], 1, "", "refused U1 NoSuchTestCase\n"),
-        (["replay", X1, *test, "--run", run], 1, "", "refused N1 BadLabel at line 3\n"),
-        (["replay", X1, *test, "--run", f"{EXAMPLES}/x2.pass.run"], 1, "", "refused N2 NotEnabled at label 3\n"),
-        ([], 2, "", ""),
-        (["run", X1, *test], 2, "", ""),
-        (["run", X1, *test, "--steps", "100001"], 2, "", ""),
-        (["check", b"\xff"], 2, "", ""),
-        (["run", X1, *test, "--steps", "2", "--limit", "2"], 3, "", "refused E1 TooMany\n"),
-        (["check", missing], 5, "", f"cannot read {missing}\n"),
-        (["replay", missing, *test, "--run", f"{folder}/other"], 5, "", f"cannot read {missing}\n"),
-        (["replay", module, *test, "--run", missing], 5, "", f"cannot read {missing}\n"),
+        (["--help"], 0, stored("help")),
+        (["-h"], 0, stored("help")),
+        (["help"], 0, stored("help")),
+        (["check", "--help"], 0, stored("help_check")),
+        (["run", "--help"], 0, stored("help_run")),
+        (["help", "run"], 0, stored("help_run")),
+        (["replay", "--help"], 0, stored("help_replay")),
     ]
 
 
-def is_as_wanted(ran, status, out, error):
-    """Tells whether a run has this status and these beginnings, and says nothing where it is to say nothing."""
-    told, refused = ran.stdout.decode(), ran.stderr.decode(errors="replace")
-    said = told if status == 0 else refused
-    silent = refused if status == 0 else told
-    return ran.returncode == status and told.startswith(out) and refused.startswith(error) and said and not silent
+def refused_rows():
+    """Returns command lines that are refused, one of each kind, each with its status and the whole text that is wanted."""
+    run = ["run", "f", "--testcase", "T"]
+    return [
+        ([], 2, stored("no_command")),
+        (["walk"], 2, stored("unknown_command")),
+        (["chek"], 2, stored("similar_command")),
+        (["check"], 2, stored("missing_file")),
+        (["run"], 2, stored("missing_words")),
+        (["replay", "f", "--testcase", "T"], 2, stored("missing_option")),
+        (["check", "f", "g"], 2, stored("word_too_many")),
+        ([*run, "--steps", "1", "--other"], 2, stored("unknown_option")),
+        ([*run, "--step", "1"], 2, stored("similar_option")),
+        ([*run, "--steps"], 2, stored("missing_value")),
+        ([*run, "--steps", "x"], 2, stored("no_number")),
+        ([*run, "--steps", ""], 2, stored("empty_number")),
+        ([*run, "--steps", "-1"], 2, stored("negative_number")),
+        ([*run, "--steps", "100001"], 2, stored("number_out_of_range")),
+        ([*run, "--steps", "1", "--json=yes"], 2, stored("value_of_flag")),
+        ([*run, "--testcase", "U", "--steps", "1"], 2, stored("option_twice")),
+        (["check", b"\xff"], 2, stored("not_utf8")),
+    ]
+
+
+def file_in(folder, name, text):
+    """Writes a file and returns its path."""
+    path = f"{folder}/{name}"
+    with open(path, "wb") as file:
+        file.write(text)
+    return path
+
+
+def long_rows(folder):
+    """Returns command lines with files and names of files that are long: none is cut."""
+    with open(X1, "rb") as file:
+        module = file.read()
+    with open(f"{EXAMPLES}/x2.pass.run", "rb") as file:
+        run = file.read()
+    longest = file_in(folder, "longest", module.ljust(LONGEST))
+    longer = file_in(folder, "longer", module.ljust(LONGEST + 1))
+    late_run = file_in(folder, "late_run", b"\n" * LONGEST + run)
+    late_fault = file_in(folder, "late_fault", b"\n" * LONGEST + b"mtc.01")
+    far = f"{folder}{'/a far folder' * 100}/missing"
+    return [
+        (["check", longest], 0, b"ok\n"),
+        (["check", longer], 1, b"refused L5 TextTooLong at 1:1\n"),
+        (["replay", X2, "--testcase", "T", "--run", late_run], 0, b"replayed 10\nended pass\n"),
+        (["replay", X2, "--testcase", "T", "--run", late_fault], 1, f"refused N1 BadLabel at line {LONGEST + 1}\n".encode()),
+        (["check", far], 5, f"cannot read {far}\n".encode()),
+    ]
+
+
+def rows(folder):
+    """Returns for each command line its words, the status, and what its text is, as bytes, or what it begins with."""
+    missing = f"{folder}/missing"
+    module = file_in(folder, "module", b"module M {")
+    run = file_in(folder, "run", b"mtc\n\nmtc.01\n")
+    test = ["--testcase", "T"]
+    return [
+        (["check", X1], 0, b"ok\n"),
+        (["run", X1, *test, "--steps", "2"], 0, "testcase T\nsteps 2\nconfigurations 3\n"),
+        (["run", X1, *test, "--steps", "2", "--json"], 0, '{"blocked":[]'),
+        (["replay", X2, *test, "--run", f"{EXAMPLES}/x2.pass.run"], 0, b"replayed 10\nended pass\n"),
+        (["check", module], 1, "refused P1 Unexpected at "),
+        (["run", X1, "--testcase", "t", "--steps", "2"], 1, b"refused U1 NoSuchTestCase\n"),
+        (["replay", X1, *test, "--run", run], 1, b"refused N1 BadLabel at line 3\n"),
+        (["replay", X1, *test, "--run", f"{EXAMPLES}/x2.pass.run"], 1, b"refused N2 NotEnabled at label 3\n"),
+        (["run", X1, *test, "--steps", "2", "--limit", "2"], 3, b"refused E1 TooMany\n"),
+        (["check", missing], 5, f"cannot read {missing}\n".encode()),
+        (["replay", missing, *test, "--run", f"{folder}/other"], 5, f"cannot read {missing}\n".encode()),
+        (["replay", module, *test, "--run", missing], 5, f"cannot read {missing}\n".encode()),
+        *long_rows(folder),
+        *help_rows(),
+        *refused_rows(),
+    ]
+
+
+def is_as_wanted(ran, status, wanted):
+    """Tells whether a run has this status and this text, on the standard output where the status is 0 and else on the standard error, and the other one is empty."""
+    told, silent = (ran.stdout, ran.stderr) if status == 0 else (ran.stderr, ran.stdout)
+    as_wanted = told == wanted if isinstance(wanted, bytes) else told.startswith(wanted.encode())
+    return ran.returncode == status and as_wanted and not silent
 
 
 def main(program):
     otherwise = 0
     with tempfile.TemporaryDirectory() as folder:
-        wanted = rows(folder)
-        for words, status, out, error in wanted:
+        wanted_rows = rows(folder)
+        for words, status, wanted in wanted_rows:
             ran = subprocess.run([program, *words], capture_output=True, stdin=subprocess.DEVNULL)
-            if not is_as_wanted(ran, status, out, error):
+            if not is_as_wanted(ran, status, wanted):
                 otherwise += 1
-                print(f"statuses: {words}: {ran.returncode}, {ran.stdout[:200]!r}, {ran.stderr[:200]!r}", file=sys.stderr)
+                print(f"statuses: {words}: {ran.returncode}, {ran.stdout[:500]!r}, {ran.stderr[:500]!r}", file=sys.stderr)
         with open("/dev/full", "wb") as full:
             ran = subprocess.run([program, "check", X1], stdout=full, stderr=subprocess.PIPE, stdin=subprocess.DEVNULL)
         if (ran.returncode, ran.stderr) != (5, b"cannot write\n"):
             otherwise += 1
-            print(f"statuses: output that fails: {ran.returncode}, {ran.stderr[:200]!r}", file=sys.stderr)
-    print(f"statuses: {len(wanted) + 1} command lines, {otherwise} answered otherwise")
+            print(f"statuses: output that fails: {ran.returncode}, {ran.stderr[:500]!r}", file=sys.stderr)
+    print(f"statuses: {len(wanted_rows) + 1} command lines, {otherwise} answered otherwise")
     return 1 if otherwise else 0
 
 

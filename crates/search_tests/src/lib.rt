@@ -7,6 +7,8 @@ mod boards;
 #[cfg(test)]
 mod counted;
 #[cfg(test)]
+mod faults;
+#[cfg(test)]
 mod fork;
 #[cfg(test)]
 mod gate;
