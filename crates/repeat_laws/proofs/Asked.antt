@@ -11,11 +11,13 @@ use Rattle.ttcn_syntax.specs.declared.tree.statement.Assignment.{Assignment}
 use Rattle.ttcn_syntax.specs.declared.tree.statement.Conditional.{Conditional, out-Conditional}
 use Rattle.ttcn_syntax.specs.declared.tree.statement.Constant.{Constant}
 use Rattle.ttcn_syntax.specs.declared.tree.statement.ForStart.TheVariants as for_start
+use Rattle.ttcn_syntax.specs.declared.tree.statement.LogItem.{LogItem}
 use Rattle.ttcn_syntax.specs.declared.tree.statement.PortRef.{PortRef}
 use Rattle.ttcn_syntax.specs.declared.tree.statement.Send.{Send}
 use Rattle.ttcn_syntax.specs.declared.tree.statement.Statement.{Statement, out-Statement}
 use Rattle.ttcn_syntax.specs.declared.tree.statement.Timer.{Timer}
 use Rattle.ttcn_syntax.specs.declared.tree.statement.Variable.{Variable}
+use Rattle.ttcn_syntax.specs.declared.tree.statement.Verdict.{Verdict}
 use Rattle.ttcn_syntax.specs.declared.tree.value.Call.{Call}
 use Rattle.ttcn_syntax.specs.declared.tree.value.Rhs.{Rhs}
 use Rattle.ttcn_syntax.specs.declared.tree.value.Rhs.TheVariants as rhs
@@ -27,7 +29,7 @@ use Rattle.check_scope.specs.Names.{component_meant, kind_at, module_names, reso
 use Rattle.check_scope.specs.declared.types.DataType.{DataType}
 use Rattle.repeat_laws.proofs.Blocks.{IfClosedBlock, IsClosedBlock, conditional-closed, do-closed, for-closed, for-made, last-closed, made-block, made-block-if, made-both, made-none, made-part, made-waiting, while-closed}
 use Rattle.repeat_laws.proofs.Ways.{HasNoMark, IsChanceAt, IsChoiceAt, IsWayAt, alt-ways, choice-at, default-ways}
-use Rattle.repeat_laws.specs.Following.{Branched, Entered, Follows, GaveBack, IsFollowed, IsNewFrame, IsClosed, IsMade, IsUnmarked, Left, Repeated, Replaced, lists_of, repeated_from, repeated_lists}
+use Rattle.repeat_laws.specs.Following.{Branched, Called, Follows, GaveBack, IsFollowed, IsNewFrame, SetsVerdict, IsClosed, IsMade, IsUnmarked, Left, Repeated, Replaced, lists_of, repeated_from, repeated_lists}
 use Rattle.step_laws.proofs.Outcomes.{any-yields, map-yields, then-yields}
 use Rattle.step_rules.specs.Branches.{Chance, Written, written_alt, written_defaults}
 use Rattle.step_rules.specs.Configurations.{Data, Frame}
@@ -182,7 +184,7 @@ module _ (stand : Stand) (at-frame : stand.own.calls ≡ stand.frame ∷ stand.b
       let own : Data = going_on xs (with_calls (frame ∷ frames) stand.own) in
       continuing-followed ds before (store stand.test target v own)
       (yields-more ds before (Holds (xs ∷ lists_of frames))
-      (λ changed also. GaveBack stand.frame.remaining (Waiting target) xs (lists_of frames) (before-is ∙ ap (λ fs. stand.frame.remaining ∷ lists_of fs) is ∙ ap (λ ys. stand.frame.remaining ∷ ys ∷ lists_of frames) e) also)
+      (λ changed also. GaveBack stand.frame.remaining target xs (lists_of frames) (before-is ∙ ap (λ fs. stand.frame.remaining ∷ lists_of fs) is ∙ ap (λ ys. stand.frame.remaining ∷ ys ∷ lists_of frames) e) also)
       (store stand.test target v own) (store-kept (xs ∷ lists_of frames) stand.test target v own refl))
   back-asks frame frames (Waiting target ∷ xs) None is e = tt
   back-asks frame frames (Doing site s part ∷ xs) result is e = Left stand.frame.remaining under before-is (sym (ap lists_of is))
@@ -252,7 +254,7 @@ module _ (stand : Stand) (at-frame : stand.own.calls ≡ stand.frame ∷ stand.b
     enter-if : (made : List Item) (own : Data) (frame : Frame) (b : Bool) → Makes made → (xs : List Item) → In xs own → IsNewFrame ds frame
         → IfYields (if b then Yields (with_calls (frame ∷ (going_on (made ++ stand.rest) own).calls) own) else dynamic_error) (Follow ds before)
     enter-if made own frame true is xs holds new =
-        Entered site s part made stand.rest under new.0 new.1 before-first is new.2
+        Called site s part made stand.rest under new.0 new.1 before-first is new.2
         (ap (λ ys. ys ∷ lists_of (in_last (with_remaining (made ++ stand.rest)) own.calls)) new.3
         ∙ ap (λ others. items ds (beginning new.0) new.1 ∷ others) (last-lists own.calls (made ++ stand.rest) xs under holds))
     enter-if made own frame false is xs holds new = tt
@@ -291,7 +293,7 @@ module _ (stand : Stand) (at-frame : stand.own.calls ≡ stand.frame ∷ stand.b
         acting-any ds before (λ members. acting (λ changed. Creates (new_component stand.test new members) (with_child changed)) (store stand.test target (value.Component new) own))
         (if nat_lt own.children most then new_members stand.test new stand.snapshot else dynamic_error)
         (λ members. acting-followed ds before (In stand.rest) (λ changed. Creates (new_component stand.test new members) (with_child changed)) (store stand.test target (value.Component new) own)
-        (λ changed also. (refl, over (with_child changed) also)) (store-kept (stand.rest ∷ under) stand.test target (value.Component new) own holds))
+        (λ changed also. (refl, refl, over (with_child changed) also)) (store-kept (stand.rest ∷ under) stand.test target (value.Component new) own holds))
 
     created-asks : (target : Target) (own : Data) (at : Option ℕ) → In stand.rest own → Asks (created stand target own at)
     created-asks target own None holds = tt
@@ -487,36 +489,39 @@ module _ (stand : Stand) (at-frame : stand.own.calls ≡ stand.frame ∷ stand.b
     in-front : (xs ys zs : List Item) → (xs ++ ys) ++ zs ≡ xs ++ (ys ++ zs)
     in-front xs ys zs = append_assoc xs ys zs
 
-    whole-asks : (x : Does) → action_of s ≡ x → Asks (act_whole stand site s x)
-    whole-asks (Action-F.Variables vs) e = tt
-    whole-asks (Action-F.Constants cs) e = tt
-    whole-asks (Action-F.Timers timers) e = tt
-    whole-asks (Action-F.Assign a) e = assignment-asks a
-    whole-asks (Action-F.«Action::Call» call) e =
+    sets-verdict : (v : Verdict) (reasons : List LogItem) → action_of s ≡ Action-F.Setverdict v reasons → part ≡ Whole → SetsVerdict before v
+    sets-verdict v reasons e whole = (site, s, stand.rest, under, reasons, before-first ∙ ap (λ p. (Doing site s p ∷ stand.rest) ∷ under) whole, e)
+
+    whole-asks : part ≡ Whole → (x : Does) → action_of s ≡ x → Asks (act_whole stand site s x)
+    whole-asks whole (Action-F.Variables vs) e = tt
+    whole-asks whole (Action-F.Constants cs) e = tt
+    whole-asks whole (Action-F.Timers timers) e = tt
+    whole-asks whole (Action-F.Assign a) e = assignment-asks a
+    whole-asks whole (Action-F.«Action::Call» call) e =
         alt-or-asks (call_function stand site call stand.own stand.rest) (choice_at stand site s) (call-asks site call stand.own [] (made-none ds site s) stand.frame.remaining before-is) chosen-at
-    whole-asks (Action-F.«Action::Event» event) e = alt-or-asks (Errs Unmet) (choice_at stand site s) tt chosen-at
-    whole-asks (Action-F.Alt branches) e = alt-or-asks (Errs Unmet) (choice_at stand site s) tt chosen-at
-    whole-asks Action-F.Repeat e = repeat-asks
-    whole-asks (Action-F.If conditionals last) e = if-asks 0 conditionals last e
-    whole-asks (Action-F.While condition block) e = loop-asks condition block (Doing site s Whole ∷ []) (while-closed ds site s condition block e) (made-part ds site s Whole)
-    whole-asks (Action-F.DoWhile block condition) e =
+    whole-asks whole (Action-F.«Action::Event» event) e = alt-or-asks (Errs Unmet) (choice_at stand site s) tt chosen-at
+    whole-asks whole (Action-F.Alt branches) e = alt-or-asks (Errs Unmet) (choice_at stand site s) tt chosen-at
+    whole-asks whole Action-F.Repeat e = repeat-asks
+    whole-asks whole (Action-F.If conditionals last) e = if-asks 0 conditionals last e
+    whole-asks whole (Action-F.While condition block) e = loop-asks condition block (Doing site s Whole ∷ []) (while-closed ds site s condition block e) (made-part ds site s Whole)
+    whole-asks whole (Action-F.DoWhile block condition) e =
         goes (items ds site block ++ Doing site s Loop ∷ [])
         (made-both ds site s (items ds site block) (Doing site s Loop ∷ []) (made-block ds site s block (do-closed ds site s block condition e)) (made-part ds site s Loop))
         (items ds site block ++ Doing site s Loop ∷ stand.rest) (in-front (items ds site block) (Doing site s Loop ∷ []) stand.rest)
-    whole-asks (Action-F.For start condition step block) e =
+    whole-asks whole (Action-F.For start condition step block) e =
         goes (start_items ds site s start ++ Doing (site_in_for ds site start) s Loop ∷ []) (for-made ds site s start)
         (start_items ds site s start ++ Doing (site_in_for ds site start) s Loop ∷ stand.rest) (in-front (start_items ds site s start) (Doing (site_in_for ds site start) s Loop ∷ []) stand.rest)
-    whole-asks (Action-F.Return v) e = return-asks site v
-    whole-asks Action-F.Stop e = done-follows
-    whole-asks (Action-F.Log logged) e = done-follows
-    whole-asks (Action-F.Setverdict verdict reasons) e = done-follows
-    whole-asks (Action-F.Connect one other) e = connect-asks one other
-    whole-asks (Action-F.Send send) e = send-asks send
-    whole-asks (Action-F.StartComponent reference call) e = start-asks reference call
-    whole-asks (Action-F.StartTimer name) e = timer-set name timer.Running
-    whole-asks (Action-F.StopOf reference) e = stop-asks reference (timer_at (reads stand site) reference)
-    whole-asks (Action-F.Activate call) e = activation-asks call
-    whole-asks (Action-F.Deactivate reference) e = deactivate-asks reference
+    whole-asks whole (Action-F.Return v) e = return-asks site v
+    whole-asks whole Action-F.Stop e = done-follows
+    whole-asks whole (Action-F.Log logged) e = done-follows
+    whole-asks whole (Action-F.Setverdict v reasons) e = (sets-verdict v reasons e whole, done-follows)
+    whole-asks whole (Action-F.Connect one other) e = connect-asks one other
+    whole-asks whole (Action-F.Send send) e = send-asks send
+    whole-asks whole (Action-F.StartComponent reference call) e = start-asks reference call
+    whole-asks whole (Action-F.StartTimer name) e = timer-set name timer.Running
+    whole-asks whole (Action-F.StopOf reference) e = stop-asks reference (timer_at (reads stand site) reference)
+    whole-asks whole (Action-F.Activate call) e = activation-asks call
+    whole-asks whole (Action-F.Deactivate reference) e = deactivate-asks reference
 
     for-start-asks : (x : Does) → Asks (act_for_start stand site x)
     for-start-asks (Action-F.For (for_start.Assign a) condition step block) = assignment-asks a
@@ -533,13 +538,13 @@ module _ (stand : Stand) (at-frame : stand.own.calls ≡ stand.frame ∷ stand.b
         (made-both ds site s (Doing site s Last ∷ []) (Doing site s Loop ∷ []) (made-part ds site s Last) (made-part ds site s Loop))
     while-asks _ e = tt
 
-    pub part-asks : (x : Part) → Asks (act_part stand site s x)
-    part-asks Whole = whole-asks (action_of s) refl
-    part-asks (Name k) = name-asks k (action_of s)
-    part-asks (From k) = from-asks k (action_of s) refl
-    part-asks Start = for-start-asks (action_of s)
-    part-asks Loop = while-asks (action_of s) refl
-    part-asks Last = for-step-asks (action_of s)
+    pub part-asks : (x : Part) → part ≡ x → Asks (act_part stand site s x)
+    part-asks Whole is = whole-asks is (action_of s) refl
+    part-asks (Name k) is = name-asks k (action_of s)
+    part-asks (From k) is = from-asks k (action_of s) refl
+    part-asks Start is = for-start-asks (action_of s)
+    part-asks Loop is = while-asks (action_of s) refl
+    part-asks Last is = for-step-asks (action_of s)
 
 -- ---- steps of a component
 
@@ -547,7 +552,7 @@ first-asks : (test : Test) (snapshot : Snapshot) (own : Data) (frame : Frame) (b
     → IsFollowed test.definitions (lists own) (act_first test snapshot own frame below xs)
 first-asks test snapshot own frame below [] e is = end-asks (record { test = test; snapshot = snapshot; own = own; frame = frame; below = below; rest = [] }) e below refl
 first-asks test snapshot own frame below (Doing site s part ∷ rest) e is =
-    part-asks (record { test = test; snapshot = snapshot; own = own; frame = frame; below = below; rest = rest }) e site s part is part
+    part-asks (record { test = test; snapshot = snapshot; own = own; frame = frame; below = below; rest = rest }) e site s part is part refl
 first-asks test snapshot own frame below (Mark site s ∷ rest) e is = tt
 first-asks test snapshot own frame below (Waiting target ∷ rest) e is = tt
 

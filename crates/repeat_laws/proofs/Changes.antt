@@ -8,7 +8,8 @@ use Rattle.ttcn_syntax.specs.declared.tree.statement.Statement as tree
 use Rattle.ttcn_syntax.specs.declared.tree.statement.Verdict.TheVariants as verdict
 use Rattle.check_scope.specs.Names.{kind_at}
 use Rattle.repeat_laws.proofs.Asked.{asked_followed}
-use Rattle.repeat_laws.specs.Following.{Follows, IsFollowed, IsLasting, IsNewFrame, lists_of}
+use Rattle.repeat_laws.specs.Following.{Follows, IsFollowed, IsNewFrame, lists_of}
+use Rattle.repeat_laws.specs.internal.Lasting.{IsLasting}
 use Rattle.step_laws.proofs.Changes.{found-each, insert-each}
 use Rattle.step_laws.proofs.Outcomes.{any-yields, map-yields}
 use Rattle.step_rules.proofs.Pairs.{All-more}
@@ -125,13 +126,13 @@ module _ (test : Test) (Lasts : List (List Item) → Type 0) (lasting : IsLastin
     apply-stands Waits is = tt
     apply-stands (Errs why) is = tt
     apply-stands (Continues own) is = settles own is
-    apply-stands (Worsens v own) is = touch-keeps (settle c itself.path own) itself.path (with_verdict v) (λ x also. also) (settles own is)
+    apply-stands (Worsens v own) is = touch-keeps (settle c itself.path own) itself.path (with_verdict v) (λ x also. also) (settles own is.1)
     apply-stands (Removes port own) is = touch-keeps (settle c itself.path own) itself.path (at_queue port without_first) (λ x also. also) (settles own is)
     apply-stands (Sends port to v own) is =
         ending-stands (send (settle c itself.path own) itself port to v)
         (deliver-stands (settle c itself.path own) (record { value = v; sender = itself }) (filter (addressed to) (peers (settle c itself.path own) (record { component = itself.path; port = port }))) (settles own is))
     apply-stands (Creates new own) is =
-        new-stands new (settle c itself.path own) (is_some (component_at (settle c itself.path own) (path_of new))) (no-frames new is.0) (settles own is.1)
+        new-stands new (settle c itself.path own) (is_some (component_at (settle c itself.path own) (path_of new))) (no-frames new is.0) (settles own is.2)
     apply-stands (Starts path frame own) is =
         ending-stands (start_component (settle c itself.path own) path frame)
         (start-stands (settle c itself.path own) path frame (component_at (settle c itself.path own) path) is.0 (settles own is.1))

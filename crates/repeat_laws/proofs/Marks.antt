@@ -18,8 +18,9 @@ use Rattle.checker_laws.specs.Laws.{IsWhole}
 use Rattle.repeat_laws.proofs.Blocks.{IsClosedBlock, block-closed, block-inside}
 use Rattle.repeat_laws.proofs.Outside.{outside-both, outside-itself}
 use Rattle.repeat_laws.proofs.Ways.{inside-unmarked}
-use Rattle.repeat_laws.specs.Following.{Branched, Entered, Follows, GaveBack, IsBody, IsClosedItem, IsInside, IsLasting, IsMade, IsOutside, IsUnmarked, Left, Repeated, Replaced, repeated_from, repeated_lists}
+use Rattle.repeat_laws.specs.Following.{Branched, Called, Follows, GaveBack, IsBody, IsClosedItem, IsInside, IsMade, IsOutside, IsUnmarked, Left, Repeated, Replaced, repeated_from, repeated_lists}
 use Rattle.repeat_laws.specs.Marks.{AllAreMarked, AreMarked, IsMarkOutside, has_mark, some_marked}
+use Rattle.repeat_laws.specs.internal.Lasting.{IsLasting}
 use Rattle.step_rules.proofs.Pairs.{All-more}
 use Rattle.step_rules.specs.Items.{Doing, Item, Mark, Part, Waiting, items}
 use Rattle.step_rules.specs.Runs.{testcase_body}
@@ -71,11 +72,6 @@ all-none-outside inner xs all = All-more IsUnmarked (IsMarkOutside inner) (none-
 -- ---- one list
 
 module _ (below : Bool) where
-  tail-marked : (x : Item) (xs : List Item) → AreMarked below (x ∷ xs) → AreMarked below xs
-  tail-marked (Doing site s part) xs is = is.2
-  tail-marked (Mark site s) xs is = is.2
-  tail-marked (Waiting target) xs is = is
-
   -- items at a site in front of a list: they are closed unless there is a mark in the list, or below
   front-marked : (site : Site) (xs rest : List Item) → All (IsInside site) xs → ((has_mark rest || below) ≡ false → All IsClosedItem xs) → All (IsMarkOutside site.declared) rest → AreMarked below rest
       → AreMarked below (xs ++ rest)
@@ -225,7 +221,7 @@ module _ (definitions : List Definition) (well : AreWellTyped definitions) where
   marked-behind before after (Replaced site s part made rest lists was is e) all =
       let first : AllAreMarked ((Doing site s part ∷ rest) ∷ lists) = subst AllAreMarked was all in
       subst AllAreMarked (sym e) (made-marked (some_marked lists) site s part made rest is first.0, first.1)
-  marked-behind before after (Entered site s part made rest lists at body was is of e) all =
+  marked-behind before after (Called site s part made rest lists at body was is of e) all =
       let first : AllAreMarked ((Doing site s part ∷ rest) ∷ lists) = subst AllAreMarked was all in
       subst AllAreMarked (sym e) (body-marked (some_marked ((made ++ rest) ∷ lists)) at body of, (made-marked (some_marked lists) site s part made rest is first.0, first.1))
   marked-behind before after (Branched site s part block rest lists frames was inside none e) all =
@@ -235,9 +231,9 @@ module _ (definitions : List Definition) (well : AreWellTyped definitions) where
   marked-behind before after (Left xs lists was e) all =
       let first : AllAreMarked (xs ∷ lists) = subst AllAreMarked was all in
       subst AllAreMarked (sym e) first.1
-  marked-behind before after (GaveBack xs first rest lists was e) all =
-      let both : AllAreMarked (xs ∷ (first ∷ rest) ∷ lists) = subst AllAreMarked was all in
-      subst AllAreMarked (sym e) (tail-marked (some_marked lists) first rest both.1.0, both.1.1)
+  marked-behind before after (GaveBack xs target rest lists was e) all =
+      let both : AllAreMarked (xs ∷ (Waiting target ∷ rest) ∷ lists) = subst AllAreMarked was all in
+      subst AllAreMarked (sym e) (both.1.0, both.1.1)
   marked-behind before after (Repeated is) all = if-some AllAreMarked (repeated_lists before) after is (repeated-marked before all)
 
   pub marks-last : IsLasting definitions AllAreMarked

@@ -2,16 +2,20 @@
 use Rattle.std.specs.Prelude.{◌≡◌, ◌⊎◌, ℕ, false, List, [], ◌∷◌, ◌++◌, map, Option, Some, None}
 use Rattle.std.specs.List.{All}
 use Rattle.ttcn_syntax.specs.declared.tree.definition.Definition.{Definition}
+use Rattle.ttcn_syntax.specs.declared.tree.statement.Action.TheOpen.{Action-F}
+use Rattle.ttcn_syntax.specs.declared.tree.statement.LogItem.{LogItem}
 use Rattle.ttcn_syntax.specs.declared.tree.statement.Statement.{Statement}
+use Rattle.ttcn_syntax.specs.declared.tree.statement.Verdict.{Verdict}
+use Rattle.ttcn_syntax.specs.declared.tree.statement.Verdict.TheVariants as verdict
 use Rattle.check_scope.specs.Names.{Entry, kind_at}
 use Rattle.check_statements.specs.Statements.{Place, statement}
 use Rattle.checker_laws.specs.Laws.{IsWhole}
 use Rattle.step_rules.specs.Configurations.{Frame}
-use Rattle.step_rules.specs.Items.{Doing, Item, Mark, Part, Waiting, items}
+use Rattle.step_rules.specs.Items.{Doing, Item, Mark, Part, Target, Waiting, Whole, action_of, items}
 use Rattle.step_rules.specs.Runs.{testcase_body}
 use Rattle.step_rules.specs.Sites.{Site, beginning}
 use Rattle.step_rules.specs.Statements.{Act, Connects, Continues, Creates, Errs, Removes, Sends, Starts, Stops, Waits, Worsens, body_of}
-use Rattle.step_rules.specs.Taking.{from_mark, without_marks}
+use Rattle.step_rules.specs.Taking.{from_mark}
 
 -- ---- frames
 
@@ -31,7 +35,7 @@ repeated_lists (remaining ∷ lists) = repeated_from lists (from_mark remaining)
 
 -- ---- items
 
--- what is declared further out: the same names but for some of the last ones
+-- what is declared at the same place or further out: the same names but for some of the last ones
 abbrev pub IsOutside : List Entry → List Entry → Type 0
 IsOutside outer inner = (more : List Entry) × (more ++ outer ≡ inner)
 
@@ -47,7 +51,7 @@ IsUnmarked (Doing site s part) = Unit {0}
 IsUnmarked (Mark site s) = ⊥
 IsUnmarked (Waiting target) = Unit {0}
 
--- a statement breaks no rule where no branch is around it: each `repeat` in it stands in the block of a branch within
+-- a statement breaks no rule at some place outside of all branches: each `repeat` in it stands in the block of a branch within it
 abbrev pub IsClosed : Statement → Type 0
 IsClosed s = (place : Place) × IsWhole place.scope × (place.in_branch ≡ false) × ((statement s).broken place ≡ [])
 
@@ -74,7 +78,7 @@ pub data Follows (definitions : List Definition) (before after : List (List Item
   Replaced : (site : Site) (s : Statement) (part : Part) (made rest : List Item) (lists : List (List Item))
       → before ≡ (Doing site s part ∷ rest) ∷ lists → IsMade site s made → after ≡ (made ++ rest) ∷ lists → Follows definitions before after
   -- so it is, and a frame with the body of a function comes on top
-  Entered : (site : Site) (s : Statement) (part : Part) (made rest : List Item) (lists : List (List Item)) (at : ℕ) (body : List Statement)
+  Called : (site : Site) (s : Statement) (part : Part) (made rest : List Item) (lists : List (List Item)) (at : ℕ) (body : List Statement)
       → before ≡ (Doing site s part ∷ rest) ∷ lists → IsMade site s made → IsBody definitions at body
       → after ≡ items definitions (beginning at) body ∷ (made ++ rest) ∷ lists → Follows definitions before after
   -- a branch is taken: its block and a mark stand in the place of the `alt`, and frames without marks come on top
@@ -84,7 +88,7 @@ pub data Follows (definitions : List Definition) (before after : List (List Item
   -- the last frame goes
   Left : (remaining : List Item) (lists : List (List Item)) → before ≡ remaining ∷ lists → after ≡ lists → Follows definitions before after
   -- the last frame goes, with a result for which the one below waits
-  GaveBack : (remaining : List Item) (first : Item) (rest : List Item) (lists : List (List Item)) → before ≡ remaining ∷ (first ∷ rest) ∷ lists → after ≡ rest ∷ lists → Follows definitions before after
+  GaveBack : (remaining : List Item) (target : Target) (rest : List Item) (lists : List (List Item)) → before ≡ remaining ∷ (Waiting target ∷ rest) ∷ lists → after ≡ rest ∷ lists → Follows definitions before after
   -- the `alt` of the last mark is put back
   Repeated : repeated_lists before ≡ Some after → Follows definitions before after
 
@@ -92,22 +96,20 @@ pub data Follows (definitions : List Definition) (before after : List (List Item
 abbrev pub IsNewFrame : List Definition → Frame → Type 0
 IsNewFrame definitions frame = (at : ℕ) × (body : List Statement) × IsBody definitions at body × (frame.remaining ≡ items definitions (beginning at) body)
 
--- what a component asks for where this remained before: what remains behind follows. A new component has no frames, and one that starts has one in which a body remains
+-- the first item is a `setverdict` of this verdict
+abbrev pub SetsVerdict : List (List Item) → Verdict → Type 0
+SetsVerdict before v =
+    (site : Site) × (s : Statement) × (rest : List Item) × (lists : List (List Item)) × (reasons : List LogItem) × (before ≡ (Doing site s Whole ∷ rest) ∷ lists) × (action_of s ≡ Action-F.Setverdict v reasons)
+
+-- what a component asks for where this remained before: what remains behind follows. A verdict gets worse by a `setverdict`, a new component has no frames and verdict none, and one that starts has one in which a body remains
 abbrev pub IsFollowed : List Definition → List (List Item) → Act → Type 0
 IsFollowed definitions before Waits = Unit {0}
 IsFollowed definitions before (Errs why) = Unit {0}
 IsFollowed definitions before (Continues own) = Follows definitions before (lists_of own.calls)
-IsFollowed definitions before (Worsens v own) = Follows definitions before (lists_of own.calls)
+IsFollowed definitions before (Worsens v own) = SetsVerdict before v × Follows definitions before (lists_of own.calls)
 IsFollowed definitions before (Removes port own) = Follows definitions before (lists_of own.calls)
 IsFollowed definitions before (Sends port to v own) = Follows definitions before (lists_of own.calls)
-IsFollowed definitions before (Creates new own) = (new.own.calls ≡ []) × Follows definitions before (lists_of own.calls)
+IsFollowed definitions before (Creates new own) = (new.own.calls ≡ []) × (new.verdict ≡ verdict.None) × Follows definitions before (lists_of own.calls)
 IsFollowed definitions before (Starts path frame own) = IsNewFrame definitions frame × Follows definitions before (lists_of own.calls)
 IsFollowed definitions before (Stops path own) = Follows definitions before (lists_of own.calls)
 IsFollowed definitions before (Connects d e own) = Follows definitions before (lists_of own.calls)
-
--- what holds of the lists that remain in each component's frames, where it holds at the beginning of bodies and stays with steps and with marks that go
-pub record IsLasting (definitions : List Definition) (Holds : List (List Item) → Type 0) : Type 0 where
-  pub none : Holds []
-  pub begun : (at : ℕ) (body : List Statement) → IsBody definitions at body → Holds (items definitions (beginning at) body ∷ [])
-  pub followed : (before after : List (List Item)) → Follows definitions before after → Holds before → Holds after
-  pub uncovered : (remaining : List Item) (lists : List (List Item)) → Holds (remaining ∷ lists) → Holds (without_marks remaining ∷ lists)

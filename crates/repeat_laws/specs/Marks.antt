@@ -1,4 +1,4 @@
--- Each `repeat` has the mark of its `alt` behind it or below, and marks stand further out than what comes before them, as in all runs of modules that break no rule (ES 201 873-1, 20.2 and 20.3).
+-- Each `repeat` has the mark of its `alt` behind it or below, and marks stand no further in than what comes before them, as in all runs of modules that break no rule (ES 201 873-1, 20.2 and 20.3).
 use Rattle.std.specs.Prelude.{◌≡◌, false, ◌||◌, Bool, List, [], ◌∷◌, is_some}
 use Rattle.std.specs.List.{All}
 use Rattle.ttcn_syntax.specs.declared.tree.statement.Action.TheOpen.{Action-F}
@@ -22,13 +22,13 @@ some_marked (items ∷ lists) = has_mark items || some_marked lists
 abbrev pub FindsMark : Bool → Item → List Item → Type 0
 FindsMark below item behind = (has_mark behind || below) ≡ false → IsClosedItem item
 
--- a mark stands where no others are declared than these
+-- a mark stands where these names are declared, or not all of them
 abbrev pub IsMarkOutside : List Entry → Item → Type 0
 IsMarkOutside inner (Doing site s part) = Unit {0}
 IsMarkOutside inner (Mark site s) = IsOutside site.declared inner
 IsMarkOutside inner (Waiting target) = Unit {0}
 
--- a list in a frame, where there is a mark in a frame below or not: each item finds a mark or is closed, and the marks behind it stand further out
+-- a list in a frame, where there is a mark in a frame below or not: each item finds a mark or is closed, and the marks behind it stand no further in
 abbrev pub AreMarked : Bool → List Item → Type 0
 AreMarked below [] = Unit {0}
 AreMarked below (Doing site s part ∷ items) = FindsMark below (Doing site s part) items × All (IsMarkOutside site.declared) items × AreMarked below items
@@ -45,12 +45,12 @@ abbrev pub StandsMarked : Test → Configuration → Type 0
 StandsMarked test (Ended v) = Unit {0}
 StandsMarked test (Goes c) = All (λ component. AllAreMarked (lists_of component.own.calls)) c.components
 
--- a component stands at a `repeat`
+-- the first item is a `repeat`
 abbrev pub IsAtRepeat : List Item → Type 0
 IsAtRepeat (Doing site s part ∷ items) = action_of s ≡ Action-F.Repeat
 IsAtRepeat _ = ⊥
 
--- in its last frame
+-- a component with these frames stands at one
 abbrev pub StandsAtRepeat : List Frame → Type 0
 StandsAtRepeat [] = ⊥
 StandsAtRepeat (frame ∷ frames) = IsAtRepeat frame.remaining

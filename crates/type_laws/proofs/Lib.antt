@@ -21,4 +21,5 @@ pub mod Sends
 pub mod Stands
 pub mod Starting
 pub mod Steps
+pub mod Verdicts
 pub mod Visible

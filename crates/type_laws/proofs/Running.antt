@@ -1,6 +1,8 @@
 -- Runs keep all values of their types.
-use Rattle.std.proofs.Common.{◌≡◌, ℕ, ◌+◌, true, List, [], ◌∷◌, Option, Some, None, Result, Ok, Err, IfSome, is_some, refl, subst}
+use Rattle.std.proofs.Common.{◌≡◌, ℕ, ◌+◌, true, List, [], ◌∷◌, Option, Some, None, Result, Ok, Err, IfSome, is_some, false, refl, subst}
+use Rattle.ttcn_syntax.specs.declared.tree.statement.Verdict.{Verdict}
 use Rattle.check_scope.specs.Names.{kind_at}
+use Rattle.check_statements.specs.Statements.{is_error}
 use Rattle.evaluation_laws.specs.Uses.{GivesOnly}
 use Rattle.reference_laws.proofs.Runs.{ReachedStands, next-both, start-both}
 use Rattle.repeat_laws.proofs.Repeats.{next_marked, start_marked}
@@ -9,7 +11,7 @@ use Rattle.site_laws.proofs.Runs.{next_stands, start_stands}
 use Rattle.site_laws.specs.Standing.{StandsByRules}
 use Rattle.step_laws.proofs.Runs.{next_ordered, some-of, start_ordered}
 use Rattle.step_laws.specs.Order.{StandsInOrder}
-use Rattle.step_rules.specs.Configurations.{Configuration}
+use Rattle.step_rules.specs.Configurations.{Configuration, Ended}
 use Rattle.step_rules.specs.Runs.{graph_of, option_elim, replay, replay_from, start, started, testcase_body}
 use Rattle.step_rules.specs.Snapshots.{Test}
 use Rattle.step_rules.specs.Steps.{Label, next, settled, step}
@@ -18,7 +20,8 @@ use Rattle.ttcn_types.specs.Rules.{AreWellTyped}
 use Rattle.ttcn_values.specs.Outcomes.{Fails, Outcome, Yields, or_unmet, outcome_and_then}
 use Rattle.type_laws.proofs.Starting.{start_fits}
 use Rattle.type_laws.proofs.Steps.{next_fits, step_fits}
-use Rattle.type_laws.specs.Runs.{StaysWellTyped}
+use Rattle.type_laws.proofs.Verdicts.{ends-quietly, next-none, start-none}
+use Rattle.type_laws.specs.Runs.{HasNoError, StaysWellTyped}
 use Rattle.type_laws.specs.Typed.{FitsTypes}
 
 settled-fits : (test : Test) (o : Outcome Configuration) → GivesOnly o (FitsTypes test) → FitsTypes test (settled o)
@@ -30,22 +33,23 @@ first_fits test well there = settled-fits test (outcome_and_then (started test) 
 
 -- what is known of configurations of runs
 abbrev Stands : Test → Configuration → Type 0
-Stands test c = StandsByRules test c × StandsInOrder c × ReachedStands test c × StandsMarked test c × FitsTypes test c
+Stands test c = StandsByRules test c × StandsInOrder c × ReachedStands test c × StandsMarked test c × HasNoError c × FitsTypes test c
 
 start-all : (test : Test) → AreWellTyped test.definitions → is_some (testcase_body (kind_at test.definitions test.testcase)) ≡ true → Stands test (start test)
-start-all test well there = (start_stands test well, start_ordered test, start-both test, start_marked test well, first_fits test well there)
+start-all test well there = (start_stands test well, start_ordered test, start-both test, start_marked test well, start-none test well, first_fits test well there)
 
 next-all : (test : Test) → AreWellTyped test.definitions → (c d : Configuration) (label : Label) → Stands test c → next test c label ≡ Some d → Stands test d
-next-all test well c d label (rules, order, reached, marked, fits) e = (
+next-all test well c d label (rules, order, reached, marked, quiet, fits) e = (
   next_stands test c d label well rules e,
   next_ordered test c d label order e,
   some-of (ReachedStands test) (next test c label) d e (next-both test c label (next test c label) refl reached),
   next_marked test well c d label marked e,
+  next-none test well c d label rules quiet e,
   next_fits test c d label well rules order reached.1 marked fits e,
 )
 
 met-at : (test : Test) → AreWellTyped test.definitions → (c : Configuration) (label : Label) → Stands test c → IfSome (step test c label) (λ out. GivesOnly out (FitsTypes test))
-met-at test well c label (rules, order, reached, marked, fits) = step_fits test c label well rules order reached.1 marked fits
+met-at test well c label (rules, order, reached, marked, quiet, fits) = step_fits test c label well rules order reached.1 marked fits
 
 -- ---- labels one after the other
 
@@ -69,12 +73,19 @@ replayed test run c well there e = subst (Holds test) e (replays test well run 1
 
 pub replay_fits : (test : Test) (run : List Label) (c : Configuration) → AreWellTyped test.definitions → is_some (testcase_body (kind_at test.definitions test.testcase)) ≡ true
     → replay test run ≡ Ok c → FitsTypes test c
-replay_fits test run c well there e = (replayed test run c well there e).4
+replay_fits test run c well there e = (replayed test run c well there e).5
 
 -- the step behind them
 pub replay_meets : (test : Test) (run : List Label) (c : Configuration) (label : Label) → AreWellTyped test.definitions → is_some (testcase_body (kind_at test.definitions test.testcase)) ≡ true
     → replay test run ≡ Ok c → IfSome (step test c label) (λ out. GivesOnly out (FitsTypes test))
 replay_meets test run c label well there e = met-at test well c label (replayed test run c well there e)
+
+-- it ends with `error` only where it fails
+replay-ends : (test : Test) (run : List Label) (c : Configuration) (label : Label) (v : Verdict) → AreWellTyped test.definitions → is_some (testcase_body (kind_at test.definitions test.testcase)) ≡ true
+    → replay test run ≡ Ok c → step test c label ≡ Some (Yields (Ended v)) → is_error v ≡ false
+replay-ends test run c label v well there e is =
+    let all : Stands test c = replayed test run c well there e in
+    ends-quietly test well c label v all.0 all.4 is
 
 -- ---- runs of the graph
 
@@ -89,7 +100,7 @@ ends test well there (Then run label) =
     after-all test (end_of (graph_of test) run) (next test (end_of (graph_of test) run) label) before (λ d e. next-all test well (end_of (graph_of test) run) d label before e)
 
 pub ends_fit : (test : Test) (run : Run Label) → AreWellTyped test.definitions → is_some (testcase_body (kind_at test.definitions test.testcase)) ≡ true → FitsTypes test (end_of (graph_of test) run)
-ends_fit test run well there = (ends test well there run).4
+ends_fit test run well there = (ends test well there run).5
 
 -- ---- all of it
 
@@ -98,4 +109,5 @@ stays_well_typed test well there = record {
   begins = start_fits test well there;
   leads = λ run c e. replay_fits test run c well there e;
   goes_on = λ run c label e. replay_meets test run c label well there e;
+  ends = λ run c label v e is. replay-ends test run c label v well there e is;
 }
