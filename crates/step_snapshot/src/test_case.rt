@@ -5,6 +5,7 @@ ghost use Rattle.step_rules.specs.Snapshots.{mtc_of};
 ghost use Rattle.step_snapshot.specs.Slots.{NoneIsMissing};
 ghost use Rattle.ttcn_config.specs.internal.Stored.{no_cells};
 ghost use Rattle.graph_names.specs.Known.{names_of, names_of_kind};
+ghost use Rattle.ttcn_types.specs.Rules.{AreWellTyped};
 
 use names::Names;
 use ttcn_config::Cells;
@@ -12,7 +13,7 @@ use ttcn_graph::Graphs;
 use ttcn_types::Definitions;
 use ttcn_values::ComponentId;
 
-/// A test case, with all that its steps need of its module.
+/// A test case, with all that its steps need of its module, which breaks no rule.
 pub struct TestCase<'a> {
     /// The definitions of the module, by their names.
     pub definitions: Definitions<'a>,
@@ -24,6 +25,7 @@ pub struct TestCase<'a> {
     pub mtc: ComponentId,
     /// No names, which is what a behaviour sees of a component on which it doesn't say to run.
     pub nothing: Cells,
+    ghost well: { AreWellTyped definitions },
     ghost same: { graphs.definitions ≡ definitions },
     ghost main: { mtc_of (record { definitions = definitions; testcase = position }) ≡ mtc },
     ghost none: { nothing ≡ no_cells },
@@ -43,4 +45,11 @@ impl<'a> Drop for TestCase<'a> {
             nothing: _nothing,
         } = self;
     }
+}
+
+impl<'a> TestCase<'a> {
+    /// The module breaks no rule.
+    pub fn breaks_no_rule(&self)
+        ensures { AreWellTyped self.now.definitions }
+    {}
 }

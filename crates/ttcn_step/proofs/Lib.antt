@@ -8,6 +8,7 @@ pub mod FrameLimits
 pub mod FramesKept
 pub mod Limits
 pub mod Listed
+pub mod LiveForms
 pub mod NoWait
 pub mod Replaying
 pub mod Slotted

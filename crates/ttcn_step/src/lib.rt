@@ -18,7 +18,7 @@ mod successors;
 mod testcases;
 
 pub use error::{ReplayError, StepError};
-pub use laws::labels_are_enabled;
+pub use laws::{canonical_forms_fit, labels_are_enabled};
 pub use limit::frames_keep_the_limit;
 pub use machine::Machine;
 pub use standing::Standing;

@@ -12,6 +12,7 @@ ghost use Rattle.ttcn_step.specs.Answers.{Ends, IsSuccessor, Leads};
 ghost use Rattle.ttcn_step.specs.Choosing.{TakesNone};
 ghost use Rattle.ttcn_step.specs.Machines.{Fits, said};
 ghost use Rattle.ttcn_step.specs.Standing.{standing_by, standing_of};
+ghost use Rattle.ttcn_types.specs.Rules.{AreWellTyped};
 
 use crate::error::{ReplayError, StepError};
 use crate::standing::Standing;
@@ -25,7 +26,8 @@ use ttcn_config::Config;
 use ttcn_syntax::Span;
 use ttcn_types::{Program, TestId};
 
-/// What runs a test case. A contract sees the test case, the lists that positions stand for, and the names that have slots.
+/// What runs a test case of a module that breaks no rule. A contract sees the test case, the lists that positions stand for,
+/// and the names that have slots.
 pub struct Machine<'a> {
     test: TestCase<'a>,
 }
@@ -53,7 +55,8 @@ impl<'a> Model for Machine<'a> {
 }
 
 impl<'a> Machine<'a> {
-    /// What runs a test case of a program. A program with more names than 32 bits can count is refused like want of memory.
+    /// What runs a test case of a program. A program with more names than 32 bits can count is
+    /// refused as if an allocation failed.
     pub fn new(
         alloc: Global,
         program: &'a Program,
@@ -63,6 +66,13 @@ impl<'a> Machine<'a> {
     {
         let test = testcases::testcase_at(alloc, program, testcase.position())?;
         Ok(Machine { test })
+    }
+
+    /// The module of the test case breaks no rule.
+    pub fn breaks_no_rule(&self)
+        ensures { AreWellTyped self.now.test.definitions }
+    {
+        self.test.breaks_no_rule();
     }
 
     /// No list has two positions, and slots are in the order of their names.

@@ -61,7 +61,7 @@ fn mtc_of(alloc: Global, definitions: &Definitions<'_>, position: usize) -> Comp
 }
 
 /// The names that have slots. A module of at most 1 MiB has fewer names than slots can count, but that is not known here: more
-/// are refused like want of memory.
+/// are refused as if an allocation failed.
 fn slots_of(alloc: Global, graphs: &Graphs<'_>) -> Result<Names, AllocError>
     ensures room { IfOk result (λ names. length names < 2 ^ 32) }
     ensures items { IfOk result (λ names. (position : ℕ) → NoneIsMissing names (names_of (get_or graphs.now.lists position []))) }
@@ -84,6 +84,7 @@ pub(crate) fn testcase_at<'a>(
 ) -> Result<TestCase<'a>, AllocError>
     ensures { IfOk result (λ test. test_by test ≡ record { definitions = program.now.definitions; testcase = position }) }
 {
+    let _module = program.module();
     let definitions = program.definitions(alloc)?;
     let graphs = compile(alloc, program)?;
     let names = slots_of(alloc, &graphs)?;

@@ -3,10 +3,12 @@ use Rattle.ttcn_syntax.specs.declared.tree.definition.Definition.{Definition}
 use Rattle.check_scope.specs.Names.{kind_at}
 use Rattle.step_snapshot.specs.Slots.{NoneIsMissing}
 use Rattle.graph_names.specs.Known.{names_of_kind}
+use Rattle.ttcn_types.specs.Rules.{AreWellTyped}
 use Rattle.ttcn_step.proofs.testcases.testcase_at.Goals as goal
 
 pub invariant_of-result : goal.invariant_of-result
 invariant_of-result c = record {
+  well = subst AreWellTyped (sym c.in_ok-definitions.ensures) c.module-module.ensures.well_typed;
   same = c.in_ok-graphs.ensures ∙ sym c.in_ok-definitions.ensures;
   main = sym c.mtc_of-mtc.ensures;
   none = c.new.ensures;
