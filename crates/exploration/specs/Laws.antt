@@ -1,9 +1,7 @@
 -- Laws of the system of live parts.
-use Rattle.std.specs.Prelude.{◌≡◌, ◌<◌, ℕ, Bool, true, false, List, [], ◌∷◌, map, length, Option, Some, None, IfSome, AllPairs, if◌then◌else◌}
-use Rattle.std.proofs.Common.{refl, sym, ap, subst, arith}
-use Rattle.std.specs.List.{All}
+use Rattle.std.specs.Prelude.{◌≡◌, ◌<◌, Option, Some, None, IfSome, AllPairs}
+use Rattle.std.proofs.Common.{refl, arith}
 use Rattle.std.specs.declared.cmp.Ordering.TheVariants.{Less}
-use Rattle.std.proofs.lemmas.List.Elements.{All-cons, All-head, All-nil, All-tail}
 use Rattle.ttcn_syntax.specs.declared.tree.statement.Verdict.{Verdict}
 use Rattle.ttcn_syntax.specs.declared.tree.statement.Verdict.TheVariants as verdict
 use Rattle.exploration.specs.Runs.{FitsRuns}
@@ -11,37 +9,19 @@ use Rattle.step_laws.proofs.Runs.{live_ordered, next_ordered, start_ordered}
 use Rattle.step_rules.proofs.LabelOrder.{labels_ascend}
 use Rattle.step_rules.proofs.Pairs.{pairs-nil}
 use Rattle.step_rules.specs.Canonical.{canonical_graph}
-use Rattle.step_rules.specs.Configurations.{Component, Configuration, Ended, Goes, badness, is_terminated_state, path_of}
+use Rattle.step_rules.specs.Configurations.{Configuration, Ended, Goes, badness}
 use Rattle.step_rules.specs.Labels.{label_cmp, labels}
-use Rattle.step_rules.specs.LiveParts.{husk, live_component, live_part}
+use Rattle.step_rules.specs.LiveParts.{live_part}
 use Rattle.step_rules.specs.Runs.{graph_of, mark_of, option_elim, start}
 use Rattle.step_rules.specs.Snapshots.{Test}
-use Rattle.step_rules.specs.Statements.{most}
 use Rattle.step_rules.specs.Steps.{Label, next}
 use Rattle.ttcn_step.proofs.FramesKept.{limit_at_start, limit_behind}
-use Rattle.ttcn_step.specs.FrameLimit.{AllKeepFrameLimit, KeepsFrameLimit}
+use Rattle.ttcn_step.proofs.LiveForms.{limit_in_live_parts}
 
--- ---- live parts keep the frame limit
-
-component-frames : (x : Component) (b : Bool) → KeepsFrameLimit x.own → KeepsFrameLimit (if b then husk (path_of x) else x).own
-component-frames x true keeps = some-room
-  where
-    some-room : 0 < most
-    some-room = omega arith
-component-frames x false keeps = keeps
-
-components-frames : (xs : List Component) → All (λ x. KeepsFrameLimit x.own) xs → All (λ x. KeepsFrameLimit x.own) (map live_component xs)
-components-frames [] all = All-nil (λ x. KeepsFrameLimit x.own)
-components-frames (x ∷ xs) all =
-    All-cons (λ y. KeepsFrameLimit y.own) (live_component x) (map live_component xs)
-    (component-frames x (is_terminated_state x.state) (All-head (λ y. KeepsFrameLimit y.own) x xs all)) (components-frames xs (All-tail (λ y. KeepsFrameLimit y.own) x xs all))
-
-live-frames : (c : Configuration) → AllKeepFrameLimit c → AllKeepFrameLimit (live_part c)
-live-frames (Ended v) keeps = keeps
-live-frames (Goes c) keeps = components-frames c.components keeps
+-- ---- live parts fit runs, too
 
 live-fits : (c : Configuration) → FitsRuns c → FitsRuns (live_part c)
-live-fits c fits = record { ordered = live_ordered c fits.ordered; frames = live-frames c fits.frames }
+live-fits c fits = record { ordered = live_ordered c fits.ordered; frames = limit_in_live_parts c fits.frames }
 
 -- ---- where runs start and lead
 
