@@ -27,7 +27,7 @@ use Rattle.ttcnx.specs.declared.fault.Fault.TheVariants as fault
 use Rattle.ttcnx.specs.declared.fault.Refusal.TheVariants as refusal
 use Rattle.ttcnx.proofs.Stages.{no_stop, short}
 
--- the fault is want of memory, or why the text is refused
+-- the fault is that an allocation failed, or why the text is refused
 abbrev pub Refuses : List ℕ → Fault → Type 0
 Refuses text why = (why ≡ fault.Memory) ⊎ IsRefusedWith text why
 

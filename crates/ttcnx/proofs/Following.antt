@@ -21,7 +21,7 @@ use Rattle.ttcnx.specs.Replayed.{Answer, IsReplay, bad_label, lacking, named, no
 use Rattle.ttcnx.specs.declared.fault.Fault.{Fault}
 use Rattle.ttcnx.specs.declared.fault.Fault.TheVariants as fault
 
--- the fault is want of memory, or what is answered
+-- the fault is that an allocation failed, or what is answered
 abbrev pub Answers : List ℕ → List ℕ → List ℕ → Fault → Type 0
 Answers text name run why = (◌≡◌ {A = Answer} (Err why) (Err fault.Memory)) ⊎ IsReplay text name run (Err why)
 

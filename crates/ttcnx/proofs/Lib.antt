@@ -7,3 +7,4 @@ pub mod OneReport
 pub mod Outcomes
 pub mod Stages
 pub mod Told
+pub mod WellTyped

@@ -111,7 +111,7 @@ test-is tree None test e = absurd (let no = e in cc)
 test-is tree (Some at) test e = let same : record { definitions = tree.definitions; testcase = at } ≡ test = (let found = e in cc) in ap (λ (t : Test). t.definitions) (sym same)
 
 -- the module of a text breaks no rule
-well-typed : (text name : List ℕ) (test : Test) → IsTestOf text name test → AreWellTyped test.definitions
+pub well-typed : (text name : List ℕ) (test : Test) → IsTestOf text name test → AreWellTyped test.definitions
 well-typed text name test is = subst AreWellTyped (sym (test-is is.tree (test_case_named is.tree.definitions name) test is.is_named)) is.is_text.well_typed
 
 -- a report that is true of the runs of every greater bound lists the verdicts of runs and of fine runs

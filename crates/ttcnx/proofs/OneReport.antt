@@ -59,7 +59,7 @@ module _ {C L : Type 0} (g : Graph C L) (cmp : L → L → Ordering) (total : Is
   one_best : (n mark : ℕ) (r s : Run L) → IsBest g cmp n mark r → IsBest g cmp n mark s → r ≡ s
   one_best n mark r s a b = same_run r s (a.least s b.has) (b.least r a.has)
 
--- ---- labels and standings are told by what they stand for
+-- ---- labels and standings are known by what they stand for
 
 numbers_of : rules.Label → List ℕ
 numbers_of (rules.Statement path) = path.numbers

@@ -1,4 +1,4 @@
--- What is answered for a text, the name of a test case and a plan, want of memory aside. Stage by stage: the plan, the
+-- What is answered for a text, the name of a test case and a plan, unless an allocation fails. Stage by stage: the plan, the
 -- text and its module, the test case.
 use Rattle.std.specs.Prelude.{◌≡◌, ℕ, ◌<◌, List, Result, Ok, Err}
 use Rattle.search_layer.specs.Limits.{IsWithinLimits}

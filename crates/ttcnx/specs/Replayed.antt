@@ -1,4 +1,4 @@
--- What is answered for a text, the name of a test case and a run file, want of memory aside. Stage by stage: the text and
+-- What is answered for a text, the name of a test case and a run file, unless an allocation fails. Stage by stage: the text and
 -- its module, the lines of the run file, their labels.
 use Rattle.std.specs.Prelude.{◌≡◌, ℕ, List, [], ◌∷◌, ◌++◌, codes, length, map, Result, Ok, Err}
 use Rattle.std.specs.Fmt.{decimal}

@@ -41,9 +41,16 @@ pub fn check_text(alloc: Global, text: &[u8]) -> Result<(), Fault>
 }
 
 /// What the command `check` prints for a text.
+#[tactic(auto, using(crate::proofs::Checks::one_judgement))]
 pub fn check_answer(alloc: Global, text: &[u8]) -> Result<String, Fault>
     ensures accepted { IfOk result (λ line. IsAccepted text.now × (string_bytes line ≡ codes "ok\n")) }
     ensures refused { IfErr result (λ why. (why ≡ Fault.Memory) ⊎ IsRefusedWith text.now why) }
+
+    // A text has one answer: so each answer is given exactly where it is said to be.
+    ensures one { HasOneJudgement text.now }
+
+    // This is decided before memory is asked for.
+    ensures too_long { longest_text < length text.now → result ≡ Err (lexical_fault LexError.TextTooLong) }
 {
     check_text(alloc, text)?;
     Ok(String::from_str(alloc, "ok\n")?)

@@ -4,9 +4,12 @@ ghost use Rattle.std.specs.Fmt.{decimal};
 ghost use Rattle.ttcn_step.specs.Machines.{Fits, said};
 ghost use Rattle.report.specs.Texts.{line};
 ghost use Rattle.step_labels.specs.Labels.{label_by};
+ghost use Rattle.step_rules.specs.Snapshots.{Test};
 ghost use Rattle.ttcn_syntax.specs.Limits.{longest_text};
 ghost use Rattle.ttcnx.specs.Fault.{lexical_fault};
+ghost use Rattle.ttcnx.specs.Named.{IsTestOf};
 ghost use Rattle.ttcnx.specs.Replayed.{HasOneReplay, IsReplay, ending_text, open_or_blocked};
+ghost use Rattle.type_laws.specs.Runs.{StaysWellTyped};
 
 use crate::fault::Fault;
 use crate::testcase::testcase_of;
@@ -26,6 +29,10 @@ pub fn replay_text(alloc: Global, text: &[u8], name: &str, run: &[u8]) -> Result
 
     // A text, a name and a run file have one answer: so each answer is given exactly where it is said to be.
     ensures one { HasOneReplay text.now name.now run.now }
+
+    // In every run, however long, each value is of the type of its name, nothing is met that no checked module has, and only a
+    // dynamic error ends with verdict `error`.
+    ensures stays_well_typed { (test : Test) → IsTestOf text.now name.now test → StaysWellTyped test }
 
     // This is decided before memory is asked for.
     ensures too_long { longest_text < length text.now → result ≡ Err (lexical_fault LexError.TextTooLong) }

@@ -11,6 +11,7 @@ ghost use Rattle.ttcnx.specs.Answer.{HasOneAnswer, IsAnswer};
 ghost use Rattle.ttcnx.specs.Fault.{lexical_fault};
 ghost use Rattle.ttcnx.specs.Named.{IsTestOf};
 ghost use Rattle.ttcnx.specs.Tells.{Lists, TellsOfRuns, all_verdicts, outcome_of, standing_in};
+ghost use Rattle.type_laws.specs.Runs.{StaysWellTyped};
 
 use crate::fault::Fault;
 use crate::testcase::testcase_of;
@@ -55,6 +56,10 @@ pub fn run_text<G: Gate, R: Threads + Sync>(
     // It then lists the verdicts of all runs, which are those of all fine runs: there snapshot and choice are two steps.
     ensures every_verdict { IfOk result (λ report. IsTrue report.complete → (test : Test) → IsTestOf text.now name.now test
         → (v : tree.Verdict) → (Lists report v ↔ EndsWith test v) × (Lists report v ↔ EndsFinelyWith test v)) }
+
+    // In every run, however long, each value is of the type of its name, nothing is met that no checked module has, and only a
+    // dynamic error ends with verdict `error`.
+    ensures stays_well_typed { (test : Test) → IsTestOf text.now name.now test → StaysWellTyped test }
 
     // These two are decided before memory is asked for.
     ensures bad_plan { IsErrOf result Fault.BadPlan ↔ (IsWithinLimits plan.now → ⊥) }

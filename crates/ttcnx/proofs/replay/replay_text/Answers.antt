@@ -6,6 +6,7 @@ use Rattle.report.specs.Runs.{ReadsRun, lines_of}
 use Rattle.step_rules.specs.Snapshots.{Test}
 use Rattle.ttcnx.proofs.Following.{end_answers, listing_answers, name_answers, replay_answers}
 use Rattle.ttcnx.proofs.Stages.{as_error}
+use Rattle.ttcnx.proofs.WellTyped.{runs_stay_well_typed}
 use Rattle.ttcnx.proofs.replay.replay_text.Goals as goal
 use Rattle.ttcnx.specs.Fault.{listing_fault, replay_fault}
 use Rattle.ttcnx.specs.Named.{IsTestOf}
@@ -56,3 +57,24 @@ returns-clause-answer c =
     (ap (λ bytes. bytes.items) c.into_bytes.ensures.value ∙ c.in_ok-replayed.ensures
     ∙ ap (λ n. line (codes "replayed " ++ decimal n) ++ line c.as_str.result.now) count
     ∙ ap (λ e. line (codes "replayed " ++ decimal (length c.as_slice.result.now)) ++ line e) ending)
+
+pub returns-in_err-program-clause-stays_well_typed : goal.returns-in_err-program-clause-stays_well_typed
+returns-in_err-program-clause-stays_well_typed c = runs_stay_well_typed c.args.text.now c.args.name.now
+
+pub returns-in_err-labels-clause-stays_well_typed : goal.returns-in_err-labels-clause-stays_well_typed
+returns-in_err-labels-clause-stays_well_typed c = runs_stay_well_typed c.args.text.now c.args.name.now
+
+pub returns-in_err-machine-clause-stays_well_typed : goal.returns-in_err-machine-clause-stays_well_typed
+returns-in_err-machine-clause-stays_well_typed c = runs_stay_well_typed c.args.text.now c.args.name.now
+
+pub returns-in_err-config-clause-stays_well_typed : goal.returns-in_err-config-clause-stays_well_typed
+returns-in_err-config-clause-stays_well_typed c = runs_stay_well_typed c.args.text.now c.args.name.now
+
+pub returns-in_err-ending-clause-stays_well_typed : goal.returns-in_err-ending-clause-stays_well_typed
+returns-in_err-ending-clause-stays_well_typed c = runs_stay_well_typed c.args.text.now c.args.name.now
+
+pub returns-in_err-replayed-clause-stays_well_typed : goal.returns-in_err-replayed-clause-stays_well_typed
+returns-in_err-replayed-clause-stays_well_typed c = runs_stay_well_typed c.args.text.now c.args.name.now
+
+pub returns-clause-stays_well_typed : goal.returns-clause-stays_well_typed
+returns-clause-stays_well_typed c = runs_stay_well_typed c.args.text.now c.args.name.now

@@ -5,6 +5,7 @@ use Rattle.ttcnx.proofs.Listed.{lists_verdicts}
 use Rattle.ttcnx.proofs.OneAnswer.{one_test}
 use Rattle.ttcnx.proofs.Stages.{as_error, name_answers, search_answers}
 use Rattle.ttcnx.proofs.Told.{IsMadeOf, complete_found, tells, tells_of_runs}
+use Rattle.ttcnx.proofs.WellTyped.{runs_stay_well_typed}
 use Rattle.ttcnx.proofs.run.run_text.Goals as goal
 use Rattle.ttcnx.specs.Answer.{IsAnswer, beyond, named, told}
 use Rattle.ttcnx.specs.Fault.{explore_fault}
@@ -74,3 +75,21 @@ returns-clause-every_bound g c =
 pub returns-clause-every_verdict : goal.returns-clause-every_verdict
 returns-clause-every_verdict g c =
     λ complete test is_test. lists_verdicts c.args.text.now c.args.name.now test c.args.plan.now.steps c.in_ok-report_of.field-0 is_test (returns-clause-every_bound g c complete test is_test)
+
+pub returns-then-not-is_within_limits-clause-stays_well_typed : goal.returns-then-not-is_within_limits-clause-stays_well_typed
+returns-then-not-is_within_limits-clause-stays_well_typed g c = runs_stay_well_typed c.args.text.now c.args.name.now
+
+pub returns-in_err-program-clause-stays_well_typed : goal.returns-in_err-program-clause-stays_well_typed
+returns-in_err-program-clause-stays_well_typed g c = runs_stay_well_typed c.args.text.now c.args.name.now
+
+pub returns-in_err-machine-clause-stays_well_typed : goal.returns-in_err-machine-clause-stays_well_typed
+returns-in_err-machine-clause-stays_well_typed g c = runs_stay_well_typed c.args.text.now c.args.name.now
+
+pub returns-in_err-found-clause-stays_well_typed : goal.returns-in_err-found-clause-stays_well_typed
+returns-in_err-found-clause-stays_well_typed g c = runs_stay_well_typed c.args.text.now c.args.name.now
+
+pub returns-in_err-report_of-clause-stays_well_typed : goal.returns-in_err-report_of-clause-stays_well_typed
+returns-in_err-report_of-clause-stays_well_typed g c = runs_stay_well_typed c.args.text.now c.args.name.now
+
+pub returns-clause-stays_well_typed : goal.returns-clause-stays_well_typed
+returns-clause-stays_well_typed g c = runs_stay_well_typed c.args.text.now c.args.name.now
