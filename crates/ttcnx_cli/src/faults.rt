@@ -1,7 +1,11 @@
-//! The lines of faults, and the statuses that they lead to.
+//! The lines of faults, the statuses that they lead to, and the texts of errors.
+use report::RunError;
+use std::alloc::{AllocError, Global};
+use std::fmt::Display;
 use std::test::Fail;
+use ttcn_step::{ReplayError, StepError};
 use ttcn_syntax::Span;
-use ttcnx::{Fault, Refusal, Rule, fault_line, status};
+use ttcnx::{Fault, LineError, Refusal, Rule, fault_line, status};
 
 #[test]
 fn fault_lines(rt: HostRuntime) -> Result<(), Fail> {
@@ -67,5 +71,28 @@ fn fault_lines(rt: HostRuntime) -> Result<(), Fail> {
         let line = fault_line(alloc, &fault)?;
         assert!(rt; line.as_str() == want && status(&fault) == exit, "{line}");
     }
+    Ok(())
+}
+
+/// Whether an error has this text.
+fn has_text<E: Display>(alloc: Global, error: &E, text: &str) -> Result<bool, AllocError> {
+    Ok(error.to_string(alloc)?.as_str() == text)
+}
+
+#[test]
+fn errors_have_their_texts(rt: HostRuntime) -> Result<(), Fail> {
+    let alloc = rt.alloc();
+    assert!(rt; has_text(alloc, &RunError::BadLabel(7), "line 7 is no label")?);
+    assert!(rt; has_text(alloc, &RunError::Memory, "no memory")?);
+    assert!(rt; has_text(alloc, &StepError::NotEnabled, "the label is not enabled")?);
+    assert!(rt; has_text(alloc, &StepError::Memory, "no memory")?);
+    assert!(rt; has_text(alloc, &ReplayError::NotEnabled(7), "label 7 is not enabled")?);
+    assert!(rt; has_text(alloc, &ReplayError::Memory, "no memory")?);
+    let help = LineError::Help(String::from_str(alloc, "what it takes")?);
+    assert!(rt; has_text(alloc, &help, "what it takes")?);
+    let bad = LineError::Bad(String::from_str(alloc, "what is wrong")?);
+    assert!(rt; has_text(alloc, &bad, "what is wrong")?);
+    let memory = LineError::Memory(AllocError);
+    assert!(rt; has_text(alloc, &memory, "memory allocation failed")?);
     Ok(())
 }
