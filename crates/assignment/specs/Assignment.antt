@@ -37,17 +37,17 @@ gap_in definitions whole place field held = record {
   held = held;
 }
 
--- the same at a place, where a field stands there
+-- a record whose field at a place is taken out of it, where a field stands at the place
 abbrev pub gap_at_place : List Definition → Record → ℕ → Outcome Gap
 gap_at_place definitions whole place =
     outcome_and_then (λ field. outcome_map (gap_in definitions whole place field) (or_unmet (slice_get whole.1 place))) (or_unmet (slice_get (fields_at definitions whole.0) place))
 
--- the same at the field of a name
+-- a record whose field of a name is taken out of it
 abbrev pub gap_at_field : List Definition → List ℕ → Record → Outcome Gap
 gap_at_field definitions name whole =
     outcome_and_then (gap_at_place definitions whole) (or_unmet (position (λ field. bytes_eq field.name name) (fields_at definitions whole.0)))
 
--- the same of what a name of a type holds
+-- the record that a name of a type holds, or else one without values, with the field of a field name taken out of it
 abbrev pub gap_for : List Definition → Option DataType → Option Value → List ℕ → Outcome Gap
 gap_for definitions data_type held name = outcome_and_then (gap_at_field definitions name) (record_for definitions data_type held)
 

@@ -81,7 +81,7 @@ fn take(fields: &mut Vec<Option<Value>>, place: usize) -> Option<Option<Value>>
     }
 }
 
-/// The same at a place, where a field stands there.
+/// A record whose field at a place is taken out of it, where a field stands there.
 fn gap_at_place(definitions: &Definitions<'_>, whole: Record, place: usize) -> Result<Gap, Fault>
     ensures { Gives (spec.gap_at_place definitions.now whole place) result }
 {
@@ -103,7 +103,7 @@ fn gap_at_place(definitions: &Definitions<'_>, whole: Record, place: usize) -> R
     })
 }
 
-/// The same at the field of a name.
+/// A record whose field of a name is taken out of it.
 fn gap_at_field(definitions: &Definitions<'_>, whole: Record, name: &Name) -> Result<Gap, Fault>
     ensures { Gives (spec.gap_at_field definitions.now name.now whole) result }
 {

@@ -64,12 +64,12 @@ arguments scope parameters [] = []
 arguments scope parameters (argument ∷ others) =
     value argument scope (parameter_target scope parameters) ++ arguments scope (next_parameters parameters) others
 
--- as many as the parameters, each of the parameter's type
+-- the rules that the arguments of a call break: they are as many as the parameters, each of its parameter's type
 abbrev pub check_arguments : Scope → List Parameter → List Value → List Rule
 check_arguments scope parameters given =
     unless (nat_eq (length given) (length parameters)) rule.Arguments ++ arguments scope parameters given
 
--- those of a call of something that can't be called
+-- the rules that arguments break in a call of something that can't be called
 abbrev pub lone_arguments : Scope → List Value → List Rule
 lone_arguments scope given = arguments scope [] given
 
@@ -94,7 +94,7 @@ behaviour_meant (Some (meaning.Altstep at)) = Some at
 behaviour_meant (Some (meaning.Testcase at)) = Some at
 behaviour_meant _ = None
 
--- where a behaviour is called: a name of one, with arguments for its parameters, that runs on what its caller runs on,
+-- the rules that the call of a behaviour breaks: it names one, with arguments for its parameters, that runs on what its caller runs on,
 -- and is of a kind that may be called here
 abbrev pub check_behaviour : Scope → (Option DefinitionKind → Bool) → Call → Option ℕ → List Rule
 check_behaviour scope callable call None = rule.UnknownName ∷ lone_arguments scope call.arguments

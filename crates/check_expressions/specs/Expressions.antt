@@ -37,7 +37,7 @@ wrong r = record { typing = typing.Unknown; broken = r ∷ [] }
 abbrev pub demand : Bool → Rule → DataType → Judgement
 demand kept r t = record { typing = typing.Known t; broken = unless kept r }
 
--- and so with what is broken before it
+-- a judgement with the rules that are broken before it in front of its own
 abbrev pub after : List Rule → Judgement → Judgement
 after before judged = record { typing = judged.typing; broken = before ++ judged.broken }
 
@@ -91,7 +91,7 @@ check_component scope component.Itself free = check_self scope.itself free
 check_component scope component.Mtc free = any_component free
 check_component scope (component.Named reference) free = check_reference scope reference
 
--- where a component is wanted, `mtc` among them
+-- what is said of a reference where a component is wanted: `mtc` may stand there
 abbrev pub check_wanted_component : Scope → ComponentRef → Judgement
 check_wanted_component scope reference =
     let found = check_component scope reference true in
@@ -132,7 +132,7 @@ check_ispresent scope reference = after (check_reference scope reference).broken
 abbrev pub of_type : DataType → Typing → Judgement
 of_type wanted found = demand (is_of wanted found) rule.OperandType wanted
 
--- the same of an operand with what is said of it, whose own broken rules come first
+-- what is said of an operand that must be of a type, its own broken rules first
 abbrev pub operand : DataType → Judgement → Judgement
 operand wanted judged = after judged.broken (of_type wanted judged.typing)
 

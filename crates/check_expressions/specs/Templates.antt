@@ -45,12 +45,12 @@ abbrev pub bare_name : Expr-F Expr Link → Option (List ℕ)
 bare_name (Expr-F.Reference (component.Named reference)) = whole_name reference.fields reference.name
 bare_name _ = None
 
--- the template that an expression names without arguments
+-- the template that a name stands for, where there is a name
 abbrev pub template_by_name : Scope → Option (List ℕ) → Option ℕ
 template_by_name scope None = None
 template_by_name scope (Some name) = template_meant (scope.names name)
 
--- the same, of an expression: its bare name has to be that of a template
+-- the template that an expression names without arguments: its bare name has to be that of a template
 abbrev pub template_named : Scope → Expr → Option ℕ
 template_named scope e = template_by_name scope (bare_name (out-Expr e))
 

@@ -123,7 +123,7 @@ fn arguments(
     Ok(broken)
 }
 
-/// As many arguments as parameters, each of the parameter's type.
+/// The least rule that the arguments of a call break: they are as many as the parameters, each of its parameter's type.
 #[tactic(auto, using(crate::proofs::Findings::least_append))]
 pub fn check_arguments(
     alloc: Global,

@@ -100,7 +100,7 @@ pub fn check_wanted_component(scope: &Scope<'_>, component: &ComponentRef) -> Fi
     }
 }
 
-/// Whether it is the mere name of a timer.
+/// Whether a reference is the mere name of a timer.
 pub fn names_timer(scope: &Scope<'_>, component: &ComponentRef) -> bool
     ensures { result ≡ spec.names_timer (view scope.now) component.now }
 {

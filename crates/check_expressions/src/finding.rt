@@ -33,7 +33,7 @@ impl Finding {
         }
     }
 
-    /// Of the type, whether the demand is kept or not.
+    /// A finding of the type, whether the demand is kept or not: where it is not, the rule is broken.
     pub(crate) fn demand(kept: bool, rule: Rule, data_type: DataType) -> Finding
         ensures { result ≡ finding (spec.demand kept rule data_type) }
     {
@@ -43,7 +43,7 @@ impl Finding {
         }
     }
 
-    /// The same, with what is broken before it.
+    /// This finding, with what is broken before it.
     pub(crate) fn after(self, before: Broken) -> Finding
         ensures { result ≡ with_before before self }
     {

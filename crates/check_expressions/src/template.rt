@@ -219,7 +219,7 @@ pub fn template(
     Ok(body.and(Broken::unless(may_be_left_out, Rule::Fields)))
 }
 
-/// The same, but for `ifpresent`.
+/// The least rule that the body of a template breaks, `ifpresent` left aside.
 #[cycle(template)]
 #[tactic(auto, using(crate::proofs::TemplateForms::template_forms))]
 fn check_body(

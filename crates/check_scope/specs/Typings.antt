@@ -55,7 +55,7 @@ goes_to target typing.AnyComponent = is_component target
 goes_to target typing.NoValue = false
 goes_to target typing.Unknown = true
 
--- the same, of a target whose type may be unknown: then it is not judged
+-- something of this typing may go to a target whose type may be unknown: then the typing is not judged
 abbrev pub fits : Option DataType → Typing → Bool
 fits None found = true
 fits (Some target) found = goes_to target found

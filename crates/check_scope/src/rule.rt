@@ -57,7 +57,7 @@ impl Rule {
         self as u8
     }
 
-    /// Its name, which a report shows behind its number.
+    /// The name of the rule, which a report shows behind its number.
     pub fn name(self) -> &'static str
         ensures { result.now ≡ name_of self }
     {

@@ -34,7 +34,7 @@ impl DataType {
 }
 
 impl Typing {
-    /// Of this type, if it is known.
+    /// The typing of something of this type, if it is known.
     pub fn of(data_type: Option<DataType>) -> Typing
         ensures { result ≡ typed data_type }
     {
@@ -68,7 +68,7 @@ impl Typing {
         }
     }
 
-    /// The same of a target whose type may be unknown.
+    /// Whether it may go to a target whose type may be unknown: then it isn't judged.
     pub fn fits(self, target: Option<DataType>) -> bool
         ensures { result ≡ fits target self }
     {

@@ -52,7 +52,7 @@ check_part names type_name.Boolean = []
 check_part names type_name.Default = rule.BadType ∷ []
 check_part names (type_name.Named name) = as_part (names name)
 
--- fields behind others with these names
+-- the rules that fields break behind others with these names
 abbrev pub check_fields : Names → List (List ℕ) → List Field → List Rule
 check_fields names before [] = []
 check_fields names before (field ∷ fields) =

@@ -59,7 +59,7 @@ abbrev pub of_only : Option DataType → Judgement
 of_only None = unknown_type (rule.PortType ∷ [])
 of_only (Some t) = record { typing = typing.Known t; broken = [] }
 
--- the judgement of such a message at a port: its type is the only one that passes
+-- the judgement of a message that says nothing of its type by itself, at a port: its type is the only one that passes
 abbrev pub type_by_port : Passing → Judgement
 type_by_port None = unknown_type []
 type_by_port (Some types) = of_only (only_type types)
@@ -72,7 +72,7 @@ type_by_itself passing typing.AnyComponent = unknown_type (unless (is_none passi
 type_by_itself passing typing.NoValue = unknown_type (rule.PortType ∷ [])
 type_by_itself passing typing.Unknown = unknown_type []
 
--- at `any port` the type has to be known by itself
+-- the judgement of a message that says nothing of its type by itself, at `any port`: its type has to be known by itself
 abbrev pub type_anywhere : Judgement
 type_anywhere = unknown_type (rule.PortType ∷ [])
 
@@ -86,7 +86,7 @@ abbrev pub by_type_name : Scope → Passing → Judgement → Template → Optio
 by_type_name scope passing otherwise t None = by_template passing otherwise (typing_of_template scope t)
 by_type_name scope passing otherwise t (Some name) = type_by_itself passing (typed (resolved scope.names name))
 
--- what says of which type a message is: the type before it, else itself, else the port
+-- the judgement of a message's type: by the type before the message, else by the message itself, else by the port
 abbrev pub type_of_message : Scope → Passing → Judgement → MessageTemplate → Judgement
 type_of_message scope passing otherwise message = by_type_name scope passing otherwise message.template message.type_name
 
@@ -95,7 +95,7 @@ abbrev pub check_type_name : Scope → Option TypeName → List Rule
 check_type_name scope None = []
 check_type_name scope (Some name) = check_type scope.names false name
 
--- a message where messages of some types pass
+-- the rules that a message breaks where messages of some types pass
 abbrev pub check_message : Scope → Passing → Judgement → MessageTemplate → List Rule
 check_message scope passing otherwise message =
     check_type_name scope message.type_name ++ (type_of_message scope passing otherwise message).broken ++
@@ -107,7 +107,7 @@ check_message scope passing otherwise message =
 abbrev pub Passage : Type 0
 Passage = Passing × Judgement
 
--- at a port whose type stands at a position, if that is known
+-- what is known where a message passes at a port whose type stands at a position, if that is known
 abbrev pub passage_at : List Definition → Bool → Option ℕ → Passage
 passage_at definitions incoming port = (passing_at definitions incoming port, type_by_port (passing_at definitions incoming port))
 
@@ -142,12 +142,12 @@ abbrev pub check_selector : Scope → PortSelector → List Rule
 check_selector scope selector.Any = []
 check_selector scope (selector.Named name) = unless (is_some (port_meant (scope.names name))) rule.UnknownName
 
--- what is received: any message, or one that a template tells
+-- the rules that the message of a receive breaks: none where any message is received
 abbrev pub check_received : Scope → Passage → Option MessageTemplate → List Rule
 check_received scope incoming None = []
 check_received scope incoming (Some message) = check_message scope incoming.0 incoming.1 message
 
--- what is known of the type of what is received, where a template tells it
+-- what is known of the type of what is received, where a template determines it
 abbrev pub received_type : Scope → Passage → Option MessageTemplate → Option DataType
 received_type scope incoming None = None
 received_type scope incoming (Some message) = type_known (type_of_message scope incoming.0 incoming.1 message).typing

@@ -39,7 +39,7 @@ use Rattle.check_scope.specs.declared.types.Typing.TheVariants as typing
 
 -- ---- where a statement stands
 
--- its scope, what may be returned, and whether it is inside the block of a branch
+-- where a statement stands: its scope, what may be returned, and whether it is inside the block of a branch
 pub record Place : Type 0 where
   pub scope : Scope
   pub returns : Returns
@@ -62,7 +62,7 @@ pub record StatementRules : Type 0 where
   pub broken : Check
   pub scope_behind : Scope → Scope
 
--- one that declares nothing
+-- what is said of a statement that declares nothing
 abbrev pub without_declaration : Check → StatementRules
 without_declaration broken = record { broken = broken; scope_behind = λ scope. scope }
 
@@ -108,25 +108,25 @@ abbrev pub behind_for_start : Scope → ForStart → Scope
 behind_for_start scope (for_start.Variables vs) = behind_variables scope vs
 behind_for_start scope (for_start.Assign assignment) = scope
 
--- what stands in front of the block of a `for`
+-- the rules that a `for` breaks in front of its block
 abbrev pub check_for_head : Scope → ForStart → Expr → Assignment → List Rule
 check_for_head scope start condition step =
     check_for_start scope start ++ check_condition (behind_for_start scope start) condition ++ check_assignment (behind_for_start scope start) step
 
--- what stands in front of the block of a branch
+-- the rules that a branch with an event breaks in front of its block: those of its guard and of the event
 abbrev pub check_guarded_event : Scope → Option Expr → Event → List Rule
 check_guarded_event scope guard event = check_guard scope guard ++ check_event scope event
 
--- the same, of a branch that calls an altstep
+-- the rules that a branch that calls an altstep breaks in front of its block: those of its guard and of the call
 abbrev pub check_guarded_call : Scope → Option Expr → Call → List Rule
 check_guarded_call scope guard call = check_guard scope guard ++ check_call scope is_altstep call
 
--- what is logged: `mtc` may stand there
+-- the rules that an item of a `log` breaks: `mtc` may stand there
 abbrev pub check_log_item : Scope → LogItem → List Rule
 check_log_item scope log_item.Text = []
 check_log_item scope (log_item.Expr e) = (expression e scope true).broken
 
--- what is logged, or the reasons of a verdict
+-- the rules that the items of a `log` break, or the reasons of a verdict
 abbrev pub check_log : Scope → List LogItem → List Rule
 check_log scope items = flat_map (check_log_item scope) items
 
@@ -148,7 +148,7 @@ check_return scope returns.WithoutValue (Some v) = rule.ReturnPlace ∷ value v 
 check_return scope (returns.WithValue of) None = rule.ReturnPlace ∷ []
 check_return scope (returns.WithValue of) (Some v) = value v scope (target_of of)
 
--- a default that goes
+-- what a `deactivate` names is a default, or its type is unknown
 abbrev pub refers_to_default : Typing → Bool
 refers_to_default (typing.Known t) = is_default t
 refers_to_default typing.Unknown = true
@@ -164,7 +164,7 @@ check_deactivate scope (Some reference) =
 abbrev pub check_stop : Scope → ComponentRef → List Rule
 check_stop scope reference = if names_timer scope reference then [] else (check_wanted_component scope reference).broken
 
--- both ends of a connection; the names of their ports are not judged
+-- the rules that the ends of a connection break: both are of components; the names of their ports are not judged
 abbrev pub check_ends : Scope → ComponentRef → ComponentRef → List Rule
 check_ends scope one other = (check_wanted_component scope one).broken ++ (check_wanted_component scope other).broken
 

@@ -228,7 +228,7 @@ fn check_start(
     )
 }
 
-/// Both ends of a connection.
+/// The least rule that the two ends of a connection break.
 #[tactic(auto, using(crate::proofs::Leasts::least_append))]
 fn check_ends(scope: &Scope<'_>, one: &ComponentRef, other: &ComponentRef) -> Broken
     ensures { result ≡ least (spec.check_ends (view scope.now) one.now other.now) }

@@ -26,20 +26,20 @@ use ttcn_syntax::{
 /// What is known of the messages that pass where one is sent or received.
 #[derive(Clone, Copy)]
 pub(crate) enum Passing<'s> {
-    /// Those of a port.
+    /// The types of the messages that pass at a port.
     Types(&'s Listing),
-    /// None.
+    /// No message passes.
     Nothing,
-    /// Those of a port of which nothing is known.
+    /// Messages pass at a port of which nothing is known.
     Unknown,
-    /// Those of any port.
+    /// Messages pass at any port.
     Anywhere,
 }
 
 // ---- what a port lets pass
 
 impl<'s> Passing<'s> {
-    /// At a port whose type stands at a position, if that is known.
+    /// What is known of the messages that pass at a port whose type stands at a position, if that is known.
     fn at(scope: &'s Scope<'_>, incoming: bool, at: Option<usize>) -> Passing<'s>
         ensures { known result ≡ spec.passage_at (view scope.now).definitions incoming at }
     {
@@ -135,7 +135,7 @@ fn type_by_itself(ports: &Passing<'_>, typing: Typing) -> Finding
     }
 }
 
-/// Of which type a message is: that before it says it, else itself, else the port.
+/// The type of a message: that written before it, else the message's own, else the port's.
 fn type_of_message(scope: &Scope<'_>, ports: &Passing<'_>, message: &MessageTemplate) -> Finding
     ensures { result ≡ finding (spec.type_of_message (view scope.now) (passing ports.now) (otherwise ports.now) message.now) }
 {
@@ -249,7 +249,7 @@ fn check_selector(scope: &Scope<'_>, selector: &PortSelector) -> Broken
     }
 }
 
-/// What is received: any message, or one that a template tells.
+/// The least rule that the message of a receive breaks: none where any message is received.
 fn check_received(
     alloc: Global,
     scope: &Scope<'_>,
@@ -264,7 +264,7 @@ fn check_received(
     }
 }
 
-/// What is known of the type of what is received, where a template tells it.
+/// What is known of the type of what is received, where a template determines it.
 fn received_type(
     scope: &Scope<'_>,
     ports: &Passing<'_>,

@@ -39,7 +39,7 @@ pub record IsWhole (scope : Scope) : Type 0 where
 
 -- ---- types
 
--- where it breaks no rule, its type is known
+-- a judgement with no broken rule has a typing that is not unknown
 abbrev pub IsTyped : Judgement → Type 0
 IsTyped judged = judged.broken ≡ [] → judged.typing ≢ typing.Unknown
 

@@ -13,7 +13,7 @@ file_word = record (new_rule (codes "FILE")) { required = true }
 abbrev pub value_option : Text → Rule
 value_option name = record (new_rule name) { long = Some name; value_names = 1 }
 
--- the same, where it has to be given
+-- `--name VALUE`, which has to be given
 abbrev pub needed_option : Text → Rule
 needed_option name = record (value_option name) { required = true }
 

@@ -52,7 +52,7 @@ fn push_number(alloc: Global, number: u64, text: &mut String) -> Result<(), Allo
     text.push_str(format!(in alloc; "{number}")?.as_str())
 }
 
-/// A text with its repeats written out. The line is told where one is malformed.
+/// A text with its repeats written out. The error has the line where one is malformed.
 pub fn expand_repeats(alloc: Global, line: u64, text: &str) -> Result<String, RowsError>
     ensures plain { IfOk result (λ whole. ¬ HasRepeat text.now → string_bytes whole ≡ text.now) }
 {

@@ -1,4 +1,4 @@
--- Outcomes that are such values or dynamic errors.
+-- Outcomes that are values of which something holds, or dynamic errors.
 use Rattle.std.proofs.Common.{◌≡◌, sym, subst}
 use Rattle.ttcn_values.specs.Outcomes.{DynamicError, Fails, IfYields, IsMet, Outcome, Unmet, Yields, outcome_and_then, outcome_map}
 use Rattle.evaluation_laws.specs.Uses.{GivesAlways, GivesOnly}

@@ -1,5 +1,5 @@
--- The same of templates: two readings that differ in what constants and templates give, and in nothing else, give the
--- same wherever nothing that is referred to differs.
+-- Two readings that differ in what constants and templates give, and in nothing else, give the same of a template
+-- wherever nothing that is referred to differs.
 use Rattle.std.proofs.Common.{◌≡◌, ℕ, Bool, true, false, nat_eq, List, [], ◌∷◌, ◌++◌, map, length, bytes_eq, Option, Some, None, if◌then◌else◌, refl, sym, ap, subst, ◌∙◌}
 use Rattle.std.specs.List.{find, zip}
 use Rattle.evaluation_laws.proofs.Agreement.{AgreeAt, Keeps, braced-agrees, expression_same, value_same}

@@ -12,7 +12,7 @@ ConstantsStandForTheirValues reading = (at item : ℕ)
     → reading.constants at item ≡ constant_value (with_names (λ name. unmet) reading) (constant_at reading.definitions at item)
     (constants_type (module_names reading.definitions) (kind_at reading.definitions at))
 
--- and each template with arguments what its body gives in this same reading, where its parameters have these values
+-- in a reading each template with arguments gives what its body gives in this same reading, where its parameters have these values
 abbrev pub TemplatesStandForTheirBodies : Reading → Type 0
 TemplatesStandForTheirBodies reading = (at : ℕ) (values : List Value)
     → reading.templates at values ≡ template_value (λ names. with_names names reading) (template_at reading.definitions at) values

@@ -11,13 +11,13 @@ use Rattle.ttcn_values.specs.Readings.{along}
 use Rattle.ttcn_values.specs.Values.{is_complete, is_omit}
 use Rattle.ttcn_values.specs.declared.value.Value.{Value}
 
--- such a value is given, or there is a dynamic error
+-- an outcome is a value of which something holds, or a dynamic error
 abbrev pub GivesOnly : {A : Type 0} → Outcome A → (A → Type 0) → Type 0
 GivesOnly (Yields a) P = P a
 GivesOnly (Fails DynamicError) P = Unit {0}
 GivesOnly (Fails Unmet) P = ⊥
 
--- such a value is given, whatever stands there
+-- an outcome is a value of which something holds
 abbrev pub GivesAlways : {A : Type 0} → Outcome A → (A → Type 0) → Type 0
 GivesAlways (Yields a) P = P a
 GivesAlways (Fails why) P = ⊥

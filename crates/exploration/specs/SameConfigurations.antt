@@ -22,7 +22,7 @@ use Rattle.step_rules.specs.Entries.{Entries}
 use Rattle.exploration.specs.SameItems.{items_itself, items_one, list_itself, number_itself, same_items}
 use denote.Enum.Bare.{same_true}
 
--- the same names have the same, by a test on what names have
+-- entries are the same: one by one they have the same names, and the same by a test on what names have
 abbrev pub same_entries : {A : Type 0} → (A → A → Bool) → Entries A → Entries A → Bool
 same_entries same = pointwise (λ a b. bytes_eq a.0 b.0 && same a.1 b.1)
 

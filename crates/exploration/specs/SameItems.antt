@@ -29,7 +29,7 @@ same_part _ _ = false
 abbrev pub same_site : Site → Site → Bool
 same_site a b = nat_eq a.behaviour b.behaviour && pointwise same_entry a.declared b.declared
 
--- the same waits for a result
+-- targets that wait for a result are the same
 abbrev pub same_target : Target → Target → Bool
 same_target a b = beq a.own b.own && (same_reference a.reference b.reference && option_eq (types.ghosts).eq a.data_type b.data_type)
 

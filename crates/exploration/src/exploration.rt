@@ -61,7 +61,7 @@ pub fn explore_runs<G: Gate, R: Threads + Sync>(
     explore_within::<Brand, G, R>(rt, alloc, machine, plan, gate)
 }
 
-/// The same, where a type names the machine.
+/// Explores all runs of a machine's test case of at most the plan's steps, where a type names the machine.
 fn explore_within<K: Scheme + Send + Sync, G: Gate, R: Threads + Sync>(
     rt: &R,
     alloc: Global,

@@ -6,7 +6,7 @@ use Rattle.std.specs.Ordering.{nat_cmp}
 use Rattle.std.specs.declared.cmp.Ordering.TheVariants.{Less}
 use Rattle.summary.specs.Graph.{Graph}
 
--- from 0 on, by label 0 to the next state and by label 1 to the one of twice the number; the last one has mark 0
+-- a ring of states: from 0 on, by label 0 to the next state and by label 1 to the one of twice the number; the last one has mark 0
 abbrev pub ring : ℕ → Graph ℕ ℕ
 ring size = record {
   first = 0;

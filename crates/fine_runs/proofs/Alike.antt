@@ -1,4 +1,4 @@
--- What a component chooses by a snapshot is told by the values and the defaults that it has, and not by the states of its timers.
+-- What a component chooses by a snapshot is determined by the values and the defaults that it has, and not by the states of its timers.
 use Rattle.std.proofs.Common.{◌≡◌, ℕ, zero, suc, List, [], ◌∷◌, ◌++◌, map, Option, Some, None, option_map, refl, ap, ◌∙◌}
 use Rattle.std.specs.List.{flat_map}
 use Rattle.ttcn_syntax.specs.declared.place.Span.{Span}

@@ -10,7 +10,7 @@ use Rattle.ttcn_values.specs.declared.path.Path.{Path}
 
 -- what comes of a stored snapshot
 pub data Fate : Type 0 where
-  -- no choice is made by it, or nothing can be chosen
+  -- no choice is made by the snapshot, or nothing can be chosen
   Lapses : Fate
   -- a branch is taken
   Takes : Fate

@@ -46,12 +46,12 @@ is_alt test (Action-F.«Action::Event» event) = true
 is_alt test (Action-F.«Action::Call» call) = is_some (altstep_meant (module_names test.definitions call.name))
 is_alt test _ = false
 
--- the first of these items is one
+-- the first of these items is the whole of an `alt`
 abbrev pub begins_with_alt : Test → List Item → Bool
 begins_with_alt test (Doing site s Whole ∷ rest) = is_alt test (action_of s)
 begins_with_alt test _ = false
 
--- what remains in the last frame begins with one
+-- what remains in the last frame begins with an `alt`
 abbrev pub is_at_alt : Test → List Frame → Bool
 is_at_alt test [] = false
 is_at_alt test (frame ∷ below) = begins_with_alt test frame.remaining
@@ -60,7 +60,7 @@ is_at_alt test (frame ∷ below) = begins_with_alt test frame.remaining
 abbrev pub stands_at_alt : Test → Component → Bool
 stands_at_alt test component = is_running_state component.state && is_at_alt test component.own.calls
 
--- a component was found, and this is true of it
+-- a component was found, and something is true of it
 abbrev pub is_found : (Component → Bool) → Option Component → Bool
 is_found is None = false
 is_found is (Some component) = is component
@@ -119,7 +119,7 @@ fine_next test fine label = fine_step_of test fine.now fine.stored label
 
 -- ---- fine runs
 
--- they start where runs start, and no snapshot is stored
+-- fine runs start where runs start, and no snapshot is stored
 abbrev pub fine_start : Test → Fine
 fine_start test = record { now = start test; stored = [] }
 

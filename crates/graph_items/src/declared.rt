@@ -66,7 +66,7 @@ impl<'a> Exact for Declared<'a> {
     ghost exact = { entry_one };
 }
 
-/// By the name alone.
+/// Hashes by the name alone.
 impl<'a> Hash for Declared<'a> {
     ghost use Rattle.std.specs.Prelude.{◌∷◌, []};
     ghost use Rattle.graph_items.specs.Equality.{entry_fed};

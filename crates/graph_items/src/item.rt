@@ -55,7 +55,7 @@ impl<'a> Exact for Item<'a> {
     ghost exact = { item_one };
 }
 
-/// By the place of the statement and its part, or by the name that waits.
+/// Hashes by the place of the statement and its part, or by the name that waits.
 impl<'a> Hash for Item<'a> {
     ghost use Rattle.graph_items.specs.ItemFeeding.{item_fed};
     ghost use Rattle.graph_items.specs.ItemHash.{writes_of};

@@ -33,20 +33,20 @@ abbrev pub names_of_reference : Option Reference → Known
 names_of_reference None = []
 names_of_reference (Some reference) = reference.name ∷ []
 
--- those that the redirects of a receive store to, or the timer of a timeout
+-- the names in an event: those that the redirects of a receive store to, or the timer of a timeout
 abbrev pub names_of_event : Event → Known
 names_of_event (event.Receive receive) = names_of_reference receive.value ++ names_of_reference receive.sender
 names_of_event (event.Timeout name) = name ∷ []
 names_of_event (event.Done reference) = []
 names_of_event event.AllDone = []
 
--- those of the event of an alternative: a call and `else` have none
+-- the names in the event of an alternative: a call and `else` have none
 abbrev pub names_of_alternative : Alternative-F Action Alternative Branch Conditional Statement → Known
 names_of_alternative (Alternative-F.«Alternative::Event» guard event block) = names_of_event event
 names_of_alternative (Alternative-F.«Alternative::Call» guard call block) = []
 names_of_alternative (Alternative-F.Else block) = []
 
--- those of the event of a branch
+-- the names in the event of a branch
 abbrev pub names_of_branch : Branch → Known
 names_of_branch b = names_of_alternative (out-Alternative (out-Branch b).alternative)
 
@@ -56,7 +56,7 @@ names_of_component component.Itself = []
 names_of_component component.Mtc = []
 names_of_component (component.Named reference) = reference.name ∷ []
 
--- those that a whole statement stores to, sets as a timer or names as a port. A declaration is done name by name, and a `for` part by part
+-- the names that a whole statement stores to, sets as a timer or names as a port: a declaration is done name by name, and a `for` part by part
 abbrev pub names_of_whole : Does → Known
 names_of_whole (Action-F.Variables vs) = []
 names_of_whole (Action-F.Constants cs) = []
@@ -115,12 +115,12 @@ abbrev pub names_if_any : Option (List ℕ) → Known
 names_if_any None = []
 names_if_any (Some name) = name ∷ []
 
--- that which an assignment stores to, where there is one
+-- the name that an assignment stores to, where there is one
 abbrev pub names_of_assignment : Option Assignment → Known
 names_of_assignment None = []
 names_of_assignment (Some a) = a.target.name ∷ []
 
--- those of a part of a statement
+-- the names in a part of a statement
 abbrev pub names_of_part : Does → Part → Known
 names_of_part does Whole = names_of_whole does
 names_of_part does (Name k) = names_if_any (name_declared does k)
@@ -129,7 +129,7 @@ names_of_part does Start = names_of_assignment (first_assignment does)
 names_of_part does Loop = []
 names_of_part does Last = names_of_assignment (last_assignment does)
 
--- those of the first of remaining items
+-- the names in the first of remaining items
 abbrev pub names_of : List Item → Known
 names_of [] = []
 names_of (Doing site s part ∷ rest) = names_of_part (action_of s) part
@@ -138,7 +138,7 @@ names_of (Waiting target ∷ rest) = target.reference.name ∷ []
 
 -- ---- definitions
 
--- those that a member of a component type declares
+-- the names that a member of a component type declares
 abbrev pub names_of_member : Member → Known
 names_of_member (member.Ports port_type ports) = ports
 names_of_member (member.Constants cs) = map (λ c. c.name) cs.constants
@@ -152,6 +152,6 @@ names_of_kind (Some (kind.Altstep a)) = map (λ p. p.name) a.parameters ++ flat_
 names_of_kind (Some (kind.Component c)) = flat_map names_of_member c.members
 names_of_kind _ = []
 
--- each of these is among the names that have slots
+-- each of these names is among the names that have slots
 abbrev pub AreKnown : Known → Known → Type 0
 AreKnown names of = (name : List ℕ) → Contains of name → Contains names name

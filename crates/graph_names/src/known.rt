@@ -225,7 +225,7 @@ impl<'a> Names<'a> {
         }
     }
 
-    /// Adds those that a whole statement stores to, sets as a timer or names as a port.
+    /// Adds the names that a whole statement stores to, sets as a timer or names as a port.
     fn add_whole(&mut self, statement: &'a Statement) -> Result<(), AllocError>
         ensures { OnOk result (self.new ≡ with_names self.old (names_of_whole (action_of statement.now))) }
     {
@@ -262,7 +262,7 @@ impl<'a> Names<'a> {
         }
     }
 
-    /// Adds those of a part of a statement.
+    /// Adds the names in a part of a statement.
     fn add_part(&mut self, statement: &'a Statement, part: Part) -> Result<(), AllocError>
         ensures { OnOk result (self.new ≡ with_names self.old (names_of_part (action_of statement.now) (part_of part))) }
     {
@@ -276,7 +276,7 @@ impl<'a> Names<'a> {
         }
     }
 
-    /// Adds those of what stands first.
+    /// Adds the names in what stands first.
     pub fn add_first(&mut self, first: First<'_, 'a>) -> Result<(), AllocError>
         ensures { OnOk result (self.new ≡ with_names self.old (names_of_first first.entry)) }
     {
@@ -360,7 +360,7 @@ impl<'a> Names<'a> {
         }
     }
 
-    /// Adds those of definitions.
+    /// Adds the names in definitions.
     pub fn add_definitions(&mut self, definitions: &'a [Definition]) -> Result<(), AllocError>
         ensures { OnOk result (self.new ≡ with_names self.old (flat_map names_of_definition definitions.now)) }
     {

@@ -38,7 +38,7 @@ pub record Goal : Type 0 where
   pub target : Target
   pub wanted : Option DataType
 
--- what is known of an event: the type of the message that is received, where a template tells it; where its value and its sender go; whether its timer is the frame's own
+-- what is known of an event: the type of the message received, where a template determines it; where value and sender go; whether its timer is the frame's own
 pub record EventFacts : Type 0 where
   pub received : Option DataType
   pub value : Option Goal
@@ -108,7 +108,7 @@ alternative_facts definitions site (Alternative-F.Else block) = no_event
 abbrev pub branch_facts : List Definition → Site → Branch → EventFacts
 branch_facts definitions site b = alternative_facts definitions site (out-Alternative (out-Branch b).alternative)
 
--- of the branches of the altstep at a position
+-- what is known of the events of the branches of the altstep at a position
 abbrev pub altstep_facts : List Definition → ℕ → List EventFacts
 altstep_facts definitions at = map (branch_facts definitions (beginning at)) (branches_of (kind_at definitions at))
 
@@ -124,7 +124,7 @@ abbrev pub start_name_facts : List Definition → Site → ForStart → Facts
 start_name_facts definitions site (for_start.Variables vs) = Declares (resolved (scope_at definitions site).names vs.type_name)
 start_name_facts definitions site (for_start.Assign a) = Nothing
 
--- what is known of a part of a `for` that begins so and has this assignment behind its block
+-- what is known of a part of a `for`, by what it begins with and the assignment behind its block
 abbrev pub for_facts : List Definition → Site → ForStart → Assignment → Part → Facts
 for_facts definitions site start step Whole = Nothing
 for_facts definitions site start step (Name k) = start_name_facts definitions site start

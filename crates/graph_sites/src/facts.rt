@@ -13,9 +13,9 @@ pub struct Goal<'a> {
 /// What is known of an event.
 #[derive(Drop)]
 pub struct EventFacts<'a> {
-    /// The type of the message that is received, where a template tells it.
+    /// The type of the message that is received, where a template determines it.
     pub received: Option<DataType>,
-    /// Where its value and its sender go.
+    /// Where the value of the message and its sender go.
     pub value: Option<Goal<'a>>,
     pub sender: Option<Goal<'a>>,
     /// Whether its timer is the frame's own.

@@ -200,7 +200,7 @@ pub(crate) fn sent_type(here: &Here<'_>, send: &Send) -> Option<DataType>
     }
 }
 
-/// The type of the message that is received, where a template tells it.
+/// The type of the message that is received, where a template determines it.
 pub(crate) fn received_type(here: &Here<'_>, receive: &Receive) -> Option<DataType>
     ensures { result ≡ messages.received_type (scope_at here.now.0 here.now.1) (messages.incoming (scope_at here.now.0 here.now.1) receive.now.port) receive.now.message }
 {

@@ -9,15 +9,15 @@ use Rattle.step_rules.specs.Snapshots.{Test}
 use Rattle.step_rules.specs.Steps.{Label}
 use Rattle.summary.specs.Sums.{Observation}
 
--- of a configuration its mark, of a step nothing
+-- a reading of marks: a configuration shows its mark, a step shows nothing
 abbrev pub mark_reading : {S : Type 0} → (Option ℕ → S) → S → Observation Configuration Label S
 mark_reading put none = record { at = λ c. put (mark_of c); by = λ c label. none }
 
--- of a configuration its blocked components with the places where they stand, of a step nothing
+-- a reading of blocked components: a configuration shows them with the places where they stand, a step shows nothing
 abbrev pub blocked_reading : {S : Type 0} → Test → (List (Path × Span) → S) → S → Observation Configuration Label S
 blocked_reading test put none = record { at = λ c. put (blocked test c); by = λ c label. none }
 
--- of a configuration nothing, of a step the place of the branch that it takes, where it takes one
+-- a reading of branches: a configuration shows nothing, a step shows the place of the branch that it takes, where it takes one
 abbrev pub branch_reading : {S : Type 0} → Test → (Option Span → S) → S → Observation Configuration Label S
 branch_reading test put none = record { at = λ c. none; by = λ c label. put (branch_of test c label) }
 

@@ -3,6 +3,6 @@ use Rattle.std.specs.Prelude.{◌≡◌}
 use Rattle.step_rules.specs.Configurations.{Configuration}
 use Rattle.step_rules.specs.LiveParts.{live_part}
 
--- they have the same live part
+-- two configurations have the same live part
 abbrev pub AreSame : Configuration → Configuration → Type 0
 AreSame c d = live_part c ≡ live_part d

@@ -79,7 +79,7 @@ read_long = read_byte >>= number_from read_eight
 
 -- ---- lists
 
--- this many items
+-- reads this many items
 unfoldable pub read_items : {A : Type 0} → Reads A → ℕ → Reads (List A)
 read_items read zero = done []
 read_items read (suc count) = do

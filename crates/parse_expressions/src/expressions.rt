@@ -150,7 +150,7 @@ fn links(
     Ok(links)
 }
 
-/// Of comparisons by order there is one at most.
+/// How many links of a level may follow: one comparison by order at most, at any other level as many as tokens are left.
 #[tactic(auto, unfolding(parse_reader::specs::internal::Expressions::most_links, parse_reader::specs::internal::Reading::same_level))]
 fn most_links(parser: &Parser<'_>, level: Level) -> usize
     ensures { result ≡ spec.most_links level parser.now }

@@ -166,15 +166,15 @@ abbrev pub each : {A : Type 0} → (A → Part) → List A → Parts
 each part [] = nil
 each part (x ∷ xs) = part x ▸ each part xs
 
--- this symbol
+-- a part that is this symbol
 abbrev pub sym : Symbol → Part
 sym s = one (token.Symbol s)
 
--- this word
+-- a part that is this word
 abbrev pub key : Word → Part
 key w = one (token.Word w)
 
--- this name
+-- a part that is this name
 abbrev pub id : List ℕ → Part
 id name = one (token.Id name)
 
@@ -243,7 +243,7 @@ branches bs = turn (sym mark.LeftBrace ▸ items (each (λ b. ended (phrase (a_b
 
 -- ---- the productions
 
--- of which parts a phrase consists: a case for each production of the grammar
+-- the parts of which a phrase consists: a case for each production of the grammar
 pub data Production : Phrase → Parts → Type 0 where
   -- Ref = Id {'.' Id}
   dotted_name : (name : List ℕ) (fields : List (List ℕ))

@@ -18,7 +18,7 @@ begins_ignored (token.Word word.Control) = true
 begins_ignored (token.Word word.With) = true
 begins_ignored _ = false
 
--- an ignored part at the front of the tokens, and what is left behind it: such a word and a group directly behind it
+-- an ignored part at the front of the tokens, and what is left behind it: the word `control` or `with` and a group directly behind it
 pub data Ignored : List Spanned → List Spanned → Type 0 where
   part : {k : Spanned} {ts rest : List Spanned} → begins_ignored k.token ≡ true → Group ts rest → Ignored (k ∷ ts) rest
 

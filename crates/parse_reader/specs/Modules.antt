@@ -23,7 +23,7 @@ text_of _ = None
 unfoldable pub text : Parser (Unit {0})
 text = token_by text_of
 
--- behind the brackets that are still to be closed, innermost first: those that a closing one leaves
+-- of the brackets still to be closed, innermost first, those that a closing one leaves, where it closes the innermost
 abbrev pub closes_one : List Symbol → Symbol → Option (List Symbol)
 closes_one [] s = None
 closes_one (c ∷ others) s = if same_symbol s c then Some others else None

@@ -18,7 +18,7 @@ pub trait Listed {
 }
 
 impl Parser<'_> {
-    /// One or more, with commas between them.
+    /// One or more items, with commas between them.
     pub fn separated<T: Listed>(&mut self) -> Result<Seq<T::Item>, ParseError>
         ensures { Reads (spec.separated T.reader self.old) result self.new }
     {

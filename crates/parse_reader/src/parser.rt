@@ -85,7 +85,7 @@ impl<'a> Parser<'a> {
         }
     }
 
-    /// The next token is not what has to stand there, or none is left: then the last one's place is told.
+    /// The next token is not what has to stand there, or none is left: then the error has the last one's place.
     pub fn unexpected(&self) -> ParseError
         ensures { spec.IsUnexpected result }
     {

@@ -9,11 +9,11 @@ use Rattle.ttcn_values.specs.declared.value.ComponentId.{ComponentId}
 abbrev pub IsPathOf : (ComponentId → Type 0) → Path → Type 0
 IsPathOf P path = (id : ComponentId) × P id × (id.path ≡ path)
 
--- it holds of a component, or the component is this one
+-- something holds of a component, or the component is the new one
 abbrev pub HoldsOrIs : (ComponentId → Type 0) → ComponentId → ComponentId → Type 0
 HoldsOrIs P new id = P id ⊎ (id ≡ new)
 
--- what is asked for refers only to such components, and all paths in it are theirs; where a new one is asked for, that one may be referred to as well
+-- what is asked for refers only to components of which something holds, and all paths in it are theirs; a new one that is asked for may be referred to as well
 abbrev pub ActRefersTo : (ComponentId → Type 0) → Act → Type 0
 ActRefersTo P Waits = Unit {0}
 ActRefersTo P (Errs why) = Unit {0}

@@ -67,7 +67,7 @@ pub record FactsReferTo (P : ComponentId → Type 0) (reading : Reading) : Type 
   pub itself : P reading.itself
   pub mtc : P reading.mtc
 
--- and so does what the module's constants give, and what its templates give with such arguments
+-- a reading refers only to components of which something holds: by names, `self` and `mtc`, by constants, and by templates with such arguments
 pub record ReadingRefersTo (P : ComponentId → Type 0) (reading : Reading) : Type 0 where
   pub facts : FactsReferTo P reading
   pub constants : (at item : ℕ) → IfYields (reading.constants at item) (RefersTo P)
@@ -75,38 +75,38 @@ pub record ReadingRefersTo (P : ComponentId → Type 0) (reading : Reading) : Ty
 
 -- ---- components
 
--- the values of names
+-- the values of names refer only to components of which something holds
 abbrev pub EntriesReferTo : (ComponentId → Type 0) → Entries Value → Type 0
 EntriesReferTo P entries = All (λ e. RefersTo P e.1) entries
 
--- the values of a frame
+-- the values of a frame refer only to components of which something holds
 abbrev pub FrameRefersTo : (ComponentId → Type 0) → Frame → Type 0
 FrameRefersTo P frame = EntriesReferTo P frame.values
 
--- the arguments of an activated default
+-- the arguments of an activated default refer only to components of which something holds
 abbrev pub DefaultRefersTo : (ComponentId → Type 0) → ActiveDefault → Type 0
 DefaultRefersTo P d = All (RefersTo P) d.arguments
 
--- all that a component has of its own
+-- all that a component has of its own refers only to components of which something holds
 pub record DataReferTo (P : ComponentId → Type 0) (own : Data) : Type 0 where
   pub members : FrameRefersTo P own.members
   pub calls : All (FrameRefersTo P) own.calls
   pub defaults : All (DefaultRefersTo P) own.defaults
 
--- a message and its sender
+-- a message's value refers only to components of which something holds, and its sender is one of them
 pub record MessageRefersTo (P : ComponentId → Type 0) (message : Message) : Type 0 where
   pub value : RefersTo P message.value
   pub sender : P message.sender
 
--- the messages that wait at a port
+-- the messages that wait at a port refer only to components of which something holds
 abbrev pub QueueRefersTo : (ComponentId → Type 0) → Queue → Type 0
 QueueRefersTo P queue = All (MessageRefersTo P) queue.1
 
--- a component: its own data, and the messages that wait for it
+-- a component refers only to components of which something holds: in its own data and in the messages that wait for it
 pub record ComponentRefersTo (P : ComponentId → Type 0) (component : Component) : Type 0 where
   pub own : DataReferTo P component.own
   pub queues : All (QueueRefersTo P) component.queues
 
--- a snapshot: the first messages at its ports
+-- a snapshot refers only to components of which something holds: in the first messages at its ports
 abbrev pub SnapshotRefersTo : (ComponentId → Type 0) → Snapshot → Type 0
 SnapshotRefersTo P snapshot = All (λ front. IfSome front.1 (MessageRefersTo P)) snapshot.fronts

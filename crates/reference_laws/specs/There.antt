@@ -30,7 +30,7 @@ HasItsPorts definitions component = map (λ queue. queue.0) component.queues ≡
 abbrev pub IsPortThere : Going → End → Type 0
 IsPortThere c e = IsSomeAnd (component_at c e.component) (λ component. is_some (find (λ queue. bytes_eq queue.0 e.port) component.queues) ≡ true)
 
--- both ends of a connection are
+-- both ends of a connection are ports of components that are there
 abbrev pub IsBetweenPorts : Going → Connection → Type 0
 IsBetweenPorts c k = IsPortThere c k.one × IsPortThere c k.other
 
@@ -59,12 +59,12 @@ abbrev pub IsPortLeft : Going → End → Type 0
 IsPortLeft c e =
     IsSomeAnd (component_at c e.component) (λ component. (is_some (find (λ queue. bytes_eq queue.0 e.port) component.queues) ≡ true) ⊎ (component ≡ husk e.component))
 
--- of all that is referred to something is left
+-- a test case that goes on refers only to components and ports of which something is left
 pub record HasAllLeft (c : Going) : Type 0 where
   pub components : All (ComponentRefersTo (IsLeft c)) c.components
   pub connections : All (λ k. IsPortLeft c k.one × IsPortLeft c k.other) c.connections
 
--- so in a live part that goes on; of a test case that ended nothing is referred to
+-- a live part that goes on refers only to components and ports of which something is left; of a test case that ended nothing is referred to
 abbrev pub StandsWithAllLeft : Configuration → Type 0
 StandsWithAllLeft (Ended v) = Unit {0}
 StandsWithAllLeft (Goes c) = HasAllLeft c

@@ -104,7 +104,7 @@ pub fn steps_leave_all_that_is_referred_to()
     ensures next { (test : Test) (c d : Configuration) (label : Label) → StandsInFamily c → StandsWithAllReferred test c → next test c label ≡ Some d → StandsWithAllReferred test d }
 {}
 
-/// So in each configuration that a run leads to all is there that is referred to.
+/// In each configuration that a run leads to all is there that is referred to.
 pub fn runs_leave_all_that_is_referred_to()
     ensures replayed { (test : Test) (run : List Label) (c : Configuration) → replay test run ≡ Ok c → StandsWithAllReferred test c }
     ensures ends { (test : Test) (run : Run Label) → StandsWithAllReferred test (end_of (graph_of test) run) }
@@ -125,7 +125,7 @@ pub fn evaluation_refers_to_what_is_there()
     ensures values { (test : Test) (snapshot : Snapshot) (c : Going) (p : Path) (x : Component) (site : Site) (view : View) (v : written.Value) (wanted : Option DataType) → StandsWithAllReferred test (Goes c) → component_at c p ≡ Some x → snapshot.itself ≡ x.itself → EntriesReferTo (IsThere c) view.values → IfYields (value_wanted v (reading_in test snapshot x.own site view) wanted) (RefersTo (IsThere c)) }
 {}
 
-/// So what a component asks for is found: all paths in it are those of components that are there, a `start` gets its component,
+/// What a component asks for is found: all paths in it are those of components that are there, a `start` gets its component,
 /// and the peers of a port are ports of components that are there.
 pub fn what_is_asked_for_is_found()
     ensures asked { (test : Test) (snapshot : Snapshot) (c : Going) (p : Path) (x : Component) → StandsWithAllReferred test (Goes c) → component_at c p ≡ Some x → snapshot.itself ≡ x.itself → SnapshotRefersTo (IsThere c) snapshot → ActRefersTo (IsThere c) (act test snapshot x.own) }

@@ -74,7 +74,7 @@ fn of_text(error: &LexError) -> (&'static str, Option<Span>) {
     }
 }
 
-/// The same of tokens that spell no module.
+/// The number and name of the refusal of tokens that spell no module, and its place.
 fn of_grammar(error: &ParseError) -> (&'static str, Option<Span>) {
     match error {
         ParseError::Unexpected(place) => ("P1 Unexpected", Some(*place)),

@@ -55,7 +55,7 @@ IsUnmarked (Waiting target) = Unit {0}
 abbrev pub IsClosed : Statement → Type 0
 IsClosed s = (place : Place) × IsWhole place.scope × (place.in_branch ≡ false) × ((statement s).broken place ≡ [])
 
--- an item of such a statement
+-- the statement of an item is closed (`IsClosed`); a target that waits for a result has none
 abbrev pub IsClosedItem : Item → Type 0
 IsClosedItem (Doing site s part) = IsClosed s
 IsClosedItem (Mark site s) = IsClosed s
@@ -77,7 +77,7 @@ pub data Follows (definitions : List Definition) (before after : List (List Item
   -- the first item of the last frame is done, and what it makes stands in its place
   Replaced : (site : Site) (s : Statement) (part : Part) (made rest : List Item) (lists : List (List Item))
       → before ≡ (Doing site s part ∷ rest) ∷ lists → IsMade site s made → after ≡ (made ++ rest) ∷ lists → Follows definitions before after
-  -- so it is, and a frame with the body of a function comes on top
+  -- the first item of the last frame is done, what it makes stands in its place, and a frame with the body of a function or test case comes on top
   Called : (site : Site) (s : Statement) (part : Part) (made rest : List Item) (lists : List (List Item)) (at : ℕ) (body : List Statement)
       → before ≡ (Doing site s part ∷ rest) ∷ lists → IsMade site s made → IsBody definitions at body
       → after ≡ items definitions (beginning at) body ∷ (made ++ rest) ∷ lists → Follows definitions before after

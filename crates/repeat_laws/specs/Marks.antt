@@ -35,12 +35,12 @@ AreMarked below (Doing site s part ∷ items) = FindsMark below (Doing site s pa
 AreMarked below (Mark site s ∷ items) = FindsMark below (Mark site s) items × All (IsMarkOutside site.declared) items × AreMarked below items
 AreMarked below (Waiting target ∷ items) = AreMarked below items
 
--- the lists of all frames
+-- in the lists of all frames each item finds a mark or is closed, and the marks behind it stand no further in
 abbrev pub AllAreMarked : List (List Item) → Type 0
 AllAreMarked [] = Unit {0}
 AllAreMarked (items ∷ lists) = AreMarked (some_marked lists) items × AllAreMarked lists
 
--- so it is in each component of a test case that goes on; one that ended has none
+-- the lists of frames are marked (`AllAreMarked`) in each component of a test case that goes on; one that ended has no components
 abbrev pub StandsMarked : Test → Configuration → Type 0
 StandsMarked test (Ended v) = Unit {0}
 StandsMarked test (Goes c) = All (λ component. AllAreMarked (lists_of component.own.calls)) c.components

@@ -31,7 +31,7 @@ pub fn runs_keep_marks()
     ensures ends { (test : Test) (run : Run Label) → AreWellTyped test.definitions → StandsMarked test (end_of (graph_of test) run) }
 {}
 
-/// So a component that stands at a `repeat` finds its `alt`.
+/// In runs of a module that breaks no rule a component that stands at a `repeat` finds its `alt`.
 pub fn repeats_find_their_alts()
     ensures { (test : Test) (run : List Label) (c : Going) (p : Path) (x : Component) → AreWellTyped test.definitions → replay test run ≡ Ok (Goes c) → component_at c p ≡ Some x → StandsAtRepeat x.own.calls → is_some (repeated x.own.calls) ≡ true }
 {}

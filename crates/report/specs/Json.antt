@@ -49,6 +49,6 @@ report_json report =
     (member (codes "verdicts") (list_of outcome_json report.outcomes.items)
     no_members)))))))
 
--- it is printed without blanks, on a line of its own
+-- the report as JSON, printed without blanks, on a line of its own
 abbrev pub json_text : Report → List ℕ
 json_text report = line (compact_text (report_json report))

@@ -23,7 +23,7 @@ word_of verdict.Inconc = codes "inconc"
 word_of verdict.Fail = codes "fail"
 word_of verdict.Error = codes "error"
 
--- `yes` where it is so, or else `no`
+-- `yes` for true, `no` for false
 abbrev pub yes_or_no : Bool → List ℕ
 yes_or_no true = codes "yes"
 yes_or_no false = codes "no"
@@ -58,7 +58,7 @@ header_text report =
     ++ line (codes "configurations " ++ decimal report.configurations)
     ++ line (codes "complete " ++ yes_or_no report.complete)
 
--- what is told, line by line
+-- the report as text, line by line
 abbrev pub report_text : Report → List ℕ
 report_text report =
     header_text report

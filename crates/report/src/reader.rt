@@ -34,7 +34,7 @@ fn is_timer_name(name: &[u8]) -> bool
     }
 }
 
-/// What stands before and behind the first such byte, if there is one.
+/// What stands before and behind the first byte that is the mark, if there is one.
 fn cut_at(bytes: &[u8], mark: u8) -> Option<(&[u8], &[u8])>
     ensures { MatchOption result (lacks mark bytes.now) (λ parts. IsCut mark bytes.now parts.0.now parts.1.now) }
 {

@@ -3,7 +3,7 @@ use step_labels::Label;
 use ttcn_syntax::{Span, Verdict};
 use ttcn_values::Path;
 
-/// What is told of a test case: how many configurations its runs of at most so many steps reach, whether there are no others,
+/// The report on a test case: how many configurations its runs of at most so many steps reach, whether there are no others,
 /// each verdict that a run ends with, each branch that is taken, and each component that stands still where no step is left.
 #[derive(Debug, Drop)]
 pub struct Report {

@@ -19,7 +19,7 @@ pub struct Leftovers<T> {
 }
 
 impl<T: Send + Drop> Leftovers<T> {
-    /// Of about so many items, which as many threads share as there are workers.
+    /// Leftovers of about so many items, which as many threads share as there are workers.
     pub fn new(alloc: Global, count: usize, workers: u64) -> Leftovers<T>
         requires { 1 ≤ workers }
     {

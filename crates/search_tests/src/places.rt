@@ -1,4 +1,4 @@
-//! A light of three states, whose branches and blocked components are told by hand.
+//! A light of three states, whose branches and blocked components are given by hand.
 ghost use Rattle.std.specs.Prelude.{◌≡◌, ◌==◌, ◌+◌, [], ◌∷◌, None, Some, if◌then◌else◌};
 ghost use Rattle.std.proofs.Common.{arith};
 ghost use Rattle.std.proofs.lemmas.Bool.{eqb-true as nat_is};

@@ -15,11 +15,11 @@ first_view key = record { pieces = key.pieces; seats = key.seats; first = true; 
 abbrev pub fresh : BoardView → BoardView
 fresh v = record { pieces = v.pieces; seats = v.seats; first = false; left = 0; parts = 1; drawn = []; ends = 0; ended = false; raises = 0; saw = false }
 
--- one seat was made from it
+-- a seat from which one seat was made
 abbrev pub with_one_less : BoardView → BoardView
 with_one_less v = record v { left = v.left - 1 }
 
--- what w did counts to v
+-- v with what w did added
 abbrev pub joined : BoardView → BoardView → BoardView
 joined v w = record v { parts = v.parts + w.parts; drawn = v.drawn ++ w.drawn; ends = v.ends + w.ends; raises = v.raises + w.raises; saw = cond v.saw true w.saw }
 

@@ -19,7 +19,7 @@ module _ {S : Type 0} (eq : S → S → Bool) where
   abbrev pub HoldEqual : List S → ℕ → ℕ → Type 0
   HoldEqual items j k = (x y : S) → slice_get items j ≡ Some x → slice_get items k ≡ Some y → eq x y ≡ true
 
-  -- ascending, and those of the placed positions for which no smaller placed position holds an equal item
+  -- the positions ascend, and are those of the placed positions for which no smaller placed position holds an equal item
   pub record IsFirsts (items : List S) (placed firsts : List ℕ) : Type 0 where
     pub ascending : IsStrictlyIncreasing firsts
     pub members : (i : ℕ) → Stands i firsts ↔ (Stands i placed × ((k : ℕ) → Stands k placed → k < i → ¬ (HoldEqual items k i)))

@@ -15,7 +15,7 @@ first_view shape = record { classes = shape.classes; words = shape.words; seats 
 abbrev pub fresh : SeenView → SeenView
 fresh v = record { classes = v.classes; words = v.words; seats = v.seats; first = false; left = 0; parts = 1; steps = 0; known = replicate v.words 0; placed = []; answered = [] }
 
--- one seat was made from it
+-- a seat from which one seat was made
 abbrev pub with_one_less : SeenView → SeenView
 with_one_less v = record v { left = v.left - 1 }
 
@@ -26,7 +26,7 @@ either_known (x ∷ xs) [] = x ∷ xs
 either_known (zero ∷ xs) (y ∷ ys) = y ∷ either_known xs ys
 either_known (suc x ∷ xs) (y ∷ ys) = suc x ∷ either_known xs ys
 
--- what w knows and did counts to v
+-- v with what w knows and did added
 abbrev pub joined : SeenView → SeenView → SeenView
 joined v w = record v { parts = v.parts + w.parts; steps = v.steps + w.steps; known = either_known v.known w.known; placed = v.placed ++ w.placed; answered = v.answered ++ w.answered }
 
@@ -34,7 +34,7 @@ joined v w = record v { parts = v.parts + w.parts; steps = v.steps + w.steps; kn
 abbrev pub spent : SeenView
 spent = record { classes = []; words = 0; seats = 0; first = false; left = 0; parts = 0; steps = 0; known = []; placed = []; answered = [] }
 
--- one step told that the word a holds the class of j
+-- one step found that the word a holds the class of j
 abbrev pub with_known : SeenView → ℕ → ℕ → SeenView
 with_known v a j = record v { steps = v.steps + 1; known = slice_set v.known a (j + 1) }
 
@@ -111,7 +111,7 @@ Met v x = 0 < times x v.placed + times x v.answered
 abbrev pub KnowsClass : SeenView → ℕ → Type 0
 KnowsClass v i = (a : ℕ) × HasClass v.classes v.known a i
 
--- it is the same seat, which stands for the same seats
+-- w is the same seat as v, which stands for the same seats
 abbrev pub IsSameSeat : SeenView → SeenView → Type 0
 IsSameSeat v w = (w.classes ≡ v.classes) × (w.words ≡ v.words) × (w.seats ≡ v.seats) × (w.first ≡ v.first) × (w.left ≡ v.left) × (w.parts ≡ v.parts)
 

@@ -15,7 +15,7 @@ abbrev pub IsTimeout : List ℕ → Event → Type 0
 IsTimeout name (event.Timeout timer) = timer ≡ name
 IsTimeout name _ = ⊥
 
--- what stands in a branch is such an event
+-- what stands in a branch is an event, the timeout of the timer of a name
 abbrev pub BeginsByTimeout : List ℕ → Alternative-F Action Alternative Branch Conditional Statement → Type 0
 BeginsByTimeout name (Alternative-F.«Alternative::Event» guard event block) = IsTimeout name event
 BeginsByTimeout name _ = ⊥

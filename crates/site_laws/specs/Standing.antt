@@ -44,7 +44,7 @@ pub record PlaceIn (definitions : List Definition) (behaviour : ℕ) : Type 0 wh
   pub place : Place
   pub returns : MayReturn definitions (kind_at definitions behaviour) place
 
--- such a place with a scope
+-- a place in the behaviour at a position, with a scope
 abbrev pub place_at : (definitions : List Definition) (behaviour : ℕ) → Scope → PlaceIn definitions behaviour → Place
 place_at definitions behaviour scope inside = with_scope inside.place scope
 
@@ -96,7 +96,7 @@ abbrev pub BeginsByAssignment : Does → Type 0
 BeginsByAssignment (Action-F.For (for_start.Assign assignment) condition step block) = Unit {0}
 BeginsByAssignment _ = ⊥
 
--- a part of a statement, which has such a part, breaks no rule in the scope in which it stands
+-- a part is one that the statement has, and breaks no rule in the scope in which it stands
 abbrev pub IsFinePart : List Definition → ℕ → Scope → Statement → Part → Type 0
 IsFinePart definitions behaviour scope s Whole = IsNoDeclaration (action_of s) × BreaksNone definitions behaviour scope s
 IsFinePart definitions behaviour scope s (Name k) = IsFineName scope k (action_of s)

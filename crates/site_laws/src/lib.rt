@@ -35,7 +35,7 @@ pub fn steps_keep_the_rules()
     ensures next { (test : Test) (c d : Configuration) (label : Label) → AreWellTyped test.definitions → StandsByRules test c → next test c label ≡ Some d → StandsByRules test d }
 {}
 
-/// So each configuration that a run leads to stands by the rules. Of each that does so the live part does so too.
+/// Each configuration that a run leads to stands by the rules, and the live part of each that stands by them does too.
 #[tactic(auto, using(crate::proofs::Runs::replay_stands, crate::proofs::Runs::live_stands))]
 pub fn runs_keep_the_rules()
     ensures replayed { (test : Test) (run : List Label) (c : Configuration) → AreWellTyped test.definitions → replay test run ≡ Ok c → StandsByRules test c }

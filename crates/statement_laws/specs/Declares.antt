@@ -32,11 +32,11 @@ abbrev pub names_of_start : ForStart → Declared
 names_of_start (for_start.Variables vs) = names_of_variables vs
 names_of_start (for_start.Assign assignment) = []
 
--- the names of several, one behind the other
+-- the names of several parts, one behind the other
 abbrev pub names_of_all : List Declared → Declared
 names_of_all parts = flat_map (λ names. names) parts
 
--- those of a block, where one stands
+-- the names that a block declares, where one stands
 abbrev pub names_if_any : Option (List Declared) → Declared
 names_if_any None = []
 names_if_any (Some block) = names_of_all block
@@ -53,21 +53,21 @@ action_step (Action-F.DoWhile block condition) = names_of_all block
 action_step (Action-F.For start condition step block) = names_of_start start ++ names_of_all block
 action_step _ = []
 
--- those of a statement: of its action, which are given
+-- the names that a statement declares: those of its action, which are given
 abbrev pub statement_step : Statement-F Declared Declared Declared Declared Declared → Declared
 statement_step s = s.action
 
--- those of a condition with its block, the block's given
+-- the names that a condition with its block declares, those of the block given
 abbrev pub conditional_step : Conditional-F Declared Declared Declared Declared Declared → Declared
 conditional_step c = names_of_all c.block
 
--- those of what stands in a branch, its block's given
+-- the names that what stands in a branch declares, those of its block given
 abbrev pub alternative_step : Alternative-F Declared Declared Declared Declared Declared → Declared
 alternative_step (Alternative-F.«Alternative::Event» guard event block) = names_if_any block
 alternative_step (Alternative-F.«Alternative::Call» guard call block) = names_if_any block
 alternative_step (Alternative-F.Else block) = names_of_all block
 
--- those of a branch: of what stands in it, which are given
+-- the names that a branch declares: those of what stands in it, which are given
 abbrev pub branch_step : Branch-F Declared Declared Declared Declared Declared → Declared
 branch_step b = b.alternative
 

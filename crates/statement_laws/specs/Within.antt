@@ -16,10 +16,10 @@ pub record IsWithin (scope other : Scope) : Type 0 where
 abbrev pub StaysFine : (Scope → List Rule) → Type 0
 StaysFine rules = (scope other : Scope) → IsWithin scope other → rules scope ≡ [] → rules other ≡ []
 
--- and what is said of it is the same there
+-- what is said of something that breaks no rule in a scope is the same where further names are visible
 abbrev pub StaysSame : (Scope → Judgement) → Type 0
 StaysSame judged = (scope other : Scope) → IsWithin scope other → (judged scope).broken ≡ [] → judged other ≡ judged scope
 
--- so does each `return` that may stand at a place
+-- each `return` that may stand at a place and breaks no rule in a scope breaks none where further names are visible
 abbrev pub ReturnsStayFine : Place → Type 0
 ReturnsStayFine place = (given : Option Value) → StaysFine (λ s. check_return s place.returns given)

@@ -65,7 +65,7 @@ pub fn parts_are_fine()
     ensures { (s : Statement) (place : Place) → IsWhole place.scope → (statement s).broken place ≡ [] → HasFineParts place (out-Action (out-Statement s).action) }
 {}
 
-/// The same of a branch.
+/// What stands within a branch that breaks no rule breaks none.
 #[tactic(auto, using(crate::proofs::Descent::branch_fine))]
 pub fn branches_are_fine()
     ensures { (b : Branch) (place : Place) → IsWhole place.scope → branch b place ≡ [] → IsFineBranch place b }

@@ -110,7 +110,8 @@ pub fn statements_stay_fine()
     ensures blocks { (body : List Statement) (place : Place) (other : Scope) → ReturnsStayFine place → IsWithin place.scope other → NoneIsFurther place.scope other (names_of_statements body) → statements body place ≡ [] → statements body (with_scope place other) ≡ [] }
 {}
 
-/// So it is with declarations alone. A name that is visible can't be declared: that breaks the rule on names declared twice.
+/// A declaration that breaks no rule breaks none where further names are visible, if it declares none of them. A name that is
+/// visible can't be declared: that breaks the rule on names declared twice.
 #[tactic(auto, using(crate::proofs::WithinActions::variables_stay, crate::proofs::WithinActions::constants_stay, crate::proofs::WithinActions::timers_stay, crate::proofs::WithinActions::name_twice))]
 pub fn declarations_stay_fine()
     ensures variables { (vs : Variables) (scope other : Scope) → IsWithin scope other → NoneIsFurther scope other (names_of_variables vs) → check_variables scope vs ≡ [] → check_variables other vs ≡ [] }

@@ -17,7 +17,7 @@ use step_choice::{Taken, choose_alt, choose_call, choose_event};
 use ttcn_syntax::{Branch, Call, Event};
 use ttcn_values::Fault;
 
-/// At a call of the altstep at a position, which is an `alt` of its own.
+/// What a component chooses at a call of the altstep at a position, which is an `alt` of its own.
 pub(crate) fn chosen_at_call<'t, 'a>(
     alloc: Global,
     stand: &Stand<'t, 'a>,
@@ -39,7 +39,7 @@ pub(crate) fn chosen_at_call<'t, 'a>(
     )
 }
 
-/// At an event, which is an `alt` of its own.
+/// What a component chooses at an event, which is an `alt` of its own.
 pub(crate) fn chosen_at_event<'t, 'a>(
     alloc: Global,
     stand: &Stand<'t, 'a>,
@@ -62,7 +62,7 @@ pub(crate) fn chosen_at_event<'t, 'a>(
     )
 }
 
-/// At an `alt`.
+/// What a component chooses at an `alt`.
 pub(crate) fn chosen_at_alt<'t, 'a>(
     alloc: Global,
     stand: &Stand<'t, 'a>,

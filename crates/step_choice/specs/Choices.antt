@@ -33,7 +33,7 @@ use Rattle.ttcn_values.specs.declared.fault.Fault.TheVariants.{Dynamic, Memory}
 abbrev pub judge_at : rules.Snapshot → Data → Site → Judge
 judge_at snapshot own site = record { site = site; view = record { values = last_values own.calls; timers = snapshot.timers } }
 
--- the choice among branches, and then those of the defaults
+-- the choice among branches with those of the defaults behind them
 abbrev pub choice_from : Test → rules.Snapshot → Data → List Written → Choice
 choice_from test snapshot own written = first_choice test snapshot own (written ++ written_defaults test snapshot own)
 
@@ -49,7 +49,7 @@ abbrev pub IsWayOf : List Definition → Site → Statement → ℕ → List Ite
 IsWayOf definitions site s way block =
     (rest : List Item) → slice_get (ways_of definitions (Doing site s Whole ∷ rest)) way ≡ Some (block ++ Mark site s ∷ rest)
 
--- a branch is taken, and its way is such
+-- a branch is taken, and something holds of its way
 pub record IsTaken (s : Snapshot) (IsWay : ℕ → List Item → Type 0) (chance : Chance) (effect : Effect) (taken : Taken) : Type 0 where
   pub place : taken.place ≡ chance.place
   pub way : IsWay taken.way chance.way.block
@@ -59,7 +59,7 @@ pub record IsTaken (s : Snapshot) (IsWay : ℕ → List Item → Type 0) (chance
 
 -- ---- calls
 
--- a call finds the branch of a choice, whose way is such, or says that there is none, or a fault where the choice is refused, unless memory was refused
+-- a call finds the branch of a choice, of whose way something holds, or says that there is none, or a fault where it is refused, unless memory was refused
 abbrev pub Finds : Snapshot → (ℕ → List Item → Type 0) → Choice → Result (Option Taken) Fault → Type 0
 Finds s IsWay choice (Ok None) = choice ≡ events.Nothing
 Finds s IsWay choice (Ok (Some taken)) =

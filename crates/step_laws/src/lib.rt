@@ -27,14 +27,14 @@ pub fn steps_keep_the_order()
     ensures { (test : Test) (c d : Configuration) (label : Label) → StandsInOrder c → next test c label ≡ Some d → StandsInOrder d }
 {}
 
-/// So every run leads to a configuration in order.
+/// Every run leads to a configuration in order.
 #[tactic(auto, using(crate::proofs::Runs::replay_ordered))]
 pub fn runs_keep_the_order()
     ensures replayed { (test : Test) (run : List Label) (c : Configuration) → replay test run ≡ Ok c → StandsInOrder c }
     ensures ends { (test : Test) (run : Run Label) → StandsInOrder (end_of (graph_of test) run) }
 {}
 
-/// So do runs over live parts.
+/// The live part of a configuration in order is in order, and runs over live parts lead to configurations in order.
 #[tactic(auto, using(crate::proofs::Runs::live_ordered))]
 pub fn live_parts_keep_the_order()
     ensures live { (c : Configuration) → StandsInOrder c → StandsInOrder (live_part c) }
@@ -47,7 +47,7 @@ pub fn labels_of_runs_ascend()
     ensures { (test : Test) (run : List Label) (c : Going) → replay test run ≡ Ok (Goes c) → AllPairs (λ k l. label_cmp k l ≡ Less) (labels test (Goes c)) }
 {}
 
-/// They are exactly those that have a step.
+/// The labels of a configuration that a run leads to are exactly those that have a step.
 #[tactic(auto, using(crate::proofs::Runs::labels_step_in_runs))]
 pub fn labels_of_runs_have_steps()
     ensures { (test : Test) (run : List Label) (c : Going) → replay test run ≡ Ok (Goes c) → (label : Label) → Contains (labels test (Goes c)) label ↔ (is_some (step test (Goes c) label) ≡ true) }
@@ -60,7 +60,7 @@ pub fn runs_keep_families()
     ensures { (test : Test) (run : List Label) (c : Configuration) → replay test run ≡ Ok c → StandsInFamily c }
 {}
 
-/// So no component has the path of a new one, which always comes in.
+/// No component of a configuration that a run leads to has the path of a new one, which always comes in.
 pub fn new_components_have_new_paths()
     ensures path { (test : Test) (run : List Label) (c : Going) (component new : Component) (own : Data) → replay test run ≡ Ok (Goes c) → component_at c (path_of component) ≡ Some component → act test (snapshot_of c component) component.own ≡ Creates new own → component_at c (path_of new) ≡ None }
     ensures inserted { (test : Test) (run : List Label) (c : Going) (component new : Component) (own : Data) → replay test run ≡ Ok (Goes c) → component_at c (path_of component) ≡ Some component → act test (snapshot_of c component) component.own ≡ Creates new own → (with_new new (settle c (path_of component) own)).components ≡ insert new (settle c (path_of component) own).components }

@@ -76,7 +76,7 @@ frame_with definitions at values remaining = record { remaining = remaining; val
 abbrev pub judge_in : Test → ℕ → List Value → Judge
 judge_in test at values = record { site = beginning at; view = view_of_arguments (argument_values test.definitions at values) }
 
--- what is read there
+-- what is read where branches are judged
 abbrev pub read_by : Test → Snapshot → Data → Judge → Reading
 read_by test snapshot own judge = reading_in test snapshot own judge.site judge.view
 
@@ -99,7 +99,7 @@ through test at values before (Open chance) = Open (record {
 
 -- ---- guards
 
--- branches behind a guard: those of a false one don't count
+-- branches behind a guard: those behind a false one are left out
 abbrev pub behind_guard : Outcome Bool → List Written → List Written
 behind_guard (Yields true) written = written
 behind_guard (Yields false) written = []

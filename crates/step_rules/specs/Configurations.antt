@@ -47,10 +47,10 @@ pub record Data : Type 0 where
   pub members : Frame
   -- the frames above, the last one first
   pub calls : List Frame
-  -- its defaults, the one that was activated last first, and how many were activated so far
+  -- the component's defaults, the one that was activated last first, and how many were activated so far
   pub defaults : List ActiveDefault
   pub activations : ℕ
-  -- how many components it created so far
+  -- how many components the component created so far
   pub children : ℕ
 
 -- ---- components
@@ -82,7 +82,7 @@ Queue = List ℕ × List Message
 
 -- a component: its path and type, its own data, its state, its verdict, and the messages that wait at its ports
 pub record Component : Type 0 where
-  -- its path, with its type
+  -- the component's path, with its type
   pub itself : ComponentId
   pub own : Data
   pub state : State
@@ -90,7 +90,7 @@ pub record Component : Type 0 where
   -- the ports of its type in the order of their declaration
   pub queues : List Queue
 
--- the path of a component, by which it is told from all others
+-- the path of a component, which no other component has
 abbrev pub path_of : Component → Path
 path_of component = component.itself.path
 

@@ -43,7 +43,7 @@ abbrev pub reading_of_members : Test → ComponentId → Snapshot → Frame → 
 reading_of_members test itself snapshot frame =
     within_chains longest_chain (facts_of test itself snapshot (record { values = frame.values; timers = frame.timers }) (record { values = []; timers = [] }))
 
--- one behind the other
+-- a frame behind several declarations, one behind the other
 abbrev pub declared_in_turn : {A : Type 0} → (Frame → A → Outcome Frame) → List A → Frame → Outcome Frame
 declared_in_turn declared [] frame = Yields frame
 declared_in_turn declared (a ∷ others) frame = outcome_and_then (declared_in_turn declared others) (declared frame a)

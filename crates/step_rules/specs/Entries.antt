@@ -13,11 +13,11 @@ Entries A = List (List ℕ × A)
 abbrev pub name_cmp : List ℕ → List ℕ → Ordering
 name_cmp = slice_cmp nat_cmp
 
--- with this for this name
+-- entries with this for this name
 abbrev pub put : {A : Type 0} → List ℕ → A → Entries A → Entries A
 put name a [] = (name, a) ∷ []
 put name a (e ∷ entries) = match_ordering (name_cmp name e.0) ((name, a) ∷ e ∷ entries) ((name, a) ∷ entries) (e ∷ put name a entries)
 
--- with nothing for this name
+-- entries with nothing for this name
 abbrev pub without : {A : Type 0} → List ℕ → Entries A → Entries A
 without name entries = filter (λ e. not (bytes_eq e.0 name)) entries

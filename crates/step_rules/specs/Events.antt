@@ -49,11 +49,11 @@ pub data Effect : Type 0 where
 
 -- what comes of judging an event
 pub data Trial : Type 0 where
-  -- it has not happened
+  -- the event has not happened
   Passed : Trial
-  -- it can't be judged, or its branch can't be taken
+  -- the event can't be judged, or its branch can't be taken
   Faulty : Failure → Trial
-  -- it has happened
+  -- the event has happened
   Happened : Effect → Trial
 
 -- an event without effect: it has happened where this is true, and has not where it is false

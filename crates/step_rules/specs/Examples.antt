@@ -58,7 +58,7 @@ TakesElse = (test : Test) (snapshot : Snapshot) (own : Data) (frame : Frame) (be
     → action_of s ≡ Action-F.Alt (b ∷ []) → out-Alternative (out-Branch b).alternative ≡ Alternative-F.Else block → nat_lt (length (frame ∷ below)) most ≡ true
     → act test snapshot (with_last own frame below (Doing site s Whole ∷ rest)) ≡ Continues (with_last own frame below (items test.definitions site block ++ Mark site s ∷ rest))
 
--- an `alt` without branches, and one default with an `else`: the default's block in a frame of its own, and the mark in the frame with the `alt`
+-- an `alt` without branches, and one default with an `else`, where one more frame is allowed: its block in a frame of its own, the mark in the frame with the `alt`
 abbrev pub TakesDefault : Type 0
 TakesDefault = (test : Test) (snapshot : Snapshot) (own : Data) (frame : Frame) (below : List Frame)
     → (site : Site) (s : Statement) (rest : List Item) (d : ActiveDefault) (b : Branch) (block : List Statement)
@@ -97,7 +97,7 @@ RepeatsOutside = (test : Test) (snapshot : Snapshot) (own : Data) (frame : Frame
     → act test snapshot (with_calls (with_remaining (Doing inner r Whole ∷ behind) frame ∷ with_remaining (between ++ Mark site s ∷ rest) outer ∷ below) own)
     ≡ Continues (with_calls (with_remaining (Doing site s Whole ∷ rest) outer ∷ below) own)
 
--- `c.done` outside of an `alt`, where the component is terminated: done, but for the mark behind it
+-- `c.done` outside of an `alt`, where the component is terminated: it is done and leaves a mark, which goes within the same step (`uncovered`)
 abbrev pub TakesDone : Type 0
 TakesDone = (test : Test) (snapshot : Snapshot) (own : Data) (frame : Frame) (below : List Frame)
     → (site : Site) (s : Statement) (rest : List Item) (reference : ComponentRef) (c : ComponentId) → action_of s ≡ Action-F.«Action::Event» (event.Done reference)
@@ -105,7 +105,7 @@ TakesDone = (test : Test) (snapshot : Snapshot) (own : Data) (frame : Frame) (be
     → nat_lt (length (frame ∷ below)) most ≡ true
     → act test snapshot (with_last own frame below (Doing site s Whole ∷ rest)) ≡ Continues (with_last own frame below (Mark site s ∷ rest))
 
--- the same where the component is not terminated, and no default is active: there is no step
+-- `c.done` outside of an `alt`, where the component is not terminated and no default is active: there is no step
 abbrev pub AwaitsDone : Type 0
 AwaitsDone = (test : Test) (snapshot : Snapshot) (own : Data) (frame : Frame) (below : List Frame)
     → (site : Site) (s : Statement) (rest : List Item) (reference : ComponentRef) (c : ComponentId) → action_of s ≡ Action-F.«Action::Event» (event.Done reference)
@@ -167,7 +167,7 @@ running_at path of own waiting = record { itself = record { path = path; compone
 abbrev pub two_running : ℕ → Data → Data → List Message → List Connection → Going
 two_running of own other waiting connections = record { components = running_at mtc_path of own [] ∷ running_at child_path of other waiting ∷ []; connections = connections; forgotten = verdict.None }
 
--- their two ports, connected
+-- the ports of the MTC and of the first component that it created, connected
 abbrev pub linked : Connection
 linked = record { one = record { component = mtc_path; port = port_name }; other = record { component = child_path; port = port_name } }
 

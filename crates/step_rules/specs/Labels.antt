@@ -11,26 +11,26 @@ use Rattle.step_rules.specs.Steps.{Expiry, Label, Statement, statement_step}
 use Rattle.ttcn_values.specs.Frames.{is_running}
 use Rattle.ttcn_values.specs.declared.path.Path.{Path}
 
--- ---- their order
+-- ---- the order of labels
 
 -- expiries at one component: by the number of the frame, then by the timer's name
 abbrev pub expiry_cmp : ℕ → List ℕ → ℕ → List ℕ → Ordering
 expiry_cmp number name other other_name = match_ordering (nat_cmp number other) Less (name_cmp name other_name) Greater
 
--- by the component, then its statement before its timers, then the frame, then the timer's name
+-- labels: by the component, then its statement before its timers, then the frame, then the timer's name
 abbrev pub label_cmp : Label → Label → Ordering
 label_cmp (Statement p) (Statement q) = path_cmp p q
 label_cmp (Statement p) (Expiry q number name) = match_ordering (path_cmp p q) Less Less Greater
 label_cmp (Expiry p number name) (Statement q) = match_ordering (path_cmp p q) Less Greater Greater
 label_cmp (Expiry p number name) (Expiry q other other_name) = match_ordering (path_cmp p q) Less (expiry_cmp number name other other_name) Greater
 
--- ---- those of a configuration
+-- ---- the labels of a configuration
 
--- the timers of a frame that may expire
+-- the expiries of the running timers of a frame
 abbrev pub frame_expiries : Path → ℕ → Frame → List Label
 frame_expiries path number frame = map (λ e. Expiry path number e.0) (filter (λ e. is_running e.1) frame.timers)
 
--- those of the frames above frame 0, the lowest first
+-- the expiries of the running timers of the frames above frame 0, the lowest frame first
 abbrev pub call_expiries : Path → List Frame → List Label
 call_expiries path [] = []
 call_expiries path (frame ∷ frames) = call_expiries path frames ++ frame_expiries path (length frames + 1) frame

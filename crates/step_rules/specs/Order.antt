@@ -6,7 +6,7 @@ use Rattle.std.specs.declared.cmp.Ordering.TheVariants.{Less}
 use Rattle.step_rules.specs.Configurations.{Component, Frame, Going, path_cmp, path_of}
 use Rattle.step_rules.specs.Entries.{Entries, name_cmp}
 
--- each is less than those behind it
+-- each element of a list is less than those behind it
 abbrev pub Ascends : {A : Type 0} → (A → A → Ordering) → List A → Type 0
 Ascends cmp xs = AllPairs (λ a b. cmp a b ≡ Less) xs
 

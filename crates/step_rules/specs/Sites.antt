@@ -70,11 +70,11 @@ is_own definitions site name =
 abbrev pub variable_entries : Scope → Variables → List Entry
 variable_entries scope vs = map (λ v. (v.name, meaning.Variable (resolved scope.names vs.type_name))) vs.variables
 
--- those of a declaration of constants
+-- the names that a declaration of constants declares, in a scope
 abbrev pub constant_entries : Scope → Constants → List Entry
 constant_entries scope cs = map (λ c. (c.name, meaning.Constant (resolved scope.names cs.type_name))) cs.constants
 
--- those of a declaration of timers
+-- the names that a declaration of timers declares
 abbrev pub timer_entries : List Timer → List Entry
 timer_entries timers = map (λ t. (t.name, meaning.Timer)) timers
 

@@ -35,10 +35,10 @@ mtc_of test = record { path = record { numbers = [] }; component_type = type_sai
 
 -- what a component sees at an `alt`: the first message at each of its ports, its timers, and the states of all components
 pub record Snapshot : Type 0 where
-  -- the component that sees it
+  -- the component that takes the snapshot
   pub itself : ComponentId
   pub fronts : List (List ℕ × Option Message)
-  -- the timers of its last frame, and those of its type: no others can be read at an `alt`
+  -- the timers of the component's last frame, and those of its type: no others can be read at an `alt`
   pub timers : Entries TimerState
   pub member_timers : Entries TimerState
   pub states : List (Path × State)

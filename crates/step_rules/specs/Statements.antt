@@ -55,13 +55,13 @@ use Rattle.ttcn_values.specs.declared.value.Value.TheVariants as value
 
 -- what a component asks for in its step, with its own data behind the step
 pub data Act : Type 0 where
-  -- nothing: it has no step
+  -- nothing: the component has no step
   Waits : Act
   -- the step fails
   Errs : Failure → Act
   -- nothing beside a change of its own data
   Continues : Data → Act
-  -- its verdict gets no better than this
+  -- the component's verdict gets no better than this
   Worsens : Verdict → Data → Act
   -- the first message of a port is removed
   Removes : List ℕ → Data → Act
@@ -118,7 +118,7 @@ go_on stand items = Continues (remaining stand items)
 
 -- ---- calls
 
--- too many frames, frame 0 among them, are a dynamic error
+-- data with these frames above frame 0: too many frames, frame 0 among them, are a dynamic error
 abbrev pub with_frames : List Frame → Data → Outcome Data
 with_frames calls own = if nat_lt (length calls) most then Yields (with_calls calls own) else dynamic_error
 
@@ -340,7 +340,7 @@ takes received (Some sent) = list_any (agrees sent) received
 abbrev pub suits : List Definition → Option ℕ → Option ℕ → Bool
 suits definitions sending receiving = list_all (takes (types_at definitions true receiving)) (types_at definitions false sending)
 
--- of ports of two types each sends only what the other receives: a port that isn't there suits none
+-- ports of two types suit each other: each sends only what the other receives, and a port that isn't there suits none
 abbrev pub suit_each_other : List Definition → Option (Option ℕ) → Option (Option ℕ) → Bool
 suit_each_other definitions (Some one) (Some other) = suits definitions one other && suits definitions other one
 suit_each_other definitions _ _ = false
@@ -384,7 +384,7 @@ abbrev pub sent_value : Stand → Site → Send → Option DataType → Outcome 
 sent_value stand site send None = unmet
 sent_value stand site send (Some of) = outcome_and_then specific_value (template_wanted send.message.template (reads stand site) (Some of))
 
--- who it is sent to, where that is said
+-- the component that a message is sent to, where one is named
 abbrev pub sent_to : Stand → Site → Option ComponentRef → Outcome (Option Path)
 sent_to stand site None = Yields None
 sent_to stand site (Some reference) = outcome_map (λ c. Some c.path) (component_meant_at stand site reference)

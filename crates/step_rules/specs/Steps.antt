@@ -148,7 +148,7 @@ is_terminated_component (Some component) = is_terminated_state component.state
 abbrev pub is_terminated_at : Going → Path → Bool
 is_terminated_at c path = is_terminated_component (component_at c path)
 
--- it is an error where a component is terminated, or one of the ports would be connected to two ports of one component
+-- two ports are connected: a dynamic error where a component is terminated, or one of the ports would be connected to two ports of one component
 abbrev pub connect : Going → End → End → Outcome Going
 connect c d e =
     if is_terminated_at c d.component || is_terminated_at c e.component || is_double c d e || is_double c e d then dynamic_error

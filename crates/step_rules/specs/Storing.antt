@@ -88,7 +88,7 @@ store test target v own = outcome_map (λ new. in_frame target.own (λ frame. wi
 abbrev pub type_of_name : Scope → List ℕ → Option DataType
 type_of_name scope name = type_known (check_meaning scope.definitions (scope.names name)).typing
 
--- the type that matters: that of a name with fields behind it
+-- the type of a name that has fields behind it: without fields no type is needed
 abbrev pub type_for : List (List ℕ) → Option DataType → Option DataType
 type_for [] of = None
 type_for (field ∷ fields) of = of

@@ -11,22 +11,22 @@ pub data Run (L : Type 0) : Type 0 where
   Start : Run L
   Then : Run L → L → Run L
 
--- how many steps it has
+-- how many steps a run has
 abbrev pub steps_of : {L : Type 0} → Run L → ℕ
 steps_of Start = 0
 steps_of (Then run label) = suc (steps_of run)
 
--- its labels, the first step's first
+-- the labels of a run, the first step's first
 abbrev pub labels_of : {L : Type 0} → Run L → List L
 labels_of Start = []
 labels_of (Then run label) = labels_of run ++ label ∷ []
 
--- the configuration that it ends in
+-- the configuration that a run ends in
 abbrev pub end_of : {C L : Type 0} → Graph C L → Run L → C
 end_of g Start = g.first
 end_of g (Then run label) = g.after (end_of g run) label
 
--- each of its labels is enabled where it stands
+-- each label of the run is enabled where it stands
 abbrev pub IsRun : {C L : Type 0} → Graph C L → Run L → Type 0
 IsRun g Start = Unit {0}
 IsRun g (Then run label) = IsRun g run × Contains (g.enabled (end_of g run)) label
@@ -49,6 +49,6 @@ all_runs g (suc n) = all_runs g n ++ runs_of g (suc n)
 abbrev pub Before : {L : Type 0} → (L → L → Ordering) → Run L → Run L → Type 0
 Before cmp r s = (steps_of r < steps_of s) ⊎ ((steps_of r ≡ steps_of s) × (slice_cmp cmp (labels_of r) (labels_of s) ≡ Less))
 
--- it comes before the other, or is it
+-- a run comes before another, or is the same run
 abbrev pub NoLater : {L : Type 0} → (L → L → Ordering) → Run L → Run L → Type 0
 NoLater cmp r s = Before cmp r s ⊎ (r ≡ s)

@@ -3,7 +3,7 @@ ghost use Rattle.std.specs.Prelude.{◌≡◌, IfOk};
 use crate::{Memory, Summary, System};
 use std::alloc::Global;
 
-/// Two summaries, each told by itself.
+/// Two summaries, each made by itself.
 #[derive(Debug, Drop, PartialEq, Eq)]
 pub struct Both<A, B> {
     pub first: A,

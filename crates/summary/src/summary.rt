@@ -4,13 +4,13 @@ ghost use Rattle.summary.specs.Sums.{Join, IsSemilattice, Observation};
 use crate::{Memory, System};
 use std::alloc::Global;
 
-/// What is told of the runs of a system: something of each state that a run ends in, and of each step that a run
+/// What the runs of a system show: something of each state that a run ends in, and of each step that a run
 /// ends with, joined over all runs.
 pub trait Summary<Y: System>: Send + Sync + Drop {
     /// The summary of nothing, and two summaries made one.
     ghost joins: { Join Self };
 
-    /// What is told of a state, and of a step.
+    /// What a state shows, and what a step shows.
     ghost observation: { Y → Observation Y.State Y.Label Self };
 
     fn empty(alloc: Global) -> Result<Self, Memory>

@@ -61,17 +61,17 @@ Weighs things i n = Weigh things (i ∷ []) n
 abbrev pub AllWeigh : List Thing → Type 0
 AllWeigh things = (i : ℕ) → i < length things → (n : ℕ) × Weighs things i n
 
--- no thing weighs more than that
+-- no thing weighs more than `heaviest`
 abbrev pub AllWeighWithin : List Thing → ℕ → Type 0
 AllWeighWithin things heaviest = (i n : ℕ) → Weighs things i n → n ≤ heaviest
 
--- a thing weighs more
+-- a thing weighs more than `heaviest`
 abbrev pub WeighsMore : List Thing → ℕ → ℕ → Type 0
 WeighsMore things heaviest i = (n : ℕ) × Weighs things i n × (heaviest < n)
 
 -- ---- what is found
 
--- the first thing of which that is so
+-- the first thing of which something holds
 abbrev pub IsFirst : (ℕ → Type 0) → ℕ → Type 0
 IsFirst P i = P i × ((k : ℕ) → k < i → P k → ⊥)
 

@@ -10,7 +10,7 @@ parts own references = record { own = own; references = references }
 abbrev pub leaf : Thing
 leaf = parts 1 []
 
--- two one beside the other
+-- two things one beside the other
 abbrev pub beside : Thing → Thing → Thing
 beside one other = parts (one.own + other.own) (one.references ++ other.references)
 

@@ -10,11 +10,11 @@ use std::alloc::{AllocError, Global};
 /// How far a thing is searched.
 #[derive(Clone, Copy)]
 pub(crate) enum State {
-    /// Nothing led to it so far.
+    /// Nothing led to the thing so far.
     New,
-    /// It is on the path.
+    /// The thing is on the path.
     Open,
-    /// All that it leads to is searched.
+    /// All that the thing leads to is searched.
     Done(Size),
 }
 

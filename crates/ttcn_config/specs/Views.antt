@@ -37,21 +37,21 @@ pub record IsFrameWithin (size : Extent) (frame : Frame) : Type 0 where
   pub remaining : frame.remaining < size.lists
   pub cells : HasSlotsWithin size.names frame.cells
 
--- so it is in all frames of a component
+-- in all frames of a component what remains has a position, and each slot a name
 pub record IsWithin (size : Extent) (own : Data) : Type 0 where
   pub members : HasSlotsWithin size.names own.members
   pub calls : All (IsFrameWithin size) own.calls
 
--- so it is in all components
+-- in all frames of all components what remains has a position, and each slot a name
 abbrev pub AreAllWithin : Extent → List Component → Type 0
 AreAllWithin size components = All (λ component. IsWithin size component.own) components
 
--- so it is in a configuration: a test case that ended has no frames
+-- in all frames of a configuration what remains has a position, and each slot a name: a test case that ended has no frames
 abbrev pub IsConfigWithin : Extent → Config → Type 0
 IsConfigWithin size (config.Ended v) = Unit {0}
 IsConfigWithin size (config.Going going) = AreAllWithin size going.components
 
--- so it is in all that is asked for
+-- in all frames of what is asked for what remains has a position, and each slot a name
 abbrev pub IsActWithin : Extent → Act → Type 0
 IsActWithin size (act.Continues own) = IsWithin size own
 IsActWithin size (act.Worsens v own) = IsWithin size own

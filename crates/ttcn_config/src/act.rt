@@ -26,7 +26,7 @@ use ttcn_values::{ComponentId, Fault, Path, Slot, Value};
 pub enum Act {
     /// Nothing beside a change of its own data.
     Continues(Data),
-    /// Its verdict gets no better than this.
+    /// The component's verdict gets no better than this.
     Worsens(Verdict, Data),
     /// The first message of a port is removed.
     Removes(Slot, Data),

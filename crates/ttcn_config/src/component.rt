@@ -53,7 +53,7 @@ pub struct Queue {
 /// A component. Configurations share what a step leaves as it was.
 #[derive(Debug, Drop, PartialEq, Eq, Hash)]
 pub struct Component {
-    /// Its path, with its type.
+    /// The component's path, with its type.
     pub itself: ComponentId,
     pub own: Shared<Data>,
     pub state: State,

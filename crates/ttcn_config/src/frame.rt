@@ -32,9 +32,9 @@ pub struct Data {
     pub members: Cells,
     /// The frames above, the last one first.
     pub calls: Seq<Frame>,
-    /// Its defaults, the one that was activated last first, and how many were activated so far.
+    /// The component's defaults, the one that was activated last first, and how many were activated so far.
     pub defaults: Seq<ActiveDefault>,
     pub activations: u32,
-    /// How many components it created so far.
+    /// How many components the component created so far.
     pub children: u32,
 }

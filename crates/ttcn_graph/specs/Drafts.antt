@@ -24,7 +24,7 @@ AreAt lists (p ∷ positions) (list ∷ others) = (p < length lists) × (get_or 
 abbrev pub HasWays : Draft → ℕ → Type 0
 HasWays d p = AreAt d.lists (get_or d.ways p []) (ways_of d.definitions (get_or d.lists p []))
 
--- so it is at each position that isn't open
+-- what may come of the list at each position that isn't open is at the positions that stand there
 abbrev pub AllBut : Draft → (ℕ → Bool) → Type 0
 AllBut d is_open = (p : ℕ) → p < length d.lists → is_open p ≡ false → HasWays d p
 

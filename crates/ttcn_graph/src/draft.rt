@@ -65,7 +65,7 @@ impl<'a> Model for Draft<'a> {
         × (map facts_by d.cells.2 ≡ map (facts_of d.here.0) d.cells.1) };
 }
 
-/// One of positions.
+/// The position at a place among positions.
 pub(crate) fn way_in(ways: &Seq<usize>, place: usize) -> Option<usize>
     ensures { result ≡ slice_get ways.now place }
 {

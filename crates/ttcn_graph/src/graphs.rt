@@ -251,14 +251,14 @@ impl<'a> Graphs<'a> {
         self.names.as_slice()
     }
 
-    /// The names of what stands first at each position are among them.
+    /// The names of what stands first at each position are among the names of the graphs.
     pub fn knows_items(&self)
         ensures { (p : ℕ) → p < length self.now.lists → AreKnown self.now.names (names_of (get_or self.now.lists p [])) }
     {
         let _ = self.draft.len();
     }
 
-    /// So are those of each definition.
+    /// The names of each definition are among the names of the graphs.
     pub fn knows_definitions(&self)
         ensures { (at : ℕ) → AreKnown self.now.names (names_of_kind (kind_at self.now.definitions at)) }
     {

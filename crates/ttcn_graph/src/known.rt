@@ -10,7 +10,7 @@ use graph_names::Names;
 use std::alloc::{AllocError, Global};
 use ttcn_syntax::Definition;
 
-/// Adds those of the list at a position.
+/// Adds the names in the first item of the list at a position.
 fn add_at<'a>(names: &mut Names<'a>, draft: &Draft<'a>, at: usize) -> Result<(), AllocError>
     requires { at < length draft.now.lists }
     ensures { OnOk result (names.new ≡ with_names names.old (names_of (get_or draft.now.lists at []))) }

@@ -8,7 +8,7 @@ use Rattle.step_rules.specs.Statements.{most}
 abbrev pub KeepsFrameLimit : Data → Type 0
 KeepsFrameLimit own = length own.calls < most
 
--- so has each component of a configuration
+-- each component of a configuration has no more frames than the limit; a test case that ended has no components
 abbrev pub AllKeepFrameLimit : Configuration → Type 0
 AllKeepFrameLimit (Ended v) = Unit {0}
 AllKeepFrameLimit (Goes c) = All (λ component. KeepsFrameLimit component.own) c.components

@@ -59,7 +59,7 @@ pub data Fits : List ℕ → List ℕ → Piece → Type 0 where
   -- digits `.` digits
   fraction : (ds es : List ℕ) {after : List ℕ} → IsDigits ds → IsDigits es
       → Fits (ds ++ point ∷ es) after Piece.Float
-  -- the same with an exponent
+  -- digits `.` digits with an exponent
   scaled_fraction : (ds es xs : List ℕ) {after : List ℕ} → IsDigits ds → IsDigits es → IsExponent xs
       → Fits (ds ++ point ∷ (es ++ xs)) after Piece.Float
   -- digits with an exponent
@@ -78,7 +78,7 @@ pub data Fits : List ℕ → List ℕ → Piece → Type 0 where
   bad_byte : {b : ℕ} {after : List ℕ} → is_blank b ≡ false → is_visible b ≡ false
       → Fits (b ∷ []) after Piece.BadByte
 
--- of all that can be read at the place where these bytes begin, they are the longest
+-- these bytes can be read as the piece, and none longer can be read at the place where they begin
 pub record Longest (bytes after : List ℕ) (piece : Piece) : Type 0 where
   pub fits : Fits bytes after piece
   pub longest : (others behind : List ℕ) (other : Piece) → others ++ behind ≡ bytes ++ after

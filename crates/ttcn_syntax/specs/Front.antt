@@ -1,4 +1,4 @@
--- What the code finds at the front of a text, by its bytes. The definition that counts is `Longest`, in `Cut`.
+-- What the code finds at the front of a text, by its bytes. What tokens are is defined by `Longest`, in `Cut`.
 use Rattle.std.specs.Prelude.{ℕ, ◌+◌, List, [], ◌∷◌, ◌==◌, ◌&&◌, if◌then◌else◌, drop, slice_index, Option, Some, None}
 use Rattle.std.specs.List.{prefix_len}
 use Rattle.ttcn_syntax.specs.declared.piece.Piece.{Piece}

@@ -225,7 +225,7 @@ alternative_parts definitions (Alternative-F.«Alternative::Event» guard event 
 alternative_parts definitions (Alternative-F.«Alternative::Call» guard call block) = altstep_part (altstep_meant (module_names definitions call.name))
 alternative_parts definitions (Alternative-F.Else block) = leaf
 
--- the same, of a branch
+-- what a branch is made of: a reference to the altstep that it calls, or else one branch
 abbrev pub branch_parts : List Definition → Branch → Thing
 branch_parts definitions b = alternative_parts definitions (out-Alternative (out-Branch b).alternative)
 

@@ -35,7 +35,7 @@ none_of_map f (Yields a) none = absurd (let e = none in cc)
 none_of_map f (Fails why) none = refl
 
 module _ (reading : Reading) (old new : List Step) where
-  -- what fails as a part does is planned in vain as that is
+  -- what fails where a part fails has a plan that fails as the part's does
   pub plans_fault : (o : Outcome (List Template)) (fault : Fault) (r : Result (Unit {0}) Fault) → IsErrAnd r (λ e. e ≡ fault) → (fault ≡ Dynamic → value_in o ≡ None) → Plans reading o old new r
   plans_fault o fault (Ok done) is so = absurd is
   plans_fault o fault (Err Dynamic) is so = so (sym is)

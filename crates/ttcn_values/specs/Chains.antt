@@ -14,7 +14,7 @@ use Rattle.ttcn_values.specs.Templates.{template_wanted}
 use Rattle.ttcn_values.specs.declared.template.Template.{Template}
 use Rattle.ttcn_values.specs.declared.value.Value.{Value}
 
--- with these names and no timers
+-- a reading with these names and no timers
 abbrev pub with_names : (List ℕ → Outcome Value) → Reading → Reading
 with_names names reading = record {
   definitions = reading.definitions;

@@ -17,7 +17,7 @@ use Rattle.ttcn_values.specs.declared.value.Value.TheVariants as value
 abbrev pub equal_template : Template → Template → Bool
 equal_template = (templates.ghosts).eq
 
--- the same, of patterns
+-- `==`, which is true of a pattern and itself alone
 abbrev pub equal_pattern : Pattern → Pattern → Bool
 equal_pattern = (patterns.ghosts).eq
 
@@ -32,7 +32,7 @@ abbrev pub is_above : Option ℤ → ℤ → Bool
 is_above None n = true
 is_above (Some low) n = not (int_lt n low)
 
--- the same, of the upper end
+-- the upper end of a range bounds a number: an infinite one bounds nothing
 abbrev pub is_below : Option ℤ → ℤ → Bool
 is_below None n = true
 is_below (Some high) n = not (int_lt high n)
@@ -78,7 +78,7 @@ template_step t v = (t.ifpresent && is_omit v) || t.pattern v
 abbrev pub is_match : Template → Matcher
 is_match = fold-Template Matcher Matcher pattern_step template_step
 
--- the same, of a template without its `ifpresent`
+-- a pattern, which is a template without its `ifpresent`, matches a value
 abbrev pub is_match_of_pattern : Pattern → Matcher
 is_match_of_pattern = fold-Pattern Matcher Matcher pattern_step template_step
 
@@ -115,6 +115,6 @@ specific_template_step t = if t.ifpresent then dynamic_error else t.pattern
 abbrev pub specific_value : Template → Outcome Value
 specific_value = fold-Template (Outcome Value) (Outcome Value) specific_step specific_template_step
 
--- the same, of a template without its `ifpresent`
+-- the specific value that a pattern, a template without its `ifpresent`, stands for: sending one that stands for none is a dynamic error
 abbrev pub specific_value_of_pattern : Pattern → Outcome Value
 specific_value_of_pattern = fold-Pattern (Outcome Value) (Outcome Value) specific_step specific_template_step

@@ -55,7 +55,7 @@ logical _ a b = unmet
 abbrev pub compared : Bool → Value → Value → Outcome Value
 compared wanted v w = if is_complete v && is_complete w then truth (beq wanted (equal v w)) else dynamic_error
 
--- where both are of the type that the operator takes
+-- what an operator gives of two operands, where both are of the type that the operator takes
 abbrev pub both : {A : Type 0} → (A → A → Outcome Value) → Option A → Option A → Outcome Value
 both f a b = outcome_and_then (λ x. outcome_and_then (f x) (or_unmet b)) (or_unmet a)
 

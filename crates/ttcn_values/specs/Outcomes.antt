@@ -60,12 +60,12 @@ each (Yields a ∷ outcomes) = outcome_map (λ others. a ∷ others) (each outco
 
 -- ---- what is known of an outcome
 
--- the value is such, where there is one
+-- something holds of the value of an outcome, where there is one
 abbrev pub IfYields : {A : Type 0} → Outcome A → (A → Type 0) → Type 0
 IfYields (Yields a) P = P a
 IfYields (Fails why) P = Unit {0}
 
--- it is a value or a dynamic error, which a checked module may meet
+-- an outcome is a value or a dynamic error, which a checked module may meet
 abbrev pub IsMet : {A : Type 0} → Outcome A → Type 0
 IsMet (Yields a) = Unit {0}
 IsMet (Fails DynamicError) = Unit {0}
@@ -79,7 +79,7 @@ Gives outcome (Ok value) = outcome ≡ Yields value
 Gives outcome (Err Dynamic) = value_in outcome ≡ None
 Gives outcome (Err Memory) = Unit {0}
 
--- the same, of what a call gives by what it stands for
+-- a call gives what stands for the value, or the dynamic error where there is none for whatever reason, unless memory was refused
 abbrev pub GivesBy : {A B : Type 0} → (B → A) → Outcome A → Result B Fault → Type 0
 GivesBy f outcome (Ok value) = outcome ≡ Yields (f value)
 GivesBy f outcome (Err Dynamic) = value_in outcome ≡ None

@@ -114,7 +114,7 @@ component_at reading component.Itself = Yields (value.Component reading.itself)
 component_at reading component.Mtc = Yields (value.Component reading.mtc)
 component_at reading (component.Named reference) = referred reading reference
 
--- the component that such a reference refers to: `null` refers to none, which is a dynamic error
+-- the component that `self`, `mtc` or a name refers to: `null` refers to none, which is a dynamic error
 abbrev pub component_referred : Reading → ComponentRef → Outcome ComponentId
 component_referred reading reference = outcome_and_then values.component (component_at reading reference)
 

@@ -130,7 +130,7 @@ body_step (TemplateBody-F.Listed parts) reading wanted =
 body_step (TemplateBody-F.Assigned parts) reading wanted =
     record_at (wanted_record wanted) (λ at. by_name reading (fields_at reading.definitions at) parts)
 
--- with `ifpresent` where that stands behind it, or behind the template that it names
+-- a template with `ifpresent` where that stands behind it, or behind the template that it names
 abbrev pub with_ifpresent : Bool → Template → Template
 with_ifpresent also found = record { pattern = found.pattern; ifpresent = found.ifpresent || also }
 
@@ -146,7 +146,7 @@ field_template_step part = (part.name, part.template)
 abbrev pub template_wanted : tree.Template → Wanted
 template_wanted = fold-Template Wanted (List ℕ × Wanted) Wanted body_step field_template_step template_step
 
--- the same, without its `ifpresent`
+-- what is given by a template, without its `ifpresent`, that stands where a template of a type is wanted
 abbrev pub body_wanted : TemplateBody → Wanted
 body_wanted = fold-TemplateBody Wanted (List ℕ × Wanted) Wanted body_step field_template_step template_step
 

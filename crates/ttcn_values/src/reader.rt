@@ -14,9 +14,9 @@ use ttcn_syntax::{Parameter, Seq};
 /// The names that are visible, beside those of the module.
 #[derive(Clone, Copy)]
 pub(crate) enum Visible<'a> {
-    /// Those of the frame.
+    /// The names of the frame.
     Frame,
-    /// None: in a constant of the module.
+    /// No names: in a constant of the module.
     Nothing,
     /// The parameters of a template, and what they are given.
     Parameters(&'a [Parameter], &'a [Value]),
@@ -67,7 +67,7 @@ pub(crate) enum Step {
     /// The last so many become the parts of one.
     Complement(usize),
     List(usize),
-    /// The same, of the record at a position.
+    /// The last so many become the parts of one of the record at a position.
     Record(usize, usize),
     /// `ifpresent` stands behind the last one.
     Ifpresent,

@@ -20,19 +20,19 @@ Answer = Result Report Fault
 
 -- what is answered for a test case
 pub data OfTestCase (test : Test) (name : List ℕ) (plan : Plan) : Answer → Type 0 where
-  -- its runs reach more configurations than the limit
+  -- the test case's runs reach more configurations than the limit
   too_many : {count : ℕ} → CountsParts test plan.steps count → plan.limit < count
       → OfTestCase test name plan (Err fault.TooMany)
-  -- or else the report on these runs
+  -- the runs reach no more configurations than the limit: the report on them
   told : {report : Report} → Tells test name plan report → OfTestCase test name plan (Ok report)
 
 -- what is answered
 pub data IsAnswer (text name : List ℕ) (plan : Plan) : Answer → Type 0 where
-  -- that the plan is beyond its limits
+  -- the plan is beyond its limits
   beyond : (IsWithinLimits plan → ⊥) → IsAnswer text name plan (Err fault.BadPlan)
-  -- or else why the text has no test case of the name
+  -- the plan is within its limits, and the text has no test case of the name: why
   lacking : {why : Fault} → IsWithinLimits plan → HasNoTest text name why → IsAnswer text name plan (Err why)
-  -- or else the answer for this test case
+  -- the plan is within its limits, and the text has a test case of the name: the answer for it
   named : {test : Test} {answer : Answer} → IsWithinLimits plan → IsTestOf text name test → OfTestCase test name plan answer
       → IsAnswer text name plan answer
 

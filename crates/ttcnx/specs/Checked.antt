@@ -33,21 +33,21 @@ IsAccepted text = (tree : Module) × IsTextOf text tree
 pub data AreRefused (tokens : List Spanned) : Fault → Type 0 where
   -- brackets nest too deep
   too_deep : {place : Span} → IsTooDeep tokens → AreRefused tokens (fault.Refused refusal.TooDeep place)
-  -- or else a word or character is left out
+  -- brackets don't nest too deep, and a word or character is left out
   left_out : {place : Span} → (IsTooDeep tokens → ⊥) → HasLeftOut tokens → AreRefused tokens (fault.Refused refusal.LeftOut place)
-  -- or else they are no module
+  -- brackets don't nest too deep, nothing is left out, and the tokens are no module
   unexpected : {place : Span} → IsUnread tokens → AreRefused tokens (fault.Refused refusal.Unexpected place)
-  -- or else the least rule that their module breaks
+  -- the tokens are read as a module that breaks rules: the least of them
   broken : {tree : Module} {rule : Rule} {place : Span} → IsRead tokens tree → IsLeast tree.definitions rule
       → AreRefused tokens (fault.Refused (refusal.Broken rule) place)
 
 -- why a text is that of no well-typed module
 pub data IsRefusedWith (text : List ℕ) : Fault → Type 0 where
-  -- it is longer than 1,048,576 bytes
+  -- the text is longer than 1,048,576 bytes
   too_long : {place : Span} → longest_text < length text → IsRefusedWith text (fault.Refused refusal.TextTooLong place)
-  -- or else its leftmost fault, where it stands
+  -- the text is not too long, and can't be cut into tokens: its leftmost fault, where it stands
   uncut : {error : LexError} → length text ≤ longest_text → IsLeftmostFault text error → IsRefusedWith text (lexical_fault error)
-  -- or else why its tokens are refused
+  -- the text is not too long, and is cut into tokens that are refused: why
   cut : {tokens : List Spanned} {why : Fault} → length text ≤ longest_text → IsCut text tokens → AreRefused tokens why → IsRefusedWith text why
 
 -- a text is not both accepted and refused, and not refused in two ways

@@ -18,9 +18,9 @@ pub record IsTestOf (text name : List ℕ) (test : Test) : Type 0 where
   pub is_text : IsTextOf text tree
   pub is_named : test_named tree name ≡ Some test
 
--- why there is none
+-- why a text has no test case of a name
 pub data HasNoTest (text name : List ℕ) : Fault → Type 0 where
-  -- why the text is that of no well-typed module
+  -- the text is that of no well-typed module: why
   refused : {why : Fault} → IsRefusedWith text why → HasNoTest text name why
-  -- or else that its module has no test case of the name
+  -- the text is that of a well-typed module without a test case of the name
   nameless : {tree : Module} → IsTextOf text tree → test_named tree name ≡ None → HasNoTest text name fault.NoSuchTestCase

@@ -38,20 +38,20 @@ replayed_text test labels c = line (codes "replayed " ++ decimal (length labels)
 
 -- what is answered for a test case
 pub data OfRun (test : Test) (run : List ℕ) : Answer → Type 0 where
-  -- the first line that is no label
+  -- some line is no label: the first such line
   bad_label : {number : ℕ} → IsFirstBad (lines_of run) number → OfRun test run (Err (fault.BadLabel number))
-  -- or else the first label that is not enabled where it stands
+  -- all lines are labels, and one is not enabled where it stands: the first such label
   not_enabled : {number : ℕ} (labels : List Label) → ReadsRun (lines_of run) labels → replay test (map label_by labels) ≡ Err number
       → OfRun test run (Err (fault.NotEnabled number))
-  -- or else where the labels lead
+  -- all lines are labels, and each is enabled where it stands: where they lead
   replayed : {text : Vec ℕ Global} (labels : List Label) (c : Configuration) → ReadsRun (lines_of run) labels → replay test (map label_by labels) ≡ Ok c
       → text.items ≡ replayed_text test labels c → OfRun test run (Ok text)
 
 -- what is answered
 pub data IsReplay (text name run : List ℕ) : Answer → Type 0 where
-  -- why the text has no test case of the name
+  -- the text has no test case of the name: why
   lacking : {why : Fault} → HasNoTest text name why → IsReplay text name run (Err why)
-  -- or else the answer for this test case
+  -- the text has a test case of the name: the answer for it
   named : {test : Test} {answer : Answer} → IsTestOf text name test → OfRun test run answer → IsReplay text name run answer
 
 -- answers that tell the same

@@ -24,7 +24,7 @@ IsLocal (meaning.Constant of) = Unit {0}
 IsLocal meaning.Timer = Unit {0}
 IsLocal _ = ⊥
 
--- each name that is declared before a site is one of these
+-- each name that is declared before a site is a variable, a constant or a timer
 abbrev pub DeclaresLocals : Site → Type 0
 DeclaresLocals site = All (λ entry. IsLocal entry.1) site.declared
 
@@ -69,7 +69,7 @@ pub record FitsSite (definitions : List Definition) (site : Site) (view : View) 
 
 -- ---- timers of blocks that ended
 
--- what is visible, or else a timer where one is there
+-- what a name stands for where it is visible, or else a timer where it has one
 abbrev pub or_timer : {A : Type 0} → Option A → Option Meaning → Option Meaning
 or_timer found (Some m) = Some m
 or_timer (Some state) None = Some meaning.Timer

@@ -17,13 +17,13 @@ abbrev pub HasNoError : Configuration → Type 0
 HasNoError (Ended v) = Unit {0}
 HasNoError (Goes c) = (is_error c.forgotten ≡ false) × All (λ component. is_error component.verdict ≡ false) c.components
 
--- in every run of a test case, however long, each step leads to a configuration whose values are of their types, or is a dynamic error; and so is the start
+-- the start and each step of every run of a test case, however long, lead to a configuration whose values are of their types, or are a dynamic error
 pub record StaysWellTyped (test : Test) : Type 0 where
-  -- what is evaluated before the first step
+  -- the start leads to values of the types of their names, or is a dynamic error
   pub begins : GivesOnly (outcome_and_then (started test) (or_unmet (testcase_body (kind_at test.definitions test.testcase)))) (FitsTypes test)
   -- where a run leads all values are of the types of their names
   pub leads : (run : List Label) (c : Configuration) → replay test run ≡ Ok c → FitsTypes test c
-  -- and so they are behind the next step, in which nothing is met that no checked module has
+  -- the next step leads to values of the types of their names, or is a dynamic error: nothing is met that no checked module has
   pub goes_on : (run : List Label) (c : Configuration) (label : Label) → replay test run ≡ Ok c → IfSome (step test c label) (λ out. GivesOnly out (FitsTypes test))
   -- only a step that fails ends with verdict `error`
   pub ends : (run : List Label) (c : Configuration) (label : Label) (v : Verdict) → replay test run ≡ Ok c → step test c label ≡ Some (Yields (Ended v)) → is_error v ≡ false

@@ -132,7 +132,7 @@ pub record FitsOwn (definitions : List Definition) (component_type : ℕ) (own :
   pub calls : FitCalls definitions component_type own.calls
   pub defaults : All (FitsDefault definitions component_type) own.defaults
 
--- those of one that runs: it has a frame
+-- the data of a component of a type, where the component runs: it has a frame above frame 0
 pub record FitsData (definitions : List Definition) (component_type : ℕ) (own : Data) : Type 0 where
   pub members : FitsMembers definitions component_type (view_of own.members)
   pub calls : FitCalls definitions component_type own.calls

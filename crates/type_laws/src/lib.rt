@@ -69,7 +69,7 @@ pub fn steps_keep_types()
     ensures next { (test : Test) (c d : Configuration) (label : Label) → AreWellTyped test.definitions → StandsByRules test c → StandsInOrder c → StandsWithAllReferred test c → StandsMarked test c → FitsTypes test c → next test c label ≡ Some d → FitsTypes test d }
 {}
 
-/// So all values are of their types in each configuration that a run leads to, and the next step meets nothing that no checked
+/// All values are of their types in each configuration that a run leads to, and the next step meets nothing that no checked
 /// module has.
 #[tactic(auto, using(crate::proofs::Running::replay_fits, crate::proofs::Running::replay_meets))]
 pub fn runs_keep_types()
@@ -78,7 +78,7 @@ pub fn runs_keep_types()
     ensures ends { (test : Test) (run : Run Label) → AreWellTyped test.definitions → is_some (testcase_body (kind_at test.definitions test.testcase)) ≡ true → FitsTypes test (end_of (graph_of test) run) }
 {}
 
-/// So every run of a test case stays well typed.
+/// Every run of a test case of a module that breaks no rule stays well typed.
 pub fn runs_stay_well_typed()
     ensures { (test : Test) → AreWellTyped test.definitions → is_some (testcase_body (kind_at test.definitions test.testcase)) ≡ true → StaysWellTyped test }
 {}

@@ -9,7 +9,7 @@ types_through None incoming = []
 types_through (Some traffic) true = traffic.incoming.types.items
 types_through (Some traffic) false = traffic.outgoing.types.items
 
--- the same, where the type of the ports may be unknown
+-- the types of the messages that pass at ports in a direction: none where the type of the ports is unknown
 abbrev pub types_at : Option (Option Traffic) → Bool → List (Option DataType)
 types_at None incoming = []
 types_at (Some traffic) incoming = types_through traffic incoming

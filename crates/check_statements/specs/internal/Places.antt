@@ -18,7 +18,7 @@ is_negative n = n.minus && not (nat_eq n.magnitude 0)
 abbrev pub given : NumberSet → EnumNumber → Bool
 given set n = contains_by (λ key. beq (is_negative n) key.0 && nat_eq n.magnitude key.1) set.numbers
 
--- these are the numbers
+-- a set has these numbers and no others
 abbrev pub AreGiven : NumberSet → List EnumNumber → Type 0
 AreGiven set numbers = (n : EnumNumber) → given set n ≡ list_any (same_number n) numbers
 

@@ -19,6 +19,6 @@ otherwise at.Nothing = spec.type_by_port (Some [])
 otherwise at.Unknown = spec.type_by_port None
 otherwise at.Anywhere = spec.type_anywhere
 
--- both of these
+-- what is known where a message passes: the types that pass, and the type of a message that says nothing of it
 abbrev pub known : Passing → spec.Passage
 known at = (passing at, otherwise at)

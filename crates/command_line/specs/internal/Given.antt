@@ -25,14 +25,14 @@ pub record GivesPlan (matches : List Row) : Type 0 where
   pub workers : GivesNumber matches (codes "workers") 1 64
   pub piece : GivesNumber matches (codes "piece") 1 65536
 
--- and all that `run` takes
+-- all that `run` takes is there
 pub record GivesRun (matches : List Row) : Type 0 where
   pub file : GivesText matches (codes "FILE")
   pub testcase : GivesText matches (codes "testcase")
   pub plan : GivesPlan matches
   pub json : GivesFlag matches (codes "json")
 
--- and all that `replay` takes
+-- all that `replay` takes is there
 pub record GivesReplay (matches : List Row) : Type 0 where
   pub file : GivesText matches (codes "FILE")
   pub testcase : GivesText matches (codes "testcase")

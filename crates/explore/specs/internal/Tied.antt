@@ -40,7 +40,7 @@ abbrev pub IsPlaceOf : {C L : Type 0} → Graph C L → List C → ℕ → Optio
 IsPlaceOf g states mark None = All (λ state. g.mark state ≢ Some mark) states
 IsPlaceOf g states mark (Some place) = IsFirstMarked g mark states place
 
--- one such place for each of the eight marks, in their order
+-- the place of the first state with each of the eight marks, in the order of the marks
 pub record AreFirstMarked {C L : Type 0} (g : Graph C L) (states : List C) (places : List (Option ℕ)) : Type 0 where
   pub eight : length places ≡ 8
   pub each : (mark : ℕ) → mark < 8 → IsPlaceOf g states mark (slice_index_or places mark None)

@@ -17,7 +17,7 @@ abbrev pub with_names : Known → Known → Known
 with_names names [] = names
 with_names names (name ∷ more) = with_names (with_name names name) more
 
--- those of what stands first
+-- the names in the item that stands first
 abbrev pub names_of_first : First → Known
 names_of_first (first.Doing behaviour s part) = names_of_part (action_of s.now) (part_of part)
 names_of_first (first.Mark s) = []
@@ -26,6 +26,6 @@ names_of_first (first.Waiting target) = target.now.reference.name ∷ []
 abbrev pub names_of_definition : Definition → Known
 names_of_definition definition = names_of_kind (Some definition.kind)
 
--- those of lists, and of definitions
+-- the names in the first items of lists and in definitions, each once
 abbrev pub all_names : List Definition → List (List Item) → Known
 all_names definitions lists = with_names (with_names [] (flat_map names_of lists)) (flat_map names_of_definition definitions)

@@ -14,7 +14,7 @@ abbrev pub entries_of : List Entry → List Kept → List Entry
 entries_of before [] = before
 entries_of before (k ∷ kept) = entries_of ((k.name.now, k.meaning) ∷ before) kept
 
--- each is kept with what its name stood for before
+-- each name is kept with what it stood for before
 abbrev pub AreKept : List Entry → List Kept → Type 0
 AreKept before [] = Unit {0}
 AreKept before (k ∷ kept) = (k.before ≡ own_names before k.name.now) × AreKept ((k.name.now, k.meaning) ∷ before) kept

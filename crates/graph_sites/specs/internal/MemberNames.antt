@@ -14,7 +14,7 @@ declares (member.Constants cs) name = list_any (λ c. bytes_eq c.name name) cs.c
 declares (member.Variables of variables) name = list_any (λ v. bytes_eq v.name name) variables
 declares (member.Timers timers) name = list_any (λ t. bytes_eq t.name name) timers
 
--- what each of them stands for, where the names before are these
+-- what each name that a member declares stands for, where the names before are these
 abbrev pub member_meaning : Names → Member → Meaning
 member_meaning names (member.Ports port_type ports) = meaning.Port (port_type_meant (names port_type))
 member_meaning names (member.Constants cs) = meaning.Constant (resolved names cs.type_name)

@@ -41,7 +41,7 @@ FindsBehind tokens (Some found) = (rest : List Spanned) × Group tokens rest × 
 abbrev pub brackets : Behind → List Closing
 brackets behind = reverse behind.unopened.items
 
--- all that is said of the tokens behind is so
+-- all that is kept of the tokens behind is true of them
 pub record Knows (tokens : List Spanned) (behind : Behind) : Type 0 where
   pub found : Finds tokens behind.found
   pub unopened : Unopened (brackets behind) tokens

@@ -160,7 +160,7 @@ act_event c = do
   e ← event_behind c
   pure (action.Event e)
 
--- behind a component, port or timer and the dot
+-- an action behind a component, port or timer and the dot, by the token that comes next
 abbrev pub member_action_by : ComponentRef → Option Token → Parser Action
 member_action_by c (Some (token.Word word.Send)) = with_name send (bare c)
 member_action_by c (Some (token.Word word.Start)) = start c

@@ -101,7 +101,7 @@ behind_operator (Some o) ts = behind ts
 unfoldable pub eat_operator : Level → Parser (Option Operator)
 eat_operator outer = λ ts. Some (next_operator outer ts, behind_operator (next_operator outer ts) ts)
 
--- of comparisons by order there is one at most
+-- how many links of a level may follow: one comparison by order at most, and at any other level as many as there are tokens
 unfoldable pub most_links : Level → List Spanned → ℕ
 most_links outer ts = if same_level outer level.Order then 1 else length ts
 
@@ -145,7 +145,7 @@ is_present = do
   expect mark.RightParen
   pure (expr.Ispresent r)
 
--- behind a component
+-- behind a component, '.' and 'running' come next
 abbrev pub runs : List Spanned → Bool
 runs ts = sees mark.Dot ts && is_word word.Running (second ts)
 

@@ -1,5 +1,5 @@
--- What the parser's functions compute, each from the tokens that are left: parsers, single tokens and lists. The definition
--- that counts is the grammar, which `parse_grammar` proves to be what these read.
+-- What the parser's functions compute, each from the tokens that are left: parsers, single tokens and lists. The language
+-- is defined by the grammar, which `parse_grammar` proves to be what these read.
 use Rattle.std.specs.Prelude.{◌≡◌, ℕ, zero, suc, ◌-◌, ◌||◌, Bool, true, false, if◌then◌else◌, List, [], ◌∷◌, ◌++◌, length, drop, Option, Some, None, Result, Ok, Err}
 use Rattle.std.specs.Borrow.{Bor}
 use denote.Enum.Bare.{sameb}
@@ -37,7 +37,7 @@ infixl 10 ◌>>=◌
 abbrev pub ◌>>=◌ : {A B : Type 0} → Parser A → (A → Parser B) → Parser B
 p >>= f = λ ts. and_then (p ts) f
 
--- one parser and then another, which doesn't
+-- one parser and then another, which doesn't know what the first read
 infixl 10 ◌>>◌
 abbrev pub ◌>>◌ : {A B : Type 0} → Parser A → Parser B → Parser B
 p >> q = p >>= (λ _. q)

@@ -292,7 +292,7 @@ do_condition ss = do
   e ← in_brackets
   pure (action.DoWhile ss e)
 
--- the blocks behind it
+-- the action that a head begins, with the blocks behind the head
 abbrev pub action_behind : Parser (List Statement) → Head → Parser Action
 action_behind blocks (head.Whole a) = pure a
 action_behind blocks head.Alt = do

@@ -35,7 +35,7 @@ fn parsed_twice(alloc: Global, tokens: &[Spanned]) -> Result<String, AllocError>
     }
 }
 
-/// What is told of the first place where tokens are left out or too deep.
+/// The text on the first place where tokens are left out or too deep.
 fn found(alloc: Global, what: &str, place: Option<Span>) -> Result<String, AllocError> {
     match place {
         Some(Span { line, column }) => format!(in alloc; "{what} at {line}:{column}"),

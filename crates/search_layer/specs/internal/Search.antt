@@ -43,7 +43,7 @@ module _ {C L : Type 0} where
   abbrev pub step_of : Candidate C L → Option (Step L)
   step_of c = Some (record { before = c.before; label = c.label })
 
-  -- of these candidates, those whose state is none of those found before, and no earlier candidate's
+  -- the candidates whose state is none of those found before, and no earlier candidate's
   abbrev pub newly : (C → C → Bool) → List C → List (Candidate C L) → List (Candidate C L)
   newly eq known [] = []
   newly eq known (c ∷ cs) = if list_any (eq c.state) known then newly eq known cs else c ∷ newly eq (known ++ c.state ∷ []) cs

@@ -41,12 +41,12 @@ module _ {C L : Type 0} where
     pub record HasPlaced (known : List C) (cs : List (Candidate C L)) (size : ℕ) (pieces placed : List ℕ) : Type 0 where
       pub members : (i : ℕ) → Stands i placed ↔ (Stands (i / size) pieces × IsNew known cs i)
 
-    -- ascending, and those of the candidates whose state is none of these, and no earlier candidate's
+    -- the positions ascend, and are those of the candidates whose state is none of these, and no earlier candidate's
     pub record AreFirst (known : List C) (cs : List (Candidate C L)) (firsts : List ℕ) : Type 0 where
       pub ascending : IsStrictlyIncreasing firsts
       pub members : (i : ℕ) → Stands i firsts ↔ ((c : Candidate C L) × (slice_get cs i ≡ Some c) × (list_any (eq c.state) known ≡ false) × (list_any (λ d. eq c.state d.state) (take i cs) ≡ false))
 
--- it is the same seat, which stands for the same seats
+-- w is the same seat as v, which stands for the same seats
 pub record IsSameBoardSeat (v w : BoardView) : Type 0 where
   pub first : w.first ≡ v.first
   pub left : w.left ≡ v.left

@@ -15,7 +15,7 @@ pub struct BoardView {
     pub pieces: u64,
     /// How many seats there may ever be, the first one with them.
     pub seats: u64,
-    /// It is the seat that `new` gave.
+    /// The seat is the one that `new` gave.
     pub first: bool,
     /// How many seats it can still make.
     pub left: u64,

@@ -22,7 +22,7 @@ abbrev pub stored_all : Test → List (Target × Value) → Data → Outcome Dat
 stored_all test [] own = Yields own
 stored_all test (one ∷ more) own = outcome_and_then (stored_all test more) (store test one.0 one.1 own)
 
--- not too many frames
+-- data as they are: too many frames, frame 0 among them, are a dynamic error
 abbrev pub limited : Data → Outcome Data
 limited own = said.with_frames own.calls own
 

@@ -41,11 +41,11 @@ test_of s = test_by s.test.now
 abbrev pub names_of : Snapshot → ℕ → List ℕ
 names_of s = (legend_by s.test.now).names
 
--- at a site, where the names of the frame have these values and timers
+-- where branches are judged at a site, the names of the frame having these values and timers
 abbrev pub judge_of : Snapshot → Site → Cells → Judge
 judge_of s site inner = record { site = site; view = view_by (legend_by s.test.now) inner }
 
--- what is read there
+-- what is read where branches are judged at a site
 abbrev pub reads : Snapshot → Site → Cells → Reading
 reads s site inner = branches.read_by (test_by s.test.now) (seen_by s) (own_by s) (judge_of s site inner)
 
@@ -59,11 +59,11 @@ below levels s = branches.written_within levels (test_by s.test.now) (seen_by s)
 
 -- ---- ways
 
--- this way, with these items before the mark
+-- a way is this one, and the items before the mark are these
 abbrev pub Is : ℕ → List Item → ℕ → List Item → Type 0
 Is way block w b = (w ≡ way) × (b ≡ block)
 
--- one of these blocks
+-- the items before the mark of a way are those at its place among these blocks
 abbrev pub IsAmong : List (List Item) → ℕ → List Item → Type 0
 IsAmong blocks w b = slice_get blocks w ≡ Some b
 

@@ -8,7 +8,7 @@ use Rattle.survey.specs.declared.search.Step.{Step}
 use Rattle.survey.specs.declared.size.Size.{Size}
 use Rattle.survey.specs.declared.thing.Thing.{Thing}
 
--- so many members has the longest chain that begins at one of these things
+-- the longest chain that begins at one of these things has so many members
 pub record HasLongest (things : List Thing) (these : List ℕ) (longest : ℕ) : Type 0 where
   pub bound : (i : ℕ) (rest : List ℕ) → Contains these i → IsChain things (i ∷ rest) → length (i ∷ rest) ≤ longest
   pub reached : 0 < longest → (i : ℕ) × (rest : List ℕ) × Contains these i × IsChain things (i ∷ rest) × (length (i ∷ rest) ≡ longest)
@@ -32,7 +32,7 @@ size_of New = record { chain = 0; weight = 0 }
 size_of Open = record { chain = 0; weight = 0 }
 size_of (Done size) = size
 
--- of a thing on the path, the references that are passed have the size
+-- the references that are passed of a thing on the path have the size
 pub record IsRead (things : List Thing) (step : Step) : Type 0 where
   pub within : step.thing < length things
   pub passed : step.passed ≤ length (references things step.thing)
@@ -65,19 +65,19 @@ StayBegun old now = (i : ℕ) → state_of now i ≡ New → state_of old i ≡ 
 
 -- ---- how much is left to do
 
--- at a thing that is new: to begin it, to pass each of its references, and to leave it
+-- what is left to do at a thing: at one that is new to begin it, to pass each of its references, and to leave it
 abbrev pub left_at : Thing → State → ℕ
 left_at thing New = length thing.references + 2
 left_at thing Open = 0
 left_at thing (Done size) = 0
 
--- at all things that are new
+-- what is left to do at all things that are new
 abbrev pub left_new : List Thing → List State → ℕ
 left_new [] states = 0
 left_new (thing ∷ things) [] = 0
 left_new (thing ∷ things) (state ∷ states) = left_at thing state + left_new things states
 
--- at a thing on the path: to pass its other references, and to leave it
+-- what is left to do at a thing on the path: to pass its other references, and to leave it
 abbrev pub left_of : List Thing → Step → ℕ
 left_of things step = 1 + length (references things step.thing) - step.passed
 

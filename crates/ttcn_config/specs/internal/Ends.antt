@@ -18,7 +18,7 @@ connection d e = match_ordering (end_cmp d e) (record { one = d; other = e }) (r
 abbrev pub connection_cmp : Connection → Connection → Ordering
 connection_cmp k l = match_ordering (end_cmp k.one l.one) Less (end_cmp k.other l.other) Greater
 
--- with one more in its place; one that is there stays one
+-- connections with one more in its place; one that is there stays one
 abbrev pub add_connection : Connection → List Connection → List Connection
 add_connection new connections = filter (λ k. is_lt (connection_cmp k new)) connections ++ new ∷ filter (λ k. is_gt (connection_cmp k new)) connections
 

@@ -12,7 +12,7 @@ use Rattle.ttcn_values.specs.declared.value.Value.{Value}
 
 -- ---- entries
 
--- with this for this slot
+-- entries with this for this slot
 abbrev pub put : {A : Type 0} → ℕ → A → List (ℕ × A) → List (ℕ × A)
 put slot a [] = (slot, a) ∷ []
 put slot a (e ∷ entries) = match_ordering (nat_cmp slot e.0) ((slot, a) ∷ e ∷ entries) ((slot, a) ∷ entries) (e ∷ put slot a entries)
@@ -21,7 +21,7 @@ put slot a (e ∷ entries) = match_ordering (nat_cmp slot e.0) ((slot, a) ∷ e 
 abbrev pub is_not_below : {A : Type 0} → ℕ → ℕ × A → Bool
 is_not_below slot e = is_le (nat_cmp slot e.0)
 
--- with nothing for this slot
+-- entries with nothing for this slot
 abbrev pub without : {A : Type 0} → ℕ → List (ℕ × A) → List (ℕ × A)
 without slot entries = filter (λ e. not (nat_eq e.0 slot)) entries
 

@@ -30,7 +30,7 @@ abbrev pub declared_before : Site → Statement → ℕ → List Item → List I
 declared_before site s zero rest = rest
 declared_before site s (suc n) rest = declared_before (retracted site) s n (Doing (retracted site) s (Name n) ∷ rest)
 
--- these are what a statement declares with a value that a call may give
+-- these variables are what a statement declares with a value that a call may give
 abbrev pub AreNames : List Definition → Statement → List Variable → Type 0
 AreNames definitions s variables = (site : Site) (rest : List Item) (k : ℕ) → ways_of definitions (Doing site s (Name k) ∷ rest) ≡ ways_of_variable rest (slice_get variables k)
 

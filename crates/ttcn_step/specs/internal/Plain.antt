@@ -13,7 +13,7 @@ IsPlain (Action-F.«Action::Event» event) = ⊥
 IsPlain (Action-F.Alt branches) = ⊥
 IsPlain _ = Unit {0}
 
--- no such thing comes first: only the whole of a statement is an `alt`
+-- neither an `alt` nor anything that may stand for one comes first: only the whole of a statement is an `alt`
 abbrev pub IsPlainFirst : List Item → Type 0
 IsPlainFirst (Doing site s Whole ∷ rest) = IsPlain (action_of s)
 IsPlainFirst _ = Unit {0}

@@ -14,11 +14,11 @@ use Rattle.ttcn_values.specs.declared.template.Template.{Template}
 abbrev pub Build : Type 0
 Build = List Template → Outcome (List Template)
 
--- with these behind them
+-- the templates so far with these behind them
 abbrev pub with_more : Outcome (List Template) → Build
 with_more more templates = outcome_map (λ others. templates ++ others) more
 
--- one after the other
+-- two builds one after the other
 abbrev pub one_after : Build → Build → Build
 one_after first next templates = outcome_and_then next (first templates)
 
@@ -33,7 +33,7 @@ last_as make count templates =
     then Yields (take (length templates - count) templates ++ make (drop (length templates - count) templates))
     else unmet
 
--- what a step makes of them
+-- what a step makes of the templates so far
 abbrev pub after_step : Reading → Step → Build
 after_step reading (step.Plain p) = with_more (Yields (alone (plain p)))
 after_step reading (step.Call at values) = with_more (outcome_map alone (reading.templates at values))
@@ -42,14 +42,14 @@ after_step reading (step.List count) = last_as (λ parts. alone (plain (pattern.
 after_step reading (step.Record at count) = last_as (λ parts. alone (plain (pattern.Record at parts))) count
 after_step reading step.Ifpresent = last_as (map (with_ifpresent true)) 1
 
--- what steps make of them
+-- what steps make of the templates so far
 abbrev pub after_steps : Reading → List Step → Build
 after_steps reading [] templates = Yields templates
 after_steps reading (s ∷ steps) templates = outcome_and_then (after_steps reading steps) (after_step reading s templates)
 
 -- ---- calls
 
--- a call writes down steps behind others that give such templates, or fails where those do
+-- a call writes down steps behind others that add these templates, or fails where there are none for whatever reason, unless memory was refused
 abbrev pub Plans : Reading → Outcome (List Template) → List Step → List Step → Result (Unit {0}) Fault → Type 0
 Plans reading templates old new (Ok done) = after_steps reading new ≡ one_after (after_steps reading old) (with_more templates)
 Plans reading templates old new (Err Dynamic) = value_in templates ≡ None

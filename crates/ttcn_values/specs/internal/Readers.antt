@@ -42,7 +42,7 @@ seen_by seen facts = record {
 abbrev pub read_by : Reader → Reading
 read_by reader = within_chains reader.depth (seen_by reader.visible (facts reader.frame.now))
 
--- each of these constants gives this in a reading
+-- each of these constants gives its result in a reading
 abbrev pub AreResults : Reading → List ConstantResult → Type 0
 AreResults reading constants = All (λ constant. Gives (reading.constants constant.at constant.item) constant.result) constants
 

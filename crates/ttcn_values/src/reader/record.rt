@@ -136,7 +136,7 @@ fn value_for(
     }
 }
 
-/// The same, if there is a value.
+/// What a value that is kept elsewhere gives for a use, with fields behind it, if there is a value.
 #[tactic(auto, using(crate::proofs::Uses::taken_of_failure))]
 pub(super) fn value_of_stored(
     alloc: Global,
@@ -153,7 +153,7 @@ pub(super) fn value_of_stored(
     }
 }
 
-/// The same, of a value that was made for it.
+/// What a value that was made for a use gives for it, with fields behind it.
 #[tactic(auto, using(crate::proofs::Uses::taken_of_failure))]
 pub(super) fn value_of_new(
     alloc: Global,

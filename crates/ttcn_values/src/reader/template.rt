@@ -191,7 +191,7 @@ impl Reader<'_> {
         Ok(())
     }
 
-    /// The same, without its `ifpresent`.
+    /// The template of what stands where one of a type is wanted, without its `ifpresent`.
     #[cycle(templates)]
     fn plan_body(
         &self,

@@ -26,7 +26,7 @@ use Rattle.ttcn_syntax.specs.contracts.boxed.Boxed.TheInside as inside
 abbrev pub the_former : Former {0} → Former {0}
 the_former held = held
 
--- its measure is the boxed value's
+-- the measure of a `Boxed` is the boxed value's
 abbrev pub the_weighed : {held : Former {0}} → Weighed held → Weighed (the_former held)
 the_weighed weights = weights
 
@@ -54,7 +54,7 @@ module _ (R S : RattleType) (h : R.Denot → S.Denot) where
     shr_same = λ b i. (box_of (one_value R (alike.mir_same i) (alike.own_same b.value i) (alike.shr_same b.value i) gnil)).shr_at (with_value b tt);
   }
 
-  -- and so does a `Boxed`
+  -- a `Boxed` at two types lies in memory alike
   pub the_places : Alike R S h → Alike (outside.the_row R) (outside.the_row S) ((the_former this).map R.Denot S.Denot h)
   the_places alike = view_places fields this view (λ X Y k stored. refl) (λ X stored. refl) R.Denot S.Denot h
       (outside.the_row R).coded (outside.the_row S).coded
@@ -63,6 +63,6 @@ module _ (R S : RattleType) (h : R.Denot → S.Denot) where
       (struct_places (inside.the_type R) (inside.the_type S) ((λ b. with_value b (h b.value)), tt) _ (λ _. refl) refl
       (laid _ _ _ (box_places alike), tt))
 
-  -- and its code is that of the value
+  -- the code of a `Boxed` is that of the value
   pub the_codes_placed : Recodes R S h → Recodes (outside.the_row R) (outside.the_row S) ((the_former this).map R.Denot S.Denot h)
   the_codes_placed recodes value = recodes value

@@ -54,7 +54,7 @@ module _ (R S : RattleType) (h : R.Denot → S.Denot) where
       (struct_places (inside.the_type R) (inside.the_type S) (vec.mapped h, tt) _ (λ _. refl) refl
       (laid _ _ _ (vec.the_places heap.the_row ghosts R S h alike), tt))
 
-  -- and its code is that of the elements
+  -- the code of a `Seq` is that of the elements
   pub the_codes_placed : Recodes R S h → Recodes (outside.the_row R) (outside.the_row S) ((the_former this).map R.Denot S.Denot h)
   the_codes_placed recodes elements =
       sym (code_map R.coded.code S.coded.code h (λ x. sym (recodes x)) elements)
