@@ -1,5 +1,5 @@
 -- In runs of a module that breaks no rule only a step that fails ends with verdict `error`, since no `setverdict` sets it.
-use Rattle.std.proofs.Common.{◌≡◌, ℕ, ◌+◌, Bool, true, false, not, ◌||◌, List, [], ◌∷◌, ◌++◌, map, Option, Some, None, Result, Ok, Err, IfSome, is_some, option_map, refl, sym, ap, subst, ◌∙◌, if◌then◌else◌}
+use Rattle.std.proofs.Common.{◌≡◌, ℕ, Bool, true, false, not, ◌||◌, List, [], ◌∷◌, ◌++◌, Option, Some, None, IfSome, is_some, option_map, refl, sym, ap, subst, if◌then◌else◌}
 use Rattle.std.specs.List.{All, filter, fold}
 use Rattle.std.specs.Option.{option_and_then}
 use Rattle.std.specs.Ordering.{match_ordering, nat_cmp}
@@ -32,7 +32,7 @@ use Rattle.step_rules.specs.Runs.{first_snapshot, mtc_with, start, started, test
 use Rattle.step_rules.specs.Sites.{Site}
 use Rattle.step_rules.specs.Snapshots.{Test, mtc_of, snapshot_of}
 use Rattle.step_rules.specs.Statements.{Act, Connects, Continues, Creates, Errs, Removes, Sends, Starts, Stops, Waits, Worsens, act}
-use Rattle.step_rules.specs.Steps.{Expiry, Label, Statement, addressed, apply, at_queue, begin, connect, connection, deliver, ending, exchanged, expired, expiry_step, insert, is_double, is_terminated_at, next, peers, send, settle, settled, start_component, start_created, start_in, statement_step, step, step_in, touch, unless_terminated, with_connection, with_data, with_state, with_verdict, without_first}
+use Rattle.step_rules.specs.Steps.{Expiry, Label, Statement, addressed, apply, at_queue, begin, connect, connection, deliver, ending, exchanged, expired, expiry_step, insert, is_double, is_terminated_at, next, peers, send, settle, settled, start_component, start_created, start_in, statement_step, step, touch, unless_terminated, with_connection, with_data, with_state, with_verdict, without_first}
 use Rattle.ttcn_types.specs.Rules.{AreWellTyped}
 use Rattle.ttcn_values.specs.Outcomes.{Fails, IfYields, Outcome, Yields, dynamic_error, or_unmet, outcome_and_then}
 use Rattle.ttcn_values.specs.declared.path.Path.{Path}
