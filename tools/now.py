@@ -23,7 +23,7 @@ SECONDS = 1800
 # The status where there is no answer, as where a build fails. The program has no such status.
 NO_ANSWER = 70
 
-COMMANDS = {"check", "run", "replay"}
+COMMANDS = {"check", "run", "replay", "coarsen", "double"}
 # The options that have a value, and those of them whose value is a file. What is neither option nor value is a file.
 VALUES = {"--testcase", "--steps", "--limit", "--workers", "--piece", "--run"}
 FILES = {"--run"}

@@ -34,6 +34,8 @@ def help_rows():
         (["run", "--help"], 0, stored("help_run")),
         (["help", "run"], 0, stored("help_run")),
         (["replay", "--help"], 0, stored("help_replay")),
+        (["coarsen", "--help"], 0, stored("help_coarsen")),
+        (["double", "--help"], 0, stored("help_double")),
     ]
 
 
@@ -94,6 +96,8 @@ def rows(folder):
     missing = f"{folder}/missing"
     module = file_in(folder, "module", b"module M {")
     run = file_in(folder, "run", b"mtc\n\nmtc.01\n")
+    doubling = file_in(folder, "doubling", b"mtc\n" * 6 + b"mtc.1\n snap mtc\n\nchoose mtc\nmtc\nmtc")
+    beginning = file_in(folder, "beginning", b"mtc\n" * 6 + b"mtc.1\nsnap mtc\n")
     test = ["--testcase", "T"]
     return [
         (["check", X1], 0, b"ok\n"),
@@ -104,6 +108,12 @@ def rows(folder):
         (["run", X1, "--testcase", "t", "--steps", "2"], 1, b"refused U1 NoSuchTestCase\n"),
         (["replay", X1, *test, "--run", run], 1, b"refused N1 BadLabel at line 3\n"),
         (["replay", X1, *test, "--run", f"{EXAMPLES}/x2.pass.run"], 1, b"refused N2 NotEnabled at label 3\n"),
+        (["double", X2, *test, "--run", f"{EXAMPLES}/x2.pass.run"], 0, b"mtc\n" * 6 + b"mtc.1\nsnap mtc\nchoose mtc\n" + b"mtc\n" * 2),
+        (["coarsen", X2, *test, "--run", doubling], 0, b"mtc\n" * 6 + b"mtc.1\n" + b"mtc\n" * 3),
+        (["coarsen", X2, *test, "--run", f"{EXAMPLES}/x2.pass.run"], 1, b"refused F1 NotFine at label 8\n"),
+        (["coarsen", X2, *test, "--run", beginning], 1, b"refused F2 NotEnded\n"),
+        (["coarsen", X2, *test, "--run", run], 1, b"refused N1 BadLabel at line 3\n"),
+        (["double", module, *test, "--run", missing], 5, f"cannot read {missing}\n".encode()),
         (["run", X1, *test, "--steps", "2", "--limit", "2"], 3, b"refused E1 TooMany\n"),
         (["check", missing], 5, f"cannot read {missing}\n".encode()),
         (["replay", missing, *test, "--run", f"{folder}/other"], 5, f"cannot read {missing}\n".encode()),

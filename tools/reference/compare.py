@@ -4,6 +4,12 @@
     compare.py PROGRAM SEED COUNT [--keep FOLDER]
         runs the program and the reference on COUNT random modules, from the
         seed SEED on, and prints each module whose reports differ in any byte
+    compare.py PROGRAM SEED COUNT --fine
+        compares what both make of random fine runs of such modules, some of
+        them broken: `coarsen`, `double`, and `replay` of what was printed
+    compare.py --laws SEED COUNT
+        checks in the reference alone that fine runs end with the verdicts of
+        runs, on random modules
     compare.py --rows FOLDER
         checks the reference alone against the rows of the files in FOLDER
 
@@ -23,8 +29,11 @@ import tempfile
 import time
 from typing import NamedTuple
 
+import crowds
+import fine
 import modules
 import reference
+import walks
 
 # --------------------------------------------------------------------------
 # Rows
@@ -116,13 +125,16 @@ def read_rows(text):
     return rows
 
 
+COMMANDS = ("run", "replay", "coarsen", "double")
+
+
 def is_covered(row):
-    """Whether the reference answers rows of this kind: reports, replays and
-    the refusals that come after those of the text."""
-    if "by" in row.settings or row.settings.get("command", "run") not in ("run", "replay"):
+    """Whether the reference answers rows of this kind: reports, runs that are
+    followed, and the refusals that come after those of the text."""
+    if "by" in row.settings or row.settings.get("command", "run") not in COMMANDS:
         return False
     refusal = re.match(r"refused (\S+)", row.answer[-1])
-    return refusal is None or refusal[1] in ("E1", "U1", "N1", "N2")
+    return refusal is None or refusal[1] in ("E1", "U1", "N1", "N2", "F1", "F2")
 
 
 def run_file_of(settings):
@@ -133,8 +145,9 @@ def run_file_of(settings):
     labels = []
     for word in settings.get("run", "").split():
         label, _, times = word.partition("*")
-        labels.extend([label] * int(times or 1))
-    return "".join(label + "\n" for label in labels)
+        end = " " if label in ("snap", "choose") else "\n"
+        labels.extend([label + end] * int(times or 1))
+    return "".join(labels)
 
 
 def status_of(refusal):
@@ -146,10 +159,10 @@ def folded(lines):
     shown = []
     for line, group in itertools.groupby(lines):
         times = len(list(group))
-        if line.startswith("  ") and times > 1:
+        if times > 1:
             shown.append(f"{line}*{times}")
         else:
-            shown.extend([line] * times)
+            shown.append(line)
     return shown
 
 
@@ -179,12 +192,14 @@ def answer_of(row):
     if "bytes" in settings:
         text = text[:int(settings["bytes"])]
     name = settings.get("testcase", "T")
-    if settings.get("command", "run") == "replay":
-        printed = reference.replay(text, name, run_file_of(settings))
+    following = {"replay": reference.replay, "coarsen": fine.coarsen, "double": fine.double}
+    command = settings.get("command", "run")
+    if command in following:
+        printed = following[command](text, name, run_file_of(settings))
     else:
         printed = reference.run(text, name, int(settings["steps"]),
                                 int(settings.get("limit", "1000000")))
-    lines = printed.splitlines()
+    lines = printed.splitlines() or ["no lines"]
     if printed.startswith("refused"):
         return [f"status {status_of(printed)}"] + lines
     if settings.get("format") == "folded":
@@ -233,6 +248,7 @@ def compare_rows(folder):
 
 LIMIT = 3000
 SECONDS = 120
+FINE_RUNS = 3
 
 
 class Printed(NamedTuple):
@@ -304,15 +320,49 @@ class Comparison:
         self.judge("report", seed, made, words, expected)
 
     def compare_replay(self, seed, made, file, choices):
-        run_text = random_run(made, choices)
+        self.follow("replay", seed, made, file, random_run_file(made, choices))
+
+    def compare_fine(self, seed):
+        """Fine runs of one module, and the doubling of a run."""
+        made = module_for_fine_runs(seed)
+        choices = random.Random(seed)
+        file = self.folder / "module.ttcn"
+        file.write_bytes(made.text.encode("latin-1"))
+        fine_machine = fine.FineMachine(walks.machine_of(made))
+        for _ in range(FINE_RUNS):
+            self.compare_walk(seed, made, file, random_walk(fine_machine, choices), choices)
+        run = random_run_file(made, choices)
+        doubled = self.follow("double", seed, made, file, run)
+        if not doubled.startswith("refused"):
+            self.follow("coarsen", seed, made, file, doubled)
+
+    def compare_walk(self, seed, made, file, walk, choices):
+        """A fine run, the run that it stands for, and the same with something
+        wrong in it."""
+        fine_run = fine.lines_of(walk.labels)
+        run = self.follow("coarsen", seed, made, file, walks.laid_out(fine_run, choices))
+        if walk.has_ended():
+            replayed = self.follow("replay", seed, made, file, run)
+            if not replayed.endswith(f"\nended {reference.VERDICTS[walk.fine.now.verdict]}\n"):
+                self.complain(seed, "the coarse run has another end", made, fine_run)
+        self.follow("coarsen", seed, made, file, walks.broken(walk.labels, choices))
+
+    def follow(self, command, seed, made, file, run_text):
+        """One run that is followed; tells what the reference prints."""
         run_file = self.folder / "run"
         run_file.write_bytes(run_text.encode("latin-1"))
-        expected = reference.replay(made.text, made.testcase, run_text)
-        words = ["replay", str(file), "--testcase", made.testcase, "--run", str(run_file)]
-        self.judge("replay", seed, made, words, printed_by_reference(expected),
-                   "-- run\n" + run_text)
+        commands = {"replay": reference.replay, "coarsen": fine.coarsen, "double": fine.double}
+        expected = commands[command](made.text, made.testcase, run_text)
+        words = [command, str(file), "--testcase", made.testcase, "--run", str(run_file)]
+        self.judge(command, seed, made, words, printed_by_reference(expected), run_text)
+        return expected
 
-    def judge(self, kind, seed, made, words, expected, more=""):
+    def complain(self, seed, what, made, run_text):
+        self.different["law"] += 1
+        print(f"== seed {seed}: {what}")
+        print(f"{made.text}-- run\n{run_text}", flush=True)
+
+    def judge(self, kind, seed, made, words, expected, run_text=None):
         """Compares one answer byte for byte and prints a difference."""
         self.compared[kind] += 1
         answered = printed_by_program([self.program] + words)
@@ -320,32 +370,42 @@ class Comparison:
             return
         self.different[kind] += 1
         print(f"== seed {seed}: {' '.join(words)}")
-        print(made.text + more)
+        print(made.text + ("" if run_text is None else "-- run\n" + run_text))
         print(f"-- reference\n{expected}")
         print(f"-- program\n{answered}", flush=True)
         if self.keep is not None:
             kept = pathlib.Path(self.keep)
             kept.mkdir(exist_ok=True)
             (kept / f"seed{seed}.ttcn").write_bytes(made.text.encode("latin-1"))
+            if run_text is not None:
+                (kept / f"seed{seed}.run").write_bytes(run_text.encode("latin-1"))
 
 
-def random_run(made, choices):
-    """A run of random steps as a run file; the last label may be one that is
-    not enabled."""
-    module = reference.read_module(made.text)
-    machine = reference.Machine(module, module.testcase(made.testcase))
-    configuration = machine.start()
-    labels = []
-    for _ in range(choices.randint(0, 30)):
-        found = list(machine.steps(configuration))
-        if not found:
-            break
-        step = choices.choice(found)
-        labels.append(str(step.label))
-        configuration = step.end
+def random_run_file(made, choices):
+    """A run of random steps; the last label may be one that is not enabled."""
+    labels, _ = walks.random_run(walks.machine_of(made), choices, choices.randint(0, 30))
+    lines = [str(label) for label in labels]
     if choices.random() < 0.3:
-        labels.append(choices.choice(["mtc", "mtc.1", "mtc.2", "mtc/0.t0", "mtc/1.t"]))
-    return "".join(label + "\n" for label in labels)
+        lines.append(choices.choice(walks.STRANGE_LABELS))
+    return "".join(line + "\n" for line in lines)
+
+
+MOST_LABELS = 150
+
+
+def module_for_fine_runs(seed):
+    """A random module; in every second one several components wait at a
+    time."""
+    return crowds.module(seed) if seed % 2 else modules.module(seed)
+
+
+def random_walk(fine_machine, choices, tries=3):
+    """A random fine run, if possible one that ends."""
+    for _ in range(tries):
+        walk = walks.random_fine_run(fine_machine, choices, MOST_LABELS)
+        if walk.has_ended():
+            break
+    return walk
 
 
 def compare_modules(program, seed, count, keep):
@@ -360,9 +420,134 @@ def compare_modules(program, seed, count, keep):
     return different
 
 
+def compare_fine_runs(program, seed, count, keep):
+    """Prints each fine run, run or doubling of which both say something else;
+    tells how many."""
+    with tempfile.TemporaryDirectory() as folder:
+        comparison = Comparison(program, folder, keep)
+        for each in range(seed, seed + count):
+            comparison.compare_fine(each)
+    different = sum(comparison.different.values())
+    compared = ", ".join(f"{comparison.compared[command]} by {command}"
+                         for command in ("coarsen", "replay", "double"))
+    print(f"{count} modules, {compared} compared, {different} different")
+    return different
+
+
+# --------------------------------------------------------------------------
+# Laws of fine runs, in the reference alone
+# --------------------------------------------------------------------------
+
+WALKS = 5
+MOST_CONFIGURATIONS = 4000
+
+
+class Laws:
+    """Checks on random modules what is said of fine runs."""
+
+    def __init__(self):
+        self.counts = collections.Counter()
+        self.broken = 0
+
+    def complain(self, seed, what, made, labels):
+        self.broken += 1
+        print(f"== seed {seed}: {what}")
+        print(f"{made.text}-- run\n{fine.lines_of(labels)}", flush=True)
+
+    def check(self, seed):
+        made = module_for_fine_runs(seed)
+        choices = random.Random(seed)
+        machine = walks.machine_of(made)
+        fine_machine = fine.FineMachine(machine)
+        self.counts["modules"] += 1
+        for _ in range(WALKS):
+            walk = walks.random_fine_run(fine_machine, choices, MOST_LABELS)
+            self.counts["fine runs"] += 1
+            self.check_stored(seed, made, fine_machine, walk)
+            self.check_coarse(seed, made, fine_machine, walk)
+            labels, end = walks.random_run(machine, choices, choices.randint(0, 60))
+            self.check_doubled(seed, made, fine_machine, labels, end)
+        self.check_verdicts(seed, made, fine_machine)
+
+    def check_stored(self, seed, made, fine_machine, walk):
+        """Only components that run and stand at an alt have snapshots."""
+        now = fine_machine.start()
+        for number, label in enumerate(walk.labels, start=1):
+            now = fine_machine.next(now, label)
+            if not all(not isinstance(now.now, reference.Ended)
+                       and fine.stands_at_alt(fine.component_at(now.now, path))
+                       for path, _ in now.stored):
+                self.complain(seed, f"stored behind label {number}", made, walk.labels)
+                return
+
+    def check_coarse(self, seed, made, fine_machine, walk):
+        """The run that a fine run stands for ends with its verdict and is no
+        longer."""
+        if not walk.has_ended():
+            return
+        self.counts["that end"] += 1
+        self.counts.update(walk.seen)
+        run = fine_machine.coarse(walk.labels)
+        end = follow(fine_machine.machine, run)
+        if end != walk.fine.now:
+            self.complain(seed, "the coarse run ends otherwise", made, walk.labels)
+            return
+        if len(run) > len(walk.labels):
+            self.complain(seed, "the coarse run is longer", made, walk.labels)
+        if any(isinstance(label, fine.Snap) for label in walk.labels):
+            self.counts["that end and have a snapshot"] += 1
+        self.check_doubled(seed, made, fine_machine, run, end)
+
+    def check_doubled(self, seed, made, fine_machine, labels, end):
+        """A doubling has the end of its run, and stands for it."""
+        self.counts["doublings"] += 1
+        doubled = fine_machine.doubled(labels)
+        if fine_machine.replay(doubled) != fine.Fine(end, ()):
+            self.complain(seed, "the doubling ends otherwise", made, doubled)
+        if fine_machine.coarse(doubled) != labels:
+            self.complain(seed, "the doubling stands for another run", made, doubled)
+
+    def check_verdicts(self, seed, made, fine_machine):
+        """Where all fine configurations can be gone through: their verdicts are
+        those of all runs."""
+        try:
+            _, verdicts = fine.explore(fine_machine, MOST_CONFIGURATIONS)
+        except reference.TooMany:
+            return
+        self.counts["modules gone through"] += 1
+        answer = reference.explore(fine_machine.machine, 10 ** 6, 10 ** 6)
+        if verdicts != set(answer.runs):
+            self.complain(seed, f"fine runs end with {verdicts}, runs with "
+                          f"{set(answer.runs)}", made, [])
+
+
+def follow(machine, labels):
+    """Where labels lead, or None."""
+    configuration = machine.start()
+    for label in labels:
+        step = machine.step_of(configuration, label)
+        if step is None:
+            return None
+        configuration = step.end
+    return configuration
+
+
+def check_laws(seed, count):
+    """Prints each fine run of which something else holds; tells how many."""
+    laws = Laws()
+    for each in range(seed, seed + count):
+        laws.check(each)
+    for what, number in sorted(laws.counts.items()):
+        print(f"{number:8} {what}")
+    print(f"{laws.broken} laws broken")
+    return laws.broken
+
+
 def main():
     parser = argparse.ArgumentParser(description=__doc__.splitlines()[0])
     parser.add_argument("--rows", metavar="FOLDER")
+    parser.add_argument("--laws", metavar=("SEED", "COUNT"), nargs=2, type=int)
+    parser.add_argument("--fine", action="store_true")
     parser.add_argument("--keep", metavar="FOLDER")
     parser.add_argument("program", nargs="?")
     parser.add_argument("seed", nargs="?", type=int, default=0)
@@ -370,9 +555,12 @@ def main():
     words = parser.parse_args()
     if words.rows is not None:
         return 1 if compare_rows(words.rows) else 0
+    if words.laws is not None:
+        return 1 if check_laws(*words.laws) else 0
     if words.program is None:
-        parser.error("a program or --rows is needed")
-    return 1 if compare_modules(words.program, words.seed, words.count, words.keep) else 0
+        parser.error("a program, --laws or --rows is needed")
+    compare = compare_fine_runs if words.fine else compare_modules
+    return 1 if compare(words.program, words.seed, words.count, words.keep) else 0
 
 
 if __name__ == "__main__":

@@ -1894,6 +1894,23 @@ class Draft:
             connection for connection in self.connections
             if not all(end[0] in self.terminated for end in connection)}
 
+    # What a component sees of others, and of its queues.
+
+    def is_running(self, path):
+        component = self.components.get(path)
+        return component is not None and component.running
+
+    def has_terminated(self, path):
+        return path in self.terminated
+
+    def others_run(self):
+        return any(component.running for path, component in self.components.items()
+                   if path != MTC)
+
+    def front(self, path, number):
+        queue = self.components[path].queues[number]
+        return queue[0] if queue else None
+
     def freeze(self):
         if self.has_ended:
             alive = [each.verdict for each in self.components.values()]
@@ -1904,6 +1921,44 @@ class Draft:
                              frozenset(self.connections))
 
 
+class Snapshot(NamedTuple):
+    """What a component sees at an alt: the first message of each of its ports,
+    the timers of its last frame and of its type, and which components run and
+    which have terminated."""
+
+    path: tuple
+    fronts: tuple
+    timers: tuple
+    member_timers: tuple
+    running: frozenset
+    terminated: frozenset
+
+    def is_running(self, path):
+        return path in self.running
+
+    def has_terminated(self, path):
+        return path in self.terminated
+
+    def others_run(self):
+        return any(path != MTC for path in self.running)
+
+    def front(self, path, number):
+        assert path == self.path
+        return self.fronts[number]
+
+
+def snapshot_of(configuration, path):
+    """The snapshot that a component takes now."""
+    components = dict(configuration.components)
+    component = components[path]
+    return Snapshot(path,
+                    tuple(queue[0] if queue else None for queue in component.queues),
+                    component.frames[-1].timers,
+                    component.frames[0].timers,
+                    frozenset(other for other in components if components[other].running),
+                    frozenset(configuration.terminated))
+
+
 # --------------------------------------------------------------------------
 # Evaluation
 # --------------------------------------------------------------------------
@@ -1912,20 +1967,21 @@ class Reading:
     """What a component sees: values and timers of one frame (its own names),
     those of its frame 0 (its members), and the states of all components.
 
-    `draft` is only read.  Timers of the own frame may be None where none can
-    be named.
+    `seen` is a draft, where all is read as it is now, or a snapshot; it is
+    only read.
     """
 
-    def __init__(self, module, draft, self_reference, own, member):
-        self.module = module
-        self.draft = draft
+    def __init__(self, machine, seen, self_reference, own, member):
+        self.machine = machine
+        self.module = machine.module
+        self.seen = seen
         self.self_reference = self_reference
         self.own = own
         self.member = member
 
     def with_names(self, pairs):
         """The same component's reading with other own names."""
-        return Reading(self.module, self.draft, self.self_reference,
+        return Reading(self.machine, self.seen, self.self_reference,
                        Frame(None, pairs, ()), self.member)
 
     # References.
@@ -1962,10 +2018,6 @@ class Reading:
             raise DynamicError("null names no component")
         return value.path
 
-    def is_running(self, path):
-        component = self.draft.components.get(path)
-        return component is not None and component.running
-
     # Values.
 
     def value(self, node):
@@ -1993,7 +2045,7 @@ class Reading:
         return self.self_reference
 
     def value_of_MtcReference(self, node):
-        return ComponentReference(MTC, self.draft.components[MTC].type)
+        return ComponentReference(MTC, self.machine.testcase.runs_on)
 
     def value_of_Reference(self, node):
         content = self.place_content(node)
@@ -2005,7 +2057,7 @@ class Reading:
         subject = node.subject
         if isinstance(subject, Reference) and subject.type == "timer":
             return Boolean(self.timer_state(subject) == RUNNING)
-        return Boolean(self.is_running(self.component(subject)))
+        return Boolean(self.seen.is_running(self.component(subject)))
 
     def value_of_IsPresent(self, node):
         content = self.place_content(node.subject)
@@ -2156,11 +2208,13 @@ OPERATIONS = {
 class Choice(NamedTuple):
     """A branch that can be taken.  `callers` are the altsteps on the way to
     it, outermost first: each with its parameters and with the block that
-    stands behind its call (empty for a default)."""
+    stands behind its call (empty for a default).  A receive has its port and
+    the message that was seen there."""
 
     branch: Branch
     callers: tuple
     port: Optional[int]
+    message: Optional[Message]
 
 
 class Caller(NamedTuple):
@@ -2236,9 +2290,10 @@ class Machine:
                     draft.change_frame(path, number, timers=timers)
                     yield Step(Label(path, 1, number, name), draft.freeze(), None)
 
-    def statement_step(self, configuration, path):
+    def statement_step(self, configuration, path, snapshot=None):
         """The step of a component's first remaining statement, or None where
-        it can't be made."""
+        it can't be made.  An alt is judged by a snapshot, or else by what is
+        there now."""
         draft = Draft(configuration)
         branch = None
         try:
@@ -2246,7 +2301,7 @@ class Machine:
             if frame.items is None:
                 self.end_of_frame(draft, path)
             elif isinstance(frame.items.first, Alternative):
-                branch = self.alternative_step(draft, path, frame.items.first)
+                branch = self.alternative_step(draft, path, frame.items.first, snapshot)
                 if branch is None:
                     return None
             else:
@@ -2258,6 +2313,20 @@ class Machine:
         except DynamicError:
             end, branch = Ended(ERROR), None
         return Step(Label(path), end, branch)
+
+    def step_of(self, configuration, label):
+        """The step of a label, or None where it isn't enabled."""
+        if isinstance(configuration, Ended):
+            return None
+        component = dict(configuration.components).get(label.path)
+        if component is None or not component.running:
+            return None
+        if label.kind == 0:
+            return self.statement_step(configuration, label.path)
+        for step in self.expiries(configuration, label.path, component):
+            if step.label == label:
+                return step
+        return None
 
     def drop_marks(self, draft, path):
         """A mark that stands first in the last frame is gone at once."""
@@ -2275,10 +2344,16 @@ class Machine:
 
     # Readings and stores.
 
-    def reading(self, draft, path):
+    def reading(self, draft, path, snapshot=None):
+        """What a component sees now; with a snapshot, its timers and all of
+        other components are as they were then."""
         component = draft.components[path]
-        return Reading(self.module, draft, ComponentReference(path, component.type),
-                       component.frames[-1], component.frames[0])
+        own, member = component.frames[-1], component.frames[0]
+        if snapshot is not None:
+            own = own._replace(timers=snapshot.timers)
+            member = member._replace(timers=snapshot.member_timers)
+        return Reading(self, draft if snapshot is None else snapshot,
+                       ComponentReference(path, component.type), own, member)
 
     def store(self, draft, path, home, names, value):
         """Stores at a path of names, in the last frame or in frame 0."""
@@ -2527,20 +2602,20 @@ class Machine:
 
     # Alternatives.
 
-    def alternative_step(self, draft, path, alternative):
+    def alternative_step(self, draft, path, alternative, snapshot):
         """Takes the branch that is chosen and gives its place, or None where
         there is no choice."""
-        choice = self.choose(draft, path, alternative)
+        choice = self.choose(draft, path, alternative, snapshot)
         if choice is None:
             return None
         self.replace_alternative(draft, path, alternative, choice)
         self.take_event(draft, path, choice)
         return choice.branch.place
 
-    def choose(self, draft, path, alternative):
+    def choose(self, draft, path, alternative, snapshot):
         """The first branch that can be taken: of the alt, then of the
         defaults, the latest first."""
-        reading = self.reading(draft, path)
+        reading = self.reading(draft, path, snapshot)
         choice = self.first_choice(reading, path, alternative.branches, ())
         if choice is not None:
             return choice
@@ -2564,7 +2639,8 @@ class Machine:
                 continue
             happens, port = self.happens(reading, path, branch.event)
             if happens:
-                return Choice(branch, callers, port)
+                message = None if port is None else reading.seen.front(path, port)
+                return Choice(branch, callers, port, message)
         return None
 
     def altstep_choice(self, reading, path, name, arguments, block_behind, callers):
@@ -2580,19 +2656,18 @@ class Machine:
         if isinstance(event, Timeout):
             return reading.timer_state(event.timer) == EXPIRED, None
         if isinstance(event, Done):
-            return reading.component(event.component) in reading.draft.terminated, None
+            return reading.seen.has_terminated(reading.component(event.component)), None
         if isinstance(event, AllDone):
             if path != MTC:
                 raise DynamicError("only the MTC may wait for all components")
-            return not any(component.running for other, component
-                           in reading.draft.components.items() if other != MTC), None
-        for number in self.ports_to_try(reading.draft.components[path], event.port):
+            return not reading.seen.others_run(), None
+        for number in self.ports_to_try(reading.self_reference.type, event.port):
             if self.front_is_taken(reading, path, event, number):
                 return True, number
         return False, None
 
-    def ports_to_try(self, component, port):
-        component_type = self.module.component_types[component.type]
+    def ports_to_try(self, type_name, port):
+        component_type = self.module.component_types[type_name]
         if port is None:
             return range(len(component_type.ports))
         return [component_type.port_number(port)]
@@ -2600,10 +2675,9 @@ class Machine:
     def front_is_taken(self, reading, path, event, number):
         """Whether a receive takes the front of a queue: type, then sender, then
         template; what comes behind a no isn't looked at."""
-        queue = reading.draft.components[path].queues[number]
-        if not queue:
+        front = reading.seen.front(path, number)
+        if front is None:
             return False
-        front = queue[0]
         if event.message is not None and event.message.type != front.type:
             return False
         if event.sender is not None:
@@ -2633,7 +2707,7 @@ class Machine:
         elif isinstance(event, Receive):
             queue = draft.components[path].queues[choice.port]
             self.change_queue(draft, path, choice.port, queue[1:])
-            self.redirect(draft, path, event, queue[0])
+            self.redirect(draft, path, event, choice.message)
 
     def redirect(self, draft, path, event, message):
         target = event.store_value
@@ -2779,13 +2853,13 @@ def read_label(line):
     return Label(path, 1, frame, found["timer"])
 
 
-def read_run(text):
+def read_run(text, read=read_label):
     """The labels of a run file, or the number of the first bad line."""
     labels = []
     for number, line in enumerate(text.split("\n"), start=1):
         line = line.strip("\t\x0b\x0c\r ")
         if line:
-            label = read_label(line)
+            label = read(line)
             if label is None:
                 return number
             labels.append(label)
@@ -2804,10 +2878,10 @@ def replay(text, name, run_text):
     machine = Machine(module, testcase)
     configuration = machine.start()
     for number, label in enumerate(labels, start=1):
-        ends = [step.end for step in machine.steps(configuration) if step.label == label]
-        if not ends:
+        step = machine.step_of(configuration, label)
+        if step is None:
             return f"refused N2 NotEnabled at label {number}\n"
-        configuration = ends[0]
+        configuration = step.end
     return f"replayed {len(labels)}\n{outcome(machine, configuration)}\n"
 
 

@@ -1,5 +1,5 @@
--- Words that have no fault give one of the three subcommands, with all that it takes.
-use Rattle.std.proofs.Common.{◌≡◌, ◌∙◌, ◌==◌, ◌-◌, ◌&&◌, ◌||◌, ℕ, Bool, cond, inl, inr, true, false, not, refl, sym, arith, List, [], ◌∷◌, Option, Some, None, is_some, option_map, codes, true≢false}
+-- Words that have no fault give one of the five subcommands, with all that it takes.
+use Rattle.std.proofs.Common.{◌≡◌, ◌∙◌, ◌==◌, ◌-◌, ◌&&◌, ◌||◌, ℕ, Bool, cond, inl, inr, true, false, not, refl, sym, subst, arith, List, [], ◌∷◌, Option, Some, None, is_some, option_map, codes, true≢false}
 use Rattle.std.specs.List.{find, list_any}
 use Rattle.std.specs.Prelude.{slice_get}
 use Rattle.std.specs.Option.{option_map_or}
@@ -17,9 +17,9 @@ use Rattle.clap.specs.declared.builder.value_parser.ValueParser.{ValueParser}
 use Rattle.clap.specs.declared.builder.value_parser.ValueParser.TheVariants as vp
 use Rattle.clap.proofs.ValueTestLemmas.{accepts-Accepts}
 use Rattle.command_line.specs.App.{ttcnx_app}
-use Rattle.command_line.specs.internal.Given.{GivesCommand, GivesFlag, GivesNumber, GivesReplay, GivesRun, GivesText}
+use Rattle.command_line.specs.internal.Given.{GivesCommand, GivesFlag, GivesNumber, GivesRun, GivesRunFile, GivesText}
 use Rattle.command_line.proofs.Walks.{IsNoHelp, none_of, walk_enters}
-use Rattle.command_line.proofs.Fills.{AllOf, Fills, FirstPasses, HasValue, level_values, no_check}
+use Rattle.command_line.proofs.Fills.{AllOf, Fills, FirstPasses, HasValue, IsWanted, level_values, no_check}
 
 -- ---- from a first value to what is read
 
@@ -72,8 +72,11 @@ run_built = at_nth app.subs 1
 abbrev replay_built : Shape
 replay_built = at_nth app.subs 2
 
-abbrev help_built : Shape
-help_built = at_nth app.subs 3
+abbrev coarsen_built : Shape
+coarsen_built = at_nth app.subs 3
+
+abbrev double_built : Shape
+double_built = at_nth app.subs 4
 
 abbrev rule_at : Shape → ℕ → Rule
 rule_at s n = nth_rule s.rules n
@@ -114,8 +117,12 @@ run_fills = (
   ),
 )
 
-replay_fills : AllOf (Fills replay_built.rules) replay_built.rules
-replay_fills = (
+-- the commands about a run have these arguments
+abbrev run_file_rules : List Rule
+run_file_rules = replay_built.rules
+
+run_file_fills : AllOf (Fills run_file_rules) run_file_rules
+run_file_fills = (
   record { own = refl; action = refl; full = inr (inl (omega arith)); defaults = tt },
   (
     record { own = refl; action = refl; full = inr (inl (omega arith)); defaults = tt },
@@ -151,24 +158,27 @@ run_given words e =
       json = flag_from _ _ refl (v.1.1.1.1.1.1.0 (inr tt));
     }
 
-replay_given : (words : List Text) → level_fault replay_built [] nothing_held words false [] ≡ [] → GivesReplay (rows_after replay_built.rules [] words)
-replay_given words e =
-    let v = level_values replay_built words replay_fills e in
+run_file_given : (s : Shape) → s.rules ≡ run_file_rules → (words : List Text) → level_fault s [] nothing_held words false [] ≡ [] → GivesRunFile (rows_after s.rules [] words)
+run_file_given s is words e =
+    let rows = rows_after s.rules [] words in
+    let fills = subst (λ rules. AllOf (Fills rules) rules) (sym is) run_file_fills in
+    let v = subst (AllOf (λ a. IsWanted a → HasValue rows a)) is (level_values s words fills e) in
     record {
-      file = text_from _ _ (v.0 (inl refl));
-      testcase = text_from _ _ (v.1.0 (inl refl));
-      run = text_from _ _ (v.1.1.0 (inl refl));
+      file = text_from rows _ (v.0 (inl refl));
+      testcase = text_from rows _ (v.1.0 (inl refl));
+      run = text_from rows _ (v.1.1.0 (inl refl));
     }
 
 -- ---- the subcommand at which the walk stops
 
-chosen : (T : Option Shape → Type 0) (w x y z : Bool) (a b c d : Shape) → T (Some a) → T (Some b) → T (Some c) → (z ≡ true → T (Some d)) → T None
-    → T (cond w (Some a) (cond x (Some b) (cond y (Some c) (cond z (Some d) None))))
-chosen T true x y z a b c d pa pb pc pd none = pa
-chosen T false true y z a b c d pa pb pc pd none = pb
-chosen T false false true z a b c d pa pb pc pd none = pc
-chosen T false false false true a b c d pa pb pc pd none = pd refl
-chosen T false false false false a b c d pa pb pc pd none = none
+chosen : (T : Option Shape → Type 0) (name : Text) (subs : List Shape) → AllOf (λ s. answers_to name (label_of s) ≡ true → T (Some s)) subs → T None
+    → T (find (λ s. answers_to name (label_of s)) subs)
+chosen T name [] all none = none
+chosen T name (s ∷ rest) all none = go (answers_to name (label_of s)) all.0 (chosen T name rest all.1 none)
+  where
+    go : (hit : Bool) → (hit ≡ true → T (Some s)) → T (find (λ x. answers_to name (label_of x)) rest) → T (cond hit (Some s) (find (λ x. answers_to name (label_of x)) rest))
+    go true here later = here refl
+    go false here later = later
 
 -- the level below has no fault, and is entered
 abbrev Gives : List Text → Option Shape → Type 0
@@ -186,10 +196,25 @@ not_help name other hit = go (bytes_eq (codes "help") name) refl hit
     go false is e = true≢false (sym e)
 
 entered_given : (p : Text × List Text) → bytes_eq p.0 (codes "help") ≡ false → Gives p.1 (find (λ s. answers_to p.0 (label_of s)) app.subs)
-entered_given p other = chosen (Gives p.1) (answers_to p.0 (label_of check_built)) (answers_to p.0 (label_of run_built)) (answers_to p.0 (label_of replay_built))
-    (answers_to p.0 (label_of help_built)) check_built run_built replay_built help_built
-    (λ e some. inl (refl, check_given p.1 e)) (λ e some. inr (inl (refl, run_given p.1 e))) (λ e some. inr (inr (refl, replay_given p.1 e)))
-    (λ hit e some. absurd (not_help p.0 other hit)) (λ e some. absurd (true≢false (sym some)))
+entered_given p other = chosen (Gives p.1) p.0 app.subs (
+  λ hit e some. inl (refl, check_given p.1 e),
+  (
+    λ hit e some. inr (inl (refl, run_given p.1 e)),
+    (
+      λ hit e some. inr (inr (inl refl, run_file_given replay_built refl p.1 e)),
+      (
+        λ hit e some. inr (inr (inr (inl refl), run_file_given coarsen_built refl p.1 e)),
+        (
+          λ hit e some. inr (inr (inr (inr refl), run_file_given double_built refl p.1 e)),
+          (
+            λ hit e some. absurd (not_help p.0 other hit),
+            tt,
+          ),
+        ),
+      ),
+    ),
+  ),
+) (λ e some. absurd (true≢false (sym some)))
 
 is_entered : (has : Bool) → (not has && true) ≡ false → has ≡ true
 is_entered true e = refl

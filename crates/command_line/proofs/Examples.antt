@@ -30,10 +30,18 @@ options_and_defaults : (value_in (codes "steps") (subcommand_of ttcnx_app (run_w
 unfolding clap_on_literals
 options_and_defaults = (refl, refl, refl, refl, refl)
 
-replay_has_its_run : option_map (λ p. first_of (codes "run") p.1)
-    (subcommand_of ttcnx_app (codes "replay" ∷ codes "x1.ttcn" ∷ codes "--run" ∷ codes "r.txt" ∷ codes "--testcase" ∷ codes "TC" ∷ [])) ≡ Some (Some (codes "r.txt"))
+abbrev run_file_in : Text → Option (Option Text)
+run_file_in name = option_map (λ p. first_of (codes "run") p.1)
+    (subcommand_of ttcnx_app (name ∷ codes "x1.ttcn" ∷ codes "--run" ∷ codes "r.txt" ∷ codes "--testcase" ∷ codes "TC" ∷ []))
+
+a_run_file_is_read : (run_file_in (codes "replay") ≡ Some (Some (codes "r.txt"))) × (run_file_in (codes "coarsen") ≡ Some (Some (codes "r.txt")))
+    × (run_file_in (codes "double") ≡ Some (Some (codes "r.txt")))
 unfolding clap_on_literals
-replay_has_its_run = refl
+a_run_file_is_read = (refl, refl, refl)
+
+a_run_file_is_needed : fault_of ttcnx_app (codes "coarsen" ∷ codes "x1.ttcn" ∷ codes "--testcase" ∷ codes "TC" ∷ []) ≡ MissingRequiredArgument ∷ []
+unfolding clap_on_literals
+a_run_file_is_needed = refl
 
 steps_are_needed : fault_of ttcnx_app (run_words []) ≡ MissingRequiredArgument ∷ []
 unfolding clap_on_literals

@@ -48,16 +48,20 @@ run_app = with_rule (with_rule (with_rule (with_rule (with_rule (testcase_app (c
     (number_option (codes "piece") 65536 (codes "256")))
     json_flag
 
--- `replay FILE --testcase NAME --run FILE`
-abbrev pub replay_app : App
-replay_app = with_rule (testcase_app (codes "replay")) (needed_option (codes "run"))
+-- a command about a run of a test case: `name FILE --testcase NAME --run FILE`
+abbrev pub run_file_app : Text → App
+run_file_app name = with_rule (testcase_app name) (needed_option (codes "run"))
 
 -- the words begin behind the program's name, and one of the commands has to be given
 abbrev pub bare_app : App
 bare_app = on_top (λ s. record s { no_binary_name = true; subcommand_required = true })
     (new_app (codes "ttcnx"))
 
--- `ttcnx` with its three commands
+-- `ttcnx` with its five commands
 abbrev pub ttcnx_app : App
-ttcnx_app = with_subcommand (with_subcommand (with_subcommand bare_app check_app.top) run_app.top)
-    replay_app.top
+ttcnx_app = with_subcommand (with_subcommand (with_subcommand (with_subcommand (with_subcommand bare_app
+    check_app.top)
+    run_app.top)
+    (run_file_app (codes "replay")).top)
+    (run_file_app (codes "coarsen")).top)
+    (run_file_app (codes "double")).top

@@ -9,7 +9,7 @@ use Rattle.clap.specs.declared.error.kind.ErrorKind.TheVariants.{DisplayHelp}
 use Rattle.search_layer.specs.Limits.{IsWithinLimits}
 use Rattle.search_layer.specs.declared.plan.Plan.{Plan}
 use Rattle.command_line.specs.declared.command.Line.{Line}
-use Rattle.command_line.specs.declared.command.Line.TheVariants.{Check, Run, Replay}
+use Rattle.command_line.specs.declared.command.Line.TheVariants.{Check, Run, Replay, Coarsen, Double}
 use Rattle.command_line.specs.declared.command.LineError.{LineError}
 use Rattle.command_line.specs.declared.command.LineError.TheVariants.{Help, Bad, Memory}
 
@@ -18,12 +18,16 @@ abbrev pub StaysWithinLimits : Line → Type 0
 StaysWithinLimits (Check file) = Unit {0}
 StaysWithinLimits (Run file testcase plan json) = IsWithinLimits plan
 StaysWithinLimits (Replay file testcase run) = Unit {0}
+StaysWithinLimits (Coarsen file testcase run) = Unit {0}
+StaysWithinLimits (Double file testcase run) = Unit {0}
 
 -- the subcommand that asks for this line
 abbrev pub subcommand_for : Line → Text
 subcommand_for (Check file) = codes "check"
 subcommand_for (Run file testcase plan json) = codes "run"
 subcommand_for (Replay file testcase run) = codes "replay"
+subcommand_for (Coarsen file testcase run) = codes "coarsen"
+subcommand_for (Double file testcase run) = codes "double"
 
 -- `text` is the value that the matches have for the argument `id`
 abbrev pub IsText : List Row → Text → Text → Type 0
@@ -45,6 +49,12 @@ pub record HasNumbers (matches : List Row) (plan : Plan) : Type 0 where
   pub workers : IsNumber matches (codes "workers") plan.workers
   pub piece : IsNumber matches (codes "piece") plan.piece
 
+-- the values of a command about a run: the file of the module, the test case, and the file of the run
+abbrev pub HasRunFile : List Row → Text → Text → Text → Type 0
+HasRunFile matches file testcase run = IsText matches (codes "FILE") file
+    × IsText matches (codes "testcase") testcase
+    × IsText matches (codes "run") run
+
 -- each part of the line is the value that the subcommand's matches have for the argument of its name
 abbrev pub HasValues : List Row → Line → Type 0
 HasValues matches (Check file) = IsText matches (codes "FILE") (string_bytes file)
@@ -52,9 +62,12 @@ HasValues matches (Run file testcase plan json) = IsText matches (codes "FILE") 
     × IsText matches (codes "testcase") (string_bytes testcase)
     × HasNumbers matches plan
     × IsFlag matches (codes "json") json
-HasValues matches (Replay file testcase run) = IsText matches (codes "FILE") (string_bytes file)
-    × IsText matches (codes "testcase") (string_bytes testcase)
-    × IsText matches (codes "run") (string_bytes run)
+HasValues matches (Replay file testcase run) =
+    HasRunFile matches (string_bytes file) (string_bytes testcase) (string_bytes run)
+HasValues matches (Coarsen file testcase run) =
+    HasRunFile matches (string_bytes file) (string_bytes testcase) (string_bytes run)
+HasValues matches (Double file testcase run) =
+    HasRunFile matches (string_bytes file) (string_bytes testcase) (string_bytes run)
 
 -- the error fits the faults that clap finds in the words: help is given where that is one of them,
 -- words are refused where another is, and memory may run out at any words

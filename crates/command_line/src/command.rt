@@ -6,11 +6,12 @@ ghost use Rattle.clap.specs.Words.{subcommand_rows_of, takes};
 ghost use Rattle.clap.specs.Walk.{texts};
 ghost use Rattle.search_layer.specs.Limits.{IsWithinLimits};
 ghost use Rattle.command_line.specs.App.{ttcnx_app};
-ghost use Rattle.command_line.specs.Command.{HasNumbers, HasValues, IsExplained, IsFlag, IsMemory};
-ghost use Rattle.command_line.specs.Command.{IsNumber, IsText, StaysWithinLimits, subcommand_for};
+ghost use Rattle.command_line.specs.Command.{HasNumbers, HasRunFile, HasValues, IsExplained, IsFlag};
+ghost use Rattle.command_line.specs.Command.{IsMemory, IsNumber, IsText, StaysWithinLimits};
+ghost use Rattle.command_line.specs.Command.{subcommand_for};
 ghost use Rattle.command_line.specs.internal.Answer.{IsAnswer};
 ghost use Rattle.command_line.specs.internal.Given.{GivesCommand, GivesFlag, GivesNumber};
-ghost use Rattle.command_line.specs.internal.Given.{GivesPlan, GivesReplay, GivesRun, GivesText};
+ghost use Rattle.command_line.specs.internal.Given.{GivesPlan, GivesRun, GivesRunFile, GivesText};
 
 use crate::definition::command;
 use clap::error::ErrorKind;
@@ -36,6 +37,20 @@ pub enum Line {
     },
     /// To follow a run of a test case.
     Replay {
+        file: String,
+        testcase: String,
+        /// The file of the run.
+        run: String,
+    },
+    /// To turn a fine run of a test case into the run that it stands for.
+    Coarsen {
+        file: String,
+        testcase: String,
+        /// The file of the fine run.
+        run: String,
+    },
+    /// To turn a run of a test case into a fine run, where each choice is apart from its snapshot.
+    Double {
         file: String,
         testcase: String,
         /// The file of the run.
@@ -117,8 +132,45 @@ fn line_of(alloc: Global, matches: &ArgMatches<'_>) -> Result<Line, AllocError>
             json: flag_of(given, "json"),
         });
     }
-    let given = matches.subcommand_matches("replay").unwrap();
-    Ok(Line::Replay {
+    if let Some(given) = matches.subcommand_matches("replay") {
+        let parts = run_file_of(alloc, given)?;
+        return Ok(Line::Replay {
+            file: parts.file,
+            testcase: parts.testcase,
+            run: parts.run,
+        });
+    }
+    if let Some(given) = matches.subcommand_matches("coarsen") {
+        let parts = run_file_of(alloc, given)?;
+        return Ok(Line::Coarsen {
+            file: parts.file,
+            testcase: parts.testcase,
+            run: parts.run,
+        });
+    }
+    let given = matches.subcommand_matches("double").unwrap();
+    let parts = run_file_of(alloc, given)?;
+    Ok(Line::Double {
+        file: parts.file,
+        testcase: parts.testcase,
+        run: parts.run,
+    })
+}
+
+/// What a command about a run is given.
+#[derive(Drop)]
+struct RunFile {
+    file: String,
+    testcase: String,
+    run: String,
+}
+
+fn run_file_of(alloc: Global, given: &ArgMatches<'_>) -> Result<RunFile, AllocError>
+    requires { GivesRunFile (rows_of (found_of given.now)) }
+    ensures { IfOk result (λ parts. HasRunFile (rows_of (found_of given.now))
+        (string_bytes parts.file) (string_bytes parts.testcase) (string_bytes parts.run)) }
+{
+    Ok(RunFile {
         file: text_of(alloc, given, "FILE")?,
         testcase: text_of(alloc, given, "testcase")?,
         run: text_of(alloc, given, "run")?,

@@ -3,7 +3,7 @@ ghost use Rattle.std.specs.Prelude.{◌≡◌, IfOk, false};
 ghost use Rattle.clap.specs.Words.{app_of, rule_of};
 ghost use Rattle.clap.specs.declared.builder.command.Command.TheViews.{out-Command as fields_of};
 ghost use Rattle.command_line.specs.App.{check_app, file_word, needed_option, number_option};
-ghost use Rattle.command_line.specs.App.{replay_app, run_app, steps_option, ttcnx_app};
+ghost use Rattle.command_line.specs.App.{run_app, run_file_app, steps_option, ttcnx_app};
 ghost use Rattle.std.specs.Prelude.{codes};
 
 use clap::{Arg, ArgAction, Command, value_parser};
@@ -20,7 +20,24 @@ pub(crate) fn command<'a>(alloc: Global) -> Result<Command<'a>, AllocError>
         .subcommand_required(true)
         .subcommand(check_command(alloc)?)?
         .subcommand(run_command(alloc)?)?
-        .subcommand(replay_command(alloc)?)
+        .subcommand(run_file_command(
+            alloc,
+            "replay",
+            "Follows a run of a test case",
+            "The file of the run, with a label a line",
+        )?)?
+        .subcommand(run_file_command(
+            alloc,
+            "coarsen",
+            "Turns a fine run of a test case into the run that it stands for",
+            "The file of the fine run, with a label a line",
+        )?)?
+        .subcommand(run_file_command(
+            alloc,
+            "double",
+            "Turns a run of a test case into a fine run: each choice apart from its snapshot",
+            "The file of the run, with a label a line",
+        )?)
 }
 
 fn check_command<'a>(alloc: Global) -> Result<Command<'a>, AllocError>
@@ -60,17 +77,23 @@ fn run_command<'a>(alloc: Global) -> Result<Command<'a>, AllocError>
         .arg(json)
 }
 
-fn replay_command<'a>(alloc: Global) -> Result<Command<'a>, AllocError>
-    ensures app { IfOk result (λ c. app_of c ≡ replay_app) }
+/// A command about a run of a test case, which stands in a file.
+fn run_file_command<'a>(
+    alloc: Global,
+    name: &'a str,
+    about: &'a str,
+    run_help: &'a str,
+) -> Result<Command<'a>, AllocError>
+    ensures app { IfOk result (λ c. app_of c ≡ run_file_app name.entry.now) }
     ensures local { IfOk result (λ c. (fields_of c).has_globals ≡ false) }
 {
     let run = Arg::new(alloc, "run")
         .long("run")
         .value_name("FILE")
         .required(true)
-        .help("The file of the run, with a label a line");
-    Command::new(alloc, "replay")
-        .about("Follows a run of a test case")
+        .help(run_help);
+    Command::new(alloc, name)
+        .about(about)
         .arg(file(alloc))?
         .arg(testcase(alloc))?
         .arg(run)

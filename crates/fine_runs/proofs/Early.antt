@@ -60,7 +60,7 @@ made-itself (Starts path frame own) x = refl
 made-itself (Stops path own) x = refl
 made-itself (Connects d e own) x = refl
 
-made-state : (a : Act) (x : Component) → (made_by a x).state ≡ x.state
+pub made-state : (a : Act) (x : Component) → (made_by a x).state ≡ x.state
 made-state Waits x = refl
 made-state (Errs why) x = refl
 made-state (Continues own) x = refl

@@ -90,7 +90,7 @@ outcome-is test c x (Connects d e own) runs only = tt
 abbrev pub IsMore : Path → Snapshot → Pending → Pending → Type 0
 IsMore p snapshot pending others = (others p ≡ Some snapshot) × (pending p ≡ None) × ((q : Path) → same_path q p ≡ false → others q ≡ pending q)
 
-made-path : (a : Act) (x : Component) → path_of (made_by a x) ≡ path_of x
+pub made-path : (a : Act) (x : Component) → path_of (made_by a x) ≡ path_of x
 made-path Waits x = refl
 made-path (Errs why) x = refl
 made-path (Continues own) x = refl
@@ -171,7 +171,7 @@ abbrev with_own : Component → Data → Component
 with_own x own = record { itself = x.itself; own = own; state = x.state; verdict = x.verdict; queues = x.queues }
 
 -- an expiry behind an early choice is the early choice behind the expiry
-made-lapses : (n : ℕ) (name : List ℕ) (a : Act) (x : Component) → IsOfAlt a → exchanged (lapsed n name (made_by a x).own) (made_by a x) ≡ made_by (asked (lapsed n name) a) (exchanged (lapsed n name x.own) x)
+pub made-lapses : (n : ℕ) (name : List ℕ) (a : Act) (x : Component) → IsOfAlt a → exchanged (lapsed n name (made_by a x).own) (made_by a x) ≡ made_by (asked (lapsed n name) a) (exchanged (lapsed n name x.own) x)
 made-lapses n name Waits x is = refl
 made-lapses n name (Errs why) x is = refl
 made-lapses n name (Continues own) x is = ap (with_own x) (sym (uncovered-lapses n name own))

@@ -1,5 +1,5 @@
 -- Fine runs of modules that break no rule of the checker.
-use Rattle.std.proofs.Common.{◌≡◌, ◌∙◌, ℕ, true, false, List, [], ◌∷◌, map, bytes_eq, Option, Some, None, Ok, IfSome, ◌↔◌, refl, sym, subst, ap}
+use Rattle.std.proofs.Common.{◌≡◌, ◌∙◌, ℕ, true, false, List, [], ◌∷◌, map, bytes_eq, Option, Some, None, Result, Ok, Err, IfSome, ◌↔◌, refl, sym, subst, ap}
 use Rattle.std.specs.List.{AllPairs}
 use Rattle.std.specs.Option.{option_and_then}
 use Rattle.ttcn_syntax.specs.declared.tree.statement.Action.{Action}
@@ -13,6 +13,7 @@ use Rattle.ttcn_syntax.specs.declared.tree.statement.Statement.{Statement}
 use Rattle.ttcn_syntax.specs.declared.tree.statement.Verdict.{Verdict}
 use Rattle.fine_runs.proofs.EarlySteps.{expires-to}
 use Rattle.fine_runs.proofs.Fronts.{PortsDiffer}
+use Rattle.fine_runs.proofs.Holds.{RunsAlike, runs-alike, start-held}
 use Rattle.fine_runs.proofs.Kept.{IsApart, IsApartAt}
 use Rattle.fine_runs.proofs.Lapses.{lapsed}
 use Rattle.fine_runs.proofs.Leading.{fine_of, fine_run}
@@ -21,9 +22,12 @@ use Rattle.fine_runs.proofs.Origins.{HasEvent, WaitsFor}
 use Rattle.fine_runs.proofs.Replays.{coarse-runs, doubled_runs, fine-leads, start-sound}
 use Rattle.fine_runs.proofs.Sound.{HoldsIn, IsKeptBySteps, IsSound, IsSoundIn, Stores, found-stands, moved-sound}
 use Rattle.fine_runs.proofs.Stays.{AscendsIn}
+use Rattle.fine_runs.proofs.Told.{gathered-is, told}
 use Rattle.fine_runs.specs.Doubling.{doubled}
 use Rattle.fine_runs.specs.Fates.{coarse}
 use Rattle.fine_runs.specs.Fine.{Choose, Fine, FineLabel, Plain, Snap, Stored, fine_next, fine_replay, chosen, fine_start, is_found, stands_at_alt, still_stored, stored_at, without_stored}
+use Rattle.fine_runs.specs.Gathering.{Told, gathered}
+use Rattle.fine_runs.specs.Holding.{Holding, hold_run, hold_start}
 use Rattle.fine_runs.specs.Verdicts.{EndsFinelyWith, EndsWith}
 use Rattle.site_laws.proofs.Awaited.{awaited_outside}
 use Rattle.site_laws.proofs.Firsts.{queues_differ}
@@ -215,3 +219,25 @@ run-none test (label ∷ labels) f g is e = some-none test labels f g label (fin
 
 pub ended_none : (test : Test) (labels : List FineLabel) (f : Fine) (v : Verdict) → fine_replay test labels ≡ Ok f → f.now ≡ Ended v → f.stored ≡ []
 ended_none test labels f v e ended = run-none test labels (fine_start test) f (λ w same. refl) (fine-leads test labels 1 (fine_start test) f e) v ended
+
+-- ---- what a program holds
+
+-- what is held leads where the fine labels lead, and what is told of choices gives the run that they stand for
+abbrev pub TellsRun : Test → List FineLabel → Result (Holding × List Told) ℕ → Result Fine ℕ → Type 0
+TellsRun test labels (Ok made) (Ok f) = (made.0.now ≡ f.now) × (gathered made.1 ≡ coarse test labels)
+TellsRun test labels (Ok made) (Err k) = ⊥
+TellsRun test labels (Err k) (Ok f) = ⊥
+TellsRun test labels (Err k) (Err j) = k ≡ j
+
+run-told : (test : Test) (labels : List FineLabel) (made : Result (Holding × List Told) ℕ) (o : Result Fine ℕ) → fine_replay test labels ≡ o → RunsAlike made o (told test (fine_start test) labels) → TellsRun test labels made o
+run-told test labels (Ok made) (Ok f) e alike =
+    (alike.0, ap gathered alike.1 ∙ gathered-is test labels (fine_start test) f (fine-leads test labels 1 (fine_start test) f e))
+run-told test labels (Ok made) (Err k) e alike = absurd alike
+run-told test labels (Err k) (Ok f) e alike = absurd alike
+run-told test labels (Err k) (Err j) e alike = alike
+
+pub held_runs : (test : Test) (labels : List FineLabel) → AreWellTyped test.definitions → TellsRun test labels (hold_run test labels) (fine_replay test labels)
+held_runs test labels well =
+    run-told test labels (hold_run test labels) (fine_replay test labels) refl
+    (runs-alike (Stands test) test (stands-kept test well) labels 1 (hold_start test) (fine_start test) []
+    (record { now = refl; sound = start-sound (Stands test) test (start test) (start-ascends test) (start-holds test well); held = start-held test (start test) }))

@@ -7,8 +7,11 @@ pub mod EarlySteps
 pub mod Ends
 pub mod Finding
 pub mod Fronts
+pub mod Held
+pub mod Holds
 pub mod Kept
 pub mod Lapses
+pub mod Later
 pub mod Laws
 pub mod Leading
 pub mod Moves
@@ -19,3 +22,4 @@ pub mod Replays
 pub mod Returning
 pub mod Sound
 pub mod Stays
+pub mod Told

@@ -101,7 +101,7 @@ runs_at c p = is_found (λ component. is_running_state component.state) (compone
 still-told : (c : Going) (stored : Stored) (p : Path) (s : Snapshot) → stored_at (still_stored (Goes c) stored) p ≡ Some s → (runs_at c p ≡ true) × (stored_at stored p ≡ Some s)
 still-told c stored p s e = if-some (runs_at c p) (stored_at stored p) s (sym (filtered-at (runs_at c) p stored) ∙ e)
 
-without-told : (q p : Path) (stored : Stored) (s : Snapshot) → stored_at (without_stored q stored) p ≡ Some s → (same_path p q ≡ false) × (stored_at stored p ≡ Some s)
+pub without-told : (q p : Path) (stored : Stored) (s : Snapshot) → stored_at (without_stored q stored) p ≡ Some s → (same_path p q ≡ false) × (stored_at stored p ≡ Some s)
 without-told q p stored s e =
     let both = if-some (not (same_path p q)) (stored_at stored p) s (sym (filtered-at (λ d. not (same_path d q)) p stored) ∙ e) in
     (flip (same_path p q) both.0, both.1)
@@ -195,7 +195,7 @@ follows-kept snapshot x y follows kept = record {
 }
 
 -- what it chooses stays the same
-asked-fate : (f : Data → Data) (a : Act) → fate_of (asked f a) ≡ fate_of a
+pub asked-fate : (f : Data → Data) (a : Act) → fate_of (asked f a) ≡ fate_of a
 asked-fate f Waits = refl
 asked-fate f (Errs why) = refl
 asked-fate f (Continues own) = refl

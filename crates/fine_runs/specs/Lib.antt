@@ -1,4 +1,6 @@
 pub mod Fine
 pub mod Fates
+pub mod Gathering
 pub mod Doubling
+pub mod Holding
 pub mod Verdicts

@@ -1,7 +1,9 @@
 pub mod Blanks
 pub mod Cuts
 pub mod Digits
+pub mod Fine
 pub mod Lines
 pub mod Pieces
 pub mod Plain
+pub mod Readings
 pub mod Wholes

@@ -1,183 +1,43 @@
--- What lines and run files read as.
-use Rattle.std.proofs.Common.{◌≡◌, ◌≢◌, ℕ, ◌+◌, ◌<◌, Bool, not, false, true, List, [], ◌∷◌, ◌++◌, length, get_or, take, drop, sym, refl, ap, ◌∙◌, subst, arith, append-nil, add-one, suc, ◌⊎◌, inl, inr}
-use Rattle.std.proofs.lemmas.List.{length-take-le, take-append-drop, take_all, take_more}
-use Rattle.std.proofs.lemmas.List.Elements.{filter-append}
-use Rattle.std.specs.List.{AllZip, filter, list_all}
-use Rattle.report.specs.Labels.{label_text}
-use Rattle.report.specs.Runs.{IsFirstBad, IsProper, ReadsAs, ReadsRun, has_text}
-use Rattle.report.specs.internal.Reader.{IsNoLabel, without_blanks_behind, without_blanks_before}
-use Rattle.report.proofs.Blanks.{blank_core, blank_line, line_parts, text_between}
-use Rattle.report.proofs.Cuts.{AllZip-more}
+-- What the lines of run files read as.
+use Rattle.std.proofs.Common.{◌≡◌, ℕ, List}
+use Rattle.report.specs.Labels.{fine_text, label_text}
+use Rattle.report.specs.Runs.{IsFirstBad, IsFirstBadFine, IsProper, IsProperFine, ReadsAs, ReadsFineRun, ReadsFinelyAs, ReadsRun}
+use Rattle.report.proofs.Fine.{fine_ends, fine_same}
+use Rattle.report.proofs.Readings.{all_same, first_same, none_unread, one_label, text_read}
 use Rattle.report.proofs.Wholes.{label_ends, label_same}
-use Rattle.std.proofs.Math.Seq.{drop-cons}
+use Rattle.step_labels.specs.declared.fine.FineLabel.{FineLabel}
 use Rattle.step_labels.specs.declared.label.Label.{Label}
-use Rattle.ttcn_syntax.specs.Characters.{is_blank}
 
--- ---- one line
+-- ---- runs
 
-pub no_content : (line core : List ℕ) → core ≡ without_blanks_behind (without_blanks_before line) → length core ≡ 0 → has_text line ≡ false
-no_content line [] is empty = ap not (blank_line line (sym is))
-no_content line (b ∷ core) is empty = absurd (omega arith)
-
-content_at : (line : List ℕ) (b : Bool) → list_all is_blank line ≡ b → without_blanks_behind (without_blanks_before line) ≢ [] → not b ≡ true
-content_at line true is some = absurd (some (blank_core line is))
-content_at line false is some = refl
-
-some_content : (line core : List ℕ) → core ≡ without_blanks_behind (without_blanks_before line) → length core ≢ 0 → has_text line ≡ true
-some_content line core is some = content_at line (list_all is_blank line) refl (λ none. some (ap length (is ∙ none)))
-
-pub content_label : (line core : List ℕ) (label : Label) → core ≡ without_blanks_behind (without_blanks_before line) → length core ≢ 0
-    → core ≡ label_text label → IsProper label → (has_text line ≡ true) × ReadsAs line label
-content_label line core label is some written proper =
-    let parts = line_parts line in
-    let text : without_blanks_behind (without_blanks_before line) ≡ label_text label = sym is ∙ written in (
-      some_content line core is some,
-      record {
-        before = parts.0;
-        behind = parts.1;
-        blank_before = parts.2;
-        blank_behind = parts.3;
-        whole = parts.4 ∙ ap (λ t. parts.0 ++ (t ++ parts.1)) text;
-        proper = proper;
-      },
-    )
-
--- a line that reads as a label has its text between its blanks
-line_core : (line : List ℕ) (label : Label) → ReadsAs line label → without_blanks_behind (without_blanks_before line) ≡ label_text label
-line_core line label reads =
-    let last = label_ends label reads.proper in
-    ap (λ t. without_blanks_behind (without_blanks_before t)) reads.whole
-    ∙ text_between reads.before (label_text label) reads.behind _ last.0 109 last.1 reads.blank_before reads.blank_behind refl refl last.2 last.3
-
-pub content_bad : (line core : List ℕ) → core ≡ without_blanks_behind (without_blanks_before line) → length core ≢ 0 → IsNoLabel core
-    → (has_text line ≡ true) × ((label : Label) → ReadsAs line label → ⊥)
-content_bad line core is some bad = (some_content line core is some, λ label reads. bad label reads.proper (is ∙ line_core line label reads))
-
--- ---- what a run file can read as
-
--- a line reads as at most one label
-pub line_same : (line : List ℕ) (one other : Label) → ReadsAs line one → ReadsAs line other → one ≡ other
-line_same line one other first second =
-    label_same (without_blanks_behind (without_blanks_before line)) one other first.proper second.proper (line_core line one first) (line_core line other second)
-
--- a label's text reads as the label
 pub text_reads : (label : Label) → IsProper label → ReadsAs (label_text label) label
-text_reads label proper = record {
-  before = [];
-  behind = [];
-  blank_before = refl;
-  blank_behind = refl;
-  whole = sym (append-nil (label_text label));
-  proper = proper;
-}
+text_reads = text_read Label label_text IsProper
 
--- ---- line by line
-
-line_more : (lines : List (List ℕ)) (k : ℕ) (line : List ℕ) → (k < length lines) × (line ≡ get_or lines k line)
-    → filter has_text (take (k + 1) lines) ≡ filter has_text (take k lines) ++ filter has_text (line ∷ [])
-line_more lines k line turn =
-    ap (filter has_text) (take_more lines k line turn.0 ∙ ap (λ t. take k lines ++ t ∷ []) (sym turn.1)) ∙ filter-append has_text (take k lines) (line ∷ [])
-
-pub run_blank : (lines : List (List ℕ)) (k count : ℕ) (line : List ℕ) (labels : List Label) → count ≡ k + 1 → (k < length lines) × (line ≡ get_or lines k line)
-    → has_text line ≡ false → ReadsRun (take k lines) labels → ReadsRun (take count lines) labels
-run_blank lines k count line labels counted turn blank reads =
-    let none : filter has_text (line ∷ []) ≡ [] = rw blank in
-    let same : filter has_text (take k lines) ≡ filter has_text (take count lines) =
-    sym (ap (λ n. filter has_text (take n lines)) counted ∙ (line_more lines k line turn ∙ (ap (λ t. filter has_text (take k lines) ++ t) none ∙ append-nil (filter has_text (take k lines))))) in
-    subst (λ t. AllZip ReadsAs t labels) same reads
-
-pub run_label : (lines : List (List ℕ)) (k count : ℕ) (line : List ℕ) (label : Label) (labels new : List Label) → count ≡ k + 1 → (k < length lines) × (line ≡ get_or lines k line)
-    → (has_text line ≡ true) × ReadsAs line label → new ≡ labels ++ label ∷ [] → ReadsRun (take k lines) labels → ReadsRun (take count lines) new
-run_label lines k count line label labels new counted turn here pushed reads =
-    let one : filter has_text (line ∷ []) ≡ line ∷ [] = rw (here.0) in
-    let same : filter has_text (take k lines) ++ line ∷ [] ≡ filter has_text (take count lines) =
-    sym (ap (λ n. filter has_text (take n lines)) counted ∙ (line_more lines k line turn ∙ ap (λ t. filter has_text (take k lines) ++ t) one)) in
-    subst (AllZip ReadsAs (filter has_text (take count lines))) (sym pushed)
-    (subst (λ t. AllZip ReadsAs t (labels ++ label ∷ [])) same (AllZip-more ReadsAs (filter has_text (take k lines)) labels line label reads here.1))
-
-rest_from : (lines : List (List ℕ)) (k : ℕ) (line : List ℕ) → (k < length lines) × (line ≡ get_or lines k line) → drop k lines ≡ line ∷ drop (k + 1) lines
-rest_from lines k line turn = rw (add-one, drop-cons lines k line turn.0) (ap (λ t. t ∷ drop (suc k) lines) (sym turn.1))
-
-pub run_bad : (lines : List (List ℕ)) (k number : ℕ) (line : List ℕ) (labels : List Label) → number ≡ k + 1 → (k < length lines) × (line ≡ get_or lines k line)
-    → (has_text line ≡ true) × ((label : Label) → ReadsAs line label → ⊥) → ReadsRun (take k lines) labels → IsFirstBad lines number
-run_bad lines k number line labels counted turn here reads = record {
-  before = take k lines;
-  line = line;
-  behind = drop (k + 1) lines;
-  whole = sym (take-append-drop k lines) ∙ ap (λ t. take k lines ++ t) (rest_from lines k line turn);
-  number_is = counted ∙ ap (λ n. n + 1) (sym (length-take-le k lines (omega arith)));
-  labels = labels;
-  reads = reads;
-  text = here.0;
-  bad = here.1;
-}
-
-pub run_all : (lines : List (List ℕ)) (k : ℕ) (labels : List Label) → k ≡ length lines → ReadsRun (take k lines) labels → ReadsRun lines labels
-run_all lines k labels every reads = subst (λ t. ReadsRun t labels) (take_all k lines (omega arith)) reads
-
--- ---- a run file reads in one way
-
-zip_same : (lines : List (List ℕ)) (labels others : List Label) → AllZip ReadsAs lines labels → AllZip ReadsAs lines others → labels ≡ others
-zip_same [] [] [] one other = refl
-zip_same [] [] (l ∷ others) one other = absurd other
-zip_same [] (l ∷ labels) others one other = absurd one
-zip_same (line ∷ lines) [] others one other = absurd one
-zip_same (line ∷ lines) (l ∷ labels) [] one other = absurd other
-zip_same (line ∷ lines) (l ∷ labels) (m ∷ others) one other =
-    rw (line_same line l m one.0 other.0, zip_same lines labels others one.1 other.1)
+pub line_same : (line : List ℕ) (one other : Label) → ReadsAs line one → ReadsAs line other → one ≡ other
+line_same = one_label Label label_text IsProper label_ends label_same
 
 pub run_same : (lines : List (List ℕ)) (labels others : List Label) → ReadsRun lines labels → ReadsRun lines others → labels ≡ others
-run_same lines labels others one other = zip_same (filter has_text lines) labels others one other
+run_same = all_same Label ReadsAs line_same
 
-zip_at : (before : List (List ℕ)) (line : List ℕ) (behind : List (List ℕ)) (labels : List Label) → AllZip ReadsAs (before ++ line ∷ behind) labels → (label : Label) × ReadsAs line label
-zip_at [] line behind [] reads = absurd reads
-zip_at [] line behind (l ∷ labels) reads = (l, reads.0)
-zip_at (first ∷ before) line behind [] reads = absurd reads
-zip_at (first ∷ before) line behind (l ∷ labels) reads = zip_at before line behind labels reads.1
-
-read_at : (lines before : List (List ℕ)) (line : List ℕ) (behind : List (List ℕ)) (labels : List Label) → lines ≡ before ++ line ∷ behind → has_text line ≡ true
-    → ReadsRun lines labels → (label : Label) × ReadsAs line label
-read_at lines before line behind labels whole text reads =
-    let kept : filter has_text (line ∷ behind) ≡ line ∷ filter has_text behind = rw text in
-    let parts : filter has_text lines ≡ filter has_text before ++ line ∷ filter has_text behind =
-    ap (filter has_text) whole ∙ (filter-append has_text before (line ∷ behind) ∙ ap (λ t. filter has_text before ++ t) kept) in
-    zip_at (filter has_text before) line (filter has_text behind) labels (subst (λ t. AllZip ReadsAs t labels) parts reads)
-
--- a run file that reads as a run has no line that is bad
 pub run_has_no_bad : (lines : List (List ℕ)) (labels : List Label) (number : ℕ) → ReadsRun lines labels → IsFirstBad lines number → ⊥
-run_has_no_bad lines labels number reads first =
-    let found = read_at lines first.before first.line first.behind labels first.whole first.text reads in
-    first.bad found.0 found.1
+run_has_no_bad = none_unread Label ReadsAs
 
-cons_same : (x y : List ℕ) (xs ys : List (List ℕ)) → x ≡ y → xs ≡ ys → x ∷ xs ≡ y ∷ ys
-cons_same x y xs ys first rest = cc
-
-longer_front : (xs : List (List ℕ)) (x : List ℕ) (ys us : List (List ℕ)) (v : List ℕ) (vs : List (List ℕ)) → xs ++ x ∷ ys ≡ us ++ v ∷ vs → length xs < length us
-    → (ws : List (List ℕ)) × (us ≡ xs ++ x ∷ ws)
-longer_front xs x ys [] v vs is shorter = absurd (omega arith)
-longer_front [] x ys (u ∷ us) v vs is shorter = let same : x ≡ u = cc in (us, ap (λ t. t ∷ us) (sym same))
-longer_front (y ∷ xs) x ys (u ∷ us) v vs is shorter =
-    let rest : xs ++ x ∷ ys ≡ us ++ v ∷ vs = cc in
-    let same : y ≡ u = cc in
-    let found = longer_front xs x ys us v vs rest (omega arith) in
-    (found.0, cons_same u y us (xs ++ x ∷ found.0) (sym same) found.1)
-
-not_later : (lines : List (List ℕ)) (m n : ℕ) (one : IsFirstBad lines m) (other : IsFirstBad lines n) → length one.before < length other.before → ⊥
-not_later lines m n one other shorter =
-    let longer = longer_front one.before one.line one.behind other.before other.line other.behind (sym one.whole ∙ other.whole) shorter in
-    let found = read_at other.before one.before one.line longer.0 other.labels longer.1 one.text other.reads in
-    one.bad found.0 found.1
-
-cases_lt : (a b : ℕ) → (a < b) ⊎ ((a ≡ b) ⊎ (b < a))
-cases_lt a b = grind arith
-
--- one line is the first that is bad
 pub first_bad_same : (lines : List (List ℕ)) (m n : ℕ) → IsFirstBad lines m → IsFirstBad lines n → m ≡ n
-first_bad_same lines m n one other =
-    elim (cases_lt (length one.before) (length other.before)) [
-      | inl shorter ↦ absurd (not_later lines m n one other shorter)
-      | inr later ↦ elim later [
-        | inl same ↦ one.number_is ∙ (ap (λ k. k + 1) same ∙ sym other.number_is)
-        | inr longer ↦ absurd (not_later lines n m other one longer)
-      ]
-    ]
+first_bad_same = first_same Label ReadsAs
+
+-- ---- fine runs
+
+pub fine_text_reads : (label : FineLabel) → IsProperFine label → ReadsFinelyAs (fine_text label) label
+fine_text_reads = text_read FineLabel fine_text IsProperFine
+
+pub fine_line_same : (line : List ℕ) (one other : FineLabel) → ReadsFinelyAs line one → ReadsFinelyAs line other → one ≡ other
+fine_line_same = one_label FineLabel fine_text IsProperFine fine_ends fine_same
+
+pub fine_run_same : (lines : List (List ℕ)) (labels others : List FineLabel) → ReadsFineRun lines labels → ReadsFineRun lines others → labels ≡ others
+fine_run_same = all_same FineLabel ReadsFinelyAs fine_line_same
+
+pub fine_run_has_no_bad : (lines : List (List ℕ)) (labels : List FineLabel) (number : ℕ) → ReadsFineRun lines labels → IsFirstBadFine lines number → ⊥
+fine_run_has_no_bad = none_unread FineLabel ReadsFinelyAs
+
+pub first_bad_fine_same : (lines : List (List ℕ)) (m n : ℕ) → IsFirstBadFine lines m → IsFirstBadFine lines n → m ≡ n
+first_bad_fine_same = first_same FineLabel ReadsFinelyAs

@@ -6,9 +6,9 @@ use Rattle.std.specs.Char.{encode_utf8}
 use Rattle.std.specs.Fmt.{decimal}
 use Rattle.std.specs.List.{AllByRecursion, flat_map, list_all, list_any}
 use Rattle.std.specs.Option.{MatchOption}
-use Rattle.report.specs.Labels.{expiry_text, label_text, name_text, number_text}
+use Rattle.report.specs.Labels.{expiry_text, label_text, name_text, number_text, path_text}
 use Rattle.report.specs.Runs.{IsProper, IsProperExpiry, IsSmall, is_timer_name}
-use Rattle.report.specs.internal.Reader.{IsCut, IsNoExpiry, IsNoLabel, IsNoNumber, IsNoPath, IsPath, TellsExpiry, lacks}
+use Rattle.report.specs.internal.Reader.{HasBareEnds, IsCut, IsNoExpiry, IsNoLabel, IsNoNumber, IsNoPath, IsPath, TellsExpiry, lacks}
 use Rattle.report.proofs.Cuts.{cut_none, cut_same, path_lacks_slash, path_same}
 use Rattle.report.proofs.Digits.{decimal_lacks, decimal_no_blank, number_same}
 use Rattle.step_labels.specs.declared.label.Expiry.{Expiry}
@@ -157,9 +157,25 @@ ends x (y ∷ xs) h =
     let found = ends y xs (or_false (is_blank x) (list_any is_blank (y ∷ xs)) h).1 in
     (x ∷ found.0, found.1, ap (λ t. x ∷ t) found.2, found.3)
 
--- a label's text ends with no blank
-pub label_ends : (label : Label) → IsProper label → (front : List ℕ) × (last : ℕ) × (label_text label ≡ front ++ last ∷ []) × (is_blank last ≡ false)
-label_ends label proper = ends 109 (116 ∷ 99 ∷ (flat_map number_text label.component ++ expiry_text label.expiry)) (label_no_blank label proper)
+bare : (first : ℕ) (others : List ℕ) → no_blank (first ∷ others) → HasBareEnds (first ∷ others)
+bare first others h =
+    let end = ends first others h in
+    record {
+      first = first;
+      others = others;
+      begins = refl;
+      no_blank_first = (or_false (is_blank first) (list_any is_blank others) h).0;
+      front = end.0;
+      last = end.1;
+      ends = end.2;
+      no_blank_last = end.3;
+    }
+
+pub name_ends : (ns : List ℕ) → AllByRecursion IsSmall ns → HasBareEnds (path_text ns)
+name_ends ns all = bare 109 (116 ∷ 99 ∷ flat_map number_text ns) (path_no_blank ns all)
+
+pub label_ends : (label : Label) → IsProper label → HasBareEnds (label_text label)
+label_ends label proper = bare 109 (116 ∷ 99 ∷ (flat_map number_text label.component ++ expiry_text label.expiry)) (label_no_blank label proper)
 
 -- ---- a text is that of one label
 

@@ -1,8 +1,10 @@
--- The texts of components' names and of labels.
+-- The texts of components' names, of labels, and of labels of fine runs.
 use Rattle.std.specs.Prelude.{ℕ, List, ◌++◌, Option, None, Some, codes}
 use Rattle.std.specs.Char.{encode_utf8}
 use Rattle.std.specs.Fmt.{decimal}
 use Rattle.std.specs.List.{flat_map}
+use Rattle.step_labels.specs.declared.fine.FineLabel.{FineLabel}
+use Rattle.step_labels.specs.declared.fine.FineLabel.TheVariants.{Snap, Choose, Plain}
 use Rattle.step_labels.specs.declared.label.Expiry.{Expiry}
 use Rattle.step_labels.specs.declared.label.Label.{Label}
 
@@ -26,3 +28,9 @@ expiry_text (Some expiry) = codes "/" ++ decimal expiry.frame ++ codes "." ++ na
 -- a label: its component's name, and the frame and the timer of an expiry
 abbrev pub label_text : Label → List ℕ
 label_text label = path_text label.component ++ expiry_text label.expiry
+
+-- a label of a fine run: `snap mtc.1`, `choose mtc.1`, or a label
+abbrev pub fine_text : FineLabel → List ℕ
+fine_text (Snap path) = codes "snap " ++ path_text path.numbers
+fine_text (Choose path) = codes "choose " ++ path_text path.numbers
+fine_text (Plain label) = label_text label

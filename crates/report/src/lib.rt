@@ -9,7 +9,10 @@ mod run;
 mod text;
 
 pub use json::to_json;
-pub use laws::{lines_read_one_way, runs_read_one_way, texts_read_back};
+pub use laws::{
+    fine_lines_read_one_way, fine_runs_read_one_way, fine_texts_read_back, lines_read_one_way,
+    runs_read_one_way, texts_read_back,
+};
 pub use report::{Outcome, Report, Standing};
-pub use run::{RunError, read_run};
-pub use text::{LabelText, PathText, PlaceText, to_text, word_of};
+pub use run::{RunError, read_fine, read_run};
+pub use text::{FineText, LabelText, PathText, PlaceText, to_text, word_of};

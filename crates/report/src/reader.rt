@@ -1,14 +1,15 @@
 //! Labels as run files write them.
-ghost use Rattle.report.specs.Labels.{label_text, number_text};
-ghost use Rattle.report.specs.Runs.{IsNumber, IsProper, IsProperExpiry, IsSmall, is_timer_name};
-ghost use Rattle.report.specs.internal.Reader.{IsCut, IsNoExpiry, IsNoLabel, IsNoNumber, IsNoPath, IsPath, TellsExpiry, lacks};
+ghost use Rattle.report.specs.Labels.{fine_text, label_text, number_text};
+ghost use Rattle.report.specs.Runs.{IsNumber, IsProper, IsProperExpiry, IsProperFine, IsSmall, is_timer_name};
+ghost use Rattle.report.specs.internal.Reader.{HasBareEnds, IsCut, IsName, IsNoExpiry, IsNoName, IsNoNumber, IsNoPath, IsPath, IsReadAs, TellsExpiry, lacks};
 ghost use Rattle.ttcn_syntax.specs.Characters.{is_letter, is_word_byte};
 ghost use Rattle.std.specs.Prelude.{◌≡◌, IfOk, MatchOption, None, Some};
 
 use std::alloc::{AllocError, Global};
 use std::str;
-use step_labels::{Expiry, Label};
+use step_labels::{Expiry, FineLabel, Label};
 use ttcn_syntax::{Name, Seq};
+use ttcn_values::Path;
 
 fn is_letter(byte: u8) -> bool
     ensures { result ≡ is_letter byte }
@@ -119,9 +120,8 @@ fn label_with(
 }
 
 /// The label that is written so.
-pub(crate) fn label_of(alloc: Global, text: &[u8]) -> Result<Option<Label>, AllocError>
-    ensures { IfOk result (λ label. MatchOption label (IsNoLabel text.now)
-        (λ made. (text.now ≡ label_text made) × IsProper made)) }
+fn label_of(alloc: Global, text: &[u8]) -> Result<Option<Label>, AllocError>
+    ensures { IfOk result (IsReadAs label_text IsProper text.now) }
 {
     let Some(names) = text.strip_prefix(b"mtc") else {
         return Ok(None);
@@ -133,4 +133,69 @@ pub(crate) fn label_of(alloc: Global, text: &[u8]) -> Result<Option<Label>, Allo
         return Ok(None);
     };
     label_with(alloc, path, Some(expiry))
+}
+
+/// The path of the component with this name.
+fn path_of(alloc: Global, name: &[u8]) -> Result<Option<Path>, AllocError>
+    ensures { IfOk result (λ path. MatchOption path (IsNoName name.now) (λ made. IsName name.now made.numbers)) }
+{
+    let Some(numbers) = name.strip_prefix(b"mtc") else {
+        return Ok(None);
+    };
+    let Some(numbers) = numbers_of(alloc, numbers)? else {
+        return Ok(None);
+    };
+    Ok(Some(Path {
+        numbers: Seq::from_vec(numbers),
+    }))
+}
+
+/// The label of a fine run that is written so.
+fn fine_label_of(alloc: Global, text: &[u8]) -> Result<Option<FineLabel>, AllocError>
+    ensures { IfOk result (IsReadAs fine_text IsProperFine text.now) }
+{
+    if let Some(name) = text.strip_prefix(b"snap ") {
+        return Ok(path_of(alloc, name)?.map(FineLabel::Snap));
+    }
+    if let Some(name) = text.strip_prefix(b"choose ") {
+        return Ok(path_of(alloc, name)?.map(FineLabel::Choose));
+    }
+    Ok(label_of(alloc, text)?.map(FineLabel::Plain))
+}
+
+/// A label that lines of files hold.
+pub(crate) trait Written: Drop {
+    ghost use Rattle.std.specs.Prelude.{List, ℕ};
+
+    ghost text_of: { Self → List ℕ };
+
+    /// Whether a file can hold it.
+    ghost is_held: { Self → Type 0 };
+
+    /// The label that is written so.
+    fn read(alloc: Global, text: &[u8]) -> Result<Option<Self>, AllocError>
+        ensures label { IfOk result (IsReadAs text_of is_held text.now) }
+
+        // So a label is found between blanks.
+        ensures bare { (label : Self) → is_held label → HasBareEnds (text_of label) };
+}
+
+impl Written for Label {
+    ghost text_of = { label_text };
+
+    ghost is_held = { IsProper };
+
+    fn read(alloc: Global, text: &[u8]) -> Result<Option<Label>, AllocError> {
+        label_of(alloc, text)
+    }
+}
+
+impl Written for FineLabel {
+    ghost text_of = { fine_text };
+
+    ghost is_held = { IsProperFine };
+
+    fn read(alloc: Global, text: &[u8]) -> Result<Option<FineLabel>, AllocError> {
+        fine_label_of(alloc, text)
+    }
 }

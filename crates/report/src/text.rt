@@ -1,5 +1,5 @@
 //! The texts of reports, and of the names and places in them.
-ghost use Rattle.report.specs.Labels.{label_text, name_text, path_text};
+ghost use Rattle.report.specs.Labels.{fine_text, label_text, name_text, path_text};
 ghost use Rattle.report.specs.Texts.{blocked_line, branch_line, header_text, outcome_text, place_text, report_text, word_of, yes_or_no};
 ghost use Rattle.std.specs.Fmt.{DisplaysOnOk};
 ghost use Rattle.std.specs.List.{flat_map};
@@ -8,7 +8,7 @@ ghost use Rattle.std.specs.Prelude.{◌≡◌, IfOk, Some, string_bytes};
 use crate::report::{Outcome, Report, Standing};
 use std::alloc::{AllocError, Global};
 use std::fmt;
-use step_labels::Label;
+use step_labels::{FineLabel, Label};
 use ttcn_syntax::{Name, Span, Verdict};
 
 /// A timer's name, whose bytes are shown as the characters of these codes.
@@ -22,6 +22,10 @@ pub struct PathText<'a>(pub &'a [u32]);
 /// A label as it is written in a run file: a component's name, or `mtc.1/0.t` for the expiry of a timer.
 #[derive(Clone, Copy)]
 pub struct LabelText<'a>(pub &'a Label);
+
+/// A label as it is written in the file of a fine run: `snap mtc.1`, `choose mtc.1`, or a label.
+#[derive(Clone, Copy)]
+pub struct FineText<'a>(pub &'a FineLabel);
 
 /// A place in a module's text: `14:1`, line and column.
 #[derive(Clone, Copy)]
@@ -62,6 +66,18 @@ impl<'a> fmt::Display for LabelText<'a> {
                 let (frame, timer) = (expiry.frame, NameText(&expiry.timer));
                 write!(f, "{path}/{frame}.{timer}")
             }
+        }
+    }
+}
+
+impl<'a> fmt::Display for FineText<'a> {
+    ghost output = { λ shown. Some (fine_text shown.0.now) };
+
+    fn fmt<W: fmt::Write>(&self, f: &mut fmt::Formatter<W>) -> fmt::Result {
+        match self.0 {
+            FineLabel::Snap(path) => write!(f, "snap {}", PathText(path.numbers.as_slice())),
+            FineLabel::Choose(path) => write!(f, "choose {}", PathText(path.numbers.as_slice())),
+            FineLabel::Plain(label) => write!(f, "{}", LabelText(label)),
         }
     }
 }

@@ -1,9 +1,11 @@
 //! What the commands print, and their faults.
+mod doubling;
 mod folding;
 mod plans;
 mod run_file;
 
 use corpus::Settings;
+use doubling::lost_run;
 use explore::{NoGate, Plan};
 use folding::folded;
 use plans::plans_of;
@@ -11,7 +13,8 @@ use run_file::run_file_of;
 use std::alloc::{AllocError, Global};
 use std::thread::Threads;
 use ttcnx::{
-    Fault, Report, check_answer, fault_line, replay_text, run_text, status, to_json, to_text,
+    Fault, Report, check_answer, coarsen_text, double_text, fault_line, replay_text, run_text,
+    status, to_json, to_text,
 };
 
 /// What the program prints for a text, where the settings stand for its words; or its fault.
@@ -25,7 +28,7 @@ pub fn answer_of<R: Threads + Sync>(
     match settings.get("command").unwrap_or("run") {
         "run" => answer_of_run(rt, alloc, text, settings),
         "check" => answer_of_check(alloc, text),
-        "replay" => answer_of_replay(alloc, text, settings),
+        "coarsen" | "double" | "replay" => answer_by_run_file(alloc, text, settings),
         _ => String::from_str(alloc, "no such command"),
     }
 }
@@ -47,19 +50,40 @@ fn answer_of_check(alloc: Global, text: &[u8]) -> Result<String, AllocError> {
     }
 }
 
-/// The answer of `replay`.
-fn answer_of_replay(
+/// The answer of a command that reads a run file.
+fn answer_by_run_file(
     alloc: Global,
     text: &[u8],
     settings: &Settings<'_>,
 ) -> Result<String, AllocError> {
     let run = run_file_of(alloc, settings)?;
-    match replay_text(alloc, text, testcase(settings), run.as_bytes()) {
+    let name = testcase(settings);
+    let answer = match settings.get("command") {
+        Some("coarsen") => coarsen_text(alloc, text, name, run.as_bytes()),
+        Some("double") => double_text(alloc, text, name, run.as_bytes()),
+        _ => replay_text(alloc, text, name, run.as_bytes()),
+    };
+    match answer {
         Ok(printed) => match str::from_utf8(printed.as_slice()) {
-            Ok(printed) => without_last_end(alloc, printed),
+            Ok(printed) => shown_lines(alloc, printed, settings),
             Err(_) => String::from_str(alloc, "not UTF-8"),
         },
         Err(fault) => text_of_fault(alloc, &fault),
+    }
+}
+
+/// Printed lines in the row's format; there may be none.
+fn shown_lines(
+    alloc: Global,
+    printed: &str,
+    settings: &Settings<'_>,
+) -> Result<String, AllocError> {
+    if printed.is_empty() {
+        return String::from_str(alloc, "no lines");
+    }
+    match settings.get("format") {
+        Some("folded") => without_last_end(alloc, folded(alloc, printed)?.as_str()),
+        _ => without_last_end(alloc, printed),
     }
 }
 
@@ -89,7 +113,7 @@ fn answer_of_run<R: Threads + Sync>(
     }
 }
 
-/// The answer of `run` under a plan.
+/// The answer of `run` under a plan, if each of its runs comes back from its doubling.
 fn answer_under<R: Threads + Sync>(
     rt: &R,
     alloc: Global,
@@ -98,7 +122,10 @@ fn answer_under<R: Threads + Sync>(
     plan: &Plan,
 ) -> Result<String, AllocError> {
     match run_text(rt, alloc, text, testcase(settings), plan, &NoGate) {
-        Ok(report) => shown(alloc, &report, settings),
+        Ok(report) => match lost_run(alloc, text, testcase(settings), &report)? {
+            None => shown(alloc, &report, settings),
+            Some(verdict) => format!(in alloc; "the run to {verdict} is lost by its doubling"),
+        },
         Err(fault) => text_of_fault(alloc, &fault),
     }
 }

@@ -18,7 +18,7 @@ use Rattle.step_rules.proofs.Pairs.{All-more, pairs-append, pairs-head, pairs-ma
 use Rattle.step_rules.specs.Configurations.{Component, Configuration, Connection, Created, Data, End, Ended, Frame, Goes, Going, Message, Running, State, Terminated, component_at, is_running_state, is_terminated_state, overall, path_cmp, path_of, same_path}
 use Rattle.step_rules.specs.Entries.{Entries}
 use Rattle.step_rules.specs.Order.{Ascends, HasNamesInOrder}
-use Rattle.step_rules.specs.Snapshots.{Test, mtc_of, snapshot_of}
+use Rattle.step_rules.specs.Snapshots.{Snapshot, Test, mtc_of, snapshot_of}
 use Rattle.step_rules.specs.Statements.{Act, Connects, Continues, Creates, Errs, Removes, Sends, Starts, Stops, Waits, Worsens, act}
 use Rattle.step_rules.specs.Steps.{Expiry, Label, Statement, addressed, add_connection, apply, at_queue, begin, connect, connection, connection_cmp, deliver, ending, exchanged, expire_in, expired, expired_call, expired_frame, expiry_step, insert, is_before, is_double, is_terminated_at, peers, send, settle, start_component, start_created, start_in, statement_step, step_in, touch, unless_terminated, with_connection, with_data, with_new, with_state, with_verdict, without_first}
 use Rattle.step_rules.specs.Storing.{with_calls, with_members, with_remaining, with_timers}
@@ -254,23 +254,23 @@ new-fine new members calls = record {
   marks = subst LastHasNone (sym calls) tt;
 }
 
-apply-ordered : (test : Test) (c : Going) (itself : ComponentId) (n : ℕ) (asked : Act) → IsGoingInOrder c → IsAskedInOrder itself n asked → LeadsToOrder (apply test c itself asked)
-apply-ordered test c itself n Waits is fine = tt
-apply-ordered test c itself n (Errs why) is fine = tt
-apply-ordered test c itself n (Continues own) is fine = settle-ordered c itself.path n own fine is
-apply-ordered test c itself n (Worsens v own) is fine = touch-ordered (settle c itself.path own) itself.path (with_verdict v) (verdict-gentle v) (settle-ordered c itself.path n own fine is)
-apply-ordered test c itself n (Removes port own) is fine = touch-ordered (settle c itself.path own) itself.path (at_queue port without_first) (queue-gentle port without_first) (settle-ordered c itself.path n own fine is)
-apply-ordered test c itself n (Sends port to v own) is fine =
+apply-ordered : (test : Test) (c : Going) (itself asking : ComponentId) (n : ℕ) (asked : Act) → IsGoingInOrder c → IsAskedInOrder asking n asked → LeadsToOrder (apply test c itself asked)
+apply-ordered test c itself asking n Waits is fine = tt
+apply-ordered test c itself asking n (Errs why) is fine = tt
+apply-ordered test c itself asking n (Continues own) is fine = settle-ordered c itself.path n own fine is
+apply-ordered test c itself asking n (Worsens v own) is fine = touch-ordered (settle c itself.path own) itself.path (with_verdict v) (verdict-gentle v) (settle-ordered c itself.path n own fine is)
+apply-ordered test c itself asking n (Removes port own) is fine = touch-ordered (settle c itself.path own) itself.path (at_queue port without_first) (queue-gentle port without_first) (settle-ordered c itself.path n own fine is)
+apply-ordered test c itself asking n (Sends port to v own) is fine =
     ending-ordered (send (settle c itself.path own) itself port to v)
     (deliver-ordered (settle c itself.path own) (record { value = v; sender = itself }) (filter (addressed to) (peers (settle c itself.path own) (record { component = itself.path; port = port })))
     (settle-ordered c itself.path n own fine is))
-apply-ordered test c itself n (Creates new own) is fine =
+apply-ordered test c itself asking n (Creates new own) is fine =
     new-ordered new (settle c itself.path own) (new-fine new fine.1 fine.2) (settle-ordered c itself.path (n + 1) own fine.4 is)
-apply-ordered test c itself n (Starts path frame own) is fine =
+apply-ordered test c itself asking n (Starts path frame own) is fine =
     ending-ordered (start_component (settle c itself.path own) path frame)
     (start-ordered (settle c itself.path own) path frame (component_at (settle c itself.path own) path) fine.0 fine.1 (settle-ordered c itself.path n own fine.2 is))
-apply-ordered test c itself n (Stops path own) is fine = stop-ordered (same_path path (mtc_of test).path) (settle c itself.path own) path (settle-ordered c itself.path n own fine is)
-apply-ordered test c itself n (Connects d e own) is fine =
+apply-ordered test c itself asking n (Stops path own) is fine = stop-ordered (same_path path (mtc_of test).path) (settle c itself.path own) path (settle-ordered c itself.path n own fine is)
+apply-ordered test c itself asking n (Connects d e own) is fine =
     ending-ordered (connect (settle c itself.path own) d e)
     (connect-ordered (is_terminated_at (settle c itself.path own) d.component || is_terminated_at (settle c itself.path own) e.component || is_double (settle c itself.path own) d e || is_double (settle c itself.path own) e d)
     (settle c itself.path own) d e (settle-ordered c itself.path n own fine is))
@@ -355,7 +355,7 @@ running-ordered false o is = tt
 statement-ordered : (test : Test) (c : Going) (component : Component) → IsGoingInOrder c → IsComponentInOrder component → LeadsToOrder (statement_step test c component)
 statement-ordered test c component is fine =
     running-ordered (is_running_state component.state) (apply test c component.itself (act test (snapshot_of c component) component.own))
-    (apply-ordered test c component.itself component.own.children (act test (snapshot_of c component) component.own) is
+    (apply-ordered test c component.itself component.itself component.own.children (act test (snapshot_of c component) component.own) is
     (asked-ordered component.own.children test (snapshot_of c component) component.own fine.own))
 
 expiry-ordered : (c : Going) (number : ℕ) (name : List ℕ) (component : Component) → IsGoingInOrder c → IsComponentInOrder component → LeadsToOrder (expiry_step c number name component)
@@ -375,6 +375,13 @@ then-ordered : (step : Component → Option (Outcome Configuration)) (o : Option
     → LeadsToOrder (option_and_then step o)
 then-ordered step None fine found = tt
 then-ordered step (Some component) fine found = fine component found
+
+-- what a component asks for by a snapshot, as its data are in one configuration, is done in another
+pub applied-ordered : (test : Test) (c old : Going) (itself : ComponentId) (p : Path) (x : Component) (snapshot : Snapshot) → IsGoingInOrder c → IsGoingInOrder old → component_at old p ≡ Some x
+    → LeadsToOrder (apply test c itself (act test snapshot x.own))
+applied-ordered test c old itself p x snapshot is also there =
+    let fine : IsComponentInOrder x = subst (λ o. IfSome o IsComponentInOrder) there (found-each IsComponentInOrder (λ component. same_path (path_of component) p) old.components also.within) in
+    apply-ordered test c itself snapshot.itself x.own.children (act test snapshot x.own) is (asked-ordered x.own.children test snapshot x.own fine.own)
 
 pub step-ordered : (test : Test) (c : Going) (label : Label) → IsGoingInOrder c → LeadsToOrder (step_in test c label)
 step-ordered test c (Statement path) is =

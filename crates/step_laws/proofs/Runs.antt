@@ -7,7 +7,7 @@ use Rattle.std.proofs.lemmas.List.Kept.{AllPairs-cons, AllPairs-filter}
 use Rattle.ttcn_syntax.specs.declared.tree.statement.Statement.{Statement}
 use Rattle.ttcn_syntax.specs.declared.tree.statement.Verdict.TheVariants as verdict
 use Rattle.check_scope.specs.Names.{kind_at}
-use Rattle.step_laws.proofs.Changes.{IsComponentInOrder, IsConfigurationInOrder, IsGentle, IsGoingInOrder, LeadsToOrder, Precedes, each-ordered, step-ordered}
+use Rattle.step_laws.proofs.Changes.{IsComponentInOrder, IsConfigurationInOrder, IsGentle, IsGoingInOrder, LeadsToOrder, Precedes, applied-ordered, each-ordered, step-ordered}
 use Rattle.step_laws.proofs.Members.{members-ordered}
 use Rattle.step_laws.proofs.Outcomes.{any-yields, map-yields, then-yields}
 use Rattle.step_laws.proofs.Puts.{none-ordered}
@@ -19,17 +19,20 @@ use Rattle.step_rules.proofs.LabelOrder.{labels_ascend}
 use Rattle.step_rules.proofs.LabelsEnabled.{labels_enabled}
 use Rattle.step_rules.proofs.Pairs.{All-both, All-more, pairs-nil}
 use Rattle.step_rules.specs.Canonical.{canonical_graph}
-use Rattle.step_rules.specs.Configurations.{Component, Configuration, Data, Ended, Frame, Goes, Going, is_terminated_state, path_of}
+use Rattle.step_rules.specs.Configurations.{Component, Configuration, Data, Ended, Frame, Goes, Going, component_at, is_terminated_state, path_of}
 use Rattle.step_rules.specs.Creating.{new_members}
 use Rattle.step_rules.specs.Labels.{label_cmp, labels}
 use Rattle.step_rules.specs.LiveParts.{husk, is_live, live_component, live_going, live_part}
 use Rattle.step_rules.specs.Order.{HasNamesInOrder, HasTimersInOrder, IsOrderedWithin}
 use Rattle.step_rules.specs.Runs.{body_frame, first_snapshot, graph_of, mtc_with, option_elim, replay, replay_from, start, started, testcase_body}
 use Rattle.step_rules.specs.Sites.{beginning}
-use Rattle.step_rules.specs.Snapshots.{Test, mtc_of}
-use Rattle.step_rules.specs.Steps.{Label, connection_cmp, next, settled, step}
+use Rattle.step_rules.specs.Snapshots.{Snapshot, Test, mtc_of}
+use Rattle.step_rules.specs.Statements.{act}
+use Rattle.step_rules.specs.Steps.{Label, apply, connection_cmp, next, settled, step}
 use Rattle.summary.specs.Run.{Run, Start, Then, end_of}
 use Rattle.ttcn_values.specs.Outcomes.{Fails, IfYields, Outcome, Yields, or_unmet, outcome_and_then}
+use Rattle.ttcn_values.specs.declared.path.Path.{Path}
+use Rattle.ttcn_values.specs.declared.value.ComponentId.{ComponentId}
 
 -- ---- in the words of the laws
 
@@ -135,6 +138,17 @@ some-of P o a e is = subst (λ x. IfSome x P) e is
 
 pub next_ordered : (test : Test) (c d : Configuration) (label : Label) → StandsInOrder c → next test c label ≡ Some d → StandsInOrder d
 next_ordered test c d label is e = said d (some-of IsConfigurationInOrder (next test c label) d e (next-of test c label (told c is)))
+
+said-option : (o : Option Configuration) → IfSome o IsConfigurationInOrder → IfSome o StandsInOrder
+said-option None fine = tt
+said-option (Some d) fine = said d fine
+
+-- what a component asks for by whatever snapshot, as its data are in one configuration, is done in another
+pub applied_ordered : (test : Test) (c old : Going) (itself : ComponentId) (p : Path) (x : Component) (snapshot : Snapshot) → StandsInOrder (Goes c) → StandsInOrder (Goes old) → component_at old p ≡ Some x
+    → IfSome (option_map settled (apply test c itself (act test snapshot x.own))) StandsInOrder
+applied_ordered test c old itself p x snapshot is also there =
+    said-option (option_map settled (apply test c itself (act test snapshot x.own)))
+    (settled-step (apply test c itself (act test snapshot x.own)) (applied-ordered test c old itself p x snapshot (told-going c is) (told-going old also) there))
 
 -- ---- runs
 

@@ -1,5 +1,5 @@
 -- Where a component takes no branch, whatever it sees.
-use Rattle.std.proofs.Common.{◌≡◌, ℕ, Bool, true, false, List, [], ◌∷◌, map, get_or, Option, Some, None, refl, sym, ap, ◌∙◌, if◌then◌else◌}
+use Rattle.std.proofs.Common.{◌≡◌, ℕ, Bool, true, false, List, [], ◌∷◌, map, Option, Some, None, refl, sym, ap, ◌∙◌, if◌then◌else◌}
 use Rattle.std.specs.Option.{option_and_then}
 use Rattle.ttcn_syntax.specs.declared.place.Span.{Span}
 use Rattle.step_acts.proofs.Placing.{none_taken}

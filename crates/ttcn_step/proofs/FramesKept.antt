@@ -12,7 +12,7 @@ use Rattle.step_rules.proofs.Pairs.{All-more}
 use Rattle.step_rules.specs.Configurations.{Component, Configuration, Created, Data, End, Ended, Frame, Goes, Going, Message, Running, State, Terminated, component_at, is_running_state, is_terminated_state, overall, path_of, same_path}
 use Rattle.step_rules.specs.Creating.{new_members}
 use Rattle.step_rules.specs.Runs.{first_snapshot, mtc_with, start, started, testcase_body}
-use Rattle.step_rules.specs.Snapshots.{Test, mtc_of, snapshot_of}
+use Rattle.step_rules.specs.Snapshots.{Snapshot, Test, mtc_of, snapshot_of}
 use Rattle.step_rules.specs.Statements.{Act, Connects, Continues, Creates, Errs, Removes, Sends, Starts, Stops, Waits, Worsens, act, most}
 use Rattle.step_rules.specs.Steps.{Expiry, Label, Statement, addressed, apply, at_queue, begin, connect, connection, deliver, ending, exchanged, expired, expired_call, expired_frame, expiry_step, insert, is_double, is_terminated_at, next, peers, send, settle, settled, start_component, start_created, start_in, statement_step, step, step_in, touch, unless_terminated, with_connection, with_data, with_state, with_verdict, without_first}
 use Rattle.step_rules.specs.Storing.{with_calls, with_members}
@@ -191,6 +191,14 @@ settled-step (Some out) is = settled-kept out is
 -- each step leaves the limit
 pub next-kept : (test : Test) (c : Configuration) (label : Label) → AllKeepFrameLimit c → IfSome (next test c label) AllKeepFrameLimit
 next-kept test c label is = settled-step (step test c label) (step-kept test c label is)
+
+-- what a component asks for by whatever snapshot, as its data are in one configuration, leaves the limit in another
+pub applied-kept : (test : Test) (c old : Going) (itself : ComponentId) (p : Path) (x : Component) (snapshot : Snapshot) → AllKeepFrameLimit (Goes c) → AllKeepFrameLimit (Goes old) → component_at old p ≡ Some x
+    → IfSome (option_map settled (apply test c itself (act test snapshot x.own))) AllKeepFrameLimit
+applied-kept test c old itself p x snapshot is also there =
+    settled-step (apply test c itself (act test snapshot x.own))
+    (apply-kept test c itself (act test snapshot x.own) is
+    (asked-kept test snapshot x.own (subst (λ o. IfSome o IsKept) there (found-each IsKept (λ component. same_path (path_of component) p) old.components also))))
 
 -- ---- the start
 

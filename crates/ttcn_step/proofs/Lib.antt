@@ -1,7 +1,14 @@
+pub mod AtAlt
 pub mod Branching
 pub mod Choosing
+pub mod Coarsening
+pub mod Doubling
 pub mod Enabled
 pub mod Expiring
+pub mod FineChoices
+pub mod FineLeads
+pub mod FineRuns
+pub mod FineSteps
 pub mod Following
 pub mod Found
 pub mod FrameLimits
@@ -10,6 +17,7 @@ pub mod Limits
 pub mod Listed
 pub mod LiveForms
 pub mod NoWait
+pub mod Noted
 pub mod Replaying
 pub mod Slotted
 pub mod Stepping

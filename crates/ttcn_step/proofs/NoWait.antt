@@ -1,5 +1,5 @@
 -- Where a component stands at no `alt` it has a step: it asks for something, or fails.
-use Rattle.std.proofs.Common.{◌≡◌, ℕ, ◌+◌, Bool, true, false, List, [], ◌∷◌, ◌++◌, map, nat_lt, slice_get, Option, Some, None, is_some, refl, sym, ap, subst, ◌∙◌, if◌then◌else◌}
+use Rattle.std.proofs.Common.{◌≡◌, ℕ, Bool, true, false, List, [], ◌∷◌, map, nat_lt, slice_get, Option, Some, None, is_some, refl, ap, subst, ◌∙◌, if◌then◌else◌}
 use Rattle.std.proofs.lemmas.Option.{same_Some}
 use Rattle.ttcn_syntax.specs.declared.tree.expression.ComponentRef.{ComponentRef}
 use Rattle.ttcn_syntax.specs.declared.tree.expression.Expr.{Expr}
@@ -29,7 +29,7 @@ use Rattle.step_rules.specs.Snapshots.{Snapshot, Test, snapshot_of}
 use Rattle.step_rules.specs.Statements.{Act, Connects, Continues, Creates, Errs, Removes, Sends, Stand, Starts, Stops, Waits, Worsens}
 use Rattle.step_rules.specs.Statements as said
 use Rattle.step_rules.specs.Statements.{act, act_assignment, act_conditional, act_connect, act_constant, act_deactivate, act_end, act_first, act_for_start, act_for_step, act_from, act_in, act_initial, act_name, act_return, act_send, act_start, act_test, act_timer, act_variable, act_while, act_whole, acting, activated, ask_connection, assign, call_function, component_meant_at, continuing, create, created, done, enter, frame_of_call, give_back, go_either, leave, may_connect, most, new_id, reads, result_at, sent_to, sent_type, sent_value, stop_meant, waits_first, with_child, without_default}
-use Rattle.step_rules.specs.Steps.{apply, statement_step}
+use Rattle.step_rules.specs.Steps.{apply}
 use Rattle.step_rules.specs.Storing.{declare, forget, going_on, store, with_calls}
 use Rattle.step_rules.specs.Taking.{repeat_alt}
 use Rattle.ttcn_config.specs.Legend.{Legend, component_by, frame_by}

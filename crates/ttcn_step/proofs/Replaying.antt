@@ -13,7 +13,7 @@ module _ (test : Test) (run : List Kept) where
   abbrev pub Left : ℕ → Configuration → Result Configuration ℕ
   Left place c = replay_from test (map label_by (drop place run)) (place + 1) c
 
-  next-left : (place : ℕ) (label : Kept) (c : Configuration) → place < length run → label ≡ get_or run place label
+  pub next-left : (place : ℕ) (label : Kept) (c : Configuration) → place < length run → label ≡ get_or run place label
       → Left place c ≡ option_elim (Err (place + 1)) (Left (place + 1)) (next test c (label_by label))
   next-left place label c less read =
       ap (λ xs. replay_from test (map label_by xs) (place + 1) c) (drop_more run place label less ∙ ap (λ x. x ∷ drop (place + 1) run) (sym read))

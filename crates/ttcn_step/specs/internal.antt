@@ -1,3 +1,5 @@
+pub mod Fine
+pub mod Following
 pub mod Plain
 pub mod Runs
 pub mod Steps

@@ -1,8 +1,12 @@
 //! Runs of a test case (ES 201 873-4).
 #![tactic(auto)]
 
+mod alt;
 mod branches;
+mod coarsen;
+mod double;
 mod error;
+mod fine;
 mod labels;
 mod laws;
 mod limit;
@@ -17,7 +21,7 @@ mod successor;
 mod successors;
 mod testcases;
 
-pub use error::{ReplayError, StepError};
+pub use error::{CoarsenError, ReplayError, StepError};
 pub use laws::{canonical_forms_fit, labels_are_enabled};
 pub use limit::frames_keep_the_limit;
 pub use machine::Machine;

@@ -10,17 +10,21 @@ ghost use Rattle.step_rules.specs.Steps as steps;
 ghost use Rattle.ttcn_config.specs.Names.{AreInOrder};
 ghost use Rattle.ttcn_step.specs.Answers.{Ends, IsSuccessor, Leads};
 ghost use Rattle.ttcn_step.specs.Choosing.{TakesNone};
+ghost use Rattle.ttcn_step.specs.FineAnswers.{Coarsens, Doubles, IsDoubling, StandsFor};
+ghost use Rattle.ttcn_step.specs.FineLabels.{fine_label_by};
 ghost use Rattle.ttcn_step.specs.Machines.{Fits, said};
 ghost use Rattle.ttcn_step.specs.Standing.{standing_by, standing_of};
 ghost use Rattle.ttcn_types.specs.Rules.{AreWellTyped};
 
-use crate::error::{ReplayError, StepError};
+use crate::error::{CoarsenError, ReplayError, StepError};
 use crate::standing::Standing;
 use crate::successor::Successor;
-use crate::{branches, labels, places, plain, replay, start, step, successors, testcases};
+use crate::{
+    branches, coarsen, double, labels, places, plain, replay, start, step, successors, testcases,
+};
 use std::alloc::{AllocError, Global};
 use std::marker::Model;
-use step_labels::Label;
+use step_labels::{FineLabel, Label};
 use step_snapshot::TestCase;
 use ttcn_config::Config;
 use ttcn_syntax::Span;
@@ -126,6 +130,26 @@ impl<'a> Machine<'a> {
         ensures fits { IfOk result (Fits self.now) }
     {
         replay::replay(alloc, &self.test, run)
+    }
+
+    /// The run that a fine run stands for: each choice that takes a branch or meets a fault moves to the place of its
+    /// snapshot, other snapshots and choices go, and so does all behind a fault. Refused is the number of the first label that
+    /// can't follow, and a fine run that does not end the test case.
+    pub fn coarsen(&self, alloc: Global, labels: &[FineLabel]) -> Result<Vec<Label>, CoarsenError>
+        ensures coarsens { Coarsens self.now (map fine_label_by labels.now) result }
+        ensures runs { IfOk result (λ run. StandsFor self.now.test (map fine_label_by labels.now) (map label_by run.items)) }
+    {
+        self.test.breaks_no_rule();
+        coarsen::coarsen(alloc, &self.test, labels)
+    }
+
+    /// The doubling of a run: each step at an `alt` becomes a snapshot and the choice by it. Refused is the number of the first
+    /// label that is not enabled where it stands.
+    pub fn double(&self, alloc: Global, run: &[Label]) -> Result<Vec<FineLabel>, ReplayError>
+        ensures doubles { Doubles self.now (map label_by run.now) result }
+        ensures fine { IfOk result (λ labels. IsDoubling self.now.test (map label_by run.now) (map fine_label_by labels.items)) }
+    {
+        double::double(alloc, &self.test, run)
     }
 
     /// The place of the branch that the step of a label takes, if it takes one.

@@ -17,7 +17,7 @@ use step_snapshot::TestCase;
 use ttcn_config::Config;
 
 /// The configuration to which the label of a number leads.
-fn follow(
+pub(crate) fn follow(
     alloc: Global,
     test: &TestCase<'_>,
     config: &Config,

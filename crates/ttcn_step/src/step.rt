@@ -57,7 +57,7 @@ pub(crate) fn component_of<'b>(
 }
 
 /// What a component asks for in its step, if it has one.
-fn asked(
+pub(crate) fn asked(
     alloc: Global,
     test: &TestCase<'_>,
     going: &Going,
@@ -106,7 +106,12 @@ pub(crate) fn has_step(
 }
 
 /// The configuration in which what a component asks for is done. A dynamic error ends the test case.
-fn done(alloc: Global, going: &Going, itself: &ComponentId, act: Act) -> Result<Config, AllocError>
+pub(crate) fn done(
+    alloc: Global,
+    going: &Going,
+    itself: &ComponentId,
+    act: Act,
+) -> Result<Config, AllocError>
     ensures behind { (legend : Legend) (test : Test) → IsLegend legend → HasPathsInOrder going.now → IsUncovered (act_by legend act)
         → IfOk result (λ after. spec.IsBehind legend (steps.apply test (going_by legend going.now) itself.now (act_by legend act)) (Some after)) }
     ensures within { (size : Extent) → AreAllWithin size going.now.components → IsActWithin size act → IfOk result (IsConfigWithin size) }

@@ -1,7 +1,9 @@
 pub mod Checks
+pub mod Conversions
 pub mod Following
 pub mod Listed
 pub mod OneAnswer
+pub mod OneConversion
 pub mod OneReplay
 pub mod OneReport
 pub mod Outcomes

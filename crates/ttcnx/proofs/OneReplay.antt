@@ -16,13 +16,13 @@ ok_is : {A E : Type 0} {a b : A} → ◌≡◌ {A = Result A E} (Ok a) (Ok b) �
 ok_is {A = A} {E = E} {a = a} h =
     let the : Result A E → A = λ r. elim r as (λ _. A) [ Ok x ↦ x | Err e ↦ a ] in ap the h
 
-err_is : {A E : Type 0} {a b : E} → ◌≡◌ {A = Result A E} (Err a) (Err b) → a ≡ b
+pub err_is : {A E : Type 0} {a b : E} → ◌≡◌ {A = Result A E} (Err a) (Err b) → a ≡ b
 err_is {A = A} {E = E} {a = a} h =
     let the : Result A E → E = λ r. elim r as (λ _. E) [ Ok x ↦ a | Err e ↦ e ] in ap the h
 
 module _ (test : Test) (run : List ℕ) where
   -- labels that were read from one file lead to one end
-  one_end : (labels others : List Label) (a b : Result Configuration ℕ) → ReadsRun (lines_of run) labels → ReadsRun (lines_of run) others
+  pub one_end : (labels others : List Label) (a b : Result Configuration ℕ) → ReadsRun (lines_of run) labels → ReadsRun (lines_of run) others
       → replay test (map label_by labels) ≡ a → replay test (map label_by others) ≡ b → a ≡ b
   one_end labels others a b reads also ends too =
       sym ends ∙ ap (λ labels. replay test (map label_by labels)) (run_same (lines_of run) labels others reads also) ∙ too

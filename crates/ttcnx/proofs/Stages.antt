@@ -29,7 +29,7 @@ from_error (Ok a) why P is holds = tt
 from_error (Err x) why P is holds = subst P (sym is) holds
 
 -- a fault that was made of another error, as a result
-pub as_error : {A : Type 0} (r : Result A Fault) (why : Fault) (P : Result A Fault → Type 0) → IsErr r → IsErrAnd r (λ x. x ≡ why) → P (Err why) → P r
+pub as_error : {A E : Type 0} (r : Result A E) (why : E) (P : Result A E → Type 0) → IsErr r → IsErrAnd r (λ x. x ≡ why) → P (Err why) → P r
 as_error (Ok a) why P is_err is holds = cc
 as_error (Err x) why P is_err is holds = subst (λ x. P (Err x)) (sym is) holds
 

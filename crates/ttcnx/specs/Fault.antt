@@ -10,6 +10,8 @@ use Rattle.report.specs.declared.run.RunError.{RunError}
 use Rattle.report.specs.declared.run.RunError.TheVariants as listing
 use Rattle.ttcn_parse.specs.ParseError.{ParseError}
 use Rattle.ttcn_parse.specs.ParseError.TheVariants as reading
+use Rattle.ttcn_step.specs.declared.error.CoarsenError.{CoarsenError}
+use Rattle.ttcn_step.specs.declared.error.CoarsenError.TheVariants as coarsening
 use Rattle.ttcn_step.specs.declared.error.ReplayError.{ReplayError}
 use Rattle.ttcn_step.specs.declared.error.ReplayError.TheVariants as replaying
 use Rattle.ttcn_types.specs.declared.error.CheckError.{CheckError}
@@ -18,7 +20,7 @@ use Rattle.check_scope.specs.Numbers.{name_of, number_of}
 use Rattle.ttcnx.specs.declared.fault.Refusal.{Refusal}
 use Rattle.ttcnx.specs.declared.fault.Refusal.TheVariants.{BadByte, OpenComment, OpenText, IntegerTooLarge, TextTooLong, Unexpected, TooDeep, LeftOut, Broken}
 use Rattle.ttcnx.specs.declared.fault.Fault.{Fault}
-use Rattle.ttcnx.specs.declared.fault.Fault.TheVariants.{Refused, NoSuchTestCase, BadLabel, NotEnabled, TooMany, BadPlan, Memory, CannotRead, CannotWrite}
+use Rattle.ttcnx.specs.declared.fault.Fault.TheVariants.{Refused, NoSuchTestCase, BadLabel, NotEnabled, NotFine, NotEnded, TooMany, BadPlan, Memory, CannotRead, CannotWrite}
 
 -- number and name of a refusal
 abbrev pub refusal_text : Refusal → List ℕ
@@ -38,6 +40,8 @@ fault_text (Refused refusal place) = codes "refused " ++ refusal_text refusal ++
 fault_text NoSuchTestCase = codes "refused U1 NoSuchTestCase"
 fault_text (BadLabel line) = codes "refused N1 BadLabel at line " ++ decimal line
 fault_text (NotEnabled label) = codes "refused N2 NotEnabled at label " ++ decimal label
+fault_text (NotFine label) = codes "refused F1 NotFine at label " ++ decimal label
+fault_text NotEnded = codes "refused F2 NotEnded"
 fault_text TooMany = codes "refused E1 TooMany"
 fault_text BadPlan = codes "refused E2 BadPlan"
 fault_text Memory = codes "out of memory"
@@ -50,6 +54,8 @@ status_of (Refused refusal place) = 1
 status_of NoSuchTestCase = 1
 status_of (BadLabel line) = 1
 status_of (NotEnabled label) = 1
+status_of (NotFine label) = 1
+status_of NotEnded = 1
 status_of BadPlan = 2
 status_of TooMany = 3
 status_of Memory = 4
@@ -99,3 +105,9 @@ listing_fault listing.Memory = Memory
 abbrev pub replay_fault : ReplayError → Fault
 replay_fault (replaying.NotEnabled label) = NotEnabled label
 replay_fault replaying.Memory = Memory
+
+-- the fault of fine labels that stand for no run that ends
+abbrev pub coarsen_fault : CoarsenError → Fault
+coarsen_fault (coarsening.NotFine label) = NotFine label
+coarsen_fault coarsening.NotEnded = NotEnded
+coarsen_fault coarsening.Memory = Memory

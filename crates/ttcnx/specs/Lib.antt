@@ -1,5 +1,6 @@
 pub mod Answer
 pub mod Checked
+pub mod Converted
 pub mod Fault
 pub mod Named
 pub mod Replayed

@@ -7,7 +7,7 @@ use report::{PlaceText, RunError};
 use std::alloc::{AllocError, AllocFailed, Global};
 use std::fmt;
 use ttcn_parse::ParseError;
-use ttcn_step::ReplayError;
+use ttcn_step::{CoarsenError, ReplayError};
 use ttcn_syntax::{LexError, Span};
 use ttcn_types::{CheckError, Rule};
 
@@ -36,6 +36,10 @@ pub enum Fault {
     BadLabel(usize),
     /// The label of a run of this number, counted from 1, is not enabled where it stands.
     NotEnabled(usize),
+    /// The label of a fine run of this number, counted from 1, can't follow where it stands.
+    NotFine(usize),
+    /// The test case goes on behind the last label of a fine run.
+    NotEnded,
     TooMany,
     BadPlan,
     Memory,
@@ -76,6 +80,8 @@ impl fmt::Display for Fault {
             Fault::NoSuchTestCase => f.write_str("refused U1 NoSuchTestCase"),
             Fault::BadLabel(line) => write!(f, "refused N1 BadLabel at line {line}"),
             Fault::NotEnabled(label) => write!(f, "refused N2 NotEnabled at label {label}"),
+            Fault::NotFine(label) => write!(f, "refused F1 NotFine at label {label}"),
+            Fault::NotEnded => f.write_str("refused F2 NotEnded"),
             Fault::TooMany => f.write_str("refused E1 TooMany"),
             Fault::BadPlan => f.write_str("refused E2 BadPlan"),
             Fault::Memory => f.write_str("out of memory"),
@@ -99,7 +105,12 @@ pub fn status(fault: &Fault) -> u8
     ensures { result ≡ status_of fault.now }
 {
     match fault {
-        Fault::Refused(..) | Fault::NoSuchTestCase | Fault::BadLabel(_) | Fault::NotEnabled(_) => 1,
+        Fault::Refused(..)
+        | Fault::NoSuchTestCase
+        | Fault::BadLabel(_)
+        | Fault::NotEnabled(_)
+        | Fault::NotFine(_)
+        | Fault::NotEnded => 1,
         Fault::BadPlan => 2,
         Fault::TooMany => 3,
         Fault::Memory => 4,
@@ -210,6 +221,20 @@ impl From<ReplayError> for Fault {
         match error {
             ReplayError::NotEnabled(label) => Fault::NotEnabled(label),
             ReplayError::Memory => Fault::Memory,
+        }
+    }
+}
+
+impl From<CoarsenError> for Fault {
+    ghost use Rattle.ttcnx.specs.Fault.{coarsen_fault};
+
+    ghost from_gives = { λ error fault. fault ≡ coarsen_fault error };
+
+    fn from(error: CoarsenError) -> Fault {
+        match error {
+            CoarsenError::NotFine(label) => Fault::NotFine(label),
+            CoarsenError::NotEnded => Fault::NotEnded,
+            CoarsenError::Memory => Fault::Memory,
         }
     }
 }

@@ -2,6 +2,7 @@
 #![tactic(auto)]
 
 mod check;
+mod convert;
 mod fault;
 mod replay;
 mod run;
@@ -9,6 +10,7 @@ mod testcase;
 
 pub use check::{check_answer, check_text};
 pub use command_line::{Line, LineError, read_line};
+pub use convert::{coarsen_text, double_text};
 pub use fault::{Fault, Refusal, fault_line, status};
 pub use replay::replay_text;
 pub use report::{Outcome, Report, Standing, to_json, to_text};

@@ -3,7 +3,7 @@ use report::RunError;
 use std::alloc::{AllocError, Global};
 use std::fmt::Display;
 use std::test::Fail;
-use ttcn_step::{ReplayError, StepError};
+use ttcn_step::{CoarsenError, ReplayError, StepError};
 use ttcn_syntax::Span;
 use ttcnx::{Fault, LineError, Refusal, Rule, fault_line, status};
 
@@ -57,6 +57,8 @@ fn fault_lines(rt: HostRuntime) -> Result<(), Fail> {
         (Fault::NoSuchTestCase, "refused U1 NoSuchTestCase", 1),
         (Fault::BadLabel(2), "refused N1 BadLabel at line 2", 1),
         (Fault::NotEnabled(7), "refused N2 NotEnabled at label 7", 1),
+        (Fault::NotFine(8), "refused F1 NotFine at label 8", 1),
+        (Fault::NotEnded, "refused F2 NotEnded", 1),
         (Fault::BadPlan, "refused E2 BadPlan", 2),
         (Fault::TooMany, "refused E1 TooMany", 3),
         (Fault::Memory, "out of memory", 4),
@@ -88,6 +90,9 @@ fn errors_have_their_texts(rt: HostRuntime) -> Result<(), Fail> {
     assert!(rt; has_text(alloc, &StepError::Memory, "no memory")?);
     assert!(rt; has_text(alloc, &ReplayError::NotEnabled(7), "label 7 is not enabled")?);
     assert!(rt; has_text(alloc, &ReplayError::Memory, "no memory")?);
+    assert!(rt; has_text(alloc, &CoarsenError::NotFine(7), "label 7 can't follow")?);
+    assert!(rt; has_text(alloc, &CoarsenError::NotEnded, "the run has not ended")?);
+    assert!(rt; has_text(alloc, &CoarsenError::Memory, "no memory")?);
     let help = LineError::Help(String::from_str(alloc, "what it takes")?);
     assert!(rt; has_text(alloc, &help, "what it takes")?);
     let bad = LineError::Bad(String::from_str(alloc, "what is wrong")?);

@@ -45,6 +45,16 @@ fn commands(rt: HostRuntime) -> Result<(), Fail> {
     let is_read = matches!(&line, Line::Replay { file, testcase, run }
         if file.as_str() == "f" && testcase.as_str() == "T" && run.as_str() == "a run");
     assert!(rt; is_read, "{line:?}");
+    let words = ["coarsen", "--testcase", "T", "f", "--run", "a run"];
+    let line = read_line(rt.alloc(), &words)?;
+    let is_read = matches!(&line, Line::Coarsen { file, testcase, run }
+        if file.as_str() == "f" && testcase.as_str() == "T" && run.as_str() == "a run");
+    assert!(rt; is_read, "{line:?}");
+    let words = ["double", "--testcase", "T", "f", "--run", "a run"];
+    let line = read_line(rt.alloc(), &words)?;
+    let is_read = matches!(&line, Line::Double { file, testcase, run }
+        if file.as_str() == "f" && testcase.as_str() == "T" && run.as_str() == "a run");
+    assert!(rt; is_read, "{line:?}");
     let line = read_line(rt.alloc(), &["check", "a b.ttcn"])?;
     let is_read = matches!(&line, Line::Check { file } if file.as_str() == "a b.ttcn");
     assert!(rt; is_read, "{line:?}");
@@ -72,7 +82,7 @@ fn faulty_lines(rt: HostRuntime) -> Result<(), Fail> {
         let refused = matches!(read_line(alloc, &words), Err(LineError::Bad(_)));
         assert!(rt; refused, "{name} {value}");
     }
-    let lines: [&[&str]; 12] = [
+    let lines: [&[&str]; 14] = [
         &[],
         &["walk"],
         &["check"],
@@ -93,6 +103,8 @@ fn faulty_lines(rt: HostRuntime) -> Result<(), Fail> {
         ],
         &["replay", "f", "--testcase", "T"],
         &["replay", "f", "--run", "g"],
+        &["coarsen", "f", "--testcase", "T"],
+        &["double", "f", "--run", "g"],
         &[
             "replay",
             "f",
@@ -115,6 +127,8 @@ fn faulty_lines(rt: HostRuntime) -> Result<(), Fail> {
         ["run", "--help"],
         ["check", "--help"],
         ["replay", "--help"],
+        ["coarsen", "--help"],
+        ["double", "--help"],
     ] {
         assert!(rt;
             matches!(read_line(alloc, &words), Err(LineError::Help(_))),

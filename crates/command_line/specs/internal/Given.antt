@@ -32,14 +32,19 @@ pub record GivesRun (matches : List Row) : Type 0 where
   pub plan : GivesPlan matches
   pub json : GivesFlag matches (codes "json")
 
--- all that `replay` takes is there
-pub record GivesReplay (matches : List Row) : Type 0 where
+-- all that a command about a run takes is there
+pub record GivesRunFile (matches : List Row) : Type 0 where
   pub file : GivesText matches (codes "FILE")
   pub testcase : GivesText matches (codes "testcase")
   pub run : GivesText matches (codes "run")
 
--- one of the three subcommands was given, with all that it takes
+-- the name is that of a command about a run
+abbrev pub IsRunFileName : Text → Type 0
+IsRunFileName name =
+    (name ≡ codes "replay") ⊎ ((name ≡ codes "coarsen") ⊎ (name ≡ codes "double"))
+
+-- one of the five subcommands was given, with all that it takes
 abbrev pub GivesCommand : Option (Text × List Row) → Type 0
 GivesCommand given = IsSomeAnd given (λ p.
     ((p.0 ≡ codes "check") × GivesText p.1 (codes "FILE"))
-    ⊎ (((p.0 ≡ codes "run") × GivesRun p.1) ⊎ ((p.0 ≡ codes "replay") × GivesReplay p.1)))
+    ⊎ (((p.0 ≡ codes "run") × GivesRun p.1) ⊎ (IsRunFileName p.0 × GivesRunFile p.1)))

@@ -28,17 +28,26 @@ fn written(alloc: Global, text: &str) -> Result<String, AllocError> {
     Ok(file)
 }
 
-/// A line for each of the labels between blanks; `mtc*6` stands for six of them.
+/// A line for each of the labels between blanks; `mtc*6` stands for six of them, and `snap` or `choose` for the beginning
+/// of a line.
 fn lines(alloc: Global, words: &str) -> Result<String, AllocError> {
     let mut file = String::new(alloc);
     for word in words.split_whitespace() {
         let (label, times) = repeated(word);
         for _ in 0..times {
             file.push_str(label)?;
-            file.push('\n')?;
+            file.push(behind(label))?;
         }
     }
     Ok(file)
+}
+
+/// What stands behind a word of a run file.
+fn behind(word: &str) -> char {
+    match word {
+        "snap" | "choose" => ' ',
+        _ => '\n',
+    }
 }
 
 /// A label and how often it stands there.

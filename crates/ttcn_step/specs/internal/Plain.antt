@@ -1,5 +1,5 @@
 -- Where a component stands at no `alt`: it has a step, and takes no branch.
-use Rattle.std.specs.Prelude.{◌≡◌, true, List, [], ◌∷◌, is_some}
+use Rattle.std.specs.Prelude.{◌≡◌, true, List, ◌∷◌, is_some}
 use Rattle.ttcn_syntax.specs.declared.tree.statement.Action.TheOpen.{Action-F}
 use Rattle.step_rules.specs.Configurations.{Component, Going, is_running_state}
 use Rattle.step_rules.specs.Items.{Does, Doing, Item, Whole, action_of}

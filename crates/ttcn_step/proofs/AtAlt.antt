@@ -1,0 +1,46 @@
+-- Whether a component stands at an `alt`.
+use Rattle.std.proofs.Common.{◌≡◌, ℕ, Bool, true, false, ◌&&◌, List, [], ◌∷◌, map, slice_get, Option, Some, None, refl, sym, ap, ◌∙◌}
+use Rattle.std.proofs.lemmas.Option.{same_Some}
+use Rattle.fine_runs.specs.Fine.{begins_with_alt, is_at_alt, is_found, is_of_alt, stands_at_alt}
+use Rattle.step_labels.specs.Labels.{label_with}
+use Rattle.step_labels.specs.declared.label.Expiry.{Expiry as AnExpiry}
+use Rattle.step_rules.specs.Configurations.{is_running_state}
+use Rattle.step_rules.specs.Snapshots.{Test}
+use Rattle.ttcn_config.specs.Legend.{Legend, component_by, frame_by, going_by, state_by}
+use Rattle.ttcn_config.specs.declared.component.Component.{Component}
+use Rattle.ttcn_config.specs.declared.config.Going.{Going}
+use Rattle.ttcn_config.specs.declared.frame.Frame.{Frame}
+use Rattle.ttcn_step.proofs.Found.{Searched, said-found}
+
+-- ---- the last frame
+
+pub alt-first : (l : Legend) (test : Test) (calls : List Frame) (frame : Frame) → slice_get calls 0 ≡ Some frame → begins_with_alt test (l.lists frame.remaining) ≡ is_at_alt test (map (frame_by l) calls)
+alt-first l test [] frame e = absurd (let no = e in cc)
+alt-first l test (first ∷ frames) frame e = ap (λ (f : Frame). begins_with_alt test (l.lists f.remaining)) (sym (same_Some first frame e))
+
+pub alt-none : (l : Legend) (test : Test) (calls : List Frame) → slice_get calls 0 ≡ None → false ≡ is_at_alt test (map (frame_by l) calls)
+alt-none l test [] e = refl
+alt-none l test (first ∷ frames) e = absurd (let no = e in cc)
+
+-- ---- components
+
+pub stands-running : (l : Legend) (test : Test) (x : Component) (b : Bool) → is_running_state (state_by x.state) ≡ true → b ≡ is_at_alt test (map (frame_by l) x.own.calls) → b ≡ stands_at_alt test (component_by l x)
+stands-running l test x b runs is = is ∙ ap (λ r. r && is_at_alt test (map (frame_by l) x.own.calls)) (sym runs)
+
+pub stands-not : (l : Legend) (test : Test) (x : Component) → is_running_state (state_by x.state) ≡ false → false ≡ stands_at_alt test (component_by l x)
+stands-not l test x rests = ap (λ r. r && is_at_alt test (map (frame_by l) x.own.calls)) (sym rests)
+
+-- ---- labels
+
+module _ (l : Legend) (test : Test) (going : Going) (numbers : List ℕ) (e : Option AnExpiry) where
+  abbrev IsOf : Option AnExpiry → Bool
+  IsOf o = is_of_alt test (going_by l going) (label_with numbers o)
+
+  pub expiry-not : (expires : AnExpiry) → e ≡ Some expires → false ≡ IsOf e
+  expiry-not expires is = sym (ap IsOf is)
+
+  pub missing-not : e ≡ None → Searched numbers going.components ≡ None → false ≡ IsOf e
+  missing-not is none = sym (ap IsOf is ∙ ap (is_found (stands_at_alt test)) (said-found l test going numbers None none))
+
+  pub found-of : (x : Component) (b : Bool) → e ≡ None → Searched numbers going.components ≡ Some x → b ≡ stands_at_alt test (component_by l x) → b ≡ IsOf e
+  found-of x b is found stands = stands ∙ sym (ap IsOf is ∙ ap (is_found (stands_at_alt test)) (said-found l test going numbers (Some x) found))

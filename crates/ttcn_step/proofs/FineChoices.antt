@@ -1,0 +1,102 @@
+-- What was asked for when a snapshot was taken is done, and the timers that expired since expire behind it.
+use Rattle.std.proofs.Common.{◌≡◌, List, Option, Some, None, option_map, refl, sym, ap, ◌∙◌}
+use Rattle.ttcn_syntax.specs.declared.tree.statement.Verdict.TheVariants as verdict
+use Rattle.fine_runs.specs.Fates.{Faults, Lapses, Takes, fate_of}
+use Rattle.fine_runs.specs.Holding.{act_of, act_then, follow}
+use Rattle.step_acts.specs.Asks.{IsFault, uncovered_act}
+use Rattle.step_rules.specs.Configurations as rules
+use Rattle.step_rules.specs.Configurations.{component_at}
+use Rattle.step_rules.specs.Snapshots.{Test}
+use Rattle.step_rules.specs.Statements.{Act, Connects, Continues, Creates, Errs, Removes, Sends, Starts, Stops, Waits, Worsens}
+use Rattle.step_rules.specs.Steps.{Label, apply, settled}
+use Rattle.ttcn_config.specs.Acts.{act_by}
+use Rattle.ttcn_config.specs.Legend.{Legend, component_by, config_by, going_by}
+use Rattle.ttcn_config.specs.declared.act.Act.{Act as Kept}
+use Rattle.ttcn_config.specs.declared.act.Act.TheVariants as kept
+use Rattle.ttcn_config.specs.declared.component.Component.{Component}
+use Rattle.ttcn_config.specs.declared.config.Config.{Config}
+use Rattle.ttcn_step.proofs.FineSteps.{follow-ended}
+use Rattle.ttcn_step.proofs.Found.{Searched, said-found}
+use Rattle.ttcn_step.proofs.Steps.{apply-uncovered}
+use Rattle.ttcn_step.specs.declared.fine.Stored.{Stored}
+use Rattle.ttcn_step.specs.internal.Fine.{held_by}
+use Rattle.ttcn_step.specs.internal.Steps.{IsBehind}
+use Rattle.ttcn_values.specs.declared.value.ComponentId.{ComponentId}
+
+-- ---- fates
+
+pub uncovered-fate : (a : Act) → fate_of (uncovered_act a) ≡ fate_of a
+uncovered-fate Waits = refl
+uncovered-fate (Errs why) = refl
+uncovered-fate (Continues own) = refl
+uncovered-fate (Worsens v own) = refl
+uncovered-fate (Removes port own) = refl
+uncovered-fate (Sends port to v own) = refl
+uncovered-fate (Creates new own) = refl
+uncovered-fate (Starts path frame own) = refl
+uncovered-fate (Stops path own) = refl
+uncovered-fate (Connects d e own) = refl
+
+kept-fate : (l : Legend) (a : Kept) → Takes ≡ fate_of (act_by l a)
+kept-fate l (kept.Continues own) = refl
+kept-fate l (kept.Worsens v own) = refl
+kept-fate l (kept.Removes port own) = refl
+kept-fate l (kept.Sends port to v own) = refl
+kept-fate l (kept.Creates new own) = refl
+kept-fate l (kept.Starts path frame own) = refl
+kept-fate l (kept.Stops path own) = refl
+kept-fate l (kept.Connects one other own) = refl
+
+-- ---- what is answered
+
+module _ (test : Test) (c : rules.Going) (itself : ComponentId) (since : List Label) (a : Act) where
+  abbrev pub Chosen : Option rules.Configuration
+  Chosen = option_map (follow test since) (option_map settled (apply test c itself a))
+
+  pub waits-chosen : uncovered_act a ≡ Waits → None ≡ Chosen
+  waits-chosen is = sym (ap (λ o. option_map (follow test since) (option_map settled o)) (sym (apply-uncovered test c itself a) ∙ ap (apply test c itself) is))
+
+  pub waits-fate : uncovered_act a ≡ Waits → Lapses ≡ fate_of a
+  waits-fate is = sym (sym (uncovered-fate a) ∙ ap fate_of is)
+
+  pub takes-chosen : (l : Legend) (asked : Kept) (after end : Config) → uncovered_act a ≡ act_by l asked → IsBehind l (apply test c itself (act_by l asked)) (Some after)
+      → config_by l end ≡ follow test since (config_by l after) → Some (config_by l end) ≡ Chosen
+  takes-chosen l asked after end is behind follows =
+      ap Some follows
+      ∙ ap (option_map (follow test since)) (behind ∙ ap (λ b. option_map settled (apply test c itself b)) (sym is) ∙ ap (option_map settled) (apply-uncovered test c itself a))
+
+  pub takes-fate : (l : Legend) (asked : Kept) → uncovered_act a ≡ act_by l asked → Takes ≡ fate_of a
+  takes-fate l asked is = kept-fate l asked ∙ ap fate_of (sym is) ∙ uncovered-fate a
+
+fault-ends : (test : Test) (c : rules.Going) (itself : ComponentId) (a : Act) → IsFault (uncovered_act a) → option_map settled (apply test c itself a) ≡ Some (rules.Ended verdict.Error)
+fault-ends test c itself Waits is = absurd is
+fault-ends test c itself (Errs why) is = refl
+fault-ends test c itself (Continues own) is = absurd is
+fault-ends test c itself (Worsens v own) is = absurd is
+fault-ends test c itself (Removes port own) is = absurd is
+fault-ends test c itself (Sends port to v own) is = absurd is
+fault-ends test c itself (Creates new own) is = absurd is
+fault-ends test c itself (Starts path frame own) is = absurd is
+fault-ends test c itself (Stops path own) is = absurd is
+fault-ends test c itself (Connects d e own) is = absurd is
+
+pub fault-chosen : (test : Test) (c : rules.Going) (itself : ComponentId) (since : List Label) (a : Act) → IsFault (uncovered_act a) → Some (rules.Ended verdict.Error) ≡ Chosen test c itself since a
+fault-chosen test c itself since a is = sym (ap (option_map (follow test since)) (fault-ends test c itself a is) ∙ ap Some (follow-ended test since verdict.Error))
+
+pub fault-fate : (a : Act) → IsFault (uncovered_act a) → Faults ≡ fate_of a
+fault-fate Waits is = absurd is
+fault-fate (Errs why) is = refl
+fault-fate (Continues own) is = absurd is
+fault-fate (Worsens v own) is = absurd is
+fault-fate (Removes port own) is = absurd is
+fault-fate (Sends port to v own) is = absurd is
+fault-fate (Creates new own) is = absurd is
+fault-fate (Starts path frame own) is = absurd is
+fault-fate (Stops path own) is = absurd is
+fault-fate (Connects d e own) is = absurd is
+
+-- ---- what was asked for
+
+pub then-found : (l : Legend) (test : Test) (entry : Stored) (o : Option Component) → Searched entry.path.numbers entry.taken.components ≡ o
+    → act_then test (held_by l entry) ≡ act_of test (going_by l entry.taken) (option_map (component_by l) o)
+then-found l test entry o found = ap (act_of test (going_by l entry.taken)) (said-found l test entry.taken entry.path.numbers o found)
