@@ -1,11 +1,21 @@
-"""Refuses each request of the built program for memory in turn.
+"""Has requests for memory refused: in the calls, in whole runs of the program, and by a limit on the program's memory.
 
-Usage: memory.py PROGRAM. It runs the program on texts of examples/ over and over, and has the N-th call of malloc, calloc or
-realloc refused, from N = 1 on, until a run asks no more so often. A run must answer as it does with ample memory, byte for
-byte, or write nothing but the line "out of memory" and end with status 4. It prints a line for each command, and its status
-is 0 where all runs do so. It wants a C compiler, cc.
+Usage: memory.py TTCNX SCARCITY [limits]. TTCNX is the built program, SCARCITY the program that makes the calls
+(crates/scarcity). It wants a C compiler, cc, and the C library of GNU.
+
+- In the calls: SCARCITY makes each call over and over, and has its N-th call of malloc, calloc or realloc refused, from N = 1
+  on, until a call asks no more so often. Each call must answer that it got no memory, or as with ample memory.
+- In whole runs: TTCNX runs on texts of examples/, and its N-th request is refused, from the first one of the process on. A run
+  must answer as with ample memory, byte for byte, or write nothing but the line "out of memory" and end with status 4.
+- By a limit: TTCNX explores a module that needs more memory than it may have, 100 and 400 MB, with 1 and 4 workers; it must
+  write "out of memory" alone and end with status 4. With the word limits that is all that is tried, from 100 MB to 2 GB.
+
+It prints a line for each call, command and limit. The last line tells how many requests were refused and how many were
+answered otherwise; the status is 0 where none was. A call or command of which no request was refused counts as answered
+otherwise, since each of them asks for memory.
 """
 import os
+import resource
 import subprocess
 import sys
 import tempfile
@@ -16,34 +26,75 @@ ROOT = os.path.dirname(os.path.dirname(os.path.realpath(__file__)))
 COMMANDS = [
     "check examples/x5.ttcn",
     "run examples/x1.ttcn --testcase T --steps 2",
-    "run examples/x2.ttcn --testcase T --steps 13",
     "run examples/x2.ttcn --testcase T --steps 13 --workers 4 --piece 1",
     "run examples/x6.ttcn --testcase T --steps 10 --json",
     "replay examples/x2.ttcn --testcase T --run examples/x2.pass.run",
+    "double examples/x2.ttcn --testcase T --run examples/x2.pass.run",
+    "coarsen examples/x6.ttcn --testcase T --run examples/x6.fine.run",
+    "coarsen examples/x2.ttcn --testcase T --run examples/x2.pass.run",
     "run examples/x1.ttcn --testcase t --steps 2",
-    "run examples/x2.ttcn --testcase T --steps 13 --limit 46",
+    "run examples/x1.ttcn --testcase T --steps 2 --limit 2",
 ]
 
-# Stands before the C library's own: refuses the request of the number AT, and makes the file TOLD then.
+# Megabytes that a process may have.
+FEW_LIMITS, ALL_LIMITS = [100, 400], [100, 200, 500, 1000, 2000]
+
+# The status and the texts of a run that gets no memory.
+REFUSAL = (4, b"", b"out of memory\n")
+
+# Stands before the C library's own calls. The N-th request from the start of the process is refused, where the environment
+# names N as AT, and the file TOLD is made then. A program asks for refusals by opening files of these names: "/refused
+# memory/N" (from here on the N-th request is refused), "/refused memory/all", and "/refused memory/any", which ends that and
+# opens only where a request was refused. "/refused memory/" always opens.
 LIBRARY = r"""
+#define _GNU_SOURCE
 #include <errno.h>
 #include <fcntl.h>
+#include <stdarg.h>
 #include <stdatomic.h>
 #include <stdlib.h>
+#include <string.h>
+#include <sys/syscall.h>
+#include <unistd.h>
 extern void *__libc_malloc(size_t);
 extern void *__libc_calloc(size_t, size_t);
 extern void *__libc_realloc(void *, size_t);
-static atomic_long requests;
+static const char ORDER[] = "/refused memory/";
+static atomic_long requests, at, refusals;
+static int real_open(const char *name, int flags, int mode) { return syscall(SYS_openat, AT_FDCWD, name, flags, mode); }
+__attribute__((constructor)) static void begin(void) {
+    const char *number = getenv("AT");
+    if (number) { atomic_store(&requests, 0); atomic_store(&at, atol(number)); }
+}
 static int refused(void) {
-    const char *at = getenv("AT");
-    if (!at || atomic_fetch_add(&requests, 1) + 1 != atol(at)) return 0;
-    open(getenv("TOLD"), O_CREAT | O_WRONLY, 0600);
+    long wanted = atomic_load(&at), number = atomic_fetch_add(&requests, 1) + 1;
+    if (!wanted || (wanted > 0 && wanted != number)) return 0;
+    atomic_fetch_add(&refusals, 1);
+    if (getenv("TOLD")) real_open(getenv("TOLD"), O_CREAT | O_WRONLY, 0600);
     errno = ENOMEM;
     return 1;
 }
 void *malloc(size_t size) { return refused() ? NULL : __libc_malloc(size); }
 void *calloc(size_t count, size_t size) { return refused() ? NULL : __libc_calloc(count, size); }
 void *realloc(void *old, size_t size) { return refused() ? NULL : __libc_realloc(old, size); }
+static int obeyed(const char *order) {
+    if (!*order) return 1;
+    if (!strcmp(order, "any")) { atomic_store(&at, 0); return atomic_exchange(&refusals, 0) > 0; }
+    atomic_store(&refusals, 0);
+    atomic_store(&requests, 0);
+    atomic_store(&at, strcmp(order, "all") ? atol(order) : -1);
+    return 1;
+}
+int open(const char *name, int flags, ...) {
+    va_list rest;
+    va_start(rest, flags);
+    int mode = va_arg(rest, int);
+    va_end(rest);
+    if (strncmp(name, ORDER, sizeof ORDER - 1)) return real_open(name, flags, mode);
+    if (obeyed(name + sizeof ORDER - 1)) return real_open("/dev/null", O_RDONLY, 0);
+    errno = ENOENT;
+    return -1;
+}
 """
 
 
@@ -56,6 +107,23 @@ def build(folder):
     return library
 
 
+def refuse_in_calls(program, library):
+    """Returns how many requests of the calls were refused, and how many of the answers were otherwise than they may be."""
+    ran = subprocess.Popen([program], env={**os.environ, "LD_PRELOAD": library}, stdout=subprocess.PIPE, text=True)
+    name, refused, wrong, otherwise = "", 0, 0, 0
+    for line in ran.stdout:
+        print(line, end="", flush=True)
+        name, _, counts = line.rpartition(": ")
+        numbers = [int(it) for it in counts.split() if it.isdigit()]
+        refused, wrong = numbers if len(numbers) == 2 else (0, 1)
+        otherwise += refused == 0
+    status, otherwise = ran.wait(), otherwise + wrong
+    if name != "all" or status not in (0, 1):
+        print(f"  the program ended with status {status} behind {name!r}")
+        otherwise += 1
+    return refused, otherwise
+
+
 def answer(program, words, library=None, at=0, told=""):
     """Returns the status and what the program writes; with a library, with the request of this number refused."""
     more = {"LD_PRELOAD": library, "AT": str(at), "TOLD": told} if library else {}
@@ -64,8 +132,8 @@ def answer(program, words, library=None, at=0, told=""):
 
 
 def refuse_each(program, words, folder, library):
-    """Returns how many requests were refused, and how many of the runs answered otherwise than they may."""
-    wanted, refusal = answer(program, words), (4, b"", b"out of memory\n")
+    """Returns how many requests of a command were refused, and how many of the runs answered otherwise than they may."""
+    wanted = answer(program, words)
     otherwise, at, more = 0, 0, True
 
     def one(number):
@@ -80,24 +148,69 @@ def refuse_each(program, words, folder, library):
         while more:
             for number, was_refused, given in pool.map(one, range(at + 1, at + 65)):
                 more = more and was_refused
-                if was_refused and given not in (wanted, refusal):
+                if was_refused and given not in (wanted, REFUSAL):
                     otherwise += 1
                     print(f"  request {number} refused: status {given[0]}, {given[1][:200]!r}, {given[2][:200]!r}")
                 if more:
                     at = number
+    if not at or wanted[0] == REFUSAL[0]:
+        otherwise += 1
+        print(f"  no request is refused, or the answer with ample memory is {wanted}")
     return at, otherwise
 
 
-def main(program):
-    failed = 0
+def crowd(senders, messages):
+    """Returns a module in which so many components send so many messages each, and the main one takes them all."""
+    makes = "".join(f"var W w{it} := W.create;\nconnect(self:p, w{it}:q);\n" for it in range(senders))
+    starts = "".join(f"w{it}.start(f({it}));\n" for it in range(senders))
+    return f"""module F {{
+type port P message {{ inout integer }}
+type component M {{ port P p }}
+type component W {{ port P q }}
+function f(integer x) runs on W {{
+for (var integer i := 0; i < {messages}; i := i + 1) {{ q.send(x + i) }}
+}}
+testcase T() runs on M {{
+{makes}{starts}for (var integer i := 0; i < {senders * messages}; i := i + 1) {{ p.receive }}
+}}
+}}
+"""
+
+
+def limit_memory(program, folder, limits):
+    """Returns how many of the runs with so many megabytes answered otherwise than that they got no memory."""
+    path, otherwise = f"{folder}/crowd.ttcn", 0
+    with open(path, "w") as file:
+        file.write(crowd(5, 4))
+    for limit in limits:
+        for workers in (1, 4):
+            words = ["run", path, "--testcase", "T", "--steps", "1000", "--limit", "10000000", "--workers", str(workers)]
+            bound = limit * 1000000
+            ran = subprocess.run([program, *words], capture_output=True, timeout=1200,
+                                 preexec_fn=lambda: resource.setrlimit(resource.RLIMIT_AS, (bound, bound)))
+            given = ran.returncode, ran.stdout, ran.stderr
+            otherwise += given != REFUSAL
+            print(f"{limit} MB, {workers} workers: status {given[0]}, {given[1][:200] + given[2][:200]!r}", flush=True)
+    return otherwise
+
+
+def main(words):
+    program, calls = (os.path.abspath(it) for it in words[:2])
+    refused, otherwise = 0, 0
     with tempfile.TemporaryDirectory() as folder:
-        library = build(folder)
-        for command in COMMANDS:
-            requests, otherwise = refuse_each(program, command.split(), folder, library)
-            print(f"{command}: {requests} requests refused in turn, {otherwise} answered otherwise", flush=True)
-            failed += otherwise
-    return 1 if failed else 0
+        if words[2:] == ["limits"]:
+            otherwise = limit_memory(program, folder, ALL_LIMITS)
+        else:
+            library = build(folder)
+            refused, otherwise = refuse_in_calls(calls, library)
+            for command in COMMANDS:
+                more = refuse_each(program, command.split(), folder, library)
+                print(f"{command}: {more[0]} requests refused in turn, {more[1]} answered otherwise", flush=True)
+                refused, otherwise = refused + more[0], otherwise + more[1]
+            otherwise += limit_memory(program, folder, FEW_LIMITS)
+    print(f"memory: {refused} requests refused, {otherwise} answered otherwise")
+    return 1 if otherwise else 0
 
 
 if __name__ == "__main__":
-    sys.exit(main(os.path.abspath(sys.argv[1])))
+    sys.exit(main(sys.argv[1:]))

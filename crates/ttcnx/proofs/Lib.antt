@@ -8,5 +8,6 @@ pub mod OneReplay
 pub mod OneReport
 pub mod Outcomes
 pub mod Stages
+pub mod Streams
 pub mod Told
 pub mod WellTyped

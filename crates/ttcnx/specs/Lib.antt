@@ -4,4 +4,5 @@ pub mod Converted
 pub mod Fault
 pub mod Named
 pub mod Replayed
+pub mod Streamed
 pub mod Tells

@@ -6,6 +6,7 @@ mod convert;
 mod fault;
 mod replay;
 mod run;
+mod stream;
 mod testcase;
 
 pub use check::{check_answer, check_text};
@@ -15,4 +16,6 @@ pub use fault::{Fault, Refusal, fault_line, status};
 pub use replay::replay_text;
 pub use report::{Outcome, Report, Standing, to_json, to_text};
 pub use run::run_text;
+pub use stream::{StreamFault, run_stream};
+pub use streams::Counted;
 pub use ttcn_types::Rule;

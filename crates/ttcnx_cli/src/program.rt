@@ -7,14 +7,14 @@ use std::thread::Threads;
 use std::{env, fs};
 use ttcn_syntax::LONGEST_TEXT;
 use ttcnx::{
-    Fault, Line, LineError, check_answer, fault_line, read_line, replay_text, run_text, status,
-    to_json, to_text,
+    Counted, Fault, Line, LineError, StreamFault, check_answer, coarsen_text, double_text,
+    fault_line, read_line, replay_text, run_stream, status,
 };
 
 /// How many bytes of a module are read: a text that has them all is refused as too long.
 const ENOUGH: u64 = LONGEST_TEXT as u64 + 1;
 
-/// Why there is nothing to write to the standard output.
+/// Why a command line was not answered.
 #[derive(Debug, Drop)]
 enum Stop {
     /// The words are at fault, as the text says.
@@ -41,10 +41,7 @@ where
     R: Env + Files + Print + Eprint + AllocGlobal + Threads + Sync,
 {
     match answer(rt) {
-        Ok(bytes) => match Print::write_all(rt, &bytes) {
-            Ok(()) => 0,
-            Err(_) => tell(rt, &Fault::CannotWrite),
-        },
+        Ok(()) => 0,
         Err(Stop::Words(text)) => {
             let _ = rt.eprint(&text);
             2
@@ -67,29 +64,32 @@ fn tell<R: Eprint + AllocGlobal>(rt: &R, fault: &Fault) -> u8 {
     }
 }
 
-/// The bytes for the standard output.
-fn answer<R>(rt: &R) -> Result<Vec<u8>, Stop>
+/// Answers the words of the command line.
+fn answer<R>(rt: &R) -> Result<(), Stop>
 where
-    R: Env + Files + AllocGlobal + Threads + Sync,
+    R: Env + Files + Print + AllocGlobal + Threads + Sync,
 {
     let alloc = rt.alloc();
     let words = words(rt)?;
     let texts: Vec<&str> = words.iter().map(|word| word.as_str()).collect(alloc)?;
     match read_line(alloc, texts.get(1..).unwrap_or(&[])) {
         Ok(line) => Ok(answer_line(rt, line)?),
-        Err(LineError::Help(text)) => Ok(text.into_bytes()),
+        Err(LineError::Help(text)) => Ok(print(rt, text.as_bytes())?),
         Err(LineError::Bad(text)) => Err(Stop::Words(text)),
         Err(LineError::Memory(_)) => Err(Stop::Fault(Fault::Memory)),
     }
 }
 
-/// What a command is answered.
-fn answer_line<R>(rt: &R, line: Line) -> Result<Vec<u8>, Fault>
+/// Answers a command.
+fn answer_line<R>(rt: &R, line: Line) -> Result<(), Fault>
 where
-    R: Files + AllocGlobal + Threads + Sync,
+    R: Files + Print + AllocGlobal + Threads + Sync,
 {
     match line {
-        Line::Check { file } => check(rt, file),
+        Line::Check { file } => {
+            let text = read_bytes(rt, file, ENOUGH)?;
+            print(rt, check_answer(rt.alloc(), &text)?.as_bytes())
+        }
         Line::Run {
             file,
             testcase,
@@ -100,45 +100,82 @@ where
             file,
             testcase,
             run,
-        } => replay(rt, file, testcase.as_str(), run),
+        } => {
+            let (text, run) = read_both(rt, file, run)?;
+            print(
+                rt,
+                &replay_text(rt.alloc(), &text, testcase.as_str(), &run)?,
+            )
+        }
+        Line::Coarsen {
+            file,
+            testcase,
+            run,
+        } => {
+            let (text, run) = read_both(rt, file, run)?;
+            print(
+                rt,
+                &coarsen_text(rt.alloc(), &text, testcase.as_str(), &run)?,
+            )
+        }
+        Line::Double {
+            file,
+            testcase,
+            run,
+        } => {
+            let (text, run) = read_both(rt, file, run)?;
+            print(
+                rt,
+                &double_text(rt.alloc(), &text, testcase.as_str(), &run)?,
+            )
+        }
     }
 }
 
-fn check<R: Files + AllocGlobal>(rt: &R, file: String) -> Result<Vec<u8>, Fault> {
-    let text = read_bytes(rt, file, ENOUGH)?;
-    Ok(check_answer(rt.alloc(), &text)?.into_bytes())
+/// Writes bytes to the standard output.
+fn print<R: Print>(rt: &R, bytes: &[u8]) -> Result<(), Fault> {
+    match Print::write_all(rt, bytes) {
+        Ok(()) => Ok(()),
+        Err(_) => Err(Fault::CannotWrite),
+    }
 }
 
-fn explore<R>(
-    rt: &R,
-    file: String,
-    testcase: &str,
-    plan: &Plan,
-    json: bool,
-) -> Result<Vec<u8>, Fault>
+/// Explores the runs of a test case of the module in a file, and writes the report to the standard output.
+fn explore<R>(rt: &R, file: String, testcase: &str, plan: &Plan, json: bool) -> Result<(), Fault>
 where
-    R: Files + AllocGlobal + Threads + Sync,
+    R: Files + Print + AllocGlobal + Threads + Sync,
 {
-    let alloc = rt.alloc();
-    let text = read_bytes(rt, file, ENOUGH)?;
-    let report = run_text(rt, alloc, &text, testcase, plan, &NoGate)?;
-    let told = if json {
-        to_json(alloc, &report)?
-    } else {
-        to_text(alloc, &report)?
+    let mut reader = match fs::open(rt, file.as_str()) {
+        Ok(opened) => Counted::new(opened),
+        Err(error) => return Err(unread(file, &error)),
     };
-    Ok(told.into_bytes())
+    let mut writer = Counted::new(io::writer(rt));
+    match run_stream(
+        rt,
+        rt.alloc(),
+        &mut reader,
+        &mut writer,
+        testcase,
+        plan,
+        json,
+        &NoGate,
+    ) {
+        Ok(()) => Ok(()),
+        Err(StreamFault::Read) => Err(Fault::CannotRead(file)),
+        Err(StreamFault::Write) => Err(Fault::CannotWrite),
+        Err(StreamFault::Refused(fault)) => Err(fault),
+    }
 }
 
-fn replay<R: Files + AllocGlobal>(
+/// The bytes of a module, and those of a run file.
+fn read_both<R: Files + AllocGlobal>(
     rt: &R,
     file: String,
-    testcase: &str,
     run: String,
-) -> Result<Vec<u8>, Fault> {
+) -> Result<(Vec<u8>, Vec<u8>), Fault> {
     let text = read_bytes(rt, file, ENOUGH)?;
     let run = read_bytes(rt, run, u64::MAX)?;
-    replay_text(rt.alloc(), &text, testcase, &run)
+    Ok((text, run))
 }
 
 /// The words of the command line, the program's name first.
@@ -157,8 +194,16 @@ fn words<R: Env + AllocGlobal>(rt: &R) -> Result<Vec<String>, Stop> {
 fn read_bytes<R: Files + AllocGlobal>(rt: &R, file: String, most: u64) -> Result<Vec<u8>, Fault> {
     match bytes_of(rt, file.as_str(), most) {
         Ok(bytes) => Ok(bytes),
-        Err(error) if error.kind() == ErrorKind::OutOfMemory => Err(Fault::Memory),
-        Err(_) => Err(Fault::CannotRead(file)),
+        Err(error) => Err(unread(file, &error)),
+    }
+}
+
+/// Why the file of this name was not read.
+fn unread(file: String, error: &io::Error) -> Fault {
+    if error.kind() == ErrorKind::OutOfMemory {
+        Fault::Memory
+    } else {
+        Fault::CannotRead(file)
     }
 }
 

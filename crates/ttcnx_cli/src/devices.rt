@@ -1,0 +1,347 @@
+//! Readers and writers that fail, that move few bytes at a time, or that have no end.
+ghost use Rattle.std.specs.Prelude.{◌≡◌};
+
+use explore::{NoGate, Plan};
+use std::io::{self, Error, ErrorKind, Read, Write};
+use std::test::Fail;
+use ttcnx::{Counted, Fault, Refusal, StreamFault, run_stream};
+
+const TEXT: &str = "module M {
+type component C {}
+testcase T() runs on C { setverdict(pass) }
+}
+";
+
+const REPORT: &str = "testcase T
+steps 2
+configurations 3
+complete yes
+verdict pass 2
+  mtc
+  mtc
+";
+
+const REPORT_IN_JSON: &str =
+    "{\"blocked\":[],\"branches\":[],\"complete\":true,\"configurations\":3,\"steps\":2,\"testcase\":\"T\",\"verdicts\":[{\"run\":[\"mtc\",\"mtc\"],\"verdict\":\"pass\"}]}\n";
+
+const PLAN: Plan = Plan {
+    steps: 2,
+    limit: 1_000_000,
+    workers: 1,
+    piece: 256,
+};
+
+/// How a call goes wrong.
+#[derive(Clone, Copy, Debug, PartialEq, Eq)]
+enum Trouble {
+    Fails,
+    IsInterrupted,
+    MovesNothing,
+}
+
+/// A reader or a writer that moves so many bytes a call at most, and has trouble at one of its calls.
+#[derive(Drop)]
+struct Faulty<T> {
+    inner: T,
+    step: usize,
+    /// The number of the call with trouble, from 1 on.
+    at: u64,
+    trouble: Trouble,
+    calls: u64,
+    moved: u64,
+}
+
+impl<T> Faulty<T> {
+    fn new(inner: T, step: usize, at: u64, trouble: Trouble) -> Faulty<T> {
+        Faulty {
+            inner,
+            step,
+            at,
+            trouble,
+            calls: 0,
+            moved: 0,
+        }
+    }
+
+    /// How many of so many bytes a call may move.
+    fn room(&mut self, wanted: usize) -> io::Result<usize> {
+        self.calls = self.calls.saturating_add(1);
+        if self.calls != self.at {
+            return Ok(wanted.min(self.step));
+        }
+        match self.trouble {
+            Trouble::Fails => Err(Error::from(ErrorKind::Other)),
+            Trouble::IsInterrupted => Err(Error::from(ErrorKind::Interrupted)),
+            Trouble::MovesNothing => Ok(0),
+        }
+    }
+
+    fn count(&mut self, moved: usize) {
+        self.moved = self.moved.saturating_add(moved as u64);
+    }
+}
+
+impl<T: Read> Read for Faulty<T> {
+    fn read(&mut self, buf: &mut [u8]) -> io::Result<usize> {
+        let room = self.room(buf.len())?.min(buf.len());
+        let given = self.inner.read(&mut buf[..room])?;
+        self.count(given);
+        Ok(given.min(buf.len()))
+    }
+}
+
+impl<T: Write> Write for Faulty<T> {
+    fn write(&mut self, buf: &[u8]) -> io::Result<usize> {
+        let room = self.room(buf.len())?.min(buf.len());
+        let taken = self.inner.write(&buf[..room])?;
+        self.count(taken);
+        Ok(taken.min(buf.len()))
+    }
+
+    fn flush(&mut self) -> io::Result<()> {
+        Ok(())
+    }
+}
+
+/// A device without trouble.
+fn sound<T>(inner: T, step: usize) -> Counted<Faulty<T>>
+    ensures { result.failed ≡ 0 }
+{
+    Counted::new(Faulty::new(inner, step, 0, Trouble::Fails))
+}
+
+#[test]
+fn reports_go_through(rt: HostRuntime) -> Result<(), Fail> {
+    let alloc = rt.alloc();
+    for step in [1, 7, 1_000_000] {
+        for (json, want) in [(false, REPORT), (true, REPORT_IN_JSON)] {
+            let mut reader = sound(TEXT.as_bytes(), step);
+            let mut writer = sound(Vec::new(alloc), step);
+            let done = run_stream(
+                &rt,
+                alloc,
+                &mut reader,
+                &mut writer,
+                "T",
+                &PLAN,
+                json,
+                &NoGate,
+            );
+            assert!(rt;
+                done.is_ok() && reader.failed() == 0 && writer.failed() == 0,
+                "{step}"
+            );
+            let written = writer.into_inner().inner;
+            assert!(rt; written.as_slice() == want.as_bytes(), "{step}");
+        }
+    }
+    Ok(())
+}
+
+#[test]
+fn reads_that_fail_end_the_call(rt: HostRuntime) -> Result<(), Fail> {
+    let alloc = rt.alloc();
+    for trouble in [Trouble::Fails, Trouble::IsInterrupted] {
+        for at in 1..=4 {
+            let mut reader = Counted::new(Faulty::new(TEXT.as_bytes(), 30, at, trouble));
+            let mut writer = sound(Vec::new(alloc), 30);
+            let done = run_stream(
+                &rt,
+                alloc,
+                &mut reader,
+                &mut writer,
+                "T",
+                &PLAN,
+                false,
+                &NoGate,
+            );
+            assert!(rt; matches!(done, Err(StreamFault::Read)), "{trouble:?} {at}");
+            assert!(rt;
+                reader.failed() == 1 && writer.failed() == 0,
+                "{trouble:?} {at}"
+            );
+            assert!(rt; reader.into_inner().calls == at, "{trouble:?} {at}");
+            assert!(rt; writer.into_inner().calls == 0, "{trouble:?} {at}");
+        }
+    }
+    Ok(())
+}
+
+/// Nothing more is asked for behind a read that gave nothing, though the reader has more.
+#[test]
+fn a_read_of_nothing_is_the_end(rt: HostRuntime) -> Result<(), Fail> {
+    let alloc = rt.alloc();
+    let mut reader = Counted::new(Faulty::new(TEXT.as_bytes(), 30, 3, Trouble::MovesNothing));
+    let mut writer = sound(Vec::new(alloc), 30);
+    let done = run_stream(
+        &rt,
+        alloc,
+        &mut reader,
+        &mut writer,
+        "T",
+        &PLAN,
+        false,
+        &NoGate,
+    );
+    let is_refused = matches!(
+        done,
+        Err(StreamFault::Refused(Fault::Refused(Refusal::Unexpected, _)))
+    );
+    assert!(rt;
+        is_refused && reader.failed() == 0,
+        "a beginning of the text"
+    );
+    assert!(rt; reader.into_inner().calls == 3, "nothing more is asked for");
+    assert!(rt; writer.into_inner().calls == 0, "nothing is written");
+    Ok(())
+}
+
+#[test]
+fn writes_that_fail_leave_a_beginning(rt: HostRuntime) -> Result<(), Fail> {
+    let alloc = rt.alloc();
+    let report = REPORT.as_bytes();
+    for trouble in [
+        Trouble::Fails,
+        Trouble::IsInterrupted,
+        Trouble::MovesNothing,
+    ] {
+        for (before, _byte) in report.iter().enumerate() {
+            let at = (before as u64).saturating_add(1);
+            let mut reader = sound(TEXT.as_bytes(), 30);
+            let mut writer = Counted::new(Faulty::new(Vec::new(alloc), 1, at, trouble));
+            let done = run_stream(
+                &rt,
+                alloc,
+                &mut reader,
+                &mut writer,
+                "T",
+                &PLAN,
+                false,
+                &NoGate,
+            );
+            assert!(rt; matches!(done, Err(StreamFault::Write)), "{trouble:?} {at}");
+            assert!(rt;
+                reader.failed() == 0 && writer.failed() == 1,
+                "{trouble:?} {at}"
+            );
+            let writer = writer.into_inner();
+            assert!(rt; writer.calls == at, "{trouble:?} {at}");
+            let is_beginning = report.get(..before) == Some(writer.inner.as_slice());
+            assert!(rt; is_beginning, "{trouble:?} {at}");
+        }
+    }
+    Ok(())
+}
+
+/// A writer that takes all bytes, and can't be flushed.
+#[derive(Drop)]
+struct Unflushed(Vec<u8>);
+
+impl Write for Unflushed {
+    fn write(&mut self, buf: &[u8]) -> io::Result<usize> {
+        Ok(self.0.write(buf)?.min(buf.len()))
+    }
+
+    fn flush(&mut self) -> io::Result<()> {
+        Err(Error::from(ErrorKind::Other))
+    }
+}
+
+#[test]
+fn a_failed_flush_is_a_failed_write(rt: HostRuntime) -> Result<(), Fail> {
+    let alloc = rt.alloc();
+    let mut reader = sound(TEXT.as_bytes(), 30);
+    let mut writer = Counted::new(Unflushed(Vec::new(alloc)));
+    let done = run_stream(
+        &rt,
+        alloc,
+        &mut reader,
+        &mut writer,
+        "T",
+        &PLAN,
+        false,
+        &NoGate,
+    );
+    assert!(rt;
+        matches!(done, Err(StreamFault::Write)) && writer.failed() == 1,
+        "the flush"
+    );
+    assert!(rt;
+        writer.into_inner().0.as_slice() == REPORT.as_bytes(),
+        "the report is there"
+    );
+    Ok(())
+}
+
+#[test]
+fn no_more_is_read_than_is_needed(rt: HostRuntime) -> Result<(), Fail> {
+    let alloc = rt.alloc();
+    let mut reader = sound(io::repeat(b'('), 1_000_000);
+    let mut writer = sound(Vec::new(alloc), 1);
+    let done = run_stream(
+        &rt,
+        alloc,
+        &mut reader,
+        &mut writer,
+        "T",
+        &PLAN,
+        false,
+        &NoGate,
+    );
+    let is_refused = matches!(
+        done,
+        Err(StreamFault::Refused(Fault::Refused(Refusal::TextTooLong, _)))
+    );
+    assert!(rt; is_refused && reader.failed() == 0, "a text without end");
+    assert!(rt;
+        reader.into_inner().moved == 1_048_577,
+        "a byte more than a text may have"
+    );
+    assert!(rt; writer.into_inner().calls == 0, "nothing is written");
+    Ok(())
+}
+
+#[test]
+fn refusals_write_nothing(rt: HostRuntime) -> Result<(), Fail> {
+    let alloc = rt.alloc();
+    let beyond = Plan { limit: 0, ..PLAN };
+    let mut reader = sound(TEXT.as_bytes(), 30);
+    let mut writer = sound(Vec::new(alloc), 30);
+    let done = run_stream(
+        &rt,
+        alloc,
+        &mut reader,
+        &mut writer,
+        "T",
+        &beyond,
+        false,
+        &NoGate,
+    );
+    assert!(rt;
+        matches!(done, Err(StreamFault::Refused(Fault::BadPlan))),
+        "the plan"
+    );
+    assert!(rt;
+        reader.into_inner().calls == 0,
+        "the plan is judged before the first read"
+    );
+    assert!(rt; writer.into_inner().calls == 0, "nothing is written");
+    let mut reader = sound(TEXT.as_bytes(), 30);
+    let mut writer = sound(Vec::new(alloc), 30);
+    let done = run_stream(
+        &rt,
+        alloc,
+        &mut reader,
+        &mut writer,
+        "t",
+        &PLAN,
+        false,
+        &NoGate,
+    );
+    assert!(rt;
+        matches!(done, Err(StreamFault::Refused(Fault::NoSuchTestCase))),
+        "the name"
+    );
+    assert!(rt; writer.into_inner().calls == 0, "nothing is written");
+    Ok(())
+}
