@@ -1,7 +1,7 @@
 """Has requests for memory refused: in the calls, in whole runs of the program, and by a limit on the program's memory.
 
 Usage: memory.py TTCNX SCARCITY [limits]. TTCNX is the built program, SCARCITY the program that makes the calls
-(crates/scarcity). It wants a C compiler, cc, and the C library of GNU.
+(crates/test_memory). It wants a C compiler, cc, and the C library of GNU.
 
 - In the calls: SCARCITY makes each call over and over, and has its N-th call of malloc, calloc or realloc refused, from N = 1
   on, until a call asks no more so often. Each call must answer that it got no memory, or as with ample memory.

@@ -5,7 +5,7 @@ ghost use Rattle.explore.specs.internal.Expansion.{candidates_with, candidates_i
 
 use rayon::prelude::*;
 use search_layer::{Candidate, Leftovers};
-use sharded_set::ShardedSet;
+use search_shards::ShardedSet;
 use std::alloc::{AllocError, Global};
 use std::thread;
 use std::thread::Threads;

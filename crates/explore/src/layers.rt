@@ -6,7 +6,7 @@ use crate::expand::expand_and_drop;
 use search_layer::{
     Candidate, ExploreError, Gate, Leftovers, Plan, Visited, enter_layer, find_first, show_states,
 };
-use sharded_set::ShardedSet;
+use search_shards::ShardedSet;
 use std::alloc::{AllocError, Global};
 use std::hash::Hash;
 use std::thread::Threads;

@@ -3,7 +3,7 @@ ghost use Rattle.summary.specs.Run.{Run, labels_of};
 ghost use Rattle.explore.specs.internal.Tied.{GoBack, AreLastSteps, run_at, AreFirstMarked};
 
 use search_layer::Step;
-use sharded_set::ShardedSet;
+use search_shards::ShardedSet;
 use std::alloc::{AllocError, Global};
 use summary::System;
 

@@ -1,7 +1,7 @@
 -- What stands first in a list of what remains.
 use Rattle.std.specs.Prelude.{◌≡◌, List, [], ◌∷◌}
-use Rattle.step_rules.specs.Items.{Doing, Item, Mark, Waiting}
-use Rattle.step_rules.specs.Sites.{Site, beginning}
+use Rattle.semantics.specs.Items.{Doing, Item, Mark, Waiting}
+use Rattle.semantics.specs.Sites.{Site, beginning}
 use Rattle.graph_items.specs.Standing.{part_of, target_of}
 use Rattle.graph_items.specs.declared.first.First.{First}
 use Rattle.graph_items.specs.declared.first.First.TheVariants as first

@@ -14,7 +14,7 @@ use Rattle.check_scope.specs.declared.names.Meaning.{Meaning}
 use Rattle.check_scope.specs.declared.names.Meaning.TheVariants as meaning
 use Rattle.check_scope.specs.declared.types.DataType.{DataType}
 use Rattle.check_scope.specs.declared.types.DataType.TheVariants as type
-use Rattle.tree_equality.specs.Equality.{IsOne, OneAt, last, list_one, more, name_one, none, number_one, option_one, tests_of, variant_one}
+use Rattle.syntax_equality.specs.Equality.{IsOne, OneAt, last, list_one, more, name_one, none, number_one, option_one, tests_of, variant_one}
 
 type_at : (a : DataType) → OneAt type_enum.parts (tests_of type_enum (types.ghosts).eq) (type_enum.as_values a)
 type_at type.Integer = none

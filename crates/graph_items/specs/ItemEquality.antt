@@ -1,8 +1,8 @@
 -- Items that `==` finds equal are one, and feed a hasher alike.
 use Rattle.std.proofs.Common.{◌≡◌, true, true≢false, ap, sym}
 use Rattle.std.proofs.lemmas.Bool.{and_parts}
-use Rattle.tree_equality.specs.Equality.{IsOne, OneAt, boolean_one, last, none, number_one, option_one, tests_of, variant_one}
-use Rattle.tree_equality.specs.Statements.{statement_one}
+use Rattle.syntax_equality.specs.Equality.{IsOne, OneAt, boolean_one, last, none, number_one, option_one, tests_of, variant_one}
+use Rattle.syntax_equality.specs.Statements.{statement_one}
 use Rattle.graph_items.specs.Equality.{reference_is, type_one}
 use Rattle.graph_items.specs.contracts.item.ItemPartialEq.TheImpl as items
 use Rattle.graph_items.specs.contracts.item.Part.{enum as part_enum}

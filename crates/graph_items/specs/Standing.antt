@@ -1,8 +1,8 @@
 -- What code's items stand for among the items of the rules.
 use Rattle.std.specs.Prelude.{List, [], map, get_or}
 use Rattle.check_scope.specs.Names.{Entry}
-use Rattle.step_rules.specs.Items as rules
-use Rattle.step_rules.specs.Sites as sites
+use Rattle.semantics.specs.Items as rules
+use Rattle.semantics.specs.Sites as sites
 use Rattle.graph_items.specs.declared.item.Item.{Item}
 use Rattle.graph_items.specs.declared.item.Item.TheVariants as item
 use Rattle.graph_items.specs.declared.item.Part.{Part}

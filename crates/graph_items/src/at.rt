@@ -2,7 +2,7 @@
 ghost use Rattle.std.specs.Prelude.{◌≡◌};
 
 use std::marker::Model;
-use tree_equality::Exact;
+use syntax_equality::Exact;
 
 /// A part of a program. A contract sees the part itself, and not where it lies.
 #[derive(Drop)]

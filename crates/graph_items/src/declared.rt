@@ -4,7 +4,7 @@ ghost use Rattle.std.specs.Prelude.{◌≡◌};
 use check_scope::names::Meaning;
 use std::hash::{Hash, Hasher};
 use std::marker::Model;
-use tree_equality::Exact;
+use syntax_equality::Exact;
 use ttcn_syntax::Name;
 
 /// A name that a behaviour declares, and what it stands for.

@@ -1,7 +1,7 @@
 //! What stands first in a list of what remains.
 ghost use Rattle.std.specs.Prelude.{◌≡◌, ◌∷◌, List};
 ghost use Rattle.check_scope.specs.Names.{Entry};
-ghost use Rattle.step_rules.specs.Items as rules;
+ghost use Rattle.semantics.specs.Items as rules;
 ghost use Rattle.graph_items.specs.Begun.{IsBegunBy};
 ghost use Rattle.graph_items.specs.Standing.{item_of};
 

@@ -3,7 +3,7 @@ use crate::at::At;
 use crate::referred::Referred;
 use check_scope::types::DataType;
 use std::hash::{Hash, Hasher};
-use tree_equality::Exact;
+use syntax_equality::Exact;
 use ttcn_syntax::Statement;
 
 /// What of a statement is to be done.

@@ -2,7 +2,7 @@
 ghost use Rattle.std.specs.Prelude.{◌≡◌};
 
 use std::marker::Model;
-use tree_equality::Exact;
+use syntax_equality::Exact;
 use ttcn_syntax::{Name, Reference};
 
 /// A name of a program, and the fields behind it. A contract sees the reference that they make.
@@ -21,7 +21,7 @@ impl<'a> Model for Referred<'a> {
 }
 
 impl<'a> Referred<'a> {
-    ghost use Rattle.step_rules.specs.Statements.{declared_target};
+    ghost use Rattle.semantics.specs.Statements.{declared_target};
 
     /// What is written as a reference.
     pub fn to(reference: &'a Reference) -> Referred<'a>

@@ -8,10 +8,10 @@ use Rattle.std.specs.List.{Contains, flat_map, list_any}
 use Rattle.std.specs.Option.{option_map}
 use Rattle.std.specs.Result.{OnOk}
 use Rattle.check_scope.proofs.Lookups.{drop-next}
-use Rattle.tree_equality.specs.Equality.{name_one}
+use Rattle.syntax_equality.specs.Equality.{name_one}
 use Rattle.ttcn_syntax.specs.declared.tree.definition.Definition.{Definition}
 use Rattle.check_scope.specs.Names.{kind_at}
-use Rattle.step_rules.specs.Items.{Item}
+use Rattle.semantics.specs.Items.{Item}
 use Rattle.graph_items.specs.Begun.{IsBegunBy}
 use Rattle.graph_items.specs.declared.first.First.{First}
 use Rattle.graph_items.specs.declared.first.First.TheVariants as first

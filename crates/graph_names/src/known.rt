@@ -2,7 +2,7 @@
 ghost use Rattle.std.specs.Prelude.{◌≡◌, [], map, slice_get, OnOk, Some};
 ghost use Rattle.std.specs.List.{flat_map};
 ghost use Rattle.std.specs.Option.{option_map};
-ghost use Rattle.step_rules.specs.Items.{action_of};
+ghost use Rattle.semantics.specs.Items.{action_of};
 ghost use Rattle.graph_items.specs.Standing.{part_of};
 ghost use Rattle.graph_names.specs.Known as named;
 ghost use Rattle.graph_names.specs.Known.{names_if_any, names_of_assignment, names_of_branch, names_of_component, names_of_event, names_of_kind, names_of_member, names_of_part, names_of_reference, names_of_whole};

@@ -14,7 +14,7 @@ use Rattle.check_scope.specs.Typings.{type_known, typed}
 use Rattle.check_scope.specs.declared.names.Meaning.{Meaning}
 use Rattle.check_scope.specs.declared.types.DataType.{DataType}
 use Rattle.check_statements.specs.Definitions.{parameter_entry, with_parameters}
-use Rattle.step_rules.specs.Sites.{Site, behaviour_scope, component_name, runs_on, scope_at, scope_with}
+use Rattle.semantics.specs.Sites.{Site, behaviour_scope, component_name, runs_on, scope_at, scope_with}
 use Rattle.graph_sites.specs.internal.OwnNames.{is_one_of, own_names}
 
 or-assoc : {A : Type 0} (o p q : Option A) → option_or (option_or o p) q ≡ option_or o (option_or p q)

@@ -20,11 +20,11 @@ use Rattle.check_expressions.specs.Targets.{target_at}
 use Rattle.check_scope.specs.Names.{Scope, kind_at, resolved}
 use Rattle.check_scope.specs.declared.types.DataType.{DataType}
 use Rattle.check_statements.specs.Messages.{incoming, received_type}
-use Rattle.step_rules.specs.Branches.{branches_of}
-use Rattle.step_rules.specs.Items.{Does, Doing, From, Item, Last, Loop, Mark, Name, Part, Start, Target, Waiting, Whole, action_of}
-use Rattle.step_rules.specs.Sites.{Site, beginning, is_own, scope_at}
-use Rattle.step_rules.specs.Statements.{name_in, sent_type}
-use Rattle.step_rules.specs.Storing.{type_for, type_of_name}
+use Rattle.semantics.specs.Branches.{branches_of}
+use Rattle.semantics.specs.Items.{Does, Doing, From, Item, Last, Loop, Mark, Name, Part, Start, Target, Waiting, Whole, action_of}
+use Rattle.semantics.specs.Sites.{Site, beginning, is_own, scope_at}
+use Rattle.semantics.specs.Statements.{name_in, sent_type}
+use Rattle.semantics.specs.Storing.{type_for, type_of_name}
 use Rattle.graph_items.specs.Standing.{target_of}
 use Rattle.graph_sites.specs.declared.facts.EventFacts as code_event
 use Rattle.graph_sites.specs.declared.facts.Facts as code_facts

@@ -1,8 +1,8 @@
 //! What is known of names at a site.
 ghost use Rattle.std.specs.Prelude.{◌≡◌, [], ◌∷◌, map, IfOk};
 ghost use Rattle.std.specs.Option.{option_map};
-ghost use Rattle.step_rules.specs.Items.{action_of};
-ghost use Rattle.step_rules.specs.Statements as statements;
+ghost use Rattle.semantics.specs.Items.{action_of};
+ghost use Rattle.semantics.specs.Statements as statements;
 ghost use Rattle.graph_sites.specs.Facts as spec;
 ghost use Rattle.graph_items.specs.Standing.{part_of};
 

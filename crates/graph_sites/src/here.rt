@@ -8,8 +8,8 @@ ghost use Rattle.check_scope.specs.Names.{constants_type, kind_at, module_names,
 ghost use Rattle.check_scope.specs.PortTypes as ports;
 ghost use Rattle.check_scope.specs.internal.Tables.{has};
 ghost use Rattle.check_statements.specs.Definitions.{with_parameters};
-ghost use Rattle.step_rules.specs.Sites as sites;
-ghost use Rattle.step_rules.specs.Storing.{type_of_name};
+ghost use Rattle.semantics.specs.Sites as sites;
+ghost use Rattle.semantics.specs.Storing.{type_of_name};
 ghost use Rattle.graph_items.specs.Standing.{target_of};
 ghost use Rattle.graph_sites.specs.Facts.{target_in};
 ghost use Rattle.graph_sites.specs.internal.OwnNames.{is_one_of, retracted};
@@ -57,7 +57,7 @@ impl<'a> Model for Here<'a> {
     ghost use Rattle.ttcn_syntax.specs.declared.tree.definition.Definition.{Definition};
     ghost use Rattle.check_scope.specs.internal.Checking.{view as scope_view};
     ghost use Rattle.check_scope.specs.internal.Tables.{has};
-    ghost use Rattle.step_rules.specs.Sites.{Site, behaviour_scope};
+    ghost use Rattle.semantics.specs.Sites.{Site, behaviour_scope};
     ghost use Rattle.graph_sites.specs.internal.OwnNames.{is_parameter};
 
     ghost Value = { List Definition × Site };

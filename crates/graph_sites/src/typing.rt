@@ -6,8 +6,8 @@ ghost use Rattle.check_expressions.specs.Targets.{as_target, target_at};
 ghost use Rattle.check_expressions.specs.Templates as templates;
 ghost use Rattle.check_scope.specs.Typings.{type_known};
 ghost use Rattle.check_statements.specs.Messages as messages;
-ghost use Rattle.step_rules.specs.Sites.{scope_at};
-ghost use Rattle.step_rules.specs.Statements as statements;
+ghost use Rattle.semantics.specs.Sites.{scope_at};
+ghost use Rattle.semantics.specs.Statements as statements;
 
 use crate::here::Here;
 use check_expressions::template::template_meant;

@@ -4,13 +4,13 @@ ghost use Rattle.search_layer.specs.Limits.{IsWithinLimits};
 ghost use Rattle.search_layer.specs.internal.Shards.{AreShards};
 ghost use Rattle.search_layer.specs.internal.Search.{newly, state_of, step_of};
 ghost use Rattle.search_layer.specs.internal.Work.{AreFirst};
-ghost use Rattle.sharded_set.specs.Sharded.{shard_of};
+ghost use Rattle.search_shards.specs.Sharded.{shard_of};
 
 use crate::leftovers::Leftovers;
 use crate::plan::{ExploreError, Plan};
 use crate::visited::{Candidate, Visited};
 use rayon::prelude::*;
-use sharded_set::ShardedSet;
+use search_shards::ShardedSet;
 use std::alloc::{AllocError, Global};
 use std::hash::Hash;
 use std::thread::Threads;

@@ -4,7 +4,7 @@ ghost use Rattle.std.specs.declared.alloc.AllocError.{AllocError};
 ghost use Rattle.std.specs.Fork.{slice_chunk};
 ghost use Rattle.summary.specs.Sums.{join_all};
 
-use sharded_set::ShardedSet;
+use search_shards::ShardedSet;
 use std::alloc::{AllocError, Global};
 use std::thread;
 use std::thread::Threads;

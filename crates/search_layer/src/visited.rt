@@ -1,8 +1,8 @@
 ghost use Rattle.std.specs.Prelude.{◌≡◌, ◌∷◌, [], ◌++◌, None, Some, false, IfOk, OnOk};
 ghost use Rattle.std.specs.List.{list_any};
-ghost use Rattle.sharded_set.specs.Sharded.{shard_of};
+ghost use Rattle.search_shards.specs.Sharded.{shard_of};
 
-use sharded_set::ShardedSet;
+use search_shards::ShardedSet;
 use std::alloc::AllocError;
 use std::hash::{Hash, Hasher};
 use std::thread::Threads;

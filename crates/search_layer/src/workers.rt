@@ -9,7 +9,7 @@ mod turns;
 use crate::plan::Gate;
 use crate::visited::Candidate;
 pub use layer::find_first;
-use sharded_set::ShardedSet;
+use search_shards::ShardedSet;
 use shared::{Board, BoardSeat, Seen, SeenSeat};
 use std::alloc::AllocError;
 use summary::System;

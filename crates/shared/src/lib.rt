@@ -11,4 +11,3 @@ pub use board::{Board, BoardSeat};
 pub use error::NoSeat;
 pub use seen::view::{SeenKey, SeenView};
 pub use seen::{Seen, SeenSeat};
-pub use std::alloc::AllocError as Memory;

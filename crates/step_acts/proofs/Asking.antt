@@ -1,11 +1,11 @@
 -- What calls ask for, where a part fails or is there.
 use Rattle.std.proofs.Common.{◌≡◌, Option, Result, Ok, Err, sym, subst}
 use Rattle.std.specs.Result.{IsErrAnd}
-use Rattle.step_rules.specs.Statements as said
+use Rattle.semantics.specs.Statements as said
 use Rattle.step_acts.specs.Asks.{Asks, AsksWithin}
-use Rattle.ttcn_config.specs.Legend.{Legend}
-use Rattle.ttcn_config.specs.Views.{Extent}
-use Rattle.ttcn_config.specs.declared.act.Act.{Act}
+use Rattle.config_parts.specs.Legend.{Legend}
+use Rattle.config_parts.specs.Views.{Extent}
+use Rattle.config_parts.specs.declared.act.Act.{Act}
 use Rattle.ttcn_values.specs.Outcomes.{Fails, Gives, GivesBy, Outcome, Yields}
 use Rattle.ttcn_values.specs.declared.fault.Fault.{Fault}
 use Rattle.ttcn_values.specs.declared.fault.Fault.TheVariants.{Dynamic, Memory}

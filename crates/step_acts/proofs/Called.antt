@@ -8,16 +8,16 @@ use Rattle.ttcn_syntax.specs.declared.tree.value.Call.{Call}
 use Rattle.check_expressions.specs.Calls.{altstep_meant, behaviour_meant, parameters_of}
 use Rattle.check_scope.specs.Names.{kind_at, module_names}
 use Rattle.step_data.specs.Frames.{activated}
-use Rattle.step_rules.specs.Branches.{argument_values, frame_with}
-use Rattle.step_rules.specs.Configurations as rules
-use Rattle.step_rules.specs.Items.{Item, items}
-use Rattle.step_rules.specs.Sites.{Site, beginning}
-use Rattle.step_rules.specs.Snapshots.{View, view_of_arguments}
-use Rattle.step_rules.specs.Statements as said
+use Rattle.semantics.specs.Branches.{argument_values, frame_with}
+use Rattle.semantics.specs.Configurations as rules
+use Rattle.semantics.specs.Items.{Item, items}
+use Rattle.semantics.specs.Sites.{Site, beginning}
+use Rattle.semantics.specs.Snapshots.{View, view_of_arguments}
+use Rattle.semantics.specs.Statements as said
 use Rattle.step_snapshot.specs.Slots.{NoneIsMissing}
-use Rattle.ttcn_config.specs.Legend.{Legend, frame_by}
-use Rattle.ttcn_config.specs.Views.{view_by}
-use Rattle.ttcn_config.specs.declared.frame.Cells.{Cells}
+use Rattle.config_parts.specs.Legend.{Legend, frame_by}
+use Rattle.config_parts.specs.Views.{view_by}
+use Rattle.config_parts.specs.declared.frame.Cells.{Cells}
 use Rattle.graph_names.specs.Known.{names_of_kind}
 use Rattle.ttcn_values.specs.Outcomes.{Failure, Fails, Yields, outcome_and_then, outcome_map, value_in}
 use Rattle.ttcn_values.specs.Templates.{arguments}

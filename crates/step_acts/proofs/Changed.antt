@@ -1,11 +1,11 @@
 -- Names that change by slots change by names.
 use Rattle.std.proofs.Common.{◌≡◌, subst, Bool, List, ℕ, Option, Result}
 use Rattle.check_scope.specs.declared.types.DataType.{DataType}
-use Rattle.step_rules.specs.Configurations as rules
-use Rattle.step_rules.specs.Snapshots.{Test}
-use Rattle.step_rules.specs.Storing.{store}
-use Rattle.ttcn_config.specs.Legend.{Legend, data_by}
-use Rattle.ttcn_config.specs.declared.frame.Data.{Data}
+use Rattle.semantics.specs.Configurations as rules
+use Rattle.semantics.specs.Snapshots.{Test}
+use Rattle.semantics.specs.Storing.{store}
+use Rattle.config_parts.specs.Legend.{Legend, data_by}
+use Rattle.config_parts.specs.declared.frame.Data.{Data}
 use Rattle.ttcn_values.specs.Outcomes.{GivesBy}
 use Rattle.ttcn_values.specs.declared.fault.Fault.{Fault}
 use Rattle.ttcn_values.specs.declared.value.Value.{Value}

@@ -12,16 +12,16 @@ use Rattle.step_acts.specs.internal.Places.{list_at}
 use Rattle.step_acts.specs.internal.Stands.{legend_of, site_of, stand_by}
 use Rattle.step_acts.specs.declared.stand.Stand.{Stand}
 use Rattle.step_choice.specs.Choices.{Finds, IsWayOf, choice_of}
-use Rattle.step_rules.specs.Branches.{Judge, write_altsteps, written_alt, written_call}
-use Rattle.step_rules.specs.Events.{Choice}
-use Rattle.step_rules.specs.Items.{Item, Mark, Whole, action_of}
-use Rattle.step_rules.specs.Statements as said
-use Rattle.step_rules.specs.Storing.{last_values}
+use Rattle.semantics.specs.Branches.{Judge, write_altsteps, written_alt, written_call}
+use Rattle.semantics.specs.Events.{Choice}
+use Rattle.semantics.specs.Items.{Item, Mark, Whole, action_of}
+use Rattle.semantics.specs.Statements as said
+use Rattle.semantics.specs.Storing.{last_values}
 use Rattle.step_snapshot.specs.Seen.{own_by, seen_by}
 use Rattle.step_snapshot.specs.Tests.{test_by}
-use Rattle.ttcn_config.specs.Legend.{frame_by}
-use Rattle.ttcn_config.specs.declared.act.Act.{Act}
-use Rattle.ttcn_config.specs.declared.frame.Frame.{Frame}
+use Rattle.config_parts.specs.Legend.{frame_by}
+use Rattle.config_parts.specs.declared.act.Act.{Act}
+use Rattle.config_parts.specs.declared.frame.Frame.{Frame}
 use Rattle.graph_items.specs.Standing.{part_of}
 use Rattle.ttcn_graph.specs.Ways.{ways_of}
 use Rattle.ttcn_values.specs.declared.fault.Fault.{Fault}

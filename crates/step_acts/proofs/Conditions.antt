@@ -12,9 +12,9 @@ use Rattle.step_acts.specs.Asks.{Asks}
 use Rattle.step_acts.specs.internal.Places.{list_at}
 use Rattle.step_acts.specs.internal.Stands.{legend_of, site_of, stand_by}
 use Rattle.step_acts.specs.declared.stand.Stand.{Stand}
-use Rattle.step_rules.specs.Items.{Does, Doing, Item, Last, Loop, Whole, action_of, items, items_if_any}
-use Rattle.step_rules.specs.Statements as said
-use Rattle.ttcn_config.specs.declared.act.Act.{Act}
+use Rattle.semantics.specs.Items.{Does, Doing, Item, Last, Loop, Whole, action_of, items, items_if_any}
+use Rattle.semantics.specs.Statements as said
+use Rattle.config_parts.specs.declared.act.Act.{Act}
 use Rattle.graph_items.specs.Standing.{part_of}
 use Rattle.ttcn_graph.specs.Ways.{items_otherwise, ways_from, ways_of, ways_of_conditional}
 use Rattle.ttcn_values.specs.declared.fault.Fault.{Fault}

@@ -1,12 +1,12 @@
 -- What storing leaves as it was.
 use Rattle.std.proofs.Common.{◌≡◌, refl, sym, ap, ◌∙◌, ℕ, ◌<◌, Bool, true, false, nat_lt, if◌then◌else◌, lt-ltb}
-use Rattle.step_rules.specs.Configurations.{Component, Data, Frame}
-use Rattle.step_rules.specs.Creating.{new_component, new_members}
-use Rattle.step_rules.specs.Items.{Target}
-use Rattle.step_rules.specs.Snapshots.{Test}
-use Rattle.step_rules.specs.Statements as said
-use Rattle.step_rules.specs.Storing.{in_frame, store, with_values}
-use Rattle.step_rules.specs.Entries.{put}
+use Rattle.semantics.specs.Configurations.{Component, Data, Frame}
+use Rattle.semantics.specs.Creating.{new_component, new_members}
+use Rattle.semantics.specs.Items.{Target}
+use Rattle.semantics.specs.Snapshots.{Test}
+use Rattle.semantics.specs.Statements as said
+use Rattle.semantics.specs.Storing.{in_frame, store, with_values}
+use Rattle.semantics.specs.Entries.{put}
 use Rattle.ttcn_values.specs.Outcomes.{Fails, Outcome, Yields, dynamic_error, outcome_map}
 use Rattle.ttcn_values.specs.declared.value.ComponentId.{ComponentId}
 use Rattle.ttcn_values.specs.declared.value.Value.{Value}

@@ -1,13 +1,13 @@
 -- What becomes of the frame below the last one.
 use Rattle.std.proofs.Common.{◌≡◌, refl, sym, ap, ◌∙◌, List, [], ◌∷◌, map, Option, Some, None, slice_get, true, false, if◌then◌else◌}
-use Rattle.step_rules.specs.Configurations as rules
-use Rattle.step_rules.specs.Items.{Doing, Item, Mark, Target, Waiting}
-use Rattle.step_rules.specs.Statements as said
-use Rattle.step_rules.specs.Storing.{going_on, store, with_calls}
+use Rattle.semantics.specs.Configurations as rules
+use Rattle.semantics.specs.Items.{Doing, Item, Mark, Target, Waiting}
+use Rattle.semantics.specs.Statements as said
+use Rattle.semantics.specs.Storing.{going_on, store, with_calls}
 use Rattle.step_data.specs.Frames.{left, without_last}
-use Rattle.ttcn_config.specs.Legend.{Legend, data_by, frame_by}
-use Rattle.ttcn_config.specs.declared.frame.Data.{Data}
-use Rattle.ttcn_config.specs.declared.frame.Frame.{Frame}
+use Rattle.config_parts.specs.Legend.{Legend, data_by, frame_by}
+use Rattle.config_parts.specs.declared.frame.Data.{Data}
+use Rattle.config_parts.specs.declared.frame.Frame.{Frame}
 use Rattle.ttcn_values.specs.Outcomes.{DynamicError, Unmet}
 use Rattle.ttcn_values.specs.declared.value.Value.{Value}
 

@@ -2,14 +2,14 @@
 use Rattle.std.proofs.Common.{◌≡◌, sym, subst, List, ◌∷◌, Option, Result, map}
 use Rattle.step_acts.specs.Asks.{Asks}
 use Rattle.step_acts.specs.internal.Places.{behind_first, list_at}
-use Rattle.step_rules.specs.Items.{Item}
-use Rattle.step_rules.specs.Statements as said
+use Rattle.semantics.specs.Items.{Item}
+use Rattle.semantics.specs.Statements as said
 use Rattle.step_snapshot.specs.Seen.{own_by, seen_by}
 use Rattle.step_snapshot.specs.Tests.{legend_by, test_by}
 use Rattle.step_snapshot.specs.declared.snapshot.Snapshot.{Snapshot}
-use Rattle.ttcn_config.specs.Legend.{frame_by}
-use Rattle.ttcn_config.specs.declared.act.Act.{Act}
-use Rattle.ttcn_config.specs.declared.frame.Frame.{Frame}
+use Rattle.config_parts.specs.Legend.{frame_by}
+use Rattle.config_parts.specs.declared.act.Act.{Act}
+use Rattle.config_parts.specs.declared.frame.Frame.{Frame}
 use Rattle.ttcn_values.specs.declared.fault.Fault.{Fault}
 
 module _ (s : Snapshot) (frame : Frame) (r : Result (Option Act) Fault) (last : (s.component.now).own.calls ≡ frame ∷ behind_first (s.component.now).own.calls) where

@@ -13,12 +13,12 @@ use Rattle.ttcn_syntax.specs.declared.tree.statement.Verdict.{Verdict}
 use Rattle.ttcn_syntax.specs.declared.tree.value.Call.{Call}
 use Rattle.ttcn_syntax.specs.declared.tree.value.Value.{Value as WrittenValue}
 use Rattle.step_acts.specs.Asks.{Asks}
-use Rattle.step_rules.specs.Items.{action_of}
-use Rattle.step_rules.specs.Items as items
-use Rattle.step_rules.specs.Sites.{Site}
-use Rattle.step_rules.specs.Statements as said
-use Rattle.ttcn_config.specs.Legend.{Legend}
-use Rattle.ttcn_config.specs.declared.act.Act.{Act}
+use Rattle.semantics.specs.Items.{action_of}
+use Rattle.semantics.specs.Items as items
+use Rattle.semantics.specs.Sites.{Site}
+use Rattle.semantics.specs.Statements as said
+use Rattle.config_parts.specs.Legend.{Legend}
+use Rattle.config_parts.specs.declared.act.Act.{Act}
 use Rattle.ttcn_values.specs.declared.fault.Fault.{Fault}
 use Rattle.ttcn_graph.specs.internal.Drawing.{Does}
 

@@ -4,10 +4,10 @@ use Rattle.std.proofs.lemmas.List.{map-append}
 use Rattle.std.proofs.lemmas.List.Elements.{All-head, All-tail}
 use Rattle.std.specs.List.{All}
 use Rattle.step_acts.specs.internal.Takings.{stored_all}
-use Rattle.step_rules.specs.Configurations.{Data}
-use Rattle.step_rules.specs.Items.{Target}
-use Rattle.step_rules.specs.Snapshots.{Test}
-use Rattle.step_rules.specs.Storing.{store}
+use Rattle.semantics.specs.Configurations.{Data}
+use Rattle.semantics.specs.Items.{Target}
+use Rattle.semantics.specs.Snapshots.{Test}
+use Rattle.semantics.specs.Storing.{store}
 use Rattle.ttcn_values.specs.Outcomes.{Failure, Fails, Outcome, Yields, outcome_and_then}
 use Rattle.ttcn_values.specs.declared.value.Value.{Value}
 

@@ -6,13 +6,13 @@ use Rattle.std.specs.List.{All}
 use Rattle.ttcn_syntax.specs.declared.tree.definition.Definition.{Definition}
 use Rattle.ttcn_syntax.specs.declared.tree.statement.Statement.{Statement}
 use Rattle.step_acts.specs.internal.Marks.{going_on_from}
-use Rattle.step_rules.specs.Configurations as rules
-use Rattle.step_rules.specs.Items.{Doing, Item, Mark, Part, Target, Waiting}
-use Rattle.step_rules.specs.Sites.{Site}
-use Rattle.step_rules.specs.Taking.{from_mark, repeat_in, repeated, without_marks}
-use Rattle.ttcn_config.specs.Legend.{Legend, frame_by}
-use Rattle.ttcn_config.specs.Views.{Extent, IsFrameWithin}
-use Rattle.ttcn_config.specs.declared.frame.Frame.{Frame}
+use Rattle.semantics.specs.Configurations as rules
+use Rattle.semantics.specs.Items.{Doing, Item, Mark, Part, Target, Waiting}
+use Rattle.semantics.specs.Sites.{Site}
+use Rattle.semantics.specs.Taking.{from_mark, repeat_in, repeated, without_marks}
+use Rattle.config_parts.specs.Legend.{Legend, frame_by}
+use Rattle.config_parts.specs.Views.{Extent, IsFrameWithin}
+use Rattle.config_parts.specs.declared.frame.Frame.{Frame}
 use Rattle.ttcn_graph.specs.Ways.{ways_of}
 
 abbrev pub repeated_by : Legend → List Frame → Option (List rules.Frame)

@@ -4,9 +4,9 @@ use Rattle.check_scope.specs.declared.types.DataType.{DataType}
 use Rattle.step_acts.specs.Asks.{Asks}
 use Rattle.step_acts.specs.internal.Stands.{legend_of, site_of, stand_by}
 use Rattle.step_acts.specs.declared.stand.Stand.{Stand}
-use Rattle.step_rules.specs.Items.{Does, action_of}
-use Rattle.step_rules.specs.Statements as said
-use Rattle.ttcn_config.specs.declared.act.Act.{Act}
+use Rattle.semantics.specs.Items.{Does, action_of}
+use Rattle.semantics.specs.Statements as said
+use Rattle.config_parts.specs.declared.act.Act.{Act}
 use Rattle.ttcn_syntax.specs.declared.tree.statement.Constant.{Constant}
 use Rattle.ttcn_syntax.specs.declared.tree.statement.Variable.{Variable}
 use Rattle.ttcn_values.specs.declared.fault.Fault.{Fault}

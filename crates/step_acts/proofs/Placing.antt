@@ -8,20 +8,20 @@ use Rattle.step_acts.specs.internal.Places.{behind_first, list_at}
 use Rattle.step_acts.specs.internal.Stands.{site_of, stand_by}
 use Rattle.step_acts.specs.declared.stand.Stand.{Stand}
 use Rattle.step_choice.specs.Choices.{choice_of}
-use Rattle.step_rules.specs.Events.{Choice}
-use Rattle.step_rules.specs.Items.{Item}
+use Rattle.semantics.specs.Events.{Choice}
+use Rattle.semantics.specs.Items.{Item}
 use Rattle.step_snapshot.specs.Seen.{own_by, seen_by}
 use Rattle.step_snapshot.specs.Tests.{legend_by, test_by}
 use Rattle.step_snapshot.specs.declared.snapshot.Snapshot.{Snapshot}
 use Rattle.std.specs.declared.alloc.AllocError.{AllocError}
-use Rattle.ttcn_config.specs.Legend.{frame_by}
-use Rattle.ttcn_config.specs.declared.frame.Frame.{Frame}
-use Rattle.step_rules.specs.Places.{place_chosen, place_in_frames, place_in_list, unless_fault}
-use Rattle.step_rules.specs.Statements as said
-use Rattle.ttcn_config.specs.Acts.{act_by}
-use Rattle.ttcn_config.specs.Legend.{Legend}
-use Rattle.ttcn_config.specs.declared.act.Act.{Act}
-use Rattle.ttcn_config.specs.declared.act.Act.TheVariants as act
+use Rattle.config_parts.specs.Legend.{frame_by}
+use Rattle.config_parts.specs.declared.frame.Frame.{Frame}
+use Rattle.semantics.specs.Places.{place_chosen, place_in_frames, place_in_list, unless_fault}
+use Rattle.semantics.specs.Statements as said
+use Rattle.config_parts.specs.Acts.{act_by}
+use Rattle.config_parts.specs.Legend.{Legend}
+use Rattle.config_parts.specs.declared.act.Act.{Act}
+use Rattle.config_parts.specs.declared.act.Act.TheVariants as act
 use Rattle.ttcn_values.specs.declared.fault.Fault.{Fault}
 use Rattle.ttcn_values.specs.declared.fault.Fault.TheVariants.{Dynamic, Memory}
 

@@ -6,7 +6,7 @@ use Rattle.check_scope.specs.declared.types.DataType.{DataType}
 use Rattle.step_acts.specs.internal.Places.{list_at}
 use Rattle.step_acts.specs.internal.Stands.{site_of}
 use Rattle.step_acts.specs.declared.stand.Stand.{Stand}
-use Rattle.step_rules.specs.Items.{Does, Doing, Part, action_of}
+use Rattle.semantics.specs.Items.{Does, Doing, Part, action_of}
 use Rattle.step_snapshot.specs.Slots.{IsKnown, NoneIsMissing}
 use Rattle.graph_items.specs.Standing.{part_of}
 use Rattle.graph_sites.specs.declared.facts.EventFacts.{EventFacts as CodeFacts}

@@ -5,13 +5,13 @@ use Rattle.std.proofs.lemmas.List.Elements.{All-head}
 use Rattle.step_acts.specs.internal.Places.{behind_first}
 use Rattle.step_acts.specs.internal.Stands.{legend_of, stand_by}
 use Rattle.step_acts.specs.declared.stand.Stand.{Stand}
-use Rattle.step_rules.specs.Snapshots.{View, last_view, timers_of}
+use Rattle.semantics.specs.Snapshots.{View, last_view, timers_of}
 use Rattle.step_snapshot.specs.Tests.{extent_of}
-use Rattle.ttcn_config.specs.Legend.{entries_by, frame_by}
-use Rattle.ttcn_config.specs.Views.{HasSlotsWithin, IsFrameWithin, view_by}
-use Rattle.ttcn_config.specs.declared.frame.Frame.{Frame}
+use Rattle.config_parts.specs.Legend.{entries_by, frame_by}
+use Rattle.config_parts.specs.Views.{HasSlotsWithin, IsFrameWithin, view_by}
+use Rattle.config_parts.specs.declared.frame.Frame.{Frame}
 use Rattle.ttcn_values.specs.declared.frame.TimerState.{TimerState}
-use Rattle.step_rules.specs.Entries.{Entries}
+use Rattle.semantics.specs.Entries.{Entries}
 
 -- the slots of the last frame have names
 pub cells-within : (s : Stand) → HasSlotsWithin (length ((s.snapshot.now).test.now).names) (s.frame.now).cells

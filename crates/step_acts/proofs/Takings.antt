@@ -4,15 +4,15 @@ use Rattle.ttcn_syntax.specs.declared.tree.statement.Statement.{Statement}
 use Rattle.step_acts.specs.internal.Takings.{effected_by, limited, stored_all}
 use Rattle.step_choice.specs.Deeds.{Deed, deed_of, stored_of}
 use Rattle.step_data.specs.Frames.{entered_all}
-use Rattle.step_rules.specs.Branches.{Chance}
-use Rattle.step_rules.specs.Configurations.{Data, Frame}
-use Rattle.step_rules.specs.Events.{Effect, Elapses, Plain, Receives, Redirect}
-use Rattle.step_rules.specs.Items.{Item}
-use Rattle.step_rules.specs.Sites.{Site}
-use Rattle.step_rules.specs.Snapshots.{Test}
-use Rattle.step_rules.specs.Statements as said
-use Rattle.step_rules.specs.Storing.{in_last, store, target_meant, with_calls, with_remaining}
-use Rattle.step_rules.specs.Taking.{effected, entered, marked, port_taken, store_all, taken}
+use Rattle.semantics.specs.Branches.{Chance}
+use Rattle.semantics.specs.Configurations.{Data, Frame}
+use Rattle.semantics.specs.Events.{Effect, Elapses, Plain, Receives, Redirect}
+use Rattle.semantics.specs.Items.{Item}
+use Rattle.semantics.specs.Sites.{Site}
+use Rattle.semantics.specs.Snapshots.{Test}
+use Rattle.semantics.specs.Statements as said
+use Rattle.semantics.specs.Storing.{in_last, store, target_meant, with_calls, with_remaining}
+use Rattle.semantics.specs.Taking.{effected, entered, marked, port_taken, store_all, taken}
 use Rattle.ttcn_values.specs.Outcomes.{Fails, Outcome, Yields, outcome_and_then}
 
 and-then-as : {A B : Type 0} (f g : A → Outcome B) (o : Outcome A) → ((a : A) → f a ≡ g a) → outcome_and_then f o ≡ outcome_and_then g o

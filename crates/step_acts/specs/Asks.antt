@@ -1,11 +1,11 @@
 -- What calls answer of the step that a component asks for.
 use Rattle.std.specs.Prelude.{◌≡◌, Option, Some, None, Result, Ok, Err}
-use Rattle.step_rules.specs.Statements as said
-use Rattle.step_rules.specs.Taking.{uncovered}
-use Rattle.ttcn_config.specs.Acts.{act_by}
-use Rattle.ttcn_config.specs.Legend.{Legend}
-use Rattle.ttcn_config.specs.Views.{Extent, IsActWithin}
-use Rattle.ttcn_config.specs.declared.act.Act.{Act}
+use Rattle.semantics.specs.Statements as said
+use Rattle.semantics.specs.Taking.{uncovered}
+use Rattle.config_parts.specs.Acts.{act_by}
+use Rattle.config_parts.specs.Legend.{Legend}
+use Rattle.config_parts.specs.Views.{Extent, IsActWithin}
+use Rattle.config_parts.specs.declared.act.Act.{Act}
 use Rattle.ttcn_values.specs.declared.fault.Fault.{Fault}
 use Rattle.ttcn_values.specs.declared.fault.Fault.TheVariants.{Dynamic, Memory}
 

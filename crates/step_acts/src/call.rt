@@ -6,22 +6,22 @@ ghost use Rattle.check_scope.specs.Names.{kind_at, module_names};
 ghost use Rattle.step_acts.specs.Asks.{Asks, AsksWithin};
 ghost use Rattle.step_acts.specs.internal.Places.{list_at};
 ghost use Rattle.step_acts.specs.internal.Stands.{legend_of, site_of, stand_by};
-ghost use Rattle.step_rules.specs.Items.{items};
-ghost use Rattle.step_rules.specs.Sites.{beginning};
-ghost use Rattle.step_rules.specs.Statements as said;
-ghost use Rattle.ttcn_config.specs.Legend.{data_by, frame_by};
-ghost use Rattle.ttcn_config.specs.Views.{IsFrameWithin, IsWithin};
+ghost use Rattle.semantics.specs.Items.{items};
+ghost use Rattle.semantics.specs.Sites.{beginning};
+ghost use Rattle.semantics.specs.Statements as said;
+ghost use Rattle.config_parts.specs.Legend.{data_by, frame_by};
+ghost use Rattle.config_parts.specs.Views.{IsFrameWithin, IsWithin};
 ghost use Rattle.ttcn_values.specs.Outcomes.{GivesBy};
 ghost use Rattle.step_snapshot.specs.Tests.{extent_of};
 
 use crate::stand::Stand;
 use check_expressions::call::behaviour_meant;
 use check_scope::names::Meaning;
+use config_parts::{Act, Data, Frame};
 use std::alloc::Global;
 use step_choice::argument_cells;
 use step_data::{activate, enter};
 use step_snapshot::TestCase;
-use ttcn_config::{Act, Data, Frame};
 use ttcn_syntax::{Call, DefinitionKind};
 use ttcn_values::Fault;
 

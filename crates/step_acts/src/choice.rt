@@ -5,7 +5,7 @@ ghost use Rattle.check_scope.specs.Names.{module_names};
 ghost use Rattle.step_acts.specs.internal.Stands.{site_of};
 ghost use Rattle.step_choice.specs.Choices.{Chooses};
 ghost use Rattle.step_choice.specs.Deeds.{HasKnownNames};
-ghost use Rattle.step_rules.specs.Items as rules;
+ghost use Rattle.semantics.specs.Items as rules;
 ghost use Rattle.graph_items.specs.Standing.{part_of};
 ghost use Rattle.ttcn_graph.specs.internal.Drawing.{Does};
 ghost use Rattle.ttcn_syntax.specs.declared.tree.statement.Action.TheVariants as form;

@@ -3,15 +3,15 @@ ghost use Rattle.std.specs.Prelude.{◌≡◌, ◌<◌, ◌∷◌, ◌++◌, [],
 ghost use Rattle.step_acts.specs.Asks.{Asks, AsksWithin};
 ghost use Rattle.step_acts.specs.internal.Places.{list_at};
 ghost use Rattle.step_acts.specs.internal.Stands.{legend_of, site_of, stand_by};
-ghost use Rattle.step_rules.specs.Items as rules;
-ghost use Rattle.step_rules.specs.Statements as said;
+ghost use Rattle.semantics.specs.Items as rules;
+ghost use Rattle.semantics.specs.Statements as said;
 ghost use Rattle.ttcn_graph.specs.Ways.{ways_from, ways_of};
 ghost use Rattle.step_snapshot.specs.Tests.{extent_of};
 
 use crate::position::go_on;
 use crate::stand::Stand;
+use config_parts::Act;
 use std::alloc::Global;
-use ttcn_config::Act;
 use ttcn_syntax::{Conditional, Expr, Seq, Statement};
 use ttcn_values::Fault;
 

@@ -3,14 +3,14 @@ ghost use Rattle.std.specs.Prelude.{◌≡◌, length, IfOk};
 ghost use Rattle.step_acts.specs.Asks.{Asks, AsksWithin};
 ghost use Rattle.step_snapshot.specs.Slots.{IsKnown};
 ghost use Rattle.step_acts.specs.internal.Stands.{legend_of, site_of, stand_by};
-ghost use Rattle.step_rules.specs.Statements as said;
+ghost use Rattle.semantics.specs.Statements as said;
 ghost use Rattle.step_snapshot.specs.Tests.{extent_of};
 
 use crate::port_types::suit_each_other;
 use crate::stand::Stand;
+use config_parts::{Act, End};
 use std::alloc::{AllocError, Global};
 use step_snapshot::TestCase;
-use ttcn_config::{Act, End};
 use ttcn_syntax::{Name, PortRef};
 use ttcn_values::{ComponentId, Fault};
 

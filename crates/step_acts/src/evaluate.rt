@@ -3,7 +3,7 @@ ghost use Rattle.std.specs.Prelude.{◌≡◌};
 ghost use Rattle.check_expressions.specs.Calls.{parameters_of};
 ghost use Rattle.check_scope.specs.Names.{kind_at};
 ghost use Rattle.step_acts.specs.internal.Stands.{site_of, stand_by};
-ghost use Rattle.step_rules.specs.Statements as said;
+ghost use Rattle.semantics.specs.Statements as said;
 ghost use Rattle.ttcn_values.specs.Evaluation.{condition_of};
 ghost use Rattle.ttcn_values.specs.Frames.{reading};
 ghost use Rattle.ttcn_values.specs.Literals.{value_wanted};

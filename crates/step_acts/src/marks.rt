@@ -3,19 +3,19 @@ ghost use Rattle.std.specs.Prelude.{◌≡◌, ◌≤◌, ◌<◌, drop, length,
 ghost use Rattle.std.specs.Option.{option_map};
 ghost use Rattle.step_acts.specs.internal.Places.{list_at};
 ghost use Rattle.step_acts.specs.internal.Marks.{going_on_from};
-ghost use Rattle.step_rules.specs.Storing.{with_calls};
-ghost use Rattle.step_rules.specs.Taking as rules;
+ghost use Rattle.semantics.specs.Storing.{with_calls};
+ghost use Rattle.semantics.specs.Taking as rules;
 ghost use Rattle.ttcn_graph.specs.Ways.{ways_of};
 ghost use Rattle.step_snapshot.specs.Tests.{extent_of, legend_by};
-ghost use Rattle.ttcn_config.specs.Legend.{Legend, data_by, frame_by};
-ghost use Rattle.ttcn_config.specs.Views.{Extent, IsWithin};
+ghost use Rattle.config_parts.specs.Legend.{Legend, data_by, frame_by};
+ghost use Rattle.config_parts.specs.Views.{Extent, IsWithin};
 ghost use Rattle.ttcn_values.specs.Outcomes.{GivesBy};
 
 use crate::position::first_at;
+use config_parts::{Data, Frame};
 use std::alloc::{AllocError, Global};
 use std::mem;
 use step_snapshot::TestCase;
-use ttcn_config::{Data, Frame};
 use ttcn_graph::First;
 use ttcn_syntax::Seq;
 use ttcn_values::Fault;

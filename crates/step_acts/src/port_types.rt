@@ -5,7 +5,7 @@ ghost use Rattle.std.specs.Option.{option_map};
 ghost use Rattle.check_scope.specs.Names.{kind_at, module_names, resolved};
 ghost use Rattle.check_scope.specs.PortTypes as spec;
 ghost use Rattle.step_acts.specs.internal.Ports as ports;
-ghost use Rattle.step_rules.specs.Statements as said;
+ghost use Rattle.semantics.specs.Statements as said;
 
 use check_scope::scope::passes;
 use std::alloc::{AllocError, Global};

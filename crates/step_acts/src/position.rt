@@ -3,17 +3,17 @@ ghost use Rattle.std.specs.Prelude.{◌≡◌, ◌<◌, [], length, is_some, sli
 ghost use Rattle.step_acts.specs.Asks.{Asks, AsksWithin};
 ghost use Rattle.step_acts.specs.internal.Places.{list_at};
 ghost use Rattle.step_acts.specs.internal.Stands.{legend_of, site_of, stand_by};
-ghost use Rattle.step_rules.specs.Statements as said;
-ghost use Rattle.ttcn_config.specs.Legend.{data_by};
-ghost use Rattle.ttcn_config.specs.Views.{IsWithin};
+ghost use Rattle.semantics.specs.Statements as said;
+ghost use Rattle.config_parts.specs.Legend.{data_by};
+ghost use Rattle.config_parts.specs.Views.{IsWithin};
 ghost use Rattle.graph_items.specs.Begun.{IsBegunBy};
 ghost use Rattle.ttcn_graph.specs.Ways.{ways_of};
 ghost use Rattle.step_snapshot.specs.Tests.{extent_of};
 
 use crate::stand::Stand;
+use config_parts::{Act, Data, TryClone};
 use std::alloc::{AllocError, Global};
 use step_snapshot::TestCase;
-use ttcn_config::{Act, Data, TryClone};
 use ttcn_graph::First;
 use ttcn_values::Fault;
 

@@ -2,16 +2,16 @@
 ghost use Rattle.std.specs.Prelude.{◌≡◌, length};
 ghost use Rattle.step_acts.specs.Asks.{Asks, AsksWithin};
 ghost use Rattle.step_acts.specs.internal.Stands.{legend_of, site_of, stand_by};
-ghost use Rattle.step_rules.specs.Statements as said;
-ghost use Rattle.step_rules.specs.Taking.{repeat_alt};
+ghost use Rattle.semantics.specs.Statements as said;
+ghost use Rattle.semantics.specs.Taking.{repeat_alt};
 ghost use Rattle.step_snapshot.specs.Tests.{extent_of};
 
 use crate::call::activate_call;
 use crate::marks::repeat;
 use crate::stand::Stand;
+use config_parts::Act;
 use std::alloc::Global;
 use step_data::{deactivate, deactivate_all};
-use ttcn_config::Act;
 use ttcn_syntax::{Call, Reference, Verdict};
 use ttcn_values::{Fault, Value};
 

@@ -1,14 +1,14 @@
 //! Where a component stands in its step.
 ghost use Rattle.std.specs.Prelude.{◌≡◌, ◌<◌, ◌∷◌, length};
 ghost use Rattle.step_acts.specs.internal.Places.{behind_first, list_at, site_at};
-ghost use Rattle.step_rules.specs.Items as rules;
+ghost use Rattle.semantics.specs.Items as rules;
 ghost use Rattle.graph_sites.specs.Facts.{facts_by, facts_of};
 ghost use Rattle.step_snapshot.specs.Slots.{NoneIsMissing};
 ghost use Rattle.graph_items.specs.Standing.{part_of};
 ghost use Rattle.graph_names.specs.Known.{names_of};
 
+use config_parts::Frame;
 use step_snapshot::Snapshot;
-use ttcn_config::Frame;
 use ttcn_graph::{Facts, Part};
 use ttcn_syntax::Statement;
 

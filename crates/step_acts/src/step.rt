@@ -6,14 +6,14 @@ ghost use Rattle.check_scope.specs.declared.types.DataType.{DataType as ADataTyp
 ghost use Rattle.step_acts.specs.Asks.{Asks, AsksWithin, uncovered_act};
 ghost use Rattle.step_acts.specs.internal.Places.{behind_first, list_at};
 ghost use Rattle.step_acts.specs.internal.Stands.{legend_of, site_of, stand_by};
-ghost use Rattle.step_rules.specs.Items as rules;
-ghost use Rattle.step_rules.specs.Items.{action_of};
-ghost use Rattle.step_rules.specs.Statements as said;
+ghost use Rattle.semantics.specs.Items as rules;
+ghost use Rattle.semantics.specs.Items.{action_of};
+ghost use Rattle.semantics.specs.Statements as said;
 ghost use Rattle.step_snapshot.specs.Seen.{own_by, seen_by};
 ghost use Rattle.step_snapshot.specs.Slots.{IsKnown};
 ghost use Rattle.step_snapshot.specs.Tests.{extent_of, legend_by, test_by};
-ghost use Rattle.ttcn_config.specs.Acts.{act_by};
-ghost use Rattle.ttcn_config.specs.Views.{IsActWithin};
+ghost use Rattle.config_parts.specs.Acts.{act_by};
+ghost use Rattle.config_parts.specs.Views.{IsActWithin};
 ghost use Rattle.graph_items.specs.Standing.{part_of};
 ghost use Rattle.graph_sites.specs.Facts as facts;
 ghost use Rattle.graph_sites.specs.Facts.{facts_of, goal_at};
@@ -33,10 +33,10 @@ use crate::send::{act_send, act_start, act_stop_of, act_timer_state};
 use crate::simple::{act_activate, act_deactivate, act_repeat, act_stop, act_verdict};
 use crate::stand::Stand;
 use crate::waiting::act_choice;
+use config_parts::{Act, Frame};
 use std::alloc::Global;
 use step_choice::{choose_alt, choose_call, choose_event};
 use step_snapshot::{Snapshot, TestCase};
-use ttcn_config::{Act, Frame};
 use ttcn_graph::{First, Part};
 use ttcn_syntax::{
     Action, Assignment, Branch, Call, ComponentRef, Constant, Event, ForStart, Name, PortRef, Send,

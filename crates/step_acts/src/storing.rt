@@ -1,18 +1,18 @@
 //! Names change in a component's data (ES 201 873-1, 11, 12, 19.1 and 23).
 ghost use Rattle.std.specs.Prelude.{◌≡◌, length, true, IfOk};
 ghost use Rattle.step_snapshot.specs.Slots.{IsKnown};
-ghost use Rattle.step_rules.specs.Entries.{put};
-ghost use Rattle.step_rules.specs.Storing as storing;
+ghost use Rattle.semantics.specs.Entries.{put};
+ghost use Rattle.semantics.specs.Storing as storing;
 ghost use Rattle.step_snapshot.specs.Tests.{extent_of, legend_by, test_by};
-ghost use Rattle.ttcn_config.specs.Legend.{data_by};
-ghost use Rattle.ttcn_config.specs.Views.{IsWithin};
+ghost use Rattle.config_parts.specs.Legend.{data_by};
+ghost use Rattle.config_parts.specs.Views.{IsWithin};
 ghost use Rattle.graph_items.specs.Standing.{target_of};
 ghost use Rattle.ttcn_values.specs.Outcomes.{GivesBy};
 
+use config_parts::Data;
 use std::alloc::{AllocError, Global};
 use step_data::store;
 use step_snapshot::TestCase;
-use ttcn_config::Data;
 use ttcn_graph::Target;
 use ttcn_syntax::Name;
 use ttcn_values::{Fault, TimerState, Value};

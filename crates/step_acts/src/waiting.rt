@@ -8,26 +8,26 @@ ghost use Rattle.step_acts.specs.internal.Takings.{IsTakenAt, effected_by, limit
 ghost use Rattle.step_choice.specs.Choices.{Chooses, IsTaken, IsWayOf};
 ghost use Rattle.step_choice.specs.Deeds as deeds;
 ghost use Rattle.step_choice.specs.Deeds.{HasKnownNames, stored_by};
-ghost use Rattle.step_rules.specs.Branches.{Chance};
-ghost use Rattle.step_rules.specs.Events.{Effect};
-ghost use Rattle.step_rules.specs.Events as events;
-ghost use Rattle.step_rules.specs.Items as rules;
-ghost use Rattle.step_rules.specs.Statements as said;
+ghost use Rattle.semantics.specs.Branches.{Chance};
+ghost use Rattle.semantics.specs.Events.{Effect};
+ghost use Rattle.semantics.specs.Events as events;
+ghost use Rattle.semantics.specs.Items as rules;
+ghost use Rattle.semantics.specs.Statements as said;
 ghost use Rattle.step_snapshot.specs.Slots.{IsKnown};
 ghost use Rattle.step_snapshot.specs.Tests.{extent_of, legend_by, test_by};
-ghost use Rattle.ttcn_config.specs.Legend.{data_by};
-ghost use Rattle.ttcn_config.specs.Views.{IsWithin};
+ghost use Rattle.config_parts.specs.Legend.{data_by};
+ghost use Rattle.config_parts.specs.Views.{IsWithin};
 ghost use Rattle.graph_items.specs.Standing.{part_of};
 ghost use Rattle.ttcn_graph.specs.Ways.{ways_of};
 ghost use Rattle.ttcn_values.specs.Outcomes.{GivesBy};
 
 use crate::stand::Stand;
 use crate::storing::{set_timer, store_at};
+use config_parts::{Act, Data};
 use std::alloc::Global;
 use step_choice::{Deed, Stored, Taken};
 use step_data::{enter_all, limit_frames};
 use step_snapshot::TestCase;
-use ttcn_config::{Act, Data};
 use ttcn_syntax::Name;
 use ttcn_values::{Fault, Slot, TimerState};
 

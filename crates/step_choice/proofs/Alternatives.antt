@@ -12,16 +12,16 @@ use Rattle.ttcn_syntax.specs.declared.tree.statement.Statement.{Statement}
 use Rattle.ttcn_syntax.specs.declared.tree.value.Call.{Call}
 use Rattle.check_expressions.specs.Calls.{altstep_meant}
 use Rattle.check_scope.specs.Names.{module_names}
-use Rattle.step_rules.specs.Branches.{behind_guard, guard_holds, open_branch, written_alternative, written_call}
-use Rattle.step_rules.specs.Items.{items, items_if_any}
-use Rattle.step_rules.specs.Sites.{Site}
+use Rattle.semantics.specs.Branches.{behind_guard, guard_holds, open_branch, written_alternative, written_call}
+use Rattle.semantics.specs.Items.{items, items_if_any}
+use Rattle.semantics.specs.Sites.{Site}
 use Rattle.step_choice.proofs.Choosing.{first_of_branch}
 use Rattle.step_choice.specs.Choices.{Finds}
 use Rattle.step_choice.specs.declared.taken.Taken.{Taken}
 use Rattle.step_choice.specs.internal.Judged.{Is, below, first_of, judge_of, reads, test_of}
 use Rattle.step_snapshot.specs.Seen.{own_by, seen_by}
 use Rattle.step_snapshot.specs.declared.snapshot.Snapshot.{Snapshot}
-use Rattle.ttcn_config.specs.declared.frame.Cells.{Cells}
+use Rattle.config_parts.specs.declared.frame.Cells.{Cells}
 use Rattle.graph_sites.specs.Facts.{EventFacts, alternative_facts, branch_facts, event_facts}
 use Rattle.ttcn_graph.specs.Ways.{items_of_alternative, items_of_branch}
 use Rattle.ttcn_values.specs.declared.fault.Fault.{Fault}

@@ -10,12 +10,12 @@ use Rattle.ttcn_syntax.specs.declared.tree.definition.DefinitionKind.TheVariants
 use Rattle.ttcn_syntax.specs.declared.tree.statement.Branch.{Branch}
 use Rattle.check_expressions.specs.Calls.{parameters_of}
 use Rattle.check_scope.specs.Names.{kind_at}
-use Rattle.step_rules.specs.Branches.{Judge, argument_values, branches_of, judge_in, through}
-use Rattle.step_rules.specs.Events as events
-use Rattle.step_rules.specs.Events.{Choice, Refused}
-use Rattle.step_rules.specs.Items.{Item}
-use Rattle.step_rules.specs.Sites.{beginning}
-use Rattle.step_rules.specs.Snapshots.{View, view_of_arguments}
+use Rattle.semantics.specs.Branches.{Judge, argument_values, branches_of, judge_in, through}
+use Rattle.semantics.specs.Events as events
+use Rattle.semantics.specs.Events.{Choice, Refused}
+use Rattle.semantics.specs.Items.{Item}
+use Rattle.semantics.specs.Sites.{beginning}
+use Rattle.semantics.specs.Snapshots.{View, view_of_arguments}
 use Rattle.step_choice.proofs.Choosing.{first_of_branches}
 use Rattle.step_choice.proofs.Firsts.{first-through}
 use Rattle.step_choice.proofs.Guarded.{no-branches}
@@ -27,8 +27,8 @@ use Rattle.step_snapshot.specs.Seen.{own_by, seen_by}
 use Rattle.step_snapshot.specs.Slots.{NoneIsMissing}
 use Rattle.step_snapshot.specs.Tests.{legend_by}
 use Rattle.step_snapshot.specs.declared.snapshot.Snapshot.{Snapshot}
-use Rattle.ttcn_config.specs.Views.{view_by}
-use Rattle.ttcn_config.specs.declared.frame.Cells.{Cells}
+use Rattle.config_parts.specs.Views.{view_by}
+use Rattle.config_parts.specs.declared.frame.Cells.{Cells}
 use Rattle.graph_names.specs.Known.{names_of_branch, names_of_kind}
 use Rattle.ttcn_graph.specs.Graphs.{beginnings}
 use Rattle.ttcn_graph.specs.Ways.{items_of_branch}

@@ -7,16 +7,16 @@ use Rattle.std.specs.List.{slice_get, zip}
 use Rattle.std.specs.Option.{option_map}
 use Rattle.std.specs.Slice.{IsItemAt}
 use Rattle.ttcn_syntax.specs.declared.tree.definition.Parameter.{Parameter}
-use Rattle.step_rules.specs.Branches.{with_arguments}
-use Rattle.step_rules.specs.Entries.{Entries, put, without}
-use Rattle.step_rules.specs.Snapshots.{View, view_of_arguments}
+use Rattle.semantics.specs.Branches.{with_arguments}
+use Rattle.semantics.specs.Entries.{Entries, put, without}
+use Rattle.semantics.specs.Snapshots.{View, view_of_arguments}
 use Rattle.step_choice.specs.internal.Arguments.{with_argument}
 use Rattle.step_snapshot.specs.Slots.{IsKnown, NoneIsMissing}
-use Rattle.ttcn_config.proofs.Stored.{put-by, without-by}
-use Rattle.ttcn_config.specs.Legend.{IsLegend, Legend, entries_by}
-use Rattle.ttcn_config.specs.Views.{view_by}
-use Rattle.ttcn_config.specs.declared.frame.Cells.{Cells}
-use Rattle.ttcn_config.specs.internal.Stored.{declare, no_cells}
+use Rattle.config_parts.proofs.Stored.{put-by, without-by}
+use Rattle.config_parts.specs.Legend.{IsLegend, Legend, entries_by}
+use Rattle.config_parts.specs.Views.{view_by}
+use Rattle.config_parts.specs.declared.frame.Cells.{Cells}
+use Rattle.config_parts.specs.internal.Stored.{declare, no_cells}
 use Rattle.ttcn_values.specs.declared.frame.TimerState.{TimerState}
 use Rattle.ttcn_values.specs.declared.value.Value.{Value}
 

@@ -5,17 +5,17 @@ use Rattle.std.proofs.lemmas.Option.{slice_get-map, slice_get_read}
 use Rattle.std.specs.List.{flat_map, slice_get}
 use Rattle.std.specs.Option.{option_map}
 use Rattle.ttcn_syntax.specs.declared.tree.statement.Branch.{Branch}
-use Rattle.step_rules.specs.Branches.{written_branch}
-use Rattle.step_rules.specs.Events as events
-use Rattle.step_rules.specs.Events.{Choice}
-use Rattle.step_rules.specs.Items.{Item}
-use Rattle.step_rules.specs.Sites.{Site}
+use Rattle.semantics.specs.Branches.{written_branch}
+use Rattle.semantics.specs.Events as events
+use Rattle.semantics.specs.Events.{Choice}
+use Rattle.semantics.specs.Items.{Item}
+use Rattle.semantics.specs.Sites.{Site}
 use Rattle.step_choice.proofs.Firsts.{first-append}
 use Rattle.step_choice.specs.internal.Judged.{Is, IsAmong, below, first_of, judge_of, test_of}
 use Rattle.step_choice.specs.internal.Later.{or_later}
 use Rattle.step_snapshot.specs.Seen.{own_by, seen_by}
 use Rattle.step_snapshot.specs.declared.snapshot.Snapshot.{Snapshot}
-use Rattle.ttcn_config.specs.declared.frame.Cells.{Cells}
+use Rattle.config_parts.specs.declared.frame.Cells.{Cells}
 
 -- the choice at one branch
 abbrev pub first_of_branch : Snapshot → ℕ → Site → Cells → Branch → Choice

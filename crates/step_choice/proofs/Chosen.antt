@@ -10,12 +10,12 @@ use Rattle.ttcn_syntax.specs.declared.tree.statement.Statement.{Statement, out-S
 use Rattle.ttcn_syntax.specs.declared.tree.value.Call.{Call}
 use Rattle.check_expressions.specs.Calls.{altstep_meant}
 use Rattle.check_scope.specs.Names.{module_names}
-use Rattle.step_rules.specs.Branches.{Judge, Written, open_branch, written_alt, written_branch, written_call, written_defaults}
-use Rattle.step_rules.specs.Events.{first_choice}
-use Rattle.step_rules.specs.Items.{Doing, Item, Mark, Whole, action_of}
-use Rattle.step_rules.specs.Sites.{Site}
-use Rattle.step_rules.specs.Snapshots.{View}
-use Rattle.step_rules.specs.Storing.{last_values}
+use Rattle.semantics.specs.Branches.{Judge, Written, open_branch, written_alt, written_branch, written_call, written_defaults}
+use Rattle.semantics.specs.Events.{first_choice}
+use Rattle.semantics.specs.Items.{Doing, Item, Mark, Whole, action_of}
+use Rattle.semantics.specs.Sites.{Site}
+use Rattle.semantics.specs.Snapshots.{View}
+use Rattle.semantics.specs.Storing.{last_values}
 use Rattle.step_choice.proofs.Choosing.{first_of_branches}
 use Rattle.step_choice.proofs.Firsts.{first-append}
 use Rattle.step_choice.proofs.Found.{same-choice}
@@ -26,8 +26,8 @@ use Rattle.step_choice.specs.internal.Later.{or_later}
 use Rattle.step_snapshot.specs.Seen.{own_by, seen_by}
 use Rattle.step_snapshot.specs.Tests.{legend_by}
 use Rattle.step_snapshot.specs.declared.snapshot.Snapshot.{Snapshot}
-use Rattle.ttcn_config.specs.Views.{view_by}
-use Rattle.ttcn_config.specs.declared.frame.Cells.{Cells}
+use Rattle.config_parts.specs.Views.{view_by}
+use Rattle.config_parts.specs.declared.frame.Cells.{Cells}
 use Rattle.ttcn_graph.specs.Ways.{for_whole, items_of_branch, ways_of, ways_of_call, ways_of_part}
 use Rattle.ttcn_types.specs.Limits.{longest_chain}
 use Rattle.ttcn_values.specs.declared.fault.Fault.{Fault}

@@ -2,16 +2,16 @@
 use Rattle.std.proofs.Common.{◌≡◌, ℕ, ◌+◌, ◌<◌, List, [], ◌∷◌, map, length, drop, get_or, sym, ap, ◌∙◌}
 use Rattle.std.proofs.lemmas.List.{at_drop_more}
 use Rattle.std.specs.List.{flat_map}
-use Rattle.step_rules.specs.Branches.{Written, written_with}
-use Rattle.step_rules.specs.Configurations as rules
-use Rattle.step_rules.specs.Events.{Choice}
+use Rattle.semantics.specs.Branches.{Written, written_with}
+use Rattle.semantics.specs.Configurations as rules
+use Rattle.semantics.specs.Events.{Choice}
 use Rattle.step_choice.proofs.Firsts.{first-append}
 use Rattle.step_choice.specs.internal.Judged.{below, first_of, test_of}
 use Rattle.step_choice.specs.internal.Later.{or_later}
 use Rattle.step_snapshot.specs.Seen.{own_by, seen_by}
 use Rattle.step_snapshot.specs.declared.snapshot.Snapshot.{Snapshot}
-use Rattle.ttcn_config.specs.Legend.{default_by}
-use Rattle.ttcn_config.specs.declared.frame.ActiveDefault.{ActiveDefault}
+use Rattle.config_parts.specs.Legend.{default_by}
+use Rattle.config_parts.specs.declared.frame.ActiveDefault.{ActiveDefault}
 use Rattle.ttcn_values.specs.Outcomes.{Yields}
 use Rattle.ttcn_values.specs.declared.value.Value.{Value}
 

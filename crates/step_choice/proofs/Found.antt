@@ -1,9 +1,9 @@
 -- What a call finds of a choice, part by part.
 use Rattle.std.proofs.Common.{◌≡◌, ℕ, List, Option, Some, None, Result, Ok, Err, refl, sym, ap, ◌∙◌}
-use Rattle.step_rules.specs.Branches.{Chance}
-use Rattle.step_rules.specs.Events as events
-use Rattle.step_rules.specs.Events.{Choice, Effect, Refused}
-use Rattle.step_rules.specs.Items.{Item}
+use Rattle.semantics.specs.Branches.{Chance}
+use Rattle.semantics.specs.Events as events
+use Rattle.semantics.specs.Events.{Choice, Effect, Refused}
+use Rattle.semantics.specs.Items.{Item}
 use Rattle.step_choice.specs.Choices.{Finds, IsTaken}
 use Rattle.step_choice.specs.declared.taken.Taken.{Taken}
 use Rattle.step_choice.specs.internal.Later.{or_later}

@@ -8,22 +8,22 @@ use Rattle.ttcn_syntax.specs.declared.tree.definition.DefinitionKind.{Definition
 use Rattle.ttcn_syntax.specs.declared.tree.definition.DefinitionKind.TheVariants as kind
 use Rattle.ttcn_syntax.specs.declared.tree.statement.Branch.{Branch}
 use Rattle.ttcn_syntax.specs.declared.tree.statement.Event.{Event}
-use Rattle.step_rules.specs.Branches as rules
-use Rattle.step_rules.specs.Branches.{Chance, Judge, Written, behind_guard, branches_of, open_branch, written_with}
-use Rattle.step_rules.specs.Events as events
-use Rattle.step_rules.specs.Events.{Choice, Effect, Passed, Refused, Trial, chosen_by, try_event}
-use Rattle.step_rules.specs.Items.{Item}
-use Rattle.step_rules.specs.Sites.{Site}
+use Rattle.semantics.specs.Branches as rules
+use Rattle.semantics.specs.Branches.{Chance, Judge, Written, behind_guard, branches_of, open_branch, written_with}
+use Rattle.semantics.specs.Events as events
+use Rattle.semantics.specs.Events.{Choice, Effect, Passed, Refused, Trial, chosen_by, try_event}
+use Rattle.semantics.specs.Items.{Item}
+use Rattle.semantics.specs.Sites.{Site}
 use Rattle.step_choice.specs.Choices.{Finds, IsTaken}
 use Rattle.step_snapshot.specs.Tests.{extent_of}
-use Rattle.ttcn_config.specs.Views.{IsFrameWithin}
+use Rattle.config_parts.specs.Views.{IsFrameWithin}
 use Rattle.step_choice.specs.declared.taken.Deed.{Deed}
 use Rattle.step_choice.specs.declared.taken.Deed.TheVariants as code
 use Rattle.step_choice.specs.declared.taken.Taken.{Taken}
 use Rattle.step_choice.specs.internal.Judged.{Is, Tries, altstep_of, below, first_of, test_of}
 use Rattle.step_snapshot.specs.Seen.{own_by, seen_by}
 use Rattle.step_snapshot.specs.declared.snapshot.Snapshot.{Snapshot}
-use Rattle.ttcn_config.specs.declared.frame.Frame.{Frame}
+use Rattle.config_parts.specs.declared.frame.Frame.{Frame}
 use Rattle.ttcn_values.specs.Outcomes.{Failure, Fails, Gives, Outcome, Unmet, Yields}
 use Rattle.ttcn_values.specs.declared.fault.Fault.{Fault}
 use Rattle.ttcn_values.specs.declared.fault.Fault.TheVariants.{Dynamic, Memory}

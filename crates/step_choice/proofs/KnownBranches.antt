@@ -16,14 +16,14 @@ use Rattle.ttcn_syntax.specs.declared.tree.statement.Statement.{Statement, out-S
 use Rattle.ttcn_syntax.specs.declared.tree.value.Call.{Call}
 use Rattle.check_expressions.specs.Calls.{altstep_meant, parameters_of}
 use Rattle.check_scope.specs.Names.{kind_at, module_names}
-use Rattle.step_rules.specs.Branches.{Chance, Fault, Judge, Open, Written, Writing, behind_guard, branches_of, guard_holds, judge_in, open_branch, read_by, through, write_altsteps, written_alt, written_alternative, written_branch, written_call, written_default, written_defaults, written_with, written_within}
-use Rattle.step_rules.specs.Configurations.{ActiveDefault, Data}
-use Rattle.step_rules.specs.Events as events
-use Rattle.step_rules.specs.Events.{Choice, Effect, Faulty, Happened, Passed, Trial, chosen_by, first_choice, try_chance}
-use Rattle.step_rules.specs.Items.{Item, action_of, items, items_if_any}
-use Rattle.step_rules.specs.Sites.{Site}
-use Rattle.step_rules.specs.Snapshots as rules
-use Rattle.step_rules.specs.Snapshots.{Test}
+use Rattle.semantics.specs.Branches.{Chance, Fault, Judge, Open, Written, Writing, behind_guard, branches_of, guard_holds, judge_in, open_branch, read_by, through, write_altsteps, written_alt, written_alternative, written_branch, written_call, written_default, written_defaults, written_with, written_within}
+use Rattle.semantics.specs.Configurations.{ActiveDefault, Data}
+use Rattle.semantics.specs.Events as events
+use Rattle.semantics.specs.Events.{Choice, Effect, Faulty, Happened, Passed, Trial, chosen_by, first_choice, try_chance}
+use Rattle.semantics.specs.Items.{Item, action_of, items, items_if_any}
+use Rattle.semantics.specs.Sites.{Site}
+use Rattle.semantics.specs.Snapshots as rules
+use Rattle.semantics.specs.Snapshots.{Test}
 use Rattle.step_choice.proofs.KnownEffects.{EffectKnown, deed-known, event-known, left-known, right-known}
 use Rattle.step_choice.specs.Choices.{Chooses, choice_from, judge_at}
 use Rattle.step_choice.specs.Deeds.{HasKnownNames}

@@ -15,18 +15,18 @@ use Rattle.check_expressions.specs.Targets.{target_at}
 use Rattle.check_scope.specs.Names.{Scope}
 use Rattle.check_scope.specs.Typings.{same_type}
 use Rattle.check_scope.specs.declared.types.DataType.{DataType}
-use Rattle.step_rules.specs.Branches.{Judge, read_by}
-use Rattle.step_rules.specs.Configurations.{Data, Message, same_path}
-use Rattle.step_rules.specs.Events as events
-use Rattle.step_rules.specs.Events.{Effect, Faulty, Happened, Passed, Redirect, Trial, fits_sender, from_fits, happened_if, happened_or_passed, or_next, redirected_sender, redirected_value, redirects, template_fits, timer_seen, tried, try_done, try_event, try_front, try_fronts, try_port, try_receive, try_template, try_timeout, try_type, try_typed}
-use Rattle.step_rules.specs.Sites.{Site, scope_at}
-use Rattle.step_rules.specs.Snapshots.{Snapshot, Test, is_terminated_in, mtc_of, others_run}
+use Rattle.semantics.specs.Branches.{Judge, read_by}
+use Rattle.semantics.specs.Configurations.{Data, Message, same_path}
+use Rattle.semantics.specs.Events as events
+use Rattle.semantics.specs.Events.{Effect, Faulty, Happened, Passed, Redirect, Trial, fits_sender, from_fits, happened_if, happened_or_passed, or_next, redirected_sender, redirected_value, redirects, template_fits, timer_seen, tried, try_done, try_event, try_front, try_fronts, try_port, try_receive, try_template, try_timeout, try_type, try_typed}
+use Rattle.semantics.specs.Sites.{Site, scope_at}
+use Rattle.semantics.specs.Snapshots.{Snapshot, Test, is_terminated_in, mtc_of, others_run}
 use Rattle.step_choice.specs.Deeds.{HasKnownNames, deed_by, deed_of, stored_by, stored_of}
 use Rattle.step_choice.specs.declared.taken.Deed.{Deed}
 use Rattle.step_choice.specs.declared.taken.Deed.TheVariants as code
 use Rattle.step_choice.specs.declared.taken.Stored.{Stored}
 use Rattle.step_snapshot.specs.Slots.{IsKnown, NoneIsMissing}
-use Rattle.ttcn_config.specs.Legend.{Legend}
+use Rattle.config_parts.specs.Legend.{Legend}
 use Rattle.graph_names.specs.Known.{names_of_event, names_of_reference}
 use Rattle.ttcn_values.specs.Outcomes.{DynamicError, Fails, Outcome, Yields, dynamic_error, outcome_map}
 use Rattle.ttcn_values.specs.Readings.{Reading, component_referred}

@@ -3,12 +3,12 @@ use Rattle.std.proofs.Common.{◌≡◌, ℕ, zero, ◌+◌, ◌<◌, List, [], 
 use Rattle.std.proofs.lemmas.List.{at_drop_more}
 use Rattle.std.specs.List.{slice_get}
 use Rattle.ttcn_syntax.specs.declared.tree.statement.Receive.{Receive}
-use Rattle.step_rules.specs.Events.{Trial, or_next, try_front, try_fronts}
-use Rattle.step_rules.specs.Sites.{Site}
-use Rattle.step_rules.specs.Snapshots.{Test, front_at, front_of}
-use Rattle.ttcn_config.specs.Legend.{Legend, message_by, queue_by}
-use Rattle.ttcn_config.specs.declared.component.Message.{Message}
-use Rattle.ttcn_config.specs.declared.component.Queue.{Queue}
+use Rattle.semantics.specs.Events.{Trial, or_next, try_front, try_fronts}
+use Rattle.semantics.specs.Sites.{Site}
+use Rattle.semantics.specs.Snapshots.{Test, front_at, front_of}
+use Rattle.config_parts.specs.Legend.{Legend, message_by, queue_by}
+use Rattle.config_parts.specs.declared.component.Message.{Message}
+use Rattle.config_parts.specs.declared.component.Queue.{Queue}
 use Rattle.ttcn_values.specs.Readings.{Reading}
 
 pub front-there : (messages : List Message) (m : Message) → Some m ≡ slice_get messages 0 → front_of (map message_by messages) ≡ Some (message_by m)

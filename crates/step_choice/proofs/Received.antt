@@ -6,11 +6,11 @@ use Rattle.ttcn_syntax.specs.declared.tree.statement.Receive.{Receive}
 use Rattle.ttcn_syntax.specs.declared.tree.template.MessageTemplate.{MessageTemplate}
 use Rattle.check_scope.specs.Typings.{same_type}
 use Rattle.check_scope.specs.declared.types.DataType.{DataType}
-use Rattle.step_rules.specs.Configurations.{Message}
-use Rattle.step_rules.specs.Events as events
-use Rattle.step_rules.specs.Events.{Faulty, Happened, Passed, Redirect, Trial, tried, try_type, try_typed}
-use Rattle.step_rules.specs.Sites.{Site}
-use Rattle.step_rules.specs.Snapshots.{Test}
+use Rattle.semantics.specs.Configurations.{Message}
+use Rattle.semantics.specs.Events as events
+use Rattle.semantics.specs.Events.{Faulty, Happened, Passed, Redirect, Trial, tried, try_type, try_typed}
+use Rattle.semantics.specs.Sites.{Site}
+use Rattle.semantics.specs.Snapshots.{Test}
 use Rattle.step_choice.specs.Deeds as deeds
 use Rattle.step_choice.specs.declared.taken.Deed.{Deed}
 use Rattle.step_choice.specs.declared.taken.Deed.TheVariants as code

@@ -2,11 +2,11 @@
 use Rattle.std.proofs.Common.{◌≡◌, Bool, true, false, List, [], ◌∷◌, ◌++◌, map, Option, Some, None, cond, refl, sym, ap, ◌∙◌}
 use Rattle.std.proofs.lemmas.List.{map-append}
 use Rattle.ttcn_syntax.specs.declared.tree.expression.Reference.{Reference}
-use Rattle.step_rules.specs.Events.{Redirect, fits_sender, redirected_sender, redirected_value}
-use Rattle.step_rules.specs.Items.{Target}
-use Rattle.step_rules.specs.Sites.{Site, scope_at}
-use Rattle.step_rules.specs.Snapshots.{Test}
-use Rattle.step_rules.specs.Storing.{target_meant}
+use Rattle.semantics.specs.Events.{Redirect, fits_sender, redirected_sender, redirected_value}
+use Rattle.semantics.specs.Items.{Target}
+use Rattle.semantics.specs.Sites.{Site, scope_at}
+use Rattle.semantics.specs.Snapshots.{Test}
+use Rattle.semantics.specs.Storing.{target_meant}
 use Rattle.step_choice.specs.Deeds.{stored_by, stored_of}
 use Rattle.step_choice.specs.declared.taken.Stored.{Stored}
 use Rattle.graph_items.specs.Standing.{target_of}

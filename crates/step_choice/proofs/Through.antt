@@ -4,23 +4,23 @@ use Rattle.std.proofs.lemmas.List.{map-append}
 use Rattle.std.proofs.lemmas.List.Elements.{All-push}
 use Rattle.std.specs.List.{All, slice_get}
 use Rattle.ttcn_syntax.specs.declared.tree.definition.Definition.{Definition}
-use Rattle.step_rules.specs.Branches as rules
-use Rattle.step_rules.specs.Branches.{Chance, argument_values}
-use Rattle.step_rules.specs.Configurations as configurations
-use Rattle.step_rules.specs.Entries.{Entries}
-use Rattle.step_rules.specs.Events.{Effect}
-use Rattle.step_rules.specs.Items.{Item}
-use Rattle.step_rules.specs.Snapshots.{View, view_of_arguments}
+use Rattle.semantics.specs.Branches as rules
+use Rattle.semantics.specs.Branches.{Chance, argument_values}
+use Rattle.semantics.specs.Configurations as configurations
+use Rattle.semantics.specs.Entries.{Entries}
+use Rattle.semantics.specs.Events.{Effect}
+use Rattle.semantics.specs.Items.{Item}
+use Rattle.semantics.specs.Snapshots.{View, view_of_arguments}
 use Rattle.step_choice.specs.Choices.{IsTaken}
 use Rattle.step_choice.specs.declared.taken.Taken.{Taken}
 use Rattle.step_choice.specs.internal.Judged.{Is, IsAmong, test_of}
 use Rattle.step_choice.specs.internal.Later.{chance_through}
 use Rattle.step_snapshot.specs.Tests.{extent_of, legend_by}
 use Rattle.step_snapshot.specs.declared.snapshot.Snapshot.{Snapshot}
-use Rattle.ttcn_config.specs.Legend.{Legend, entries_by, frame_by}
-use Rattle.ttcn_config.specs.Views.{HasSlotsWithin, IsFrameWithin, view_by}
-use Rattle.ttcn_config.specs.declared.frame.Cells.{Cells}
-use Rattle.ttcn_config.specs.declared.frame.Frame.{Frame}
+use Rattle.config_parts.specs.Legend.{Legend, entries_by, frame_by}
+use Rattle.config_parts.specs.Views.{HasSlotsWithin, IsFrameWithin, view_by}
+use Rattle.config_parts.specs.declared.frame.Cells.{Cells}
+use Rattle.config_parts.specs.declared.frame.Frame.{Frame}
 use Rattle.ttcn_graph.specs.Graphs.{IsAt, beginnings_at}
 use Rattle.ttcn_values.specs.declared.frame.TimerState.{TimerState}
 use Rattle.ttcn_values.specs.declared.value.Value.{Value}

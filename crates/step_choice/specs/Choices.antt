@@ -4,24 +4,24 @@ use Rattle.std.specs.List.{All, slice_get}
 use Rattle.std.specs.Option.{option_map}
 use Rattle.ttcn_syntax.specs.declared.tree.definition.Definition.{Definition}
 use Rattle.ttcn_syntax.specs.declared.tree.statement.Statement.{Statement, out-Statement}
-use Rattle.step_rules.specs.Branches.{Chance, Judge, Written, written_alt, written_defaults}
-use Rattle.step_rules.specs.Configurations.{Data}
-use Rattle.step_rules.specs.Events as events
-use Rattle.step_rules.specs.Events.{Choice, Effect, Refused, first_choice}
-use Rattle.step_rules.specs.Items.{Doing, Item, Mark, Whole, action_of}
-use Rattle.step_rules.specs.Sites.{Site}
-use Rattle.step_rules.specs.Snapshots as rules
-use Rattle.step_rules.specs.Snapshots.{Test}
-use Rattle.step_rules.specs.Storing.{last_values}
+use Rattle.semantics.specs.Branches.{Chance, Judge, Written, written_alt, written_defaults}
+use Rattle.semantics.specs.Configurations.{Data}
+use Rattle.semantics.specs.Events as events
+use Rattle.semantics.specs.Events.{Choice, Effect, Refused, first_choice}
+use Rattle.semantics.specs.Items.{Doing, Item, Mark, Whole, action_of}
+use Rattle.semantics.specs.Sites.{Site}
+use Rattle.semantics.specs.Snapshots as rules
+use Rattle.semantics.specs.Snapshots.{Test}
+use Rattle.semantics.specs.Storing.{last_values}
 use Rattle.step_choice.specs.Deeds.{deed_by, deed_of}
 use Rattle.step_choice.specs.declared.taken.Taken.{Taken}
 use Rattle.step_snapshot.specs.Seen.{own_by, seen_by}
 use Rattle.step_snapshot.specs.Tests.{extent_of, legend_by, test_by}
 use Rattle.step_snapshot.specs.declared.snapshot.Snapshot.{Snapshot}
 use Rattle.step_snapshot.specs.declared.test_case.TestCase.{TestCase}
-use Rattle.ttcn_config.specs.Legend.{frame_by}
-use Rattle.ttcn_config.specs.Views.{IsFrameWithin}
-use Rattle.ttcn_config.specs.declared.frame.Frame.{Frame}
+use Rattle.config_parts.specs.Legend.{frame_by}
+use Rattle.config_parts.specs.Views.{IsFrameWithin}
+use Rattle.config_parts.specs.declared.frame.Frame.{Frame}
 use Rattle.ttcn_graph.specs.Ways.{ways_of}
 use Rattle.ttcn_values.specs.Outcomes.{Failure}
 use Rattle.ttcn_values.specs.declared.fault.Fault.{Fault}

@@ -1,17 +1,17 @@
 -- What taking a branch does beside what it leaves to be done, with what is known of the names in it (ES 201 873-1, 20.2, 22.2 and 23).
 use Rattle.std.specs.Prelude.{ℕ, Bool, List, map}
 use Rattle.std.specs.List.{All}
-use Rattle.step_rules.specs.Events as events
-use Rattle.step_rules.specs.Events.{Effect, Redirect}
-use Rattle.step_rules.specs.Items.{Target}
-use Rattle.step_rules.specs.Sites.{Site, is_own}
-use Rattle.step_rules.specs.Snapshots.{Test}
-use Rattle.step_rules.specs.Storing.{target_meant}
+use Rattle.semantics.specs.Events as events
+use Rattle.semantics.specs.Events.{Effect, Redirect}
+use Rattle.semantics.specs.Items.{Target}
+use Rattle.semantics.specs.Sites.{Site, is_own}
+use Rattle.semantics.specs.Snapshots.{Test}
+use Rattle.semantics.specs.Storing.{target_meant}
 use Rattle.step_choice.specs.declared.taken.Deed as code_deed
 use Rattle.step_choice.specs.declared.taken.Deed.TheVariants as code
 use Rattle.step_choice.specs.declared.taken.Stored as code_stored
 use Rattle.step_snapshot.specs.Slots.{IsKnown}
-use Rattle.ttcn_config.specs.Legend.{Legend}
+use Rattle.config_parts.specs.Legend.{Legend}
 use Rattle.graph_items.specs.Standing.{target_of}
 use Rattle.ttcn_values.specs.declared.value.Value.{Value}
 

@@ -6,21 +6,21 @@ ghost use Rattle.check_expressions.specs.Calls.{parameters_of};
 ghost use Rattle.check_scope.specs.Names.{kind_at};
 ghost use Rattle.step_choice.specs.internal.Arguments.{with_argument};
 ghost use Rattle.step_choice.specs.internal.Judged.{reads, test_of};
-ghost use Rattle.step_rules.specs.Branches as rules;
-ghost use Rattle.step_rules.specs.Entries.{Entries};
-ghost use Rattle.step_rules.specs.Sites.{Site};
-ghost use Rattle.step_rules.specs.Snapshots.{view_of_arguments};
+ghost use Rattle.semantics.specs.Branches as rules;
+ghost use Rattle.semantics.specs.Entries.{Entries};
+ghost use Rattle.semantics.specs.Sites.{Site};
+ghost use Rattle.semantics.specs.Snapshots.{view_of_arguments};
 ghost use Rattle.step_snapshot.specs.Slots.{IsKnown, NoneIsMissing};
 ghost use Rattle.step_snapshot.specs.Tests.{legend_by};
-ghost use Rattle.ttcn_config.specs.Views.{HasSlotsWithin, view_by};
+ghost use Rattle.config_parts.specs.Views.{HasSlotsWithin, view_by};
 ghost use Rattle.ttcn_values.specs.Outcomes.{Gives};
 ghost use Rattle.ttcn_values.specs.Templates.{arguments};
 ghost use Rattle.ttcn_values.specs.declared.value.Value.{Value as AValue};
 
 use check_expressions::call::parameters_of;
+use config_parts::{Cells, names_make_legends};
 use std::alloc::{AllocError, Global};
 use step_snapshot::{Snapshot, TestCase};
-use ttcn_config::{Cells, names_make_legends};
 use ttcn_syntax::{Call, Parameter, Seq};
 use ttcn_values::{Fault, Value, eval_arguments};
 

@@ -2,19 +2,19 @@
 ghost use Rattle.std.specs.Prelude.{◌≡◌, length};
 ghost use Rattle.step_choice.specs.internal.Judged as spec;
 ghost use Rattle.step_choice.specs.internal.Judged.{Tries, judge_of, test_of};
-ghost use Rattle.step_rules.specs.Events as rules;
-ghost use Rattle.step_rules.specs.Sites.{Site, is_own};
-ghost use Rattle.step_rules.specs.Snapshots.{View, reading_in};
+ghost use Rattle.semantics.specs.Events as rules;
+ghost use Rattle.semantics.specs.Sites.{Site, is_own};
+ghost use Rattle.semantics.specs.Snapshots.{View, reading_in};
 ghost use Rattle.step_snapshot.specs.Seen.{own_by, seen_by};
-ghost use Rattle.ttcn_config.specs.Views.{HasSlotsWithin};
+ghost use Rattle.config_parts.specs.Views.{HasSlotsWithin};
 ghost use Rattle.graph_sites.specs.Facts.{event_by, event_facts};
 ghost use Rattle.ttcn_values.specs.Frames.{reading};
 
 use crate::receive::try_receive;
 use crate::taken::Deed;
+use config_parts::Cells;
 use std::alloc::Global;
 use step_snapshot::Snapshot;
-use ttcn_config::Cells;
 use ttcn_graph::EventFacts;
 use ttcn_syntax::{ComponentRef, Event, Name};
 use ttcn_values::{Fault, Frame, TimerState, eval_component};

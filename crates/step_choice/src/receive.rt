@@ -2,11 +2,11 @@
 ghost use Rattle.std.specs.Prelude.{◌≡◌, Some, bytes_eq, map};
 ghost use Rattle.std.specs.List.{find};
 ghost use Rattle.step_choice.specs.internal.Judged.{Tries, names_of, test_of, type_fits};
-ghost use Rattle.step_rules.specs.Events as rules;
-ghost use Rattle.step_rules.specs.Sites.{Site};
-ghost use Rattle.step_rules.specs.Snapshots.{front_of};
+ghost use Rattle.semantics.specs.Events as rules;
+ghost use Rattle.semantics.specs.Sites.{Site};
+ghost use Rattle.semantics.specs.Snapshots.{front_of};
 ghost use Rattle.step_snapshot.specs.Seen.{seen_by};
-ghost use Rattle.ttcn_config.specs.Legend.{message_by};
+ghost use Rattle.config_parts.specs.Legend.{message_by};
 ghost use Rattle.graph_sites.specs.Facts.{event_by, event_facts};
 ghost use Rattle.ttcn_syntax.specs.declared.tree.statement.Event.TheVariants as event;
 ghost use Rattle.ttcn_values.specs.Frames.{reading};
@@ -15,9 +15,9 @@ ghost use Rattle.ttcn_values.specs.Outcomes.{Gives};
 use crate::redirect::redirects;
 use crate::taken::Deed;
 use check_scope::types::DataType;
+use config_parts::{Message, Queue};
 use std::alloc::Global;
 use step_snapshot::Snapshot;
-use ttcn_config::{Message, Queue};
 use ttcn_graph::EventFacts;
 use ttcn_syntax::{ComponentRef, MessageTemplate, Name, PortSelector, Receive};
 use ttcn_values::{

@@ -3,10 +3,10 @@ ghost use Rattle.std.specs.Prelude.{◌≡◌, IfOk, Option, map};
 ghost use Rattle.std.specs.Option.{option_map};
 ghost use Rattle.step_choice.specs.Deeds.{stored_by, stored_of};
 ghost use Rattle.step_choice.specs.internal.Judged.{Stores};
-ghost use Rattle.step_rules.specs.Events as rules;
-ghost use Rattle.step_rules.specs.Sites.{Site, scope_at};
-ghost use Rattle.step_rules.specs.Snapshots.{Test};
-ghost use Rattle.ttcn_config.specs.Legend.{message_by};
+ghost use Rattle.semantics.specs.Events as rules;
+ghost use Rattle.semantics.specs.Sites.{Site, scope_at};
+ghost use Rattle.semantics.specs.Snapshots.{Test};
+ghost use Rattle.config_parts.specs.Legend.{message_by};
 ghost use Rattle.graph_sites.specs.Facts.{event_by, event_facts, goal_by, goal_if_any};
 ghost use Rattle.ttcn_syntax.specs.declared.tree.expression.Reference.{Reference as AReference};
 ghost use Rattle.ttcn_syntax.specs.declared.tree.statement.Event.TheVariants as event;
@@ -14,8 +14,8 @@ ghost use Rattle.ttcn_syntax.specs.declared.tree.statement.Receive.{Receive as A
 
 use crate::taken::Stored;
 use check_scope::types::DataType;
+use config_parts::Message;
 use std::alloc::{AllocError, Global};
-use ttcn_config::Message;
 use ttcn_graph::{EventFacts, Goal};
 use ttcn_values::{ComponentId, Fault, Value};
 

@@ -1,5 +1,5 @@
 //! Branches that are taken (ES 201 873-1, 20.2).
-use ttcn_config::Frame;
+use config_parts::Frame;
 use ttcn_graph::Target;
 use ttcn_syntax::{Name, Seq, Span};
 use ttcn_values::{Slot, Value};

@@ -4,8 +4,8 @@ use Rattle.std.proofs.Math.Seq.{drop-cons}
 use Rattle.std.proofs.lemmas.List.{append-nil, drop_all, map-append}
 use Rattle.std.specs.List.{flat_map}
 use Rattle.step_create.specs.internal.Queues.{no_messages}
-use Rattle.step_rules.specs.Configurations.{Queue}
-use Rattle.step_rules.specs.Creating.{ports_of}
+use Rattle.semantics.specs.Configurations.{Queue}
+use Rattle.semantics.specs.Creating.{ports_of}
 use Rattle.step_snapshot.specs.Slots.{NoneIsMissing}
 use Rattle.graph_names.specs.Known.{names_of_member}
 use Rattle.ttcn_syntax.specs.declared.tree.definition.Member.{Member}

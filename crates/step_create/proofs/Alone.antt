@@ -3,9 +3,9 @@ use Rattle.std.proofs.Common.{◌≡◌, ℕ, Bool, true, false, ◌||◌, List,
 use Rattle.std.specs.Prelude.{bytes_eq}
 use Rattle.std.specs.Cmp.{nat_eq_equiv}
 use Rattle.std.specs.Option.{option_map}
-use Rattle.step_rules.specs.Configurations.{Running, State, is_running_state, same_path}
-use Rattle.step_rules.specs.Runs.{first_snapshot}
-use Rattle.step_rules.specs.Snapshots.{Test, holds, mtc_of, runs_in}
+use Rattle.semantics.specs.Configurations.{Running, State, is_running_state, same_path}
+use Rattle.semantics.specs.Runs.{first_snapshot}
+use Rattle.semantics.specs.Snapshots.{Test, holds, mtc_of, runs_in}
 use Rattle.ttcn_values.specs.declared.path.Path.{Path}
 use Rattle.ttcn_values.specs.declared.value.ComponentId.{ComponentId}
 

@@ -5,19 +5,19 @@ use Rattle.std.proofs.lemmas.List.{get_or-map}
 use Rattle.std.proofs.lemmas.List.Elements.{All-nil, Contains-append_left, Contains-append_right}
 use Rattle.std.specs.List.{flat_map}
 use Rattle.check_scope.specs.Names.{kind_at, members_of}
-use Rattle.step_rules.specs.Items.{Item}
+use Rattle.semantics.specs.Items.{Item}
 use Rattle.step_snapshot.specs.Slots.{NoneIsMissing}
 use Rattle.step_snapshot.specs.declared.test_case.TestCase.{TestCase}
-use Rattle.ttcn_config.specs.Views.{HasSlotsWithin}
-use Rattle.ttcn_config.specs.declared.frame.Cells.{Cells}
+use Rattle.config_parts.specs.Views.{HasSlotsWithin}
+use Rattle.config_parts.specs.declared.frame.Cells.{Cells}
 use Rattle.check_scope.specs.declared.types.DataType.{DataType}
-use Rattle.step_rules.specs.Configurations.{Frame}
-use Rattle.step_rules.specs.Creating as rules
-use Rattle.step_rules.specs.Snapshots.{Snapshot, Test}
-use Rattle.step_rules.specs.Storing as storing
-use Rattle.ttcn_config.specs.Legend.{IsLegend, Legend, frame_with}
-use Rattle.ttcn_config.specs.internal.Stored.{declare, declare_timer, forget, no_cells}
-use Rattle.ttcn_config.proofs.Stored.{declare-alike, forget-alike, timer-declared}
+use Rattle.semantics.specs.Configurations.{Frame}
+use Rattle.semantics.specs.Creating as rules
+use Rattle.semantics.specs.Snapshots.{Snapshot, Test}
+use Rattle.semantics.specs.Storing as storing
+use Rattle.config_parts.specs.Legend.{IsLegend, Legend, frame_with}
+use Rattle.config_parts.specs.internal.Stored.{declare, declare_timer, forget, no_cells}
+use Rattle.config_parts.proofs.Stored.{declare-alike, forget-alike, timer-declared}
 use Rattle.ttcn_syntax.specs.declared.tree.value.Value.{Value as WrittenValue}
 use Rattle.ttcn_values.specs.Literals.{value_wanted}
 use Rattle.ttcn_values.specs.Outcomes.{Failure, Fails, Yields, outcome_map}

@@ -3,8 +3,8 @@ use Rattle.std.proofs.Common.{◌≡◌, ℕ, suc, ◌+◌, ◌<◌, ◌≤◌, 
 use Rattle.std.proofs.Math.Seq.{drop-cons}
 use Rattle.std.proofs.lemmas.List.{drop_all}
 use Rattle.std.specs.Result.{IsErrAnd}
-use Rattle.step_rules.specs.Configurations.{Frame}
-use Rattle.step_rules.specs.Creating.{declared_in_turn}
+use Rattle.semantics.specs.Configurations.{Frame}
+use Rattle.semantics.specs.Creating.{declared_in_turn}
 use Rattle.ttcn_values.proofs.Faults.{given_by, handed_on_by}
 use Rattle.ttcn_values.specs.Outcomes.{Failure, Fails, GivesBy, Outcome, Yields, outcome_and_then}
 use Rattle.ttcn_values.specs.declared.fault.Fault.{Fault}

@@ -3,11 +3,11 @@ use Rattle.std.specs.Prelude.{◌≡◌, ℕ, List, [], Result, length}
 use Rattle.std.specs.Borrow.{Bor}
 use Rattle.std.specs.List.{list_any}
 use Rattle.step_create.specs.declared.members.Maker.{Maker}
-use Rattle.step_rules.specs.Configurations as rules
-use Rattle.step_rules.specs.Snapshots.{Snapshot, Test, runs_in}
+use Rattle.semantics.specs.Configurations as rules
+use Rattle.semantics.specs.Snapshots.{Snapshot, Test, runs_in}
 use Rattle.step_snapshot.specs.Tests.{legend_by, test_by}
-use Rattle.ttcn_config.specs.Legend.{Legend, frame_with}
-use Rattle.ttcn_config.specs.declared.frame.Cells.{Cells}
+use Rattle.config_parts.specs.Legend.{Legend, frame_with}
+use Rattle.config_parts.specs.declared.frame.Cells.{Cells}
 use Rattle.ttcn_values.specs.Outcomes.{GivesBy, Outcome}
 use Rattle.ttcn_values.specs.contracts.path.PathPartialEq.TheImpl as equality
 use Rattle.ttcn_values.specs.declared.fault.Fault.{Fault}

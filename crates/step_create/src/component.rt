@@ -1,15 +1,14 @@
 //! New components (ES 201 873-1, 21.3.1).
 ghost use Rattle.std.specs.Prelude.{◌≡◌, [], IfOk, length};
-ghost use Rattle.step_rules.specs.Creating as rules;
+ghost use Rattle.semantics.specs.Creating as rules;
 ghost use Rattle.step_snapshot.specs.Tests.{extent_of, legend_by, test_by};
-ghost use Rattle.ttcn_config.specs.Legend.{component_by, frame_with};
-ghost use Rattle.ttcn_config.specs.Views.{HasSlotsWithin, IsWithin};
+ghost use Rattle.config_parts.specs.Legend.{component_by, frame_with};
+ghost use Rattle.config_parts.specs.Views.{HasSlotsWithin, IsWithin};
 
 use crate::ports::empty_queues;
-use sharing::Shared;
+use config_parts::{Cells, Component, Data, Shared, State};
 use std::alloc::{AllocError, Global};
 use step_snapshot::TestCase;
-use ttcn_config::{Cells, Component, Data, State};
 use ttcn_syntax::{Seq, Verdict};
 use ttcn_values::ComponentId;
 

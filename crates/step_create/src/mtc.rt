@@ -3,22 +3,21 @@ ghost use Rattle.std.specs.Prelude.{◌≡◌, ◌<◌, [], IfOk, IfSome, length
 ghost use Rattle.std.specs.Option.{option_map};
 ghost use Rattle.check_scope.specs.Names.{kind_at};
 ghost use Rattle.step_create.specs.internal.Starts.{going_alone, mtc_at};
-ghost use Rattle.step_rules.specs.Creating.{new_members};
-ghost use Rattle.step_rules.specs.Items.{items};
-ghost use Rattle.step_rules.specs.Runs as rules;
-ghost use Rattle.step_rules.specs.Sites.{beginning};
-ghost use Rattle.step_rules.specs.Snapshots.{mtc_of};
+ghost use Rattle.semantics.specs.Creating.{new_members};
+ghost use Rattle.semantics.specs.Items.{items};
+ghost use Rattle.semantics.specs.Runs as rules;
+ghost use Rattle.semantics.specs.Sites.{beginning};
+ghost use Rattle.semantics.specs.Snapshots.{mtc_of};
 ghost use Rattle.step_snapshot.specs.Tests.{extent_of, legend_by, test_by};
-ghost use Rattle.ttcn_config.specs.Legend.{component_by, config_by, frame_with};
-ghost use Rattle.ttcn_config.specs.Views.{HasSlotsWithin, IsConfigWithin, IsWithin};
+ghost use Rattle.config_parts.specs.Legend.{component_by, config_by, frame_with};
+ghost use Rattle.config_parts.specs.Views.{HasSlotsWithin, IsConfigWithin, IsWithin};
 ghost use Rattle.ttcn_values.specs.Outcomes.{GivesBy};
 
 use crate::component::new_component;
 use crate::members::Maker;
-use sharing::Shared;
+use config_parts::{Cells, Component, Config, Frame, Going, Shared, State, TryClone};
 use std::alloc::{AllocError, Global};
 use step_snapshot::TestCase;
-use ttcn_config::{Cells, Component, Config, Frame, Going, State, TryClone};
 use ttcn_syntax::{DefinitionKind, Seq, Verdict};
 use ttcn_values::Fault;
 

@@ -2,14 +2,14 @@
 ghost use Rattle.std.specs.Prelude.{◌≡◌, ◌++◌, IfOk, map};
 ghost use Rattle.std.specs.List.{flat_map};
 ghost use Rattle.step_create.specs.internal.Queues.{no_messages, queues_for};
-ghost use Rattle.step_rules.specs.Creating as rules;
+ghost use Rattle.semantics.specs.Creating as rules;
 ghost use Rattle.step_snapshot.specs.Slots.{NoneIsMissing};
 ghost use Rattle.graph_names.specs.Known.{names_of_member};
 
 use crate::types::declarations_of;
+use config_parts::Queue;
 use std::alloc::{AllocError, Global};
 use step_snapshot::TestCase;
-use ttcn_config::Queue;
 use ttcn_syntax::{Member, Name, Seq};
 
 /// The ports that a declaration declares.

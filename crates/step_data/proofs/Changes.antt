@@ -3,14 +3,14 @@ use Rattle.std.proofs.Common.{◌≡◌, ℕ, Bool, true, false, not, nat_eq, by
 use Rattle.std.specs.List.{All, filter, find, remove}
 use Rattle.std.specs.Option.{option_map}
 use Rattle.std.proofs.lemmas.List.Elements.{All-cons, All-head, All-tail}
-use Rattle.step_rules.specs.Configurations as rules
-use Rattle.step_rules.specs.Storing as storing
+use Rattle.semantics.specs.Configurations as rules
+use Rattle.semantics.specs.Storing as storing
 use Rattle.step_data.specs.internal.Held.{held_in, value_at}
-use Rattle.ttcn_config.specs.Legend.{IsLegend, Legend, data_by, default_by, entries_by, frame_by}
-use Rattle.ttcn_config.specs.declared.frame.ActiveDefault.{ActiveDefault}
-use Rattle.ttcn_config.specs.declared.frame.Data.{Data}
-use Rattle.ttcn_config.specs.declared.frame.Frame.{Frame}
-use Rattle.ttcn_config.proofs.Named.{same-name}
+use Rattle.config_parts.specs.Legend.{IsLegend, Legend, data_by, default_by, entries_by, frame_by}
+use Rattle.config_parts.specs.declared.frame.ActiveDefault.{ActiveDefault}
+use Rattle.config_parts.specs.declared.frame.Data.{Data}
+use Rattle.config_parts.specs.declared.frame.Frame.{Frame}
+use Rattle.config_parts.proofs.Named.{same-name}
 use Rattle.ttcn_values.specs.Frames.{entry}
 use Rattle.ttcn_values.specs.Outcomes.{Fails, Gives, GivesBy, Outcome, Yields, outcome_map}
 use Rattle.ttcn_values.specs.declared.fault.Fault.{Fault}

@@ -1,10 +1,10 @@
 -- Frames and defaults that come and go, among the data of the rules.
 use Rattle.std.specs.Prelude.{ℕ, List, [], ◌∷◌, ◌++◌, not, nat_eq, nat_lt, if◌then◌else◌}
 use Rattle.std.specs.List.{filter}
-use Rattle.step_rules.specs.Configurations.{Data, Frame}
-use Rattle.step_rules.specs.Items.{Item}
-use Rattle.step_rules.specs.Statements.{activate, most, with_defaults}
-use Rattle.step_rules.specs.Storing.{in_last, with_calls, with_remaining}
+use Rattle.semantics.specs.Configurations.{Data, Frame}
+use Rattle.semantics.specs.Items.{Item}
+use Rattle.semantics.specs.Statements.{activate, most, with_defaults}
+use Rattle.semantics.specs.Storing.{in_last, with_calls, with_remaining}
 use Rattle.ttcn_values.specs.Outcomes.{Outcome, Yields, dynamic_error}
 use Rattle.ttcn_values.specs.declared.value.Value.{Value}
 

@@ -2,14 +2,14 @@
 ghost use Rattle.std.specs.Prelude.{◌≡◌, ◌<◌, [], IfOk, nat_eq, not};
 ghost use Rattle.std.specs.List.{filter};
 ghost use Rattle.step_data.specs.Frames.{activated, deactivated};
-ghost use Rattle.step_rules.specs.Statements as rules;
-ghost use Rattle.ttcn_config.specs.Legend.{Legend, data_by};
-ghost use Rattle.ttcn_config.specs.Views.{Extent, IsWithin};
+ghost use Rattle.semantics.specs.Statements as rules;
+ghost use Rattle.config_parts.specs.Legend.{Legend, data_by};
+ghost use Rattle.config_parts.specs.Views.{Extent, IsWithin};
 ghost use Rattle.ttcn_values.specs.Outcomes.{GivesBy};
 
+use config_parts::{ActiveDefault, Data};
 use std::alloc::Global;
 use std::mem;
-use ttcn_config::{ActiveDefault, Data};
 use ttcn_syntax::Seq;
 use ttcn_values::{Fault, Value};
 

@@ -1,15 +1,15 @@
 //! Frames of calls come and go (ES 201 873-1, 16).
 ghost use Rattle.std.specs.Prelude.{◌≡◌, ◌<◌, map, IfOk};
 ghost use Rattle.std.specs.List.{All};
-ghost use Rattle.step_rules.specs.Statements as rules;
+ghost use Rattle.semantics.specs.Statements as rules;
 ghost use Rattle.step_data.specs.Frames.{entered_all, left};
-ghost use Rattle.ttcn_config.specs.Legend.{Legend, data_by, frame_by};
-ghost use Rattle.ttcn_config.specs.Views.{Extent, IsFrameWithin, IsWithin};
+ghost use Rattle.config_parts.specs.Legend.{Legend, data_by, frame_by};
+ghost use Rattle.config_parts.specs.Views.{Extent, IsFrameWithin, IsWithin};
 ghost use Rattle.ttcn_values.specs.Outcomes.{Answers, GivesBy};
 
+use config_parts::{Data, Frame};
 use std::alloc::{AllocError, Global};
 use std::mem;
-use ttcn_config::{Data, Frame};
 use ttcn_syntax::Seq;
 use ttcn_values::Fault;
 

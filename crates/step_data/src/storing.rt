@@ -1,19 +1,19 @@
 //! Values are stored in names, and in fields of records that names hold (ES 201 873-1, 19.1).
 ghost use Rattle.std.specs.Prelude.{◌≡◌, ◌<◌, IfOk};
 ghost use Rattle.std.specs.Option.{option_map};
-ghost use Rattle.step_rules.specs.Snapshots.{Test};
-ghost use Rattle.step_rules.specs.Storing as rules;
+ghost use Rattle.semantics.specs.Snapshots.{Test};
+ghost use Rattle.semantics.specs.Storing as rules;
 ghost use Rattle.step_data.specs.internal.Held.{held_in, value_at};
-ghost use Rattle.ttcn_config.specs.Legend.{IsLegend, Legend, data_by};
-ghost use Rattle.ttcn_config.specs.Views.{Extent, IsWithin};
+ghost use Rattle.config_parts.specs.Legend.{IsLegend, Legend, data_by};
+ghost use Rattle.config_parts.specs.Views.{Extent, IsWithin};
 ghost use Rattle.ttcn_values.specs.Outcomes.{GivesBy};
 
-use assignment::assign;
+use config_parts::Data;
 use std::alloc::{AllocError, Global};
-use ttcn_config::Data;
 use ttcn_syntax::Name;
 use ttcn_types::{DataType, Definitions};
 use ttcn_values::{Fault, Slot, Value};
+use value_assignment::assign;
 
 /// What the entries say of a slot.
 fn value_of(entries: &[(Slot, Value)], slot: Slot) -> Option<&Value>

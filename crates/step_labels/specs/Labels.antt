@@ -2,7 +2,7 @@
 use Rattle.std.specs.Prelude.{ℕ, List, Option, Some, None}
 use Rattle.step_labels.specs.declared.label.Expiry.{Expiry}
 use Rattle.step_labels.specs.declared.label.Label.{Label}
-use Rattle.step_rules.specs.Steps as rules
+use Rattle.semantics.specs.Steps as rules
 
 -- the label of the component with this path: of its statement, or of an expiry where one is given
 abbrev pub label_with : List ℕ → Option Expiry → rules.Label

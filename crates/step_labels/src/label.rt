@@ -3,7 +3,7 @@ ghost use Rattle.std.specs.Prelude.{◌≡◌, IfOk};
 ghost use Rattle.step_labels.specs.Labels.{label_by};
 ghost use Rattle.step_labels.specs.contracts.label.LabelOrd.TheImpl as order;
 ghost use Rattle.step_labels.specs.declared.label.Label.{Label as ALabel};
-ghost use Rattle.step_rules.specs.Labels.{label_cmp};
+ghost use Rattle.semantics.specs.Labels.{label_cmp};
 
 use std::alloc::{AllocError, Global};
 use ttcn_syntax::{Name, Seq};

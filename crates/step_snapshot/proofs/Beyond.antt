@@ -4,7 +4,7 @@ use Rattle.std.specs.Prelude.{bytes_eq}
 use Rattle.std.specs.Cmp.{nat_eq_equiv}
 use Rattle.std.proofs.Math.Dec.{eqb-suc-suc, eqb-suc-zero}
 use Rattle.std.specs.List.{list_all, starts_with}
-use Rattle.ttcn_config.specs.Names.{name_of, names_behind, zeros}
+use Rattle.config_parts.specs.Names.{name_of, names_behind, zeros}
 
 -- ---- zeros
 

@@ -3,12 +3,12 @@ use Rattle.std.proofs.Common.{◌≡◌, ℕ, Bor, Bool, true, false, ◌&&◌, 
 use Rattle.std.specs.Prelude.{bytes_eq}
 use Rattle.std.specs.List.{find, list_any}
 use Rattle.std.specs.Option.{option_map}
-use Rattle.step_rules.specs.Configurations as rules
-use Rattle.step_rules.specs.Configurations.{path_of, same_path}
-use Rattle.step_rules.specs.Snapshots.{front_at, holds}
-use Rattle.ttcn_config.specs.Legend.{Legend, component_by, entries_by, queue_by, state_by}
-use Rattle.ttcn_config.specs.declared.component.Component.{Component}
-use Rattle.ttcn_config.specs.declared.component.Queue.{Queue}
+use Rattle.semantics.specs.Configurations as rules
+use Rattle.semantics.specs.Configurations.{path_of, same_path}
+use Rattle.semantics.specs.Snapshots.{front_at, holds}
+use Rattle.config_parts.specs.Legend.{Legend, component_by, entries_by, queue_by, state_by}
+use Rattle.config_parts.specs.declared.component.Component.{Component}
+use Rattle.config_parts.specs.declared.component.Queue.{Queue}
 use Rattle.ttcn_values.specs.Frames.{entry}
 use Rattle.ttcn_values.specs.declared.path.Path.{Path}
 

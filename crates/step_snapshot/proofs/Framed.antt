@@ -1,14 +1,14 @@
 -- What is read of a component is read by the rules.
 use Rattle.std.proofs.Common.{◌≡◌, ℕ, Bool, true, false, [], cond, is_some, sym, ap, subst, ◌∙◌, ◌<◌}
 use Rattle.std.proofs.lemmas.List.Elements.{All-nil}
-use Rattle.step_rules.specs.Sites.{Site, runs_on}
-use Rattle.step_rules.specs.Snapshots.{members_in, seen_members}
+use Rattle.semantics.specs.Sites.{Site, runs_on}
+use Rattle.semantics.specs.Snapshots.{members_in, seen_members}
 use Rattle.step_snapshot.specs.Seen.{own_by, seen_by}
 use Rattle.step_snapshot.specs.Tests.{legend_by, test_by}
 use Rattle.step_snapshot.specs.declared.snapshot.Snapshot.{Snapshot}
-use Rattle.ttcn_config.specs.Views.{HasSlotsWithin, view_by}
-use Rattle.ttcn_config.specs.declared.frame.Cells.{Cells}
-use Rattle.ttcn_config.specs.internal.Stored.{no_cells}
+use Rattle.config_parts.specs.Views.{HasSlotsWithin, view_by}
+use Rattle.config_parts.specs.declared.frame.Cells.{Cells}
+use Rattle.config_parts.specs.internal.Stored.{no_cells}
 use Rattle.ttcn_values.specs.declared.frame.TimerState.{TimerState}
 use Rattle.ttcn_values.specs.declared.value.Value.{Value}
 

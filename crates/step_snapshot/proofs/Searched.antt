@@ -11,7 +11,7 @@ use Rattle.std.proofs.lemmas.Bool.{cases_lt}
 use Rattle.std.proofs.lemmas.Cmp.{nat_list_cmp_total}
 use Rattle.std.proofs.lemmas.Option.{slice_get-get_or}
 use Rattle.std.proofs.lemmas.Slice.Eq.{bytes_eq-Decides}
-use Rattle.step_rules.proofs.LabelOrder.{names-alike}
+use Rattle.semantics.proofs.LabelOrder.{names-alike}
 
 -- where one name comes before another, it compares with a third no higher
 no-higher : (a b name : List ℕ) (o p : Ordering) → slice_cmp nat_cmp a b ≡ Less → slice_cmp nat_cmp a name ≡ o → slice_cmp nat_cmp b name ≡ p → ordering_index o ≤ ordering_index p

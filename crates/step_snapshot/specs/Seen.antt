@@ -1,9 +1,9 @@
 -- What snapshots of code stand for among those of the rules.
-use Rattle.step_rules.specs.Configurations as rules
-use Rattle.step_rules.specs.Snapshots as snapshots
+use Rattle.semantics.specs.Configurations as rules
+use Rattle.semantics.specs.Snapshots as snapshots
 use Rattle.step_snapshot.specs.Tests.{legend_by}
 use Rattle.step_snapshot.specs.declared.snapshot.Snapshot.{Snapshot}
-use Rattle.ttcn_config.specs.Legend.{component_by, data_by, going_by}
+use Rattle.config_parts.specs.Legend.{component_by, data_by, going_by}
 
 -- what the component sees
 abbrev pub seen_by : Snapshot → snapshots.Snapshot

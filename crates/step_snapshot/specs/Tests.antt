@@ -1,10 +1,10 @@
 -- What test cases and snapshots of code stand for among those of the rules.
 use Rattle.std.specs.Prelude.{length}
-use Rattle.step_rules.specs.Snapshots as snapshots
+use Rattle.semantics.specs.Snapshots as snapshots
 use Rattle.step_snapshot.specs.declared.test_case.TestCase.{TestCase}
-use Rattle.ttcn_config.specs.Legend.{Legend}
-use Rattle.ttcn_config.specs.Names.{legend_of}
-use Rattle.ttcn_config.specs.Views.{Extent}
+use Rattle.config_parts.specs.Legend.{Legend}
+use Rattle.config_parts.specs.Names.{legend_of}
+use Rattle.config_parts.specs.Views.{Extent}
 
 -- the test case
 abbrev pub test_by : TestCase → snapshots.Test

@@ -3,21 +3,21 @@ ghost use Rattle.std.specs.Prelude.{◌≡◌, ◌&&◌, bytes_eq, is_some, leng
 ghost use Rattle.std.specs.List.{find, list_any};
 ghost use Rattle.std.specs.Option.{option_map};
 ghost use Rattle.check_scope.specs.Names.{component_meant};
-ghost use Rattle.step_rules.specs.Configurations.{is_running_state, is_terminated_state, same_path};
-ghost use Rattle.step_rules.specs.Sites as sites;
-ghost use Rattle.step_rules.specs.Snapshots as rules;
-ghost use Rattle.step_rules.specs.Storing.{last_values};
+ghost use Rattle.semantics.specs.Configurations.{is_running_state, is_terminated_state, same_path};
+ghost use Rattle.semantics.specs.Sites as sites;
+ghost use Rattle.semantics.specs.Snapshots as rules;
+ghost use Rattle.semantics.specs.Storing.{last_values};
 ghost use Rattle.step_snapshot.specs.Seen.{own_by, seen_by};
 ghost use Rattle.step_snapshot.specs.Tests.{legend_by, test_by};
-ghost use Rattle.ttcn_config.specs.Legend.{queue_by, state_by};
-ghost use Rattle.ttcn_config.specs.Views.{HasSlotsWithin, view_by};
+ghost use Rattle.config_parts.specs.Legend.{queue_by, state_by};
+ghost use Rattle.config_parts.specs.Views.{HasSlotsWithin, view_by};
 ghost use Rattle.ttcn_values.specs.Frames.{entry, reading, seen_entry};
 
 use crate::snapshot::Snapshot;
 use crate::test_case::TestCase;
 use check_expressions::call::runs_on_of;
 use check_scope::names::Meaning;
-use ttcn_config::{Cells, Component, Queue, State, frame_of, names_make_legends};
+use config_parts::{Cells, Component, Queue, State, frame_of, names_make_legends};
 use ttcn_syntax::{DefinitionKind, Name};
 use ttcn_values::{Frame, Path, Slot, TimerState};
 

@@ -1,14 +1,14 @@
 //! The names of slots.
 ghost use Rattle.std.specs.Prelude.{◌≡◌, ◌&&◌, ◌-◌, ◌<◌, ◌^◌, [], Contains, Some, IfNone, IfSome, bytes_eq, drop, get_or, length, nat_eq};
 ghost use Rattle.std.specs.List.{list_all, slice_get, starts_with};
-ghost use Rattle.names.specs.Names.{AreInOrder};
+ghost use Rattle.graph_numbers.specs.Names.{AreInOrder};
 ghost use Rattle.step_snapshot.specs.Slots.{IsKnown};
 ghost use Rattle.step_snapshot.specs.Tests.{legend_by};
-ghost use Rattle.ttcn_config.specs.Legend.{IsLegend};
-ghost use Rattle.ttcn_config.specs.Names.{name_of};
+ghost use Rattle.config_parts.specs.Legend.{IsLegend};
+ghost use Rattle.config_parts.specs.Names.{name_of};
 
 use crate::test_case::TestCase;
-use ttcn_config::names_make_legends;
+use config_parts::names_make_legends;
 use ttcn_syntax::Name;
 use ttcn_values::Slot;
 

@@ -1,15 +1,15 @@
 //! What a component sees when it makes a step.
 ghost use Rattle.std.specs.Prelude.{◌≡◌};
 ghost use Rattle.std.specs.List.{list_any};
-ghost use Rattle.step_rules.specs.Snapshots.{runs_in, snapshot_of};
+ghost use Rattle.semantics.specs.Snapshots.{runs_in, snapshot_of};
 ghost use Rattle.step_snapshot.specs.Tests.{extent_of, legend_by};
-ghost use Rattle.ttcn_config.specs.Legend.{component_by, going_by};
-ghost use Rattle.ttcn_config.specs.Views.{IsWithin};
+ghost use Rattle.config_parts.specs.Legend.{component_by, going_by};
+ghost use Rattle.config_parts.specs.Views.{IsWithin};
 ghost use Rattle.ttcn_values.specs.contracts.path.PathPartialEq.TheImpl as equality;
 ghost use Rattle.ttcn_values.specs.declared.path.Path.{Path as APath};
 
 use crate::test_case::TestCase;
-use ttcn_config::{Component, Going};
+use config_parts::{Component, Going};
 use ttcn_values::Path;
 
 /// A component, the configuration in which it makes its step, and the components that run there.
@@ -24,7 +24,7 @@ pub struct Snapshot<'t, 'a> {
 
 impl<'t, 'a> Snapshot<'t, 'a> {
     ghost use Rattle.std.specs.Prelude.{map};
-    ghost use Rattle.ttcn_config.specs.Acts.{HasPathsInOrder};
+    ghost use Rattle.config_parts.specs.Acts.{HasPathsInOrder};
 
     /// What a component of a configuration sees, where these are the components that run.
     pub fn new(

@@ -1,14 +1,14 @@
 //! Test cases that can be run.
 ghost use Rattle.std.specs.Prelude.{◌≡◌, ℕ, ◌<◌, ◌^◌, [], get_or, length};
 ghost use Rattle.check_scope.specs.Names.{kind_at};
-ghost use Rattle.step_rules.specs.Snapshots.{mtc_of};
+ghost use Rattle.semantics.specs.Snapshots.{mtc_of};
 ghost use Rattle.step_snapshot.specs.Slots.{NoneIsMissing};
-ghost use Rattle.ttcn_config.specs.internal.Stored.{no_cells};
+ghost use Rattle.config_parts.specs.internal.Stored.{no_cells};
 ghost use Rattle.graph_names.specs.Known.{names_of, names_of_kind};
 ghost use Rattle.ttcn_types.specs.Rules.{AreWellTyped};
 
-use names::Names;
-use ttcn_config::Cells;
+use config_parts::Cells;
+use graph_numbers::Names;
 use ttcn_graph::Graphs;
 use ttcn_types::Definitions;
 use ttcn_values::ComponentId;

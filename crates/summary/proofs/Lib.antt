@@ -1,2 +1,4 @@
 pub mod NumberSetLemmas
 pub mod Successors
+pub mod Adding
+pub mod OneAscent

@@ -3,3 +3,7 @@ pub mod Run
 pub mod Sums
 pub mod Exploration
 pub mod NumberSet
+pub mod KeySet
+pub mod KeyCode
+pub mod Ascent
+pub mod Ties

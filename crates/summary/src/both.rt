@@ -1,7 +1,7 @@
 ghost use Rattle.std.specs.Prelude.{◌≡◌, IfOk};
 
-use crate::{Memory, Summary, System};
-use std::alloc::Global;
+use crate::{Summary, System};
+use std::alloc::{AllocError, Global};
 
 /// Two summaries, each made by itself.
 #[derive(Debug, Drop, PartialEq, Eq)]
@@ -28,21 +28,21 @@ impl<Y: System, A: Summary<Y>, B: Summary<Y>> Summary<Y> for Both<A, B> {
       unit = λ x. λ i. record { first = A.semilattice.unit x.first i; second = B.semilattice.unit x.second i };
     } };
 
-    fn empty(alloc: Global) -> Result<Both<A, B>, Memory> {
+    fn empty(alloc: Global) -> Result<Both<A, B>, AllocError> {
         Ok(Both {
             first: A::empty(alloc)?,
             second: B::empty(alloc)?,
         })
     }
 
-    fn join(self, alloc: Global, other: Both<A, B>) -> Result<Both<A, B>, Memory> {
+    fn join(self, alloc: Global, other: Both<A, B>) -> Result<Both<A, B>, AllocError> {
         Ok(Both {
             first: self.first.join(alloc, other.first)?,
             second: self.second.join(alloc, other.second)?,
         })
     }
 
-    fn at(alloc: Global, system: &Y, state: &Y::State) -> Result<Both<A, B>, Memory> {
+    fn at(alloc: Global, system: &Y, state: &Y::State) -> Result<Both<A, B>, AllocError> {
         Ok(Both {
             first: A::at(alloc, system, state)?,
             second: B::at(alloc, system, state)?,
@@ -54,7 +54,7 @@ impl<Y: System, A: Summary<Y>, B: Summary<Y>> Summary<Y> for Both<A, B> {
         system: &Y,
         state: &Y::State,
         label: &Y::Label,
-    ) -> Result<Both<A, B>, Memory> {
+    ) -> Result<Both<A, B>, AllocError> {
         Ok(Both {
             first: A::by(alloc, system, state, label)?,
             second: B::by(alloc, system, state, label)?,

@@ -4,8 +4,7 @@ ghost use Rattle.std.specs.Coded.{coded_ℕ};
 ghost use Rattle.std.specs.Ordering.{nat_cmp};
 ghost use Rattle.summary.specs.NumberSet.{number_set};
 
-use crate::Memory;
-use std::alloc::Global;
+use std::alloc::{AllocError, Global};
 use std::marker::Model;
 
 /// A set of few small numbers. An empty one takes no memory.
@@ -32,7 +31,7 @@ impl SmallSet {
     }
 
     /// The set of one number.
-    pub fn of(alloc: Global, number: u8) -> Result<SmallSet, Memory>
+    pub fn of(alloc: Global, number: u8) -> Result<SmallSet, AllocError>
         ensures { IfOk result (λ s. s ≡ set.insert set.empty number) }
     {
         let mut numbers = Vec::new(alloc);
@@ -47,7 +46,7 @@ impl SmallSet {
     }
 
     /// The numbers of both.
-    pub fn union(mut self, other: SmallSet) -> Result<SmallSet, Memory>
+    pub fn union(mut self, other: SmallSet) -> Result<SmallSet, AllocError>
         ensures { IfOk result (λ s. s ≡ set.union self other) }
     {
         add_all(&mut self.numbers, &other.numbers)?;
@@ -56,7 +55,7 @@ impl SmallSet {
 }
 
 /// Adds a number that is not there yet.
-fn add(numbers: &mut Vec<u8>, number: u8) -> Result<(), Memory>
+fn add(numbers: &mut Vec<u8>, number: u8) -> Result<(), AllocError>
     ensures { OnOk result (number_set numbers.new.items ≡ set.insert (number_set numbers.old.items) number) }
 {
     if !numbers.contains(&number) {
@@ -66,7 +65,7 @@ fn add(numbers: &mut Vec<u8>, number: u8) -> Result<(), Memory>
 }
 
 /// Adds each number of the second list.
-fn add_all(numbers: &mut Vec<u8>, more: &[u8]) -> Result<(), Memory>
+fn add_all(numbers: &mut Vec<u8>, more: &[u8]) -> Result<(), AllocError>
     ensures { OnOk result (number_set numbers.new.items ≡ set.union (number_set numbers.old.items) (number_set more.now)) }
 {
     for number in more {

@@ -2,8 +2,7 @@ ghost use Rattle.std.specs.Prelude.{◌≡◌, ℕ, ◌<◌, true, None, Some, I
 ghost use Rattle.std.specs.declared.cmp.Ordering.TheVariants.{Less};
 ghost use Rattle.summary.specs.Graph.{Graph, with_after};
 
-use crate::Memory;
-use std::alloc::Global;
+use std::alloc::{AllocError, Global};
 use std::hash::Hash;
 
 /// A system that moves from state to state by labels.
@@ -21,11 +20,11 @@ pub trait System: Sync {
     ghost fits: { Self → Self.State → Type 0 };
 
     /// The state in which each run starts.
-    fn start(&self, alloc: Global) -> Result<Self::State, Memory>
+    fn start(&self, alloc: Global) -> Result<Self::State, AllocError>
         ensures { IfOk result (λ state. state ≡ (graph self.now).first) };
 
     /// The enabled labels, from the least to the greatest.
-    fn labels(&self, alloc: Global, state: &Self::State) -> Result<Vec<Self::Label>, Memory>
+    fn labels(&self, alloc: Global, state: &Self::State) -> Result<Vec<Self::Label>, AllocError>
         requires { fits self.now state.now }
         ensures { IfOk result (λ labels. labels.items ≡ (graph self.now).enabled state.now) };
 
@@ -35,7 +34,7 @@ pub trait System: Sync {
         alloc: Global,
         state: &Self::State,
         label: &Self::Label,
-    ) -> Result<Self::State, Memory>
+    ) -> Result<Self::State, AllocError>
         requires fits { fits self.now state.now }
         requires enabled { Contains ((graph self.now).enabled state.now) label.now }
         ensures { IfOk result (λ after. after ≡ (graph self.now).after state.now label.now) };
@@ -45,7 +44,7 @@ pub trait System: Sync {
         &self,
         alloc: Global,
         state: &Self::State,
-    ) -> Result<Vec<(Self::Label, Self::State)>, Memory>
+    ) -> Result<Vec<(Self::Label, Self::State)>, AllocError>
         requires { fits self.now state.now }
         ensures { IfOk result (λ pairs. pairs.items ≡ with_after (graph self.now) state.now ((graph self.now).enabled state.now)) }
     {
@@ -58,7 +57,7 @@ pub trait System: Sync {
     }
 
     /// An equal label.
-    fn copy(&self, alloc: Global, label: &Self::Label) -> Result<Self::Label, Memory>
+    fn copy(&self, alloc: Global, label: &Self::Label) -> Result<Self::Label, AllocError>
         ensures { IfOk result (λ copy. copy ≡ label.now) };
 
     /// The mark of a state, a number below 8. Takes no memory.

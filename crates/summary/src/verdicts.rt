@@ -1,8 +1,8 @@
 ghost use Rattle.std.specs.FinSet as set;
 ghost use Rattle.summary.specs.NumberSet.{numbers_of, union_semilattice};
 
-use crate::{Memory, SmallSet, Summary, System};
-use std::alloc::Global;
+use crate::{SmallSet, Summary, System};
+use std::alloc::{AllocError, Global};
 
 /// The set of the marks of the states that runs end in.
 #[derive(Debug, Drop)]
@@ -28,19 +28,19 @@ impl<Y: System> Summary<Y> for Verdicts {
       unit = λ x. λ i. record { marks = union_semilattice.unit x.marks i };
     } };
 
-    fn empty(alloc: Global) -> Result<Verdicts, Memory> {
+    fn empty(alloc: Global) -> Result<Verdicts, AllocError> {
         Ok(Verdicts {
             marks: SmallSet::new(alloc),
         })
     }
 
-    fn join(self, _alloc: Global, other: Verdicts) -> Result<Verdicts, Memory> {
+    fn join(self, _alloc: Global, other: Verdicts) -> Result<Verdicts, AllocError> {
         Ok(Verdicts {
             marks: self.marks.union(other.marks)?,
         })
     }
 
-    fn at(alloc: Global, system: &Y, state: &Y::State) -> Result<Verdicts, Memory> {
+    fn at(alloc: Global, system: &Y, state: &Y::State) -> Result<Verdicts, AllocError> {
         let marks = match system.mark(state) {
             Some(mark) => SmallSet::of(alloc, mark)?,
             None => SmallSet::new(alloc),
@@ -53,7 +53,7 @@ impl<Y: System> Summary<Y> for Verdicts {
         _system: &Y,
         _state: &Y::State,
         _label: &Y::Label,
-    ) -> Result<Verdicts, Memory> {
+    ) -> Result<Verdicts, AllocError> {
         Ok(Verdicts {
             marks: SmallSet::new(alloc),
         })

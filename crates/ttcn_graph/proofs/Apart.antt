@@ -1,9 +1,9 @@
 -- Lists of the items of the rules differ where those of code's items do.
 use Rattle.std.proofs.Common.{◌≡◌, refl, sym, ap, ◌∙◌, ℕ, List, [], ◌∷◌, map, length, get_or, arith}
 use Rattle.check_scope.specs.Names.{Entry}
-use Rattle.interner.specs.Lists.{AreDifferent}
-use Rattle.step_rules.specs.Items as rules
-use Rattle.step_rules.specs.Sites as sites
+use Rattle.graph_numbers.specs.Lists.{AreDifferent}
+use Rattle.semantics.specs.Items as rules
+use Rattle.semantics.specs.Sites as sites
 use Rattle.ttcn_syntax.specs.declared.tree.statement.Statement.{Statement}
 use Rattle.graph_items.specs.Standing.{item_of, part_of, remaining_of, target_of}
 use Rattle.graph_items.specs.declared.item.Item.{Item}

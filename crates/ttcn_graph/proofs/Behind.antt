@@ -3,8 +3,8 @@ use Rattle.std.proofs.Common.{◌≡◌, sym, ap, ◌∙◌, ℕ, zero, suc, ◌
 use Rattle.ttcn_syntax.specs.declared.tree.definition.Definition.{Definition}
 use Rattle.ttcn_syntax.specs.declared.tree.statement.Statement.{Statement}
 use Rattle.check_scope.specs.Names.{Entry}
-use Rattle.step_rules.specs.Items.{Doing, Item, Name, declarations, site_after}
-use Rattle.step_rules.specs.Sites.{Site, site_behind, site_with}
+use Rattle.semantics.specs.Items.{Doing, Item, Name, declarations, site_after}
+use Rattle.semantics.specs.Sites.{Site, site_behind, site_with}
 use Rattle.ttcn_graph.specs.internal.Drawing.{declared_before, site_before, site_behind_all}
 
 -- before names that were declared

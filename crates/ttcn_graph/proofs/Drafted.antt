@@ -4,9 +4,9 @@ use Rattle.std.proofs.lemmas.Bool.{cases_lt, eq-eqb, eqb-true}
 use Rattle.std.proofs.lemmas.List.{append-nil, append_assoc}
 use Rattle.std.specs.Option.{IfNone, IfSome}
 use Rattle.ttcn_syntax.specs.declared.tree.definition.Definition.{Definition}
-use Rattle.interner.specs.Lists.{Extends, IsPut}
-use Rattle.step_rules.specs.Items.{Item}
-use Rattle.step_rules.specs.Sites.{Site}
+use Rattle.graph_numbers.specs.Lists.{Extends, IsPut}
+use Rattle.semantics.specs.Items.{Item}
+use Rattle.semantics.specs.Sites.{Site}
 use Rattle.ttcn_graph.specs.Drafts.{AllBut, AreAt, Draft, Grows, HasWays, IsBegun, IsDrawn, IsFinished, IsWay, and_open}
 use Rattle.ttcn_graph.specs.Ways.{ways_of}
 use Rattle.ttcn_graph.proofs.ListsKept.{get-kept, longer}

@@ -11,8 +11,8 @@ use Rattle.ttcn_syntax.specs.declared.tree.statement.ForStart.{ForStart}
 use Rattle.ttcn_syntax.specs.declared.tree.statement.Statement.{Statement}
 use Rattle.ttcn_syntax.specs.declared.tree.definition.Definition.{Definition}
 use Rattle.check_scope.specs.Names.{Entry}
-use Rattle.step_rules.specs.Items.{Does, Doing, From, Item, Last, Loop, Mark, Part, Whole, action_of, items, items_if_any, items_of_action, items_of_statement, declarations, site_after, site_in_for, start_items}
-use Rattle.step_rules.specs.Sites.{Site, entries_of, scope_at, site_behind}
+use Rattle.semantics.specs.Items.{Does, Doing, From, Item, Last, Loop, Mark, Part, Whole, action_of, items, items_if_any, items_of_action, items_of_statement, declarations, site_after, site_in_for, start_items}
+use Rattle.semantics.specs.Sites.{Site, entries_of, scope_at, site_behind}
 use Rattle.ttcn_graph.specs.Drafts.{AreAt, AreDrawn, Draft, Grows, IsBegun, IsDrawn, IsFinished, at_site}
 use Rattle.ttcn_graph.specs.Ways.{Lists, items_of_branch, items_otherwise, ways_of, ways_of_branches, ways_of_conditional}
 use Rattle.ttcn_graph.specs.internal.Drawing.{Does as DoesAction, declared_before, site_before, ways_of_condition}

@@ -2,7 +2,7 @@
 use Rattle.std.proofs.Common.{◌≡◌, refl, sym, ap, subst, ◌∙◌, ℕ, zero, suc, ◌+◌, ◌<◌, ◌≤◌, true≢false, List, [], ◌∷◌, ◌++◌, map, length, get_or, slice_get, take, Option, Some, None, is_some, arith}
 use Rattle.std.proofs.Math.Seq.{take-append_seam, take-length}
 use Rattle.std.proofs.lemmas.List.{append-nil, length-append}
-use Rattle.interner.specs.Lists.{IsPut}
+use Rattle.graph_numbers.specs.Lists.{IsPut}
 use Rattle.ttcn_graph.proofs.ListsKept.{length-map, map-append}
 
 -- what was added alone

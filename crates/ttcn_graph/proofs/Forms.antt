@@ -16,9 +16,9 @@ use Rattle.ttcn_syntax.specs.declared.tree.statement.Statement.{Statement, out-S
 use Rattle.ttcn_syntax.specs.declared.tree.statement.Timer.{Timer}
 use Rattle.ttcn_syntax.specs.declared.tree.statement.Variables.{Variables}
 use Rattle.ttcn_syntax.specs.declared.tree.value.Call.{Call}
-use Rattle.step_rules.specs.Items as rules
-use Rattle.step_rules.specs.Items.{Doing, Item, action_of, items_of_action, items_of_statement, site_after}
-use Rattle.step_rules.specs.Sites.{Site, entries_of, scope_at, site_behind}
+use Rattle.semantics.specs.Items as rules
+use Rattle.semantics.specs.Items.{Doing, Item, action_of, items_of_action, items_of_statement, site_after}
+use Rattle.semantics.specs.Sites.{Site, entries_of, scope_at, site_behind}
 use Rattle.ttcn_graph.specs.Ways.{ways_of, ways_of_call, ways_of_part}
 use Rattle.ttcn_graph.specs.internal.Drawing.{AreNames, Does}
 

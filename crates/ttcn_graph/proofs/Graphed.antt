@@ -7,9 +7,9 @@ use Rattle.std.specs.Option.{IfNone, IfSome, option_map}
 use Rattle.ttcn_syntax.specs.declared.tree.definition.Definition.{Definition}
 use Rattle.ttcn_syntax.specs.declared.tree.statement.Branch.{Branch}
 use Rattle.ttcn_syntax.specs.declared.tree.statement.Statement.{Statement}
-use Rattle.step_rules.specs.Branches.{branches_of}
-use Rattle.step_rules.specs.Items.{Item, items}
-use Rattle.step_rules.specs.Sites.{beginning}
+use Rattle.semantics.specs.Branches.{branches_of}
+use Rattle.semantics.specs.Items.{Item, items}
+use Rattle.semantics.specs.Sites.{beginning}
 use Rattle.graph_sites.specs.Facts.{altstep_facts, branch_facts, event_by}
 use Rattle.graph_sites.specs.declared.facts.EventFacts.{EventFacts}
 use Rattle.graph_names.specs.Known.{Known}

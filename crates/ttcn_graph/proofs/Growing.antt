@@ -10,8 +10,8 @@ use Rattle.ttcn_syntax.specs.declared.tree.statement.Variables.{Variables}
 use Rattle.check_scope.proofs.Lookups.{drop-next}
 use Rattle.check_scope.specs.Names.{Entry, resolved}
 use Rattle.check_scope.specs.declared.names.Meaning.TheVariants as meaning
-use Rattle.step_rules.specs.Items.{Doing, Item, Name, Part, declarations, items, items_of_statement, site_after, site_in_for, start_items}
-use Rattle.step_rules.specs.Sites.{Site, scope_at, site_behind, site_with, variable_entries}
+use Rattle.semantics.specs.Items.{Doing, Item, Name, Part, declarations, items, items_of_statement, site_after, site_in_for, start_items}
+use Rattle.semantics.specs.Sites.{Site, scope_at, site_behind, site_with, variable_entries}
 use Rattle.graph_sites.specs.internal.OwnNames.{retracted}
 use Rattle.ttcn_graph.specs.Drafts.{AreAt, AreDrawn, Draft, Grows, IsBegun, IsDrawn, at_site}
 use Rattle.ttcn_graph.specs.Ways.{Lists, items_otherwise, ways_of}

@@ -3,8 +3,8 @@ use Rattle.std.proofs.Common.{◌≡◌, refl, sym, ap, subst, ◌∙◌, ℕ, z
 use Rattle.std.proofs.lemmas.Bool.{cases_lt}
 use Rattle.std.proofs.lemmas.List.{length-append}
 use Rattle.check_scope.specs.Names.{Entry}
-use Rattle.interner.specs.Lists.{Extends, IsPut}
-use Rattle.step_rules.specs.Items as rules
+use Rattle.graph_numbers.specs.Lists.{Extends, IsPut}
+use Rattle.semantics.specs.Items as rules
 use Rattle.graph_items.specs.Standing.{item_of, part_of, remaining_of}
 use Rattle.graph_items.specs.declared.item.Item.{Item}
 use Rattle.graph_items.specs.declared.item.Item.TheVariants as item

@@ -1,9 +1,9 @@
 -- Graphs that are being drawn, and how they grow.
 use Rattle.std.specs.Prelude.{◌≡◌, ℕ, ◌<◌, Bool, false, ◌||◌, nat_eq, List, [], ◌∷◌, length, get_or, slice_get, Some}
 use Rattle.ttcn_syntax.specs.declared.tree.definition.Definition.{Definition}
-use Rattle.interner.specs.Lists.{Extends}
-use Rattle.step_rules.specs.Items.{Item}
-use Rattle.step_rules.specs.Sites.{Site, beginning}
+use Rattle.graph_numbers.specs.Lists.{Extends}
+use Rattle.semantics.specs.Items.{Item}
+use Rattle.semantics.specs.Sites.{Site, beginning}
 use Rattle.ttcn_graph.specs.Ways.{ways_of}
 
 -- the module, the site that was reached, the lists by their positions, and for each position those of the lists that may come of it

@@ -6,8 +6,8 @@ use Rattle.ttcn_syntax.specs.declared.tree.definition.DefinitionKind.{Definition
 use Rattle.ttcn_syntax.specs.declared.tree.definition.DefinitionKind.TheVariants as kind
 use Rattle.ttcn_syntax.specs.declared.tree.statement.Statement.{Statement}
 use Rattle.check_scope.specs.Names.{kind_at}
-use Rattle.step_rules.specs.Items.{items}
-use Rattle.step_rules.specs.Sites.{Site, beginning}
+use Rattle.semantics.specs.Items.{items}
+use Rattle.semantics.specs.Sites.{Site, beginning}
 use Rattle.graph_names.specs.Known.{Known}
 use Rattle.ttcn_graph.specs.Drafts.{Draft, HasWays}
 use Rattle.ttcn_graph.specs.Ways.{Lists, items_of_branch}

@@ -16,9 +16,9 @@ use Rattle.ttcn_syntax.specs.declared.tree.value.Rhs.{Rhs}
 use Rattle.ttcn_syntax.specs.declared.tree.value.Rhs.TheVariants as rhs
 use Rattle.check_expressions.specs.Calls.{altstep_meant}
 use Rattle.check_scope.specs.Names.{module_names}
-use Rattle.step_rules.specs.Items.{Does, Doing, From, Item, Last, Loop, Mark, Name, Part, Start, Target, Waiting, Whole, action_of, items, items_if_any, site_in_for, start_items}
-use Rattle.step_rules.specs.Sites.{Site}
-use Rattle.step_rules.specs.Statements.{declared_target}
+use Rattle.semantics.specs.Items.{Does, Doing, From, Item, Last, Loop, Mark, Name, Part, Start, Target, Waiting, Whole, action_of, items, items_if_any, site_in_for, start_items}
+use Rattle.semantics.specs.Sites.{Site}
+use Rattle.semantics.specs.Statements.{declared_target}
 use Rattle.graph_sites.specs.Facts.{target_in}
 
 -- lists of what remains

@@ -1,8 +1,8 @@
 //! Blocks and statements, drawn from their ends.
 ghost use Rattle.std.specs.Prelude.{◌≡◌, ◌<◌, ◌∷◌, [], ◌++◌, length, map, get_or, slice_get, IfOk};
 ghost use Rattle.ttcn_syntax.specs.declared.tree.statement.Action.TheVariants as form;
-ghost use Rattle.step_rules.specs.Items as rules;
-ghost use Rattle.step_rules.specs.Sites as sites;
+ghost use Rattle.semantics.specs.Items as rules;
+ghost use Rattle.semantics.specs.Sites as sites;
 ghost use Rattle.check_expressions.specs.Calls.{altstep_meant};
 ghost use Rattle.check_scope.specs.Names.{module_names};
 ghost use Rattle.graph_items.specs.Standing.{part_of};

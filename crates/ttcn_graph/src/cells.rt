@@ -2,8 +2,8 @@
 ghost use Rattle.std.specs.Prelude.{◌≡◌, ◌<◌, ◌∷◌, [], List, length, map, slice_get, Some, get_or, IfNone, IfOk, IfSome, OnOk, OnErr};
 ghost use Rattle.std.specs.Option.{option_map};
 ghost use Rattle.check_scope.specs.Names.{Entry};
-ghost use Rattle.interner.specs.Lists.{AreDifferent, IsPut};
-ghost use Rattle.step_rules.specs.Items as rules;
+ghost use Rattle.graph_numbers.specs.Lists.{AreDifferent, IsPut};
+ghost use Rattle.semantics.specs.Items as rules;
 ghost use Rattle.graph_items.specs.Standing.{item_of};
 ghost use Rattle.graph_sites.specs.Facts as spec;
 ghost use Rattle.graph_sites.specs.declared.facts.Facts.TheVariants as facts;
@@ -11,8 +11,8 @@ ghost use Rattle.graph_sites.specs.internal.OwnNames.{without_first};
 ghost use Rattle.ttcn_graph.specs.internal.Within.{IsWithin};
 
 use graph_items::{Declared, Item};
+use graph_numbers::Lists;
 use graph_sites::Facts;
-use interner::Lists;
 use std::alloc::{AllocError, Global};
 use std::marker::Model;
 
@@ -43,8 +43,8 @@ impl<'a> Model for Cells<'a> {
     ghost use Rattle.ttcn_syntax.specs.contracts.tree.template.Template as template;
     ghost use Rattle.ttcn_syntax.specs.contracts.tree.value.Value as value;
     ghost use Rattle.check_scope.specs.Names.{Entry};
-    ghost use Rattle.interner.specs.Lists.{lists_of};
-    ghost use Rattle.step_rules.specs.Items as rules;
+    ghost use Rattle.graph_numbers.specs.Lists.{lists_of};
+    ghost use Rattle.semantics.specs.Items as rules;
     ghost use Rattle.graph_items.specs.Standing.{remaining_of};
     ghost use Rattle.graph_sites.specs.declared.facts.Facts.{Facts};
     ghost use Rattle.ttcn_graph.specs.internal.Within.{AreAllWithin};

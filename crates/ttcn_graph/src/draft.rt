@@ -3,9 +3,9 @@ ghost use Rattle.std.specs.Prelude.{◌≡◌, ◌<◌, ◌∷◌, [], length, m
 ghost use Rattle.check_expressions.specs.Calls.{altstep_meant};
 ghost use Rattle.check_scope.specs.Names.{module_names, names_on, resolved};
 ghost use Rattle.check_statements.specs.Messages.{port_meant};
-ghost use Rattle.interner.specs.Lists.{AreDifferent};
-ghost use Rattle.step_rules.specs.Items as rules;
-ghost use Rattle.step_rules.specs.Sites as sites;
+ghost use Rattle.graph_numbers.specs.Lists.{AreDifferent};
+ghost use Rattle.semantics.specs.Items as rules;
+ghost use Rattle.semantics.specs.Sites as sites;
 ghost use Rattle.graph_items.specs.Begun.{IsBegunBy};
 ghost use Rattle.graph_items.specs.Standing.{part_of, target_of};
 ghost use Rattle.graph_sites.specs.Facts.{branch_facts, event_by, facts_by, facts_of, target_in};

@@ -3,10 +3,10 @@ ghost use Rattle.std.specs.Prelude.{◌≡◌, ℕ, ◌<◌, [], length, map, ge
 ghost use Rattle.std.specs.Option.{option_map};
 ghost use Rattle.check_scope.specs.Names.{kind_at, names_on};
 ghost use Rattle.check_statements.specs.Messages.{port_meant};
-ghost use Rattle.interner.specs.Lists.{AreDifferent};
+ghost use Rattle.graph_numbers.specs.Lists.{AreDifferent};
 ghost use Rattle.ttcn_graph.specs.Drafts.{AreDrawn, at_site};
-ghost use Rattle.step_rules.specs.Branches.{branches_of};
-ghost use Rattle.step_rules.specs.Sites.{beginning};
+ghost use Rattle.semantics.specs.Branches.{branches_of};
+ghost use Rattle.semantics.specs.Sites.{beginning};
 ghost use Rattle.graph_items.specs.Begun.{IsBegunBy};
 ghost use Rattle.graph_sites.specs.Facts.{altstep_facts, event_by, facts_by, facts_of};
 ghost use Rattle.graph_names.specs.Known.{AreKnown, names_of, names_of_kind};

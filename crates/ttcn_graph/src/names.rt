@@ -1,9 +1,9 @@
 //! Declarations: the sites behind them, and the positions of their names.
 ghost use Rattle.std.specs.Prelude.{◌≡◌, ◌<◌, ◌∷◌, [], length, get_or, IfOk, OnOk};
 ghost use Rattle.std.specs.Option.{option_map};
-ghost use Rattle.step_rules.specs.Items as rules;
-ghost use Rattle.step_rules.specs.Sites as sites;
-ghost use Rattle.step_rules.specs.Statements.{declared_target};
+ghost use Rattle.semantics.specs.Items as rules;
+ghost use Rattle.semantics.specs.Sites as sites;
+ghost use Rattle.semantics.specs.Statements.{declared_target};
 ghost use Rattle.graph_items.specs.Standing.{target_of};
 ghost use Rattle.graph_sites.specs.internal.OwnNames.{retracted};
 ghost use Rattle.ttcn_graph.specs.Drafts.{AreDrawn, IsDrawn, at_site};

@@ -1,15 +1,15 @@
 -- Whether a component stands at an `alt`.
 use Rattle.std.proofs.Common.{◌≡◌, ℕ, Bool, true, false, ◌&&◌, List, [], ◌∷◌, map, slice_get, Option, Some, None, refl, sym, ap, ◌∙◌}
 use Rattle.std.proofs.lemmas.Option.{same_Some}
-use Rattle.fine_runs.specs.Fine.{begins_with_alt, is_at_alt, is_found, is_of_alt, stands_at_alt}
+use Rattle.laws_fine.specs.Fine.{begins_with_alt, is_at_alt, is_found, is_of_alt, stands_at_alt}
 use Rattle.step_labels.specs.Labels.{label_with}
 use Rattle.step_labels.specs.declared.label.Expiry.{Expiry as AnExpiry}
-use Rattle.step_rules.specs.Configurations.{is_running_state}
-use Rattle.step_rules.specs.Snapshots.{Test}
-use Rattle.ttcn_config.specs.Legend.{Legend, component_by, frame_by, going_by, state_by}
-use Rattle.ttcn_config.specs.declared.component.Component.{Component}
-use Rattle.ttcn_config.specs.declared.config.Going.{Going}
-use Rattle.ttcn_config.specs.declared.frame.Frame.{Frame}
+use Rattle.semantics.specs.Configurations.{is_running_state}
+use Rattle.semantics.specs.Snapshots.{Test}
+use Rattle.config_parts.specs.Legend.{Legend, component_by, frame_by, going_by, state_by}
+use Rattle.config_parts.specs.declared.component.Component.{Component}
+use Rattle.config_parts.specs.declared.config.Going.{Going}
+use Rattle.config_parts.specs.declared.frame.Frame.{Frame}
 use Rattle.ttcn_step.proofs.Found.{Searched, said-found}
 
 -- ---- the last frame

@@ -5,16 +5,16 @@ use Rattle.std.specs.declared.alloc.AllocError.{AllocError}
 use Rattle.ttcn_syntax.specs.declared.place.Span.{Span}
 use Rattle.step_labels.specs.Labels.{label_with}
 use Rattle.step_labels.specs.declared.label.Expiry.{Expiry as AnExpiry}
-use Rattle.step_rules.specs.Configurations as rules
-use Rattle.step_rules.specs.Configurations.{is_running_state}
-use Rattle.step_rules.specs.Places.{branch_in, branch_of_component, place_in_frames, unless_fault}
-use Rattle.step_rules.specs.Snapshots.{Test, snapshot_of}
-use Rattle.step_rules.specs.Statements.{act}
+use Rattle.semantics.specs.Configurations as rules
+use Rattle.semantics.specs.Configurations.{is_running_state}
+use Rattle.semantics.specs.Places.{branch_in, branch_of_component, place_in_frames, unless_fault}
+use Rattle.semantics.specs.Snapshots.{Test, snapshot_of}
+use Rattle.semantics.specs.Statements.{act}
 use Rattle.step_snapshot.specs.Tests.{legend_by, test_by}
 use Rattle.step_snapshot.specs.declared.test_case.TestCase.{TestCase}
-use Rattle.ttcn_config.specs.Legend.{Legend, component_by, going_by}
-use Rattle.ttcn_config.specs.declared.component.Component.{Component}
-use Rattle.ttcn_config.specs.declared.config.Going.{Going}
+use Rattle.config_parts.specs.Legend.{Legend, component_by, going_by}
+use Rattle.config_parts.specs.declared.component.Component.{Component}
+use Rattle.config_parts.specs.declared.config.Going.{Going}
 use Rattle.ttcn_step.proofs.Found.{Searched, said-found}
 
 -- ---- of a component that runs

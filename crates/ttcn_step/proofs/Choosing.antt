@@ -3,16 +3,16 @@ use Rattle.std.proofs.Common.{◌≡◌, ℕ, Bool, true, false, List, [], ◌�
 use Rattle.std.specs.Option.{option_and_then}
 use Rattle.ttcn_syntax.specs.declared.place.Span.{Span}
 use Rattle.step_acts.proofs.Placing.{none_taken}
-use Rattle.step_rules.specs.Configurations as rules
-use Rattle.step_rules.specs.Configurations.{is_running_state}
-use Rattle.step_rules.specs.Places.{branch_in, branch_of_component, place_in_frames}
-use Rattle.step_rules.specs.Snapshots.{Snapshot, Test, snapshot_of}
-use Rattle.step_rules.specs.Statements.{act}
-use Rattle.step_rules.specs.Steps.{Statement as OfStatement}
-use Rattle.ttcn_config.specs.Legend.{Legend, component_by, frame_by, going_by}
-use Rattle.ttcn_config.specs.declared.component.Component.{Component}
-use Rattle.ttcn_config.specs.declared.config.Going.{Going}
-use Rattle.ttcn_config.specs.declared.frame.Frame.{Frame}
+use Rattle.semantics.specs.Configurations as rules
+use Rattle.semantics.specs.Configurations.{is_running_state}
+use Rattle.semantics.specs.Places.{branch_in, branch_of_component, place_in_frames}
+use Rattle.semantics.specs.Snapshots.{Snapshot, Test, snapshot_of}
+use Rattle.semantics.specs.Statements.{act}
+use Rattle.semantics.specs.Steps.{Statement as OfStatement}
+use Rattle.config_parts.specs.Legend.{Legend, component_by, frame_by, going_by}
+use Rattle.config_parts.specs.declared.component.Component.{Component}
+use Rattle.config_parts.specs.declared.config.Going.{Going}
+use Rattle.config_parts.specs.declared.frame.Frame.{Frame}
 use Rattle.ttcn_step.proofs.Found.{Searched, said-found}
 use Rattle.ttcn_step.specs.Choosing.{TakesNone}
 

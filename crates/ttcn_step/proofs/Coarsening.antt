@@ -2,22 +2,22 @@
 use Rattle.std.proofs.Common.{◌≡◌, ◌≤◌, ℕ, List, map, length, Result, Ok, Err, IfOk, refl, sym, ap, subst, ◌∙◌}
 use Rattle.std.specs.declared.alloc.Global.{Global}
 use Rattle.std.specs.declared.vec.Vec.{Vec}
-use Rattle.fine_runs.proofs.Laws.{TellsRun, coarse_runs, held_runs}
-use Rattle.fine_runs.proofs.Replays.{coarse_short, doubled_runs}
-use Rattle.fine_runs.proofs.Returning.{doubled_returns}
-use Rattle.fine_runs.specs.Doubling.{doubled}
-use Rattle.fine_runs.specs.Fates.{coarse}
-use Rattle.fine_runs.specs.Fine as fine
-use Rattle.fine_runs.specs.Fine.{Fine, fine_replay}
-use Rattle.fine_runs.specs.Gathering.{Told, gathered}
-use Rattle.fine_runs.specs.Holding.{Holding, hold_run}
+use Rattle.laws_fine.proofs.Laws.{TellsRun, coarse_runs, held_runs}
+use Rattle.laws_fine.proofs.Replays.{coarse_short, doubled_runs}
+use Rattle.laws_fine.proofs.Returning.{doubled_returns}
+use Rattle.laws_fine.specs.Doubling.{doubled}
+use Rattle.laws_fine.specs.Fates.{coarse}
+use Rattle.laws_fine.specs.Fine as fine
+use Rattle.laws_fine.specs.Fine.{Fine, fine_replay}
+use Rattle.laws_fine.specs.Gathering.{Told, gathered}
+use Rattle.laws_fine.specs.Holding.{Holding, hold_run}
 use Rattle.step_labels.specs.Labels.{label_by}
 use Rattle.step_labels.specs.declared.fine.FineLabel.{FineLabel}
 use Rattle.step_labels.specs.declared.label.Label as kept
-use Rattle.step_rules.specs.Configurations.{Configuration, Ended, Goes}
-use Rattle.step_rules.specs.Runs.{replay}
-use Rattle.step_rules.specs.Snapshots.{Test}
-use Rattle.step_rules.specs.Steps.{Label}
+use Rattle.semantics.specs.Configurations.{Configuration, Ended, Goes}
+use Rattle.semantics.specs.Runs.{replay}
+use Rattle.semantics.specs.Snapshots.{Test}
+use Rattle.semantics.specs.Steps.{Label}
 use Rattle.ttcn_step.specs.FineAnswers.{Coarsens, Doubles, HasEnded, HasLed, IsDoubling, LeadTo, StandsFor}
 use Rattle.ttcn_step.specs.FineLabels.{fine_label_by}
 use Rattle.ttcn_step.specs.Machines.{Machine}

@@ -2,15 +2,15 @@
 use Rattle.std.proofs.Common.{◌≡◌, ℕ, ◌+◌, ◌<◌, ◌≤◌, Bool, true, false, List, [], ◌∷◌, ◌++◌, map, length, drop, get_or, Option, Some, None, Result, Ok, Err, refl, sym, ap, subst, ◌∙◌, append_assoc}
 use Rattle.std.specs.Result.{IsErr, IsErrAnd}
 use Rattle.std.proofs.lemmas.List.{append-nil, drop_all, drop_more}
-use Rattle.fine_runs.specs.Doubling.{doubled_from, doubled_label, is_alt_in}
-use Rattle.fine_runs.specs.Fine.{Choose, FineLabel, Plain, Snap}
+use Rattle.laws_fine.specs.Doubling.{doubled_from, doubled_label, is_alt_in}
+use Rattle.laws_fine.specs.Fine.{Choose, FineLabel, Plain, Snap}
 use Rattle.step_labels.specs.Labels.{label_by, label_with}
 use Rattle.step_labels.specs.declared.label.Expiry.{Expiry as AnExpiry}
 use Rattle.step_labels.specs.declared.label.Label.{Label as Kept}
-use Rattle.step_rules.specs.Configurations.{Configuration, Ended, Goes}
-use Rattle.step_rules.specs.Runs.{option_elim, replay, replay_from}
-use Rattle.step_rules.specs.Snapshots.{Test}
-use Rattle.step_rules.specs.Steps.{Expiry, Label, Statement, next}
+use Rattle.semantics.specs.Configurations.{Configuration, Ended, Goes}
+use Rattle.semantics.specs.Runs.{option_elim, replay, replay_from}
+use Rattle.semantics.specs.Snapshots.{Test}
+use Rattle.semantics.specs.Steps.{Expiry, Label, Statement, next}
 use Rattle.ttcn_step.proofs.Coarsening.{has-led}
 use Rattle.ttcn_step.proofs.Replaying.{Left, next-left}
 use Rattle.ttcn_step.specs.FineAnswers.{Doubles, HasLed}

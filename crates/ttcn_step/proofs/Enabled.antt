@@ -2,15 +2,15 @@
 use Rattle.std.proofs.Common.{◌≡◌, true, Option, Some, None, is_some, option_map, refl, sym, arith, ◌∙◌, ◌↔◌}
 use Rattle.std.specs.List.{AllPairs, Contains}
 use Rattle.std.specs.declared.cmp.Ordering.TheVariants.{Less}
-use Rattle.step_rules.proofs.LabelOrder.{labels_ascend}
-use Rattle.step_rules.proofs.LabelsEnabled.{labels_enabled}
-use Rattle.step_rules.proofs.Pairs.{pairs-nil}
-use Rattle.step_rules.specs.Configurations as rules
-use Rattle.step_rules.specs.Labels.{label_cmp, labels}
-use Rattle.step_rules.specs.Snapshots.{Test}
-use Rattle.step_rules.specs.Steps.{Label, next, settled, step}
-use Rattle.step_laws.specs.Order.{StandsInOrder}
-use Rattle.ttcn_config.specs.declared.config.Config.{Config}
+use Rattle.semantics.proofs.LabelOrder.{labels_ascend}
+use Rattle.semantics.proofs.LabelsEnabled.{labels_enabled}
+use Rattle.semantics.proofs.Pairs.{pairs-nil}
+use Rattle.semantics.specs.Configurations as rules
+use Rattle.semantics.specs.Labels.{label_cmp, labels}
+use Rattle.semantics.specs.Snapshots.{Test}
+use Rattle.semantics.specs.Steps.{Label, next, settled, step}
+use Rattle.laws_order.specs.Order.{StandsInOrder}
+use Rattle.config_parts.specs.declared.config.Config.{Config}
 use Rattle.ttcn_step.specs.Machines.{Fits, Machine, said}
 
 pub some-map : {A B : Type 0} (f : A → B) (o : Option A) → is_some (option_map f o) ≡ is_some o

@@ -5,21 +5,21 @@ use Rattle.std.specs.Option.{option_and_then}
 use Rattle.std.proofs.lemmas.List.Elements.{All-head, All-map, All-tail}
 use Rattle.std.proofs.lemmas.Option.{get_or_from_slice_get}
 use Rattle.std.proofs.lemmas.Slice.Eq.{bytes_eq-Decides}
-use Rattle.step_laws.proofs.Changes.{found-each}
-use Rattle.step_rules.proofs.Pairs.{All-more}
-use Rattle.step_rules.specs.Configurations as rules
-use Rattle.step_rules.specs.Configurations.{component_at, is_running_state, path_of, same_path}
-use Rattle.step_rules.specs.Items.{Item}
-use Rattle.step_rules.specs.Snapshots.{Test}
-use Rattle.step_rules.specs.Steps.{Expiry, exchanged, expire_in, expired, expired_call, expired_frame, expiry_step, if_running, step_in, touch}
-use Rattle.step_rules.specs.Storing.{with_calls, with_members, with_timers}
-use Rattle.ttcn_config.specs.Legend.{Legend, component_by, data_by, entries_by, frame_by, frame_with, going_by}
-use Rattle.ttcn_config.specs.Views.{AreAllWithin, AreNames, AreWithin, Extent, HasSlotsWithin, IsFrameWithin, IsWithin}
-use Rattle.ttcn_config.specs.declared.component.Component.{Component}
-use Rattle.ttcn_config.specs.declared.config.Going.{Going}
-use Rattle.ttcn_config.specs.declared.frame.Cells.{Cells}
-use Rattle.ttcn_config.specs.declared.frame.Data.{Data}
-use Rattle.ttcn_config.specs.declared.frame.Frame.{Frame}
+use Rattle.laws_order.proofs.Changes.{found-each}
+use Rattle.semantics.proofs.Pairs.{All-more}
+use Rattle.semantics.specs.Configurations as rules
+use Rattle.semantics.specs.Configurations.{component_at, is_running_state, path_of, same_path}
+use Rattle.semantics.specs.Items.{Item}
+use Rattle.semantics.specs.Snapshots.{Test}
+use Rattle.semantics.specs.Steps.{Expiry, exchanged, expire_in, expired, expired_call, expired_frame, expiry_step, if_running, step_in, touch}
+use Rattle.semantics.specs.Storing.{with_calls, with_members, with_timers}
+use Rattle.config_parts.specs.Legend.{Legend, component_by, data_by, entries_by, frame_by, frame_with, going_by}
+use Rattle.config_parts.specs.Views.{AreAllWithin, AreNames, AreWithin, Extent, HasSlotsWithin, IsFrameWithin, IsWithin}
+use Rattle.config_parts.specs.declared.component.Component.{Component}
+use Rattle.config_parts.specs.declared.config.Going.{Going}
+use Rattle.config_parts.specs.declared.frame.Cells.{Cells}
+use Rattle.config_parts.specs.declared.frame.Data.{Data}
+use Rattle.config_parts.specs.declared.frame.Frame.{Frame}
 use Rattle.ttcn_values.specs.Frames.{entry}
 use Rattle.ttcn_values.specs.Outcomes.{Outcome, Yields}
 use Rattle.ttcn_values.specs.declared.path.Path.{Path}

@@ -1,20 +1,20 @@
 -- What was asked for when a snapshot was taken is done, and the timers that expired since expire behind it.
 use Rattle.std.proofs.Common.{◌≡◌, List, Option, Some, None, option_map, refl, sym, ap, ◌∙◌}
 use Rattle.ttcn_syntax.specs.declared.tree.statement.Verdict.TheVariants as verdict
-use Rattle.fine_runs.specs.Fates.{Faults, Lapses, Takes, fate_of}
-use Rattle.fine_runs.specs.Holding.{act_of, act_then, follow}
+use Rattle.laws_fine.specs.Fates.{Faults, Lapses, Takes, fate_of}
+use Rattle.laws_fine.specs.Holding.{act_of, act_then, follow}
 use Rattle.step_acts.specs.Asks.{IsFault, uncovered_act}
-use Rattle.step_rules.specs.Configurations as rules
-use Rattle.step_rules.specs.Configurations.{component_at}
-use Rattle.step_rules.specs.Snapshots.{Test}
-use Rattle.step_rules.specs.Statements.{Act, Connects, Continues, Creates, Errs, Removes, Sends, Starts, Stops, Waits, Worsens}
-use Rattle.step_rules.specs.Steps.{Label, apply, settled}
-use Rattle.ttcn_config.specs.Acts.{act_by}
-use Rattle.ttcn_config.specs.Legend.{Legend, component_by, config_by, going_by}
-use Rattle.ttcn_config.specs.declared.act.Act.{Act as Kept}
-use Rattle.ttcn_config.specs.declared.act.Act.TheVariants as kept
-use Rattle.ttcn_config.specs.declared.component.Component.{Component}
-use Rattle.ttcn_config.specs.declared.config.Config.{Config}
+use Rattle.semantics.specs.Configurations as rules
+use Rattle.semantics.specs.Configurations.{component_at}
+use Rattle.semantics.specs.Snapshots.{Test}
+use Rattle.semantics.specs.Statements.{Act, Connects, Continues, Creates, Errs, Removes, Sends, Starts, Stops, Waits, Worsens}
+use Rattle.semantics.specs.Steps.{Label, apply, settled}
+use Rattle.config_parts.specs.Acts.{act_by}
+use Rattle.config_parts.specs.Legend.{Legend, component_by, config_by, going_by}
+use Rattle.config_parts.specs.declared.act.Act.{Act as Kept}
+use Rattle.config_parts.specs.declared.act.Act.TheVariants as kept
+use Rattle.config_parts.specs.declared.component.Component.{Component}
+use Rattle.config_parts.specs.declared.config.Config.{Config}
 use Rattle.ttcn_step.proofs.FineSteps.{follow-ended}
 use Rattle.ttcn_step.proofs.Found.{Searched, said-found}
 use Rattle.ttcn_step.proofs.Steps.{apply-uncovered}

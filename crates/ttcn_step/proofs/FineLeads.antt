@@ -3,20 +3,20 @@ use Rattle.std.proofs.Common.{Bor, ◌≡◌, ℕ, Bool, true, false, ◌&&◌, 
 use Rattle.std.specs.List.{All, filter, find}
 use Rattle.std.specs.Option.{option_and_then}
 use Rattle.std.proofs.lemmas.List.Elements.{All-cons, All-filter}
-use Rattle.fine_runs.specs.Fates.{Lapses, fate_of}
-use Rattle.fine_runs.specs.Fine.{Choose, Plain, Snap, is_of_alt, stands_at_alt}
-use Rattle.fine_runs.specs.Holding.{Held, Holding, act_then, follow, held_at, hold_behind, hold_choose, hold_chosen, hold_fate, hold_next, hold_snap, noted, still_held, without_held}
+use Rattle.laws_fine.specs.Fates.{Lapses, fate_of}
+use Rattle.laws_fine.specs.Fine.{Choose, Plain, Snap, is_of_alt, stands_at_alt}
+use Rattle.laws_fine.specs.Holding.{Held, Holding, act_then, follow, held_at, hold_behind, hold_choose, hold_chosen, hold_fate, hold_next, hold_snap, noted, still_held, without_held}
 use Rattle.step_labels.specs.Labels.{label_by}
-use Rattle.step_laws.proofs.Changes.{found-each}
-use Rattle.step_rules.specs.Configurations as rules
-use Rattle.step_rules.specs.Configurations.{component_at}
-use Rattle.step_rules.specs.Runs.{option_elim}
-use Rattle.step_rules.specs.Steps.{Label, apply, next, settled}
-use Rattle.ttcn_config.specs.Legend.{component_by, going_by}
-use Rattle.ttcn_config.specs.declared.component.Component.{Component}
-use Rattle.ttcn_config.specs.declared.config.Config.{Config}
-use Rattle.ttcn_config.specs.declared.config.Config.TheVariants as config
-use Rattle.ttcn_config.specs.declared.config.Going.{Going}
+use Rattle.laws_order.proofs.Changes.{found-each}
+use Rattle.semantics.specs.Configurations as rules
+use Rattle.semantics.specs.Configurations.{component_at}
+use Rattle.semantics.specs.Runs.{option_elim}
+use Rattle.semantics.specs.Steps.{Label, apply, next, settled}
+use Rattle.config_parts.specs.Legend.{component_by, going_by}
+use Rattle.config_parts.specs.declared.component.Component.{Component}
+use Rattle.config_parts.specs.declared.config.Config.{Config}
+use Rattle.config_parts.specs.declared.config.Config.TheVariants as config
+use Rattle.config_parts.specs.declared.config.Going.{Going}
 use Rattle.ttcn_step.proofs.FineSteps.{held-found, still-fits, still-said, without-said}
 use Rattle.ttcn_step.proofs.Found.{Searched, said-found}
 use Rattle.ttcn_step.specs.Machines.{Fits, Machine, legend, said}

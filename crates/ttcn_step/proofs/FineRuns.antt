@@ -1,11 +1,11 @@
 -- Fine runs, label by label.
 use Rattle.std.proofs.Common.{◌≡◌, ℕ, ◌+◌, ◌<◌, ◌≤◌, List, [], ◌∷◌, ◌++◌, map, length, drop, get_or, Some, None, Result, Ok, Err, sym, ap, ◌∙◌}
 use Rattle.std.proofs.lemmas.List.{drop_all, drop_more, map-append}
-use Rattle.fine_runs.specs.Gathering.{Told}
-use Rattle.fine_runs.specs.Holding.{Holding, hold_fate, hold_from, hold_next, hold_run, hold_start}
+use Rattle.laws_fine.specs.Gathering.{Told}
+use Rattle.laws_fine.specs.Holding.{Holding, hold_fate, hold_from, hold_next, hold_run, hold_start}
 use Rattle.step_labels.specs.declared.fine.FineLabel.{FineLabel}
-use Rattle.step_rules.specs.Runs.{option_elim}
-use Rattle.step_rules.specs.Snapshots.{Test}
+use Rattle.semantics.specs.Runs.{option_elim}
+use Rattle.semantics.specs.Snapshots.{Test}
 use Rattle.ttcn_step.specs.FineLabels.{fine_label_by}
 use Rattle.ttcn_step.specs.declared.coarsen.Told.{Told as Kept}
 use Rattle.ttcn_step.specs.internal.Fine.{fate_by, told_by}

@@ -3,22 +3,22 @@ use Rattle.std.proofs.Common.{◌≡◌, Bool, true, false, not, List, [], ◌�
 use Rattle.std.specs.List.{All, filter, find}
 use Rattle.std.proofs.lemmas.List.Elements.{All-cons, All-filter, All-head, All-nil, All-tail}
 use Rattle.ttcn_syntax.specs.declared.tree.statement.Verdict.{Verdict}
-use Rattle.fine_runs.specs.Fine.{is_found}
-use Rattle.fine_runs.specs.Holding.{follow, held_at, still_held, without_held}
-use Rattle.step_laws.proofs.Runs.{applied_ordered}
-use Rattle.step_laws.specs.Order.{StandsInOrder}
-use Rattle.step_rules.specs.Configurations as rules
-use Rattle.step_rules.specs.Configurations.{component_at, is_running_state, same_path}
-use Rattle.step_rules.specs.Snapshots.{Snapshot, Test}
-use Rattle.step_rules.specs.Statements.{act}
-use Rattle.step_rules.specs.Steps.{Label, apply, settled}
-use Rattle.ttcn_config.proofs.Applied.{find-by}
-use Rattle.ttcn_config.specs.Legend.{Legend, component_by, config_by, going_by}
-use Rattle.ttcn_config.specs.Views.{IsConfigWithin}
-use Rattle.ttcn_config.specs.declared.component.Component.{Component}
-use Rattle.ttcn_config.specs.declared.config.Config.{Config}
-use Rattle.ttcn_config.specs.declared.config.Config.TheVariants as config
-use Rattle.ttcn_config.specs.declared.config.Going.{Going}
+use Rattle.laws_fine.specs.Fine.{is_found}
+use Rattle.laws_fine.specs.Holding.{follow, held_at, still_held, without_held}
+use Rattle.laws_order.proofs.Runs.{applied_ordered}
+use Rattle.laws_order.specs.Order.{StandsInOrder}
+use Rattle.semantics.specs.Configurations as rules
+use Rattle.semantics.specs.Configurations.{component_at, is_running_state, same_path}
+use Rattle.semantics.specs.Snapshots.{Snapshot, Test}
+use Rattle.semantics.specs.Statements.{act}
+use Rattle.semantics.specs.Steps.{Label, apply, settled}
+use Rattle.config_parts.proofs.Applied.{find-by}
+use Rattle.config_parts.specs.Legend.{Legend, component_by, config_by, going_by}
+use Rattle.config_parts.specs.Views.{IsConfigWithin}
+use Rattle.config_parts.specs.declared.component.Component.{Component}
+use Rattle.config_parts.specs.declared.config.Config.{Config}
+use Rattle.config_parts.specs.declared.config.Config.TheVariants as config
+use Rattle.config_parts.specs.declared.config.Going.{Going}
 use Rattle.ttcn_step.proofs.FramesKept.{applied-kept}
 use Rattle.ttcn_step.specs.FrameLimit.{AllKeepFrameLimit}
 use Rattle.ttcn_step.specs.Machines.{Fits, Machine, extent, legend, said}

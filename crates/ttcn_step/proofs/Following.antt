@@ -1,11 +1,11 @@
 -- Configurations behind steps fit.
 use Rattle.std.proofs.Common.{◌≡◌, Option, Some, None, IfSome, option_map, sym}
-use Rattle.step_laws.proofs.Runs.{next_ordered, start_ordered}
-use Rattle.step_laws.specs.Order.{StandsInOrder}
-use Rattle.step_rules.specs.Runs.{start}
-use Rattle.step_rules.specs.Steps.{Label, next}
-use Rattle.ttcn_config.specs.Views.{IsConfigWithin}
-use Rattle.ttcn_config.specs.declared.config.Config.{Config}
+use Rattle.laws_order.proofs.Runs.{next_ordered, start_ordered}
+use Rattle.laws_order.specs.Order.{StandsInOrder}
+use Rattle.semantics.specs.Runs.{start}
+use Rattle.semantics.specs.Steps.{Label, next}
+use Rattle.config_parts.specs.Views.{IsConfigWithin}
+use Rattle.config_parts.specs.declared.config.Config.{Config}
 use Rattle.ttcn_step.proofs.FramesKept.{limit_behind, start-within}
 use Rattle.ttcn_step.specs.FrameLimit.{AllKeepFrameLimit}
 use Rattle.ttcn_step.specs.Machines.{Fits, Machine, extent, said}

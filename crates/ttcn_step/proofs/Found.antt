@@ -6,16 +6,16 @@ use Rattle.std.proofs.lemmas.Option.{none-some, same_Some}
 use Rattle.std.proofs.lemmas.Slice.Eq.{bytes_eq-Decides}
 use Rattle.step_labels.specs.Labels.{label_with}
 use Rattle.step_labels.specs.declared.label.Expiry.{Expiry as AnExpiry}
-use Rattle.step_laws.proofs.Changes.{found-each}
-use Rattle.step_rules.specs.Configurations as rules
-use Rattle.step_rules.specs.Configurations.{component_at}
-use Rattle.step_rules.specs.Snapshots.{Test}
-use Rattle.step_rules.specs.Steps.{Statement, expiry_step, statement_step, step_in}
-use Rattle.ttcn_config.proofs.Applied.{find-by}
-use Rattle.ttcn_config.specs.Legend.{Legend, component_by, going_by}
-use Rattle.ttcn_config.specs.Views.{AreAllWithin, Extent, IsWithin}
-use Rattle.ttcn_config.specs.declared.component.Component.{Component}
-use Rattle.ttcn_config.specs.declared.config.Going.{Going}
+use Rattle.laws_order.proofs.Changes.{found-each}
+use Rattle.semantics.specs.Configurations as rules
+use Rattle.semantics.specs.Configurations.{component_at}
+use Rattle.semantics.specs.Snapshots.{Test}
+use Rattle.semantics.specs.Steps.{Statement, expiry_step, statement_step, step_in}
+use Rattle.config_parts.proofs.Applied.{find-by}
+use Rattle.config_parts.specs.Legend.{Legend, component_by, going_by}
+use Rattle.config_parts.specs.Views.{AreAllWithin, Extent, IsWithin}
+use Rattle.config_parts.specs.declared.component.Component.{Component}
+use Rattle.config_parts.specs.declared.config.Going.{Going}
 
 -- the components of a path
 abbrev pub Searched : List ℕ → List Component → Option Component

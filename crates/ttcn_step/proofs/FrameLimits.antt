@@ -1,7 +1,7 @@
 -- A component has no more frames than the limit behind what it asks for.
 use Rattle.std.proofs.Common.{lit<, ◌≡◌, ℕ, ◌+◌, ◌<◌, arith, Bool, true, false, List, [], ◌∷◌, ◌++◌, length, Option, Some, None, IfSome, nat_lt, slice_get, refl, if◌then◌else◌}
 use Rattle.std.proofs.lemmas.Bool.{ltb-true}
-use Rattle.assignment.specs.Assignment.{assigned}
+use Rattle.value_assignment.specs.Assignment.{assigned}
 use Rattle.ttcn_syntax.specs.declared.tree.expression.ComponentRef.{ComponentRef}
 use Rattle.ttcn_syntax.specs.declared.tree.expression.Expr.{Expr}
 use Rattle.ttcn_syntax.specs.declared.tree.expression.Reference.{Reference}
@@ -23,17 +23,17 @@ use Rattle.check_expressions.specs.Calls.{altstep_meant, parameters_of}
 use Rattle.check_expressions.specs.Targets as checked
 use Rattle.check_scope.specs.Names.{component_meant, kind_at, module_names, resolved}
 use Rattle.check_scope.specs.declared.types.DataType.{DataType}
-use Rattle.step_laws.proofs.Outcomes.{any-yields, map-yields, then-yields, unmet-yields}
-use Rattle.step_rules.specs.Configurations.{Data, Frame}
-use Rattle.step_rules.specs.Entries.{put}
-use Rattle.step_rules.specs.Creating.{new_component, new_members}
-use Rattle.step_rules.specs.Events.{Choice, Nothing, Refused, Taken}
-use Rattle.step_rules.specs.Items.{Does, Doing, From, Item, Last, Loop, Mark, Name, Part, Start, Target, Waiting, Whole, action_of, items, items_if_any, site_in_for, start_items}
-use Rattle.step_rules.specs.Sites.{Site, is_own, scope_at}
-use Rattle.step_rules.specs.Snapshots.{Snapshot, Test}
-use Rattle.step_rules.specs.Statements.{Act, Connects, Continues, Creates, Errs, Removes, Sends, Stand, Starts, Stops, Waits, Worsens, act, act_alt_or, act_assignment, act_choice, act_conditional, act_connect, act_constant, act_deactivate, act_end, act_first, act_for_start, act_for_step, act_from, act_if, act_in, act_initial, act_loop, act_name, act_part, act_port, act_return, act_send, act_start, act_test, act_timer, act_variable, act_while, act_whole, acting, activate, activated, activated_at, ask_connection, assign, call_function, choice_at, component_meant_at, continuing, create, created, declared, declared_target, done, enter, frame_of_call, give_back, go_either, leave, may_connect, most, name_in, new_id, otherwise, reads, result_at, sent_to, sent_type, sent_value, stop_meant, waits_first, with_child, with_frames, without_default}
-use Rattle.step_rules.specs.Storing.{declare, declare_timer, forget, going_on, in_frame, in_last, set_timer, store, target_meant, values_in, with_calls, with_remaining, with_timers, with_values}
-use Rattle.step_rules.specs.Taking.{uncovered, without_marks, from_mark, port_taken, repeat_alt, repeat_in, repeated, taken}
+use Rattle.laws_order.proofs.Outcomes.{any-yields, map-yields, then-yields, unmet-yields}
+use Rattle.semantics.specs.Configurations.{Data, Frame}
+use Rattle.semantics.specs.Entries.{put}
+use Rattle.semantics.specs.Creating.{new_component, new_members}
+use Rattle.semantics.specs.Events.{Choice, Nothing, Refused, Taken}
+use Rattle.semantics.specs.Items.{Does, Doing, From, Item, Last, Loop, Mark, Name, Part, Start, Target, Waiting, Whole, action_of, items, items_if_any, site_in_for, start_items}
+use Rattle.semantics.specs.Sites.{Site, is_own, scope_at}
+use Rattle.semantics.specs.Snapshots.{Snapshot, Test}
+use Rattle.semantics.specs.Statements.{Act, Connects, Continues, Creates, Errs, Removes, Sends, Stand, Starts, Stops, Waits, Worsens, act, act_alt_or, act_assignment, act_choice, act_conditional, act_connect, act_constant, act_deactivate, act_end, act_first, act_for_start, act_for_step, act_from, act_if, act_in, act_initial, act_loop, act_name, act_part, act_port, act_return, act_send, act_start, act_test, act_timer, act_variable, act_while, act_whole, acting, activate, activated, activated_at, ask_connection, assign, call_function, choice_at, component_meant_at, continuing, create, created, declared, declared_target, done, enter, frame_of_call, give_back, go_either, leave, may_connect, most, name_in, new_id, otherwise, reads, result_at, sent_to, sent_type, sent_value, stop_meant, waits_first, with_child, with_frames, without_default}
+use Rattle.semantics.specs.Storing.{declare, declare_timer, forget, going_on, in_frame, in_last, set_timer, store, target_meant, values_in, with_calls, with_remaining, with_timers, with_values}
+use Rattle.semantics.specs.Taking.{uncovered, without_marks, from_mark, port_taken, repeat_alt, repeat_in, repeated, taken}
 use Rattle.ttcn_step.specs.FrameLimit.{KeepsFrameLimit}
 use Rattle.ttcn_values.specs.Evaluation.{condition_of}
 use Rattle.ttcn_values.specs.Literals.{value_wanted}

@@ -6,16 +6,16 @@ use Rattle.std.proofs.lemmas.List.Elements.{All-cons, All-map, All-nil}
 use Rattle.ttcn_syntax.specs.declared.tree.statement.Statement as tree
 use Rattle.ttcn_syntax.specs.declared.tree.statement.Verdict.TheVariants as verdict
 use Rattle.check_scope.specs.Names.{kind_at}
-use Rattle.step_laws.proofs.Changes.{found-each, insert-each}
-use Rattle.step_laws.proofs.Outcomes.{any-yields, map-yields, then-yields}
-use Rattle.step_rules.proofs.Pairs.{All-more}
-use Rattle.step_rules.specs.Configurations.{Component, Configuration, Created, Data, End, Ended, Frame, Goes, Going, Message, Running, State, Terminated, component_at, is_running_state, is_terminated_state, overall, path_of, same_path}
-use Rattle.step_rules.specs.Creating.{new_members}
-use Rattle.step_rules.specs.Runs.{first_snapshot, mtc_with, start, started, testcase_body}
-use Rattle.step_rules.specs.Snapshots.{Snapshot, Test, mtc_of, snapshot_of}
-use Rattle.step_rules.specs.Statements.{Act, Connects, Continues, Creates, Errs, Removes, Sends, Starts, Stops, Waits, Worsens, act, most}
-use Rattle.step_rules.specs.Steps.{Expiry, Label, Statement, addressed, apply, at_queue, begin, connect, connection, deliver, ending, exchanged, expired, expired_call, expired_frame, expiry_step, insert, is_double, is_terminated_at, next, peers, send, settle, settled, start_component, start_created, start_in, statement_step, step, step_in, touch, unless_terminated, with_connection, with_data, with_state, with_verdict, without_first}
-use Rattle.step_rules.specs.Storing.{with_calls, with_members}
+use Rattle.laws_order.proofs.Changes.{found-each, insert-each}
+use Rattle.laws_order.proofs.Outcomes.{any-yields, map-yields, then-yields}
+use Rattle.semantics.proofs.Pairs.{All-more}
+use Rattle.semantics.specs.Configurations.{Component, Configuration, Created, Data, End, Ended, Frame, Goes, Going, Message, Running, State, Terminated, component_at, is_running_state, is_terminated_state, overall, path_of, same_path}
+use Rattle.semantics.specs.Creating.{new_members}
+use Rattle.semantics.specs.Runs.{first_snapshot, mtc_with, start, started, testcase_body}
+use Rattle.semantics.specs.Snapshots.{Snapshot, Test, mtc_of, snapshot_of}
+use Rattle.semantics.specs.Statements.{Act, Connects, Continues, Creates, Errs, Removes, Sends, Starts, Stops, Waits, Worsens, act, most}
+use Rattle.semantics.specs.Steps.{Expiry, Label, Statement, addressed, apply, at_queue, begin, connect, connection, deliver, ending, exchanged, expired, expired_call, expired_frame, expiry_step, insert, is_double, is_terminated_at, next, peers, send, settle, settled, start_component, start_created, start_in, statement_step, step, step_in, touch, unless_terminated, with_connection, with_data, with_state, with_verdict, without_first}
+use Rattle.semantics.specs.Storing.{with_calls, with_members}
 use Rattle.ttcn_step.proofs.FrameLimits.{AsksWithinLimit, asked-kept, uncovered-kept}
 use Rattle.ttcn_step.specs.FrameLimit.{AllKeepFrameLimit, KeepsFrameLimit}
 use Rattle.ttcn_values.specs.Outcomes.{Fails, IfYields, Outcome, Yields, dynamic_error, or_unmet, outcome_and_then}

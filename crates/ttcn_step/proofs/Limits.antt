@@ -2,11 +2,11 @@
 use Rattle.std.proofs.Common.{◌≡◌, ℕ, ◌<◌, List, map, length, get_or, sym, ap, subst, ◌∙◌}
 use Rattle.std.specs.List.{All}
 use Rattle.std.proofs.lemmas.List.{get_or-map, length-map}
-use Rattle.step_rules.specs.Configurations as rules
-use Rattle.step_rules.specs.Statements.{most}
-use Rattle.ttcn_config.specs.Legend.{Legend, component_by, frame_by}
-use Rattle.ttcn_config.specs.Views.{AreAllWithin, Extent, IsWithin}
-use Rattle.ttcn_config.specs.declared.component.Component.{Component}
+use Rattle.semantics.specs.Configurations as rules
+use Rattle.semantics.specs.Statements.{most}
+use Rattle.config_parts.specs.Legend.{Legend, component_by, frame_by}
+use Rattle.config_parts.specs.Views.{AreAllWithin, Extent, IsWithin}
+use Rattle.config_parts.specs.declared.component.Component.{Component}
 use Rattle.ttcn_step.specs.FrameLimit.{KeepsFrameLimit}
 
 less-than : (m n k : ℕ) → m ≡ n → m < k → n < k

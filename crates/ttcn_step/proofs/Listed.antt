@@ -2,13 +2,13 @@
 use Rattle.std.proofs.Common.{◌≡◌, ℕ, ◌+◌, ◌-◌, ◌<◌, List, ◌∷◌, ◌++◌, map, length, drop, get_or, sym, ap, ◌∙◌, append_assoc}
 use Rattle.std.specs.List.{filter, flat_map}
 use Rattle.std.proofs.lemmas.List.{at_drop_more}
-use Rattle.step_rules.specs.Configurations as rules
-use Rattle.step_rules.specs.Configurations.{is_running_state, path_of}
-use Rattle.step_rules.specs.Labels.{call_expiries}
-use Rattle.step_rules.specs.Steps.{Expiry, Label}
-use Rattle.ttcn_config.specs.Legend.{Legend, component_by, entries_by, frame_by}
-use Rattle.ttcn_config.specs.declared.component.Component.{Component}
-use Rattle.ttcn_config.specs.declared.frame.Frame.{Frame}
+use Rattle.semantics.specs.Configurations as rules
+use Rattle.semantics.specs.Configurations.{is_running_state, path_of}
+use Rattle.semantics.specs.Labels.{call_expiries}
+use Rattle.semantics.specs.Steps.{Expiry, Label}
+use Rattle.config_parts.specs.Legend.{Legend, component_by, entries_by, frame_by}
+use Rattle.config_parts.specs.declared.component.Component.{Component}
+use Rattle.config_parts.specs.declared.frame.Frame.{Frame}
 use Rattle.ttcn_values.specs.Frames.{is_running}
 use Rattle.ttcn_values.specs.declared.frame.TimerState.{TimerState}
 use Rattle.ttcn_values.specs.declared.path.Path.{Path}

@@ -2,13 +2,13 @@
 use Rattle.std.proofs.Common.{◌≡◌, ◌<◌, Bool, true, false, List, [], ◌∷◌, map, sym, subst, if◌then◌else◌, arith}
 use Rattle.std.specs.List.{All}
 use Rattle.std.proofs.lemmas.List.Elements.{All-cons, All-head, All-nil, All-tail}
-use Rattle.step_laws.proofs.Runs.{live_ordered}
-use Rattle.step_laws.specs.Order.{StandsInOrder}
-use Rattle.step_rules.specs.Configurations.{Component, Configuration, Ended, Goes, is_terminated_state, path_of}
-use Rattle.step_rules.specs.LiveParts.{husk, live_component, live_part}
-use Rattle.step_rules.specs.Statements.{most}
-use Rattle.ttcn_config.specs.Views.{IsConfigWithin}
-use Rattle.ttcn_config.specs.declared.config.Config.{Config}
+use Rattle.laws_order.proofs.Runs.{live_ordered}
+use Rattle.laws_order.specs.Order.{StandsInOrder}
+use Rattle.semantics.specs.Configurations.{Component, Configuration, Ended, Goes, is_terminated_state, path_of}
+use Rattle.semantics.specs.LiveParts.{husk, live_component, live_part}
+use Rattle.semantics.specs.Statements.{most}
+use Rattle.config_parts.specs.Views.{IsConfigWithin}
+use Rattle.config_parts.specs.declared.config.Config.{Config}
 use Rattle.ttcn_step.specs.FrameLimit.{AllKeepFrameLimit, KeepsFrameLimit}
 use Rattle.ttcn_step.specs.Machines.{Fits, Machine, extent, said}
 

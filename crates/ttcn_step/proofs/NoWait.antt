@@ -19,22 +19,22 @@ use Rattle.ttcn_syntax.specs.declared.tree.value.Rhs.{Rhs}
 use Rattle.ttcn_syntax.specs.declared.tree.value.Rhs.TheVariants as rhs
 use Rattle.ttcn_syntax.specs.declared.tree.value.Value as written
 use Rattle.check_scope.specs.declared.types.DataType.{DataType}
-use Rattle.step_rules.specs.Configurations as rules
-use Rattle.step_rules.specs.Configurations.{Data, Frame, is_running_state}
+use Rattle.semantics.specs.Configurations as rules
+use Rattle.semantics.specs.Configurations.{Data, Frame, is_running_state}
 use Rattle.check_scope.specs.Names.{component_meant, module_names}
-use Rattle.step_rules.specs.Creating.{new_component, new_members}
-use Rattle.step_rules.specs.Items.{Does, Doing, From, Item, Last, Loop, Mark, Name, Start, Target, Waiting, Whole, action_of}
-use Rattle.step_rules.specs.Sites.{Site, scope_at}
-use Rattle.step_rules.specs.Snapshots.{Snapshot, Test, snapshot_of}
-use Rattle.step_rules.specs.Statements.{Act, Connects, Continues, Creates, Errs, Removes, Sends, Stand, Starts, Stops, Waits, Worsens}
-use Rattle.step_rules.specs.Statements as said
-use Rattle.step_rules.specs.Statements.{act, act_assignment, act_conditional, act_connect, act_constant, act_deactivate, act_end, act_first, act_for_start, act_for_step, act_from, act_in, act_initial, act_name, act_return, act_send, act_start, act_test, act_timer, act_variable, act_while, act_whole, acting, activated, ask_connection, assign, call_function, component_meant_at, continuing, create, created, done, enter, frame_of_call, give_back, go_either, leave, may_connect, most, new_id, reads, result_at, sent_to, sent_type, sent_value, stop_meant, waits_first, with_child, without_default}
-use Rattle.step_rules.specs.Steps.{apply}
-use Rattle.step_rules.specs.Storing.{declare, forget, going_on, store, with_calls}
-use Rattle.step_rules.specs.Taking.{repeat_alt}
-use Rattle.ttcn_config.specs.Legend.{Legend, component_by, frame_by}
-use Rattle.ttcn_config.specs.declared.component.Component.{Component}
-use Rattle.ttcn_config.specs.declared.frame.Frame as declared
+use Rattle.semantics.specs.Creating.{new_component, new_members}
+use Rattle.semantics.specs.Items.{Does, Doing, From, Item, Last, Loop, Mark, Name, Start, Target, Waiting, Whole, action_of}
+use Rattle.semantics.specs.Sites.{Site, scope_at}
+use Rattle.semantics.specs.Snapshots.{Snapshot, Test, snapshot_of}
+use Rattle.semantics.specs.Statements.{Act, Connects, Continues, Creates, Errs, Removes, Sends, Stand, Starts, Stops, Waits, Worsens}
+use Rattle.semantics.specs.Statements as said
+use Rattle.semantics.specs.Statements.{act, act_assignment, act_conditional, act_connect, act_constant, act_deactivate, act_end, act_first, act_for_start, act_for_step, act_from, act_in, act_initial, act_name, act_return, act_send, act_start, act_test, act_timer, act_variable, act_while, act_whole, acting, activated, ask_connection, assign, call_function, component_meant_at, continuing, create, created, done, enter, frame_of_call, give_back, go_either, leave, may_connect, most, new_id, reads, result_at, sent_to, sent_type, sent_value, stop_meant, waits_first, with_child, without_default}
+use Rattle.semantics.specs.Steps.{apply}
+use Rattle.semantics.specs.Storing.{declare, forget, going_on, store, with_calls}
+use Rattle.semantics.specs.Taking.{repeat_alt}
+use Rattle.config_parts.specs.Legend.{Legend, component_by, frame_by}
+use Rattle.config_parts.specs.declared.component.Component.{Component}
+use Rattle.config_parts.specs.declared.frame.Frame as declared
 use Rattle.ttcn_step.specs.internal.Plain.{HasStep, IsPlain, IsPlainFirst}
 use Rattle.ttcn_values.specs.Literals.{value_wanted}
 use Rattle.ttcn_values.specs.Outcomes.{DynamicError, Fails, Outcome, Yields, dynamic_error, outcome_and_then}

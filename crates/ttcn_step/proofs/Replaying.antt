@@ -3,10 +3,10 @@ use Rattle.std.proofs.Common.{◌≡◌, ℕ, ◌+◌, ◌<◌, List, ◌∷◌,
 use Rattle.std.proofs.lemmas.List.{drop_more}
 use Rattle.step_labels.specs.Labels.{label_by}
 use Rattle.step_labels.specs.declared.label.Label.{Label as Kept}
-use Rattle.step_rules.specs.Configurations.{Configuration}
-use Rattle.step_rules.specs.Runs.{option_elim, replay_from}
-use Rattle.step_rules.specs.Snapshots.{Test}
-use Rattle.step_rules.specs.Steps.{next}
+use Rattle.semantics.specs.Configurations.{Configuration}
+use Rattle.semantics.specs.Runs.{option_elim, replay_from}
+use Rattle.semantics.specs.Snapshots.{Test}
+use Rattle.semantics.specs.Steps.{next}
 
 module _ (test : Test) (run : List Kept) where
   -- what is left of a run from a place on, where its labels before lead to a configuration

@@ -2,7 +2,7 @@
 use Rattle.std.proofs.Common.{◌≡◌, ℕ, ◌<◌, ◌≤◌, List, [], length, get_or, subst, sym, arith}
 use Rattle.std.specs.List.{Contains}
 use Rattle.std.proofs.lemmas.List.{get_or_past}
-use Rattle.step_rules.specs.Items.{Item}
+use Rattle.semantics.specs.Items.{Item}
 use Rattle.step_snapshot.specs.Slots.{NoneIsMissing}
 use Rattle.graph_names.specs.Known.{AreKnown, names_of}
 

@@ -3,16 +3,16 @@ use Rattle.std.proofs.Common.{◌≡◌, ℕ, Bool, true, false, List, Option, S
 use Rattle.ttcn_syntax.specs.declared.tree.statement.Verdict.TheVariants as verdict
 use Rattle.step_labels.specs.Labels.{label_with}
 use Rattle.step_labels.specs.declared.label.Expiry.{Expiry as AnExpiry}
-use Rattle.step_rules.specs.Configurations as rules
-use Rattle.step_rules.specs.Snapshots.{Test}
-use Rattle.step_rules.specs.Steps.{Expiry, Label, apply, settled, statement_step, step_in}
-use Rattle.ttcn_config.specs.Acts.{DoesStep, HasPathsInOrder, Leads, act_by}
-use Rattle.ttcn_config.specs.Legend.{Legend, component_by, config_by, going_by}
-use Rattle.ttcn_config.specs.declared.act.Act.{Act as Kept}
-use Rattle.ttcn_config.specs.declared.component.Component.{Component}
-use Rattle.ttcn_config.specs.declared.config.Config.{Config}
-use Rattle.ttcn_config.specs.declared.config.Config.TheVariants as config
-use Rattle.ttcn_config.specs.declared.config.Going.{Going}
+use Rattle.semantics.specs.Configurations as rules
+use Rattle.semantics.specs.Snapshots.{Test}
+use Rattle.semantics.specs.Steps.{Expiry, Label, apply, settled, statement_step, step_in}
+use Rattle.config_parts.specs.Acts.{DoesStep, HasPathsInOrder, Leads, act_by}
+use Rattle.config_parts.specs.Legend.{Legend, component_by, config_by, going_by}
+use Rattle.config_parts.specs.declared.act.Act.{Act as Kept}
+use Rattle.config_parts.specs.declared.component.Component.{Component}
+use Rattle.config_parts.specs.declared.config.Config.{Config}
+use Rattle.config_parts.specs.declared.config.Config.TheVariants as config
+use Rattle.config_parts.specs.declared.config.Going.{Going}
 use Rattle.ttcn_step.proofs.Found.{Searched, found-path, found-step, missing-step}
 use Rattle.ttcn_step.proofs.Steps.{behind-failure}
 use Rattle.ttcn_step.specs.internal.Steps.{IsBehind}

@@ -5,20 +5,20 @@ use Rattle.std.specs.declared.cmp.Ordering.TheVariants.{Less}
 use Rattle.std.proofs.lemmas.List.{get_or-map, length-map}
 use Rattle.ttcn_syntax.specs.declared.tree.statement.Verdict.TheVariants as verdict
 use Rattle.step_acts.specs.Asks.{uncovered_act}
-use Rattle.step_laws.proofs.Unmarked.{none-uncovered, uncovered-none}
-use Rattle.step_rules.proofs.Pairs.{pairs-map}
-use Rattle.step_rules.specs.Configurations as rules
-use Rattle.step_rules.specs.Configurations.{is_running_state, path_cmp, path_of}
-use Rattle.step_rules.specs.Order.{IsOrdered}
-use Rattle.step_rules.specs.Snapshots.{Test, snapshot_of}
-use Rattle.step_rules.specs.Statements.{Act, Connects, Continues, Creates, Errs, Removes, Sends, Starts, Stops, Waits, Worsens, act}
-use Rattle.step_rules.specs.Steps.{apply, connect, ending, send, settle, settled, start_component, statement_step, stop, touch, with_new, with_verdict, at_queue, without_first}
-use Rattle.step_rules.specs.Taking.{uncovered}
-use Rattle.ttcn_config.specs.Acts.{HasPathsInOrder, IsFailing, IsUncovered, act_by}
-use Rattle.ttcn_config.specs.Legend.{Legend, component_by, going_by}
-use Rattle.ttcn_config.specs.declared.act.Act.{Act as Kept}
-use Rattle.ttcn_config.specs.declared.component.Component.{Component}
-use Rattle.ttcn_config.specs.declared.config.Going.{Going}
+use Rattle.laws_order.proofs.Unmarked.{none-uncovered, uncovered-none}
+use Rattle.semantics.proofs.Pairs.{pairs-map}
+use Rattle.semantics.specs.Configurations as rules
+use Rattle.semantics.specs.Configurations.{is_running_state, path_cmp, path_of}
+use Rattle.semantics.specs.Order.{IsOrdered}
+use Rattle.semantics.specs.Snapshots.{Test, snapshot_of}
+use Rattle.semantics.specs.Statements.{Act, Connects, Continues, Creates, Errs, Removes, Sends, Starts, Stops, Waits, Worsens, act}
+use Rattle.semantics.specs.Steps.{apply, connect, ending, send, settle, settled, start_component, statement_step, stop, touch, with_new, with_verdict, at_queue, without_first}
+use Rattle.semantics.specs.Taking.{uncovered}
+use Rattle.config_parts.specs.Acts.{HasPathsInOrder, IsFailing, IsUncovered, act_by}
+use Rattle.config_parts.specs.Legend.{Legend, component_by, going_by}
+use Rattle.config_parts.specs.declared.act.Act.{Act as Kept}
+use Rattle.config_parts.specs.declared.component.Component.{Component}
+use Rattle.config_parts.specs.declared.config.Going.{Going}
 use Rattle.ttcn_values.specs.Outcomes.{Fails, Outcome, Yields}
 use Rattle.ttcn_values.specs.declared.path.Path.{Path}
 use Rattle.ttcn_values.specs.declared.value.ComponentId.{ComponentId}

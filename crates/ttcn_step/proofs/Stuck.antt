@@ -8,14 +8,14 @@ use Rattle.std.proofs.Common.{◌≡◌, ℕ, zero, suc, ◌+◌, ◌<◌, true,
 use Rattle.std.specs.Bool.{◌==◌}
 use Rattle.std.proofs.lemmas.Bool.{eqb-true}
 use Rattle.std.proofs.lemmas.List.{at_drop_more}
-use Rattle.step_rules.specs.Labels.{expiries, labels, labels_of_component, statement_labels}
-use Rattle.step_rules.specs.Configurations as rules
-use Rattle.step_rules.specs.Configurations.{Configuration, Ended, Goes, is_running_state, path_of}
-use Rattle.step_rules.specs.Places.{blocked, if_none, standings}
-use Rattle.step_rules.specs.Snapshots.{Test}
-use Rattle.step_rules.specs.Steps.{Label, Statement, statement_step}
-use Rattle.ttcn_config.specs.Legend.{Legend, component_by}
-use Rattle.ttcn_config.specs.declared.component.Component.{Component}
+use Rattle.semantics.specs.Labels.{expiries, labels, labels_of_component, statement_labels}
+use Rattle.semantics.specs.Configurations as rules
+use Rattle.semantics.specs.Configurations.{Configuration, Ended, Goes, is_running_state, path_of}
+use Rattle.semantics.specs.Places.{blocked, if_none, standings}
+use Rattle.semantics.specs.Snapshots.{Test}
+use Rattle.semantics.specs.Steps.{Label, Statement, statement_step}
+use Rattle.config_parts.specs.Legend.{Legend, component_by}
+use Rattle.config_parts.specs.declared.component.Component.{Component}
 use Rattle.ttcn_step.proofs.Listed.{grown, parts_of}
 use Rattle.ttcn_step.specs.Standing.{standing_by, standing_of}
 use Rattle.ttcn_step.specs.declared.standing.Standing.{Standing}

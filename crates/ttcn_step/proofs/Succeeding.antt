@@ -8,20 +8,20 @@ use Rattle.std.proofs.lemmas.List.{map_push}
 use Rattle.std.proofs.lemmas.Slice.Eq.{bytes_eq-Decides}
 use Rattle.step_labels.specs.Labels.{label_by}
 use Rattle.step_labels.specs.declared.label.Label.{Label as Kept}
-use Rattle.step_rules.proofs.LabelOrder.{names-alike}
-use Rattle.step_rules.proofs.Pairs.{All-both, All-more, pairs-head, pairs-tail}
-use Rattle.step_rules.specs.Configurations as rules
-use Rattle.step_rules.specs.Configurations.{component_at, is_running_state, path_cmp, path_of, same_path}
-use Rattle.step_rules.specs.Labels.{expiries, labels, labels_of_component, statement_labels}
-use Rattle.step_rules.specs.Order.{IsOrdered}
-use Rattle.step_rules.specs.Snapshots.{Test}
-use Rattle.step_rules.specs.Steps.{Label, Statement, next, settled, statement_step}
-use Rattle.step_laws.specs.Order.{StandsInOrder}
+use Rattle.semantics.proofs.LabelOrder.{names-alike}
+use Rattle.semantics.proofs.Pairs.{All-both, All-more, pairs-head, pairs-tail}
+use Rattle.semantics.specs.Configurations as rules
+use Rattle.semantics.specs.Configurations.{component_at, is_running_state, path_cmp, path_of, same_path}
+use Rattle.semantics.specs.Labels.{expiries, labels, labels_of_component, statement_labels}
+use Rattle.semantics.specs.Order.{IsOrdered}
+use Rattle.semantics.specs.Snapshots.{Test}
+use Rattle.semantics.specs.Steps.{Label, Statement, next, settled, statement_step}
+use Rattle.laws_order.specs.Order.{StandsInOrder}
 use Rattle.std.specs.declared.vec.Vec.{Vec}
-use Rattle.ttcn_config.specs.Legend.{going_by}
-use Rattle.ttcn_config.specs.declared.config.Config.{Config}
-use Rattle.ttcn_config.specs.declared.config.Config.TheVariants as config
-use Rattle.ttcn_config.specs.declared.config.Going.{Going}
+use Rattle.config_parts.specs.Legend.{going_by}
+use Rattle.config_parts.specs.declared.config.Config.{Config}
+use Rattle.config_parts.specs.declared.config.Config.TheVariants as config
+use Rattle.config_parts.specs.declared.config.Going.{Going}
 use Rattle.ttcn_step.proofs.Enabled.{lead-somewhere, some-map}
 use Rattle.ttcn_step.specs.Answers.{IsSuccessor}
 use Rattle.ttcn_step.specs.Machines.{Machine, legend, said}

@@ -1,9 +1,9 @@
 -- What calls of a machine answer.
 use Rattle.std.specs.Prelude.{◌≡◌, ℕ, Option, Some, None, Result, Ok, Err}
 use Rattle.step_labels.specs.Labels.{label_by}
-use Rattle.step_rules.specs.Configurations as rules
-use Rattle.step_rules.specs.Steps as steps
-use Rattle.ttcn_config.specs.declared.config.Config.{Config}
+use Rattle.semantics.specs.Configurations as rules
+use Rattle.semantics.specs.Steps as steps
+use Rattle.config_parts.specs.declared.config.Config.{Config}
 use Rattle.ttcn_step.specs.Machines.{Machine, said}
 use Rattle.ttcn_step.specs.declared.error.ReplayError.{ReplayError}
 use Rattle.ttcn_step.specs.declared.error.ReplayError.TheVariants as replay

@@ -1,9 +1,9 @@
 -- Where no branch is taken, whatever a component sees.
 use Rattle.std.specs.Prelude.{◌≡◌, List, None}
-use Rattle.step_rules.specs.Configurations.{Data, Frame}
-use Rattle.step_rules.specs.Items.{Item}
-use Rattle.step_rules.specs.Places.{place_in_list}
-use Rattle.step_rules.specs.Snapshots.{Snapshot, Test}
+use Rattle.semantics.specs.Configurations.{Data, Frame}
+use Rattle.semantics.specs.Items.{Item}
+use Rattle.semantics.specs.Places.{place_in_list}
+use Rattle.semantics.specs.Snapshots.{Snapshot, Test}
 
 -- where these items remain in its last frame, a component takes no branch
 abbrev pub TakesNone : List Item → Type 0

@@ -3,17 +3,17 @@ use Rattle.std.specs.Prelude.{◌≡◌, ◌≤◌, ℕ, List, [], length, map, 
 use Rattle.std.specs.declared.alloc.Global.{Global}
 use Rattle.std.specs.declared.vec.Vec.{Vec}
 use Rattle.ttcn_syntax.specs.declared.tree.statement.Verdict.{Verdict}
-use Rattle.fine_runs.specs.Doubling.{doubled}
-use Rattle.fine_runs.specs.Fates.{coarse}
-use Rattle.fine_runs.specs.Fine as fine
-use Rattle.fine_runs.specs.Fine.{Fine, fine_replay}
+use Rattle.laws_fine.specs.Doubling.{doubled}
+use Rattle.laws_fine.specs.Fates.{coarse}
+use Rattle.laws_fine.specs.Fine as fine
+use Rattle.laws_fine.specs.Fine.{Fine, fine_replay}
 use Rattle.step_labels.specs.Labels.{label_by}
 use Rattle.step_labels.specs.declared.fine.FineLabel.{FineLabel}
 use Rattle.step_labels.specs.declared.label.Label as kept
-use Rattle.step_rules.specs.Configurations.{Configuration, Ended, Goes}
-use Rattle.step_rules.specs.Runs.{replay}
-use Rattle.step_rules.specs.Snapshots.{Test}
-use Rattle.step_rules.specs.Steps.{Label}
+use Rattle.semantics.specs.Configurations.{Configuration, Ended, Goes}
+use Rattle.semantics.specs.Runs.{replay}
+use Rattle.semantics.specs.Snapshots.{Test}
+use Rattle.semantics.specs.Steps.{Label}
 use Rattle.ttcn_step.specs.FineLabels.{fine_label_by}
 use Rattle.ttcn_step.specs.Machines.{Machine}
 use Rattle.ttcn_step.specs.declared.error.CoarsenError.{CoarsenError}

@@ -1,5 +1,5 @@
 -- What fine labels of code stand for.
-use Rattle.fine_runs.specs.Fine as fine
+use Rattle.laws_fine.specs.Fine as fine
 use Rattle.step_labels.specs.Labels.{label_by}
 use Rattle.step_labels.specs.declared.fine.FineLabel.{FineLabel}
 use Rattle.step_labels.specs.declared.fine.FineLabel.TheVariants as kept

@@ -1,8 +1,8 @@
 -- How many frames a component may have: a limit of this tool.
 use Rattle.std.specs.Prelude.{◌<◌, length}
 use Rattle.std.specs.List.{All}
-use Rattle.step_rules.specs.Configurations.{Configuration, Data, Ended, Goes}
-use Rattle.step_rules.specs.Statements.{most}
+use Rattle.semantics.specs.Configurations.{Configuration, Data, Ended, Goes}
+use Rattle.semantics.specs.Statements.{most}
 
 -- a component has no more frames than the limit, frame 0 among them
 abbrev pub KeepsFrameLimit : Data → Type 0

@@ -1,15 +1,15 @@
 -- Machines, and the configurations that fit them.
 use Rattle.std.specs.Prelude.{ℕ, List, length}
-use Rattle.step_laws.specs.Order.{StandsInOrder}
-use Rattle.step_rules.specs.Configurations as rules
-use Rattle.step_rules.specs.Items.{Item}
-use Rattle.step_rules.specs.Snapshots.{Test}
+use Rattle.laws_order.specs.Order.{StandsInOrder}
+use Rattle.semantics.specs.Configurations as rules
+use Rattle.semantics.specs.Items.{Item}
+use Rattle.semantics.specs.Snapshots.{Test}
 use Rattle.step_snapshot.specs.Tests.{test_by}
 use Rattle.step_snapshot.specs.declared.test_case.TestCase.{TestCase}
-use Rattle.ttcn_config.specs.Legend.{Legend, config_by}
-use Rattle.ttcn_config.specs.Names.{legend_of}
-use Rattle.ttcn_config.specs.Views.{Extent, IsConfigWithin}
-use Rattle.ttcn_config.specs.declared.config.Config.{Config}
+use Rattle.config_parts.specs.Legend.{Legend, config_by}
+use Rattle.config_parts.specs.Names.{legend_of}
+use Rattle.config_parts.specs.Views.{Extent, IsConfigWithin}
+use Rattle.config_parts.specs.declared.config.Config.{Config}
 use Rattle.ttcn_step.specs.FrameLimit.{AllKeepFrameLimit}
 
 -- the test case that a machine runs, the lists that positions stand for, and the names that have slots

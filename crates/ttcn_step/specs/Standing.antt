@@ -1,8 +1,8 @@
 -- Where components stand.
 use Rattle.std.specs.Prelude.{List, []}
 use Rattle.ttcn_syntax.specs.declared.place.Span.{Span}
-use Rattle.step_rules.specs.Configurations as rules
-use Rattle.step_rules.specs.Places.{standings}
+use Rattle.semantics.specs.Configurations as rules
+use Rattle.semantics.specs.Places.{standings}
 use Rattle.ttcn_step.specs.declared.standing.Standing.{Standing}
 use Rattle.ttcn_values.specs.declared.path.Path.{Path}
 

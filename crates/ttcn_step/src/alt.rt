@@ -2,20 +2,20 @@
 ghost use Rattle.std.specs.Prelude.{◌≡◌, ◌∷◌, [], List, get_or, is_some};
 ghost use Rattle.check_expressions.specs.Calls.{altstep_meant};
 ghost use Rattle.check_scope.specs.Names.{module_names};
-ghost use Rattle.fine_runs.specs.Fine as fine;
+ghost use Rattle.laws_fine.specs.Fine as fine;
 ghost use Rattle.graph_items.specs.Begun.{item_at};
 ghost use Rattle.graph_items.specs.Standing.{part_of};
 ghost use Rattle.step_labels.specs.Labels.{label_by};
-ghost use Rattle.step_rules.specs.Items.{Doing, Item, action_of};
-ghost use Rattle.step_rules.specs.Sites.{Site};
+ghost use Rattle.semantics.specs.Items.{Doing, Item, action_of};
+ghost use Rattle.semantics.specs.Sites.{Site};
 ghost use Rattle.step_snapshot.specs.Tests.{legend_by, test_by};
-ghost use Rattle.ttcn_config.specs.Legend.{component_by, going_by};
+ghost use Rattle.config_parts.specs.Legend.{component_by, going_by};
 
 use crate::step::{component_of, is_running};
 use check_scope::names::Meaning;
+use config_parts::{Component, Going};
 use step_labels::Label;
 use step_snapshot::TestCase;
-use ttcn_config::{Component, Going};
 use ttcn_graph::{First, Part};
 use ttcn_syntax::{Action, Call, Statement};
 

@@ -1,20 +1,20 @@
 //! The branches that steps take (ES 201 873-1, 20.2).
 ghost use Rattle.std.specs.Prelude.{◌≡◌, IfOk};
 ghost use Rattle.step_labels.specs.Labels.{label_by};
-ghost use Rattle.step_rules.specs.Places as rules;
+ghost use Rattle.semantics.specs.Places as rules;
 ghost use Rattle.step_snapshot.specs.Tests.{extent_of, legend_by, test_by};
-ghost use Rattle.ttcn_config.specs.Acts.{HasPathsInOrder};
-ghost use Rattle.ttcn_config.specs.Legend.{component_by, going_by};
-ghost use Rattle.ttcn_config.specs.Views.{IsWithin};
-ghost use Rattle.ttcn_config.specs.declared.config.Config.TheVariants as config;
+ghost use Rattle.config_parts.specs.Acts.{HasPathsInOrder};
+ghost use Rattle.config_parts.specs.Legend.{component_by, going_by};
+ghost use Rattle.config_parts.specs.Views.{IsWithin};
+ghost use Rattle.config_parts.specs.declared.config.Config.TheVariants as config;
 ghost use Rattle.ttcn_step.specs.Machines.{Fits, machine_of, said};
 
 use crate::step::{component_of, is_running};
+use config_parts::{Component, Config, Going};
 use std::alloc::{AllocError, Global};
 use step_acts as acts;
 use step_labels::Label;
 use step_snapshot::{Snapshot, TestCase};
-use ttcn_config::{Component, Config, Going};
 use ttcn_syntax::Span;
 
 /// The place of the branch that the statement of a component takes, if it takes one.

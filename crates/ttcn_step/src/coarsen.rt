@@ -1,6 +1,6 @@
 //! The runs that fine runs stand for (ES 201 873-1, 20.2).
 ghost use Rattle.std.specs.Prelude.{◌≡◌, IfOk, IfSome, MatchOption, map};
-ghost use Rattle.fine_runs.specs.Gathering.{first_by, first_told, gathered};
+ghost use Rattle.laws_fine.specs.Gathering.{first_by, first_told, gathered};
 ghost use Rattle.step_labels.specs.Labels.{label_by};
 ghost use Rattle.step_snapshot.specs.Tests.{test_by};
 ghost use Rattle.ttcn_step.specs.FineAnswers.{Coarsens};
@@ -14,10 +14,10 @@ use crate::error::CoarsenError;
 use crate::fine::{Fate, Fine, fine_step};
 use crate::labels::statement_label;
 use crate::start::start;
+use config_parts::Config;
 use std::alloc::{AllocError, Global};
 use step_labels::{FineLabel, Label};
 use step_snapshot::TestCase;
-use ttcn_config::Config;
 use ttcn_values::Path;
 
 /// A fine label, with what came of the choice where it is one.

@@ -1,6 +1,6 @@
 //! Runs as fine runs: each step at an `alt` becomes a snapshot and the choice by it (ES 201 873-1, 20.2).
 ghost use Rattle.std.specs.Prelude.{◌≡◌, ◌++◌, [], IfOk, OnOk, map};
-ghost use Rattle.fine_runs.specs.Doubling.{doubled_label, is_alt_in};
+ghost use Rattle.laws_fine.specs.Doubling.{doubled_label, is_alt_in};
 ghost use Rattle.step_labels.specs.Labels.{label_by};
 ghost use Rattle.step_snapshot.specs.Tests.{test_by};
 ghost use Rattle.ttcn_step.specs.FineAnswers.{Doubles};
@@ -11,10 +11,10 @@ use crate::alt::is_of_alt;
 use crate::error::ReplayError;
 use crate::replay::follow;
 use crate::start::start;
+use config_parts::Config;
 use std::alloc::{AllocError, Global};
 use step_labels::{FineLabel, Label};
 use step_snapshot::TestCase;
-use ttcn_config::Config;
 use ttcn_syntax::Seq;
 use ttcn_values::Path;
 

@@ -2,25 +2,25 @@
 ghost use Rattle.std.specs.Prelude.{◌≡◌, ◌↔◌, ◌<◌, ◌++◌, [], IfOk, IsTrue, OnOk, length, map, true};
 ghost use Rattle.std.specs.List.{All};
 ghost use Rattle.step_labels.specs.Labels.{label_by};
-ghost use Rattle.step_rules.specs.Configurations as rules;
-ghost use Rattle.step_rules.specs.Labels as said_labels;
-ghost use Rattle.step_rules.specs.Statements.{most};
-ghost use Rattle.step_rules.specs.Steps as steps;
+ghost use Rattle.semantics.specs.Configurations as rules;
+ghost use Rattle.semantics.specs.Labels as said_labels;
+ghost use Rattle.semantics.specs.Statements.{most};
+ghost use Rattle.semantics.specs.Steps as steps;
 ghost use Rattle.step_snapshot.specs.Tests.{extent_of, legend_by, test_by};
-ghost use Rattle.ttcn_config.specs.Acts.{HasPathsInOrder};
-ghost use Rattle.ttcn_config.specs.Legend.{component_by, frame_by, frame_with, going_by};
-ghost use Rattle.ttcn_config.specs.Views.{HasSlotsWithin, IsFrameWithin, IsWithin};
-ghost use Rattle.ttcn_config.specs.declared.config.Config.TheVariants as config;
+ghost use Rattle.config_parts.specs.Acts.{HasPathsInOrder};
+ghost use Rattle.config_parts.specs.Legend.{component_by, frame_by, frame_with, going_by};
+ghost use Rattle.config_parts.specs.Views.{HasSlotsWithin, IsFrameWithin, IsWithin};
+ghost use Rattle.config_parts.specs.declared.config.Config.TheVariants as config;
 ghost use Rattle.ttcn_step.specs.Machines.{Fits, machine_of, said};
 ghost use Rattle.ttcn_step.specs.internal.Steps as spec;
 ghost use Rattle.ttcn_values.specs.Frames.{is_running};
 
 use crate::plain::stands_at_plain;
 use crate::step::{has_step, is_running, slots_are_ordered};
+use config_parts::{Cells, Component, Config, Frame, Going};
 use std::alloc::{AllocError, Global};
 use step_labels::{Expiry, Label};
 use step_snapshot::TestCase;
-use ttcn_config::{Cells, Component, Config, Frame, Going};
 use ttcn_syntax::Name;
 use ttcn_values::{Path, Slot, TimerState};
 

@@ -1,11 +1,11 @@
 //! Laws of labels and of canonical forms, which run no code.
 ghost use Rattle.std.specs.Prelude.{◌≡◌, ◌↔◌, AllPairs, Contains, is_some, true};
 ghost use Rattle.std.specs.declared.cmp.Ordering.TheVariants.{Less};
-ghost use Rattle.step_rules.specs.Labels.{label_cmp, labels};
-ghost use Rattle.step_rules.specs.Steps.{Label, next};
-ghost use Rattle.step_rules.specs.LiveParts.{live_part};
-ghost use Rattle.ttcn_config.specs.Views.{IsConfigWithin};
-ghost use Rattle.ttcn_config.specs.declared.config.Config.{Config};
+ghost use Rattle.semantics.specs.Labels.{label_cmp, labels};
+ghost use Rattle.semantics.specs.Steps.{Label, next};
+ghost use Rattle.semantics.specs.LiveParts.{live_part};
+ghost use Rattle.config_parts.specs.Views.{IsConfigWithin};
+ghost use Rattle.config_parts.specs.declared.config.Config.{Config};
 ghost use Rattle.ttcn_step.specs.Machines.{Fits, Machine, extent, said};
 
 /// The labels of a configuration that fits a machine are exactly those that lead somewhere, and they ascend, none twice.

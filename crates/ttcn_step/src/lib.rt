@@ -26,4 +26,6 @@ pub use laws::{canonical_forms_fit, labels_are_enabled};
 pub use limit::frames_keep_the_limit;
 pub use machine::Machine;
 pub use standing::Standing;
+pub use step_labels::{FineLabel, Label};
 pub use successor::Successor;
+pub use ttcn_values::Path;

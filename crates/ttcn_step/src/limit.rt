@@ -1,9 +1,9 @@
 //! How many frames components have.
 ghost use Rattle.std.specs.Prelude.{◌≡◌, Some};
-ghost use Rattle.step_rules.specs.Configurations.{Configuration};
-ghost use Rattle.step_rules.specs.Runs.{start};
-ghost use Rattle.step_rules.specs.Snapshots.{Test};
-ghost use Rattle.step_rules.specs.Steps.{Label, next};
+ghost use Rattle.semantics.specs.Configurations.{Configuration};
+ghost use Rattle.semantics.specs.Runs.{start};
+ghost use Rattle.semantics.specs.Snapshots.{Test};
+ghost use Rattle.semantics.specs.Steps.{Label, next};
 ghost use Rattle.ttcn_step.specs.FrameLimit.{AllKeepFrameLimit};
 
 /// No component ever has more frames than the limit: none has at the start, and no step changes that.

@@ -1,13 +1,13 @@
 //! Machines, which run test cases (ES 201 873-4).
 ghost use Rattle.std.specs.Prelude.{◌≡◌, ◌↔◌, [], false, get_or, IfOk, IsTrue, map};
 ghost use Rattle.std.specs.List.{All};
-ghost use Rattle.interner.specs.Lists.{AreDifferent};
+ghost use Rattle.graph_numbers.specs.Lists.{AreDifferent};
 ghost use Rattle.step_labels.specs.Labels.{label_by};
-ghost use Rattle.step_rules.specs.Labels as rules;
-ghost use Rattle.step_rules.specs.Places.{blocked, branch_of};
-ghost use Rattle.step_rules.specs.Runs as runs;
-ghost use Rattle.step_rules.specs.Steps as steps;
-ghost use Rattle.ttcn_config.specs.Names.{AreInOrder};
+ghost use Rattle.semantics.specs.Labels as rules;
+ghost use Rattle.semantics.specs.Places.{blocked, branch_of};
+ghost use Rattle.semantics.specs.Runs as runs;
+ghost use Rattle.semantics.specs.Steps as steps;
+ghost use Rattle.config_parts.specs.Names.{AreInOrder};
 ghost use Rattle.ttcn_step.specs.Answers.{Ends, IsSuccessor, Leads};
 ghost use Rattle.ttcn_step.specs.Choosing.{TakesNone};
 ghost use Rattle.ttcn_step.specs.FineAnswers.{Coarsens, Doubles, IsDoubling, StandsFor};
@@ -22,11 +22,11 @@ use crate::successor::Successor;
 use crate::{
     branches, coarsen, double, labels, places, plain, replay, start, step, successors, testcases,
 };
+use config_parts::Config;
 use std::alloc::{AllocError, Global};
 use std::marker::Model;
 use step_labels::{FineLabel, Label};
 use step_snapshot::TestCase;
-use ttcn_config::Config;
 use ttcn_syntax::Span;
 use ttcn_types::{Program, TestId};
 

@@ -1,10 +1,10 @@
 //! The places that reports name (ES 201 873-4).
 ghost use Rattle.std.specs.Prelude.{◌≡◌, ◌++◌, ◌∷◌, [], List, IfOk, OnOk, get_or, map};
-ghost use Rattle.step_rules.specs.Items.{Item};
-ghost use Rattle.step_rules.specs.Places as rules;
-ghost use Rattle.step_rules.specs.Sites.{Site};
+ghost use Rattle.semantics.specs.Items.{Item};
+ghost use Rattle.semantics.specs.Places as rules;
+ghost use Rattle.semantics.specs.Sites.{Site};
 ghost use Rattle.step_snapshot.specs.Tests.{legend_by, test_by};
-ghost use Rattle.ttcn_config.specs.Legend.{component_by, frame_by, going_by};
+ghost use Rattle.config_parts.specs.Legend.{component_by, frame_by, going_by};
 ghost use Rattle.graph_items.specs.Begun.{item_at};
 ghost use Rattle.ttcn_step.specs.Machines.{Fits, machine_of, said};
 ghost use Rattle.ttcn_step.specs.Standing.{standing_by, standing_of};
@@ -12,9 +12,9 @@ ghost use Rattle.ttcn_step.specs.Standing.{standing_by, standing_of};
 use crate::labels::is_stuck;
 use crate::standing::Standing;
 use crate::step::is_running;
+use config_parts::{Component, Config, Frame, Going};
 use std::alloc::{AllocError, Global};
 use step_snapshot::TestCase;
-use ttcn_config::{Component, Config, Frame, Going};
 use ttcn_graph::First;
 use ttcn_syntax::Span;
 

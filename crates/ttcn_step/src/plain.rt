@@ -2,16 +2,16 @@
 ghost use Rattle.std.specs.Prelude.{◌≡◌, ◌∷◌, [], List, None, get_or, true};
 ghost use Rattle.graph_items.specs.Begun.{item_at};
 ghost use Rattle.graph_items.specs.Standing.{part_of};
-ghost use Rattle.step_rules.specs.Items.{Doing, Item, action_of};
-ghost use Rattle.step_rules.specs.Sites.{Site};
-ghost use Rattle.step_rules.specs.Statements as said;
+ghost use Rattle.semantics.specs.Items.{Doing, Item, action_of};
+ghost use Rattle.semantics.specs.Sites.{Site};
+ghost use Rattle.semantics.specs.Statements as said;
 ghost use Rattle.step_snapshot.specs.Tests.{legend_by, test_by};
-ghost use Rattle.ttcn_config.specs.Legend.{component_by};
+ghost use Rattle.config_parts.specs.Legend.{component_by};
 ghost use Rattle.ttcn_step.specs.Choosing.{TakesNone};
 ghost use Rattle.ttcn_step.specs.internal.Plain.{HasStep, IsPlain, IsPlainFirst};
 
+use config_parts::Component;
 use step_snapshot::TestCase;
-use ttcn_config::Component;
 use ttcn_graph::{First, Part};
 use ttcn_syntax::{Action, Statement};
 

@@ -1,8 +1,8 @@
 //! Runs of labels (ES 201 873-4).
 ghost use Rattle.std.specs.Prelude.{◌≡◌, ◌+◌, ◌<◌, ◌^◌, IfOk, map};
 ghost use Rattle.step_labels.specs.Labels.{label_by};
-ghost use Rattle.step_rules.specs.Runs as runs;
-ghost use Rattle.step_rules.specs.Steps as steps;
+ghost use Rattle.semantics.specs.Runs as runs;
+ghost use Rattle.semantics.specs.Steps as steps;
 ghost use Rattle.step_snapshot.specs.Tests.{test_by};
 ghost use Rattle.ttcn_step.specs.Answers.{Ends};
 ghost use Rattle.ttcn_step.specs.Machines.{Fits, machine_of, said};
@@ -11,10 +11,10 @@ ghost use Rattle.ttcn_step.specs.internal.Runs as spec;
 use crate::error::{ReplayError, StepError};
 use crate::start::start;
 use crate::step::next;
+use config_parts::Config;
 use std::alloc::Global;
 use step_labels::Label;
 use step_snapshot::TestCase;
-use ttcn_config::Config;
 
 /// The configuration to which the label of a number leads.
 pub(crate) fn follow(

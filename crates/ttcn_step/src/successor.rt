@@ -1,6 +1,6 @@
 //! Labels with the configurations to which they lead.
+use config_parts::Config;
 use step_labels::Label;
-use ttcn_config::Config;
 
 /// An enabled label, and the configuration to which it leads.
 #[derive(Drop)]

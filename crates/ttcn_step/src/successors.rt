@@ -2,11 +2,11 @@
 ghost use Rattle.std.specs.Prelude.{◌≡◌, ◌++◌, ◌∷◌, [], IfOk, OnOk, map};
 ghost use Rattle.std.specs.List.{All};
 ghost use Rattle.step_labels.specs.Labels.{label_by};
-ghost use Rattle.step_rules.specs.Configurations as rules;
-ghost use Rattle.step_rules.specs.Labels as said_labels;
+ghost use Rattle.semantics.specs.Configurations as rules;
+ghost use Rattle.semantics.specs.Labels as said_labels;
 ghost use Rattle.step_snapshot.specs.Tests.{legend_by, test_by};
-ghost use Rattle.ttcn_config.specs.Legend.{going_by};
-ghost use Rattle.ttcn_config.specs.declared.config.Config.TheVariants as config;
+ghost use Rattle.config_parts.specs.Legend.{going_by};
+ghost use Rattle.config_parts.specs.declared.config.Config.TheVariants as config;
 ghost use Rattle.ttcn_step.specs.Answers.{IsSuccessor};
 ghost use Rattle.ttcn_step.specs.Machines.{Fits, machine_of, said};
 ghost use Rattle.ttcn_step.specs.internal.Steps as spec;
@@ -15,10 +15,10 @@ ghost use Rattle.ttcn_step.specs.internal.Successors as pairs;
 use crate::labels::push_candidates;
 use crate::step::step;
 use crate::successor::Successor;
+use config_parts::{Config, Going};
 use std::alloc::{AllocError, Global};
 use step_labels::Label;
 use step_snapshot::TestCase;
-use ttcn_config::{Config, Going};
 
 /// The labels that a configuration may have.
 fn candidates(alloc: Global, test: &TestCase<'_>, going: &Going) -> Result<Vec<Label>, AllocError>

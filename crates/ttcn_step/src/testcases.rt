@@ -2,17 +2,17 @@
 ghost use Rattle.std.specs.Prelude.{◌≡◌, ℕ, ◌<◌, ◌^◌, [], IfOk, get_or, length};
 ghost use Rattle.std.specs.Option.{option_map};
 ghost use Rattle.check_scope.specs.Names.{component_meant, kind_at};
-ghost use Rattle.step_rules.specs.Sites as sites;
-ghost use Rattle.step_rules.specs.Snapshots as rules;
+ghost use Rattle.semantics.specs.Sites as sites;
+ghost use Rattle.semantics.specs.Snapshots as rules;
 ghost use Rattle.step_snapshot.specs.Slots.{NoneIsMissing};
 ghost use Rattle.step_snapshot.specs.Tests.{test_by};
 ghost use Rattle.graph_names.specs.Known.{names_of, names_of_kind};
 
 use check_expressions::call::runs_on_of;
-use names::Names;
+use config_parts::Cells;
+use graph_numbers::Names;
 use std::alloc::{AllocError, Global};
 use step_snapshot::TestCase;
-use ttcn_config::Cells;
 use ttcn_graph::{Graphs, compile};
 use ttcn_syntax::{DefinitionKind, Name, Seq};
 use ttcn_types::{Definitions, Meaning, Program};

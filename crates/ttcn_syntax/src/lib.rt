@@ -23,7 +23,6 @@ pub use piece::Piece;
 pub use place::Span;
 pub use reading::LARGEST_INTEGER;
 pub use seq::Seq;
-pub use std::alloc::AllocError as Memory;
 pub use token::{Spanned, Symbol, Token, Word};
 pub use tree::{
     Action, Alternative, Altstep, Assignment, Bound, Branch, Call, ComponentRef, ComponentType,

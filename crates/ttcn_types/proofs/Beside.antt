@@ -1,7 +1,7 @@
 -- Things put to one another, part by part.
 use Rattle.std.proofs.Common.{ℕ, List, map, drop}
-use Rattle.survey.specs.declared.thing.Thing.{Thing}
-use Rattle.survey.specs.Things.{add}
+use Rattle.check_survey.specs.declared.thing.Thing.{Thing}
+use Rattle.check_survey.specs.Things.{add}
 use Rattle.ttcn_types.specs.Parts.{all_of}
 
 -- what is collected so far, with what is left of a list

@@ -2,11 +2,11 @@
 use Rattle.std.proofs.Common.{◌≡◌, ℕ, ◌<◌, ◌≤◌, List, [], ◌∷◌, ◌++◌, length, Option, Some, None, sym, subst, ◌∙◌, arith, inl, inr}
 use Rattle.std.specs.Option.{option_or}
 use Rattle.std.specs.Prelude.{MatchOption}
-use Rattle.survey.specs.Graphs.{AllChainsWithin, AllWeighWithin, BeginsLongerChain, IfCircle, IfSizes, IsFirst, IsOnCircle, WeighsMore}
-use Rattle.survey.specs.declared.findings.Findings.{Findings}
-use Rattle.survey.specs.declared.findings.Findings.TheVariants.{Circle, Sizes}
-use Rattle.survey.specs.declared.thing.Thing.{Thing}
-use Rattle.survey.proofs.Chains.{chain_head, weigh_within}
+use Rattle.check_survey.specs.Graphs.{AllChainsWithin, AllWeighWithin, BeginsLongerChain, IfCircle, IfSizes, IsFirst, IsOnCircle, WeighsMore}
+use Rattle.check_survey.specs.declared.findings.Findings.{Findings}
+use Rattle.check_survey.specs.declared.findings.Findings.TheVariants.{Circle, Sizes}
+use Rattle.check_survey.specs.declared.thing.Thing.{Thing}
+use Rattle.check_survey.proofs.Chains.{chain_head, weigh_within}
 use Rattle.check_scope.specs.Numbers.{number_of}
 use Rattle.ttcn_types.specs.Limits.{longest_chain}
 use Rattle.ttcn_types.specs.Rules.{AreTooLarge}

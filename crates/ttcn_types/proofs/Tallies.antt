@@ -4,10 +4,10 @@ use Rattle.std.proofs.lemmas.List.{length-map}
 use Rattle.std.proofs.lemmas.List.Elements.{All-map}
 use Rattle.std.specs.List.{All}
 use Rattle.check_scope.specs.declared.rule.Rule.{Rule}
-use Rattle.survey.proofs.Tallies.{AreAlike, alike_back, circle_alike, heavier_alike, longer_alike, tally_alike}
-use Rattle.survey.specs.Graphs.{AreComplete}
-use Rattle.survey.specs.Things.{largest, tally}
-use Rattle.survey.specs.declared.thing.Thing.{Thing}
+use Rattle.check_survey.proofs.Tallies.{AreAlike, alike_back, circle_alike, heavier_alike, longer_alike, tally_alike}
+use Rattle.check_survey.specs.Graphs.{AreComplete}
+use Rattle.check_survey.specs.Things.{largest, tally}
+use Rattle.check_survey.specs.declared.thing.Thing.{Thing}
 use Rattle.ttcn_types.proofs.Complete.{Below}
 use Rattle.ttcn_types.proofs.LeastWhere.{where_same}
 use Rattle.ttcn_types.specs.Limits.{longest_chain}

@@ -1,7 +1,7 @@
 -- What constants, templates and altsteps refer to, and of how many parts they are.
 use Rattle.std.specs.Prelude.{ℕ, ◌+◌, List, [], ◌∷◌, ◌++◌, length, map, take, Option, Some, None}
-pub use Rattle.survey.specs.Things.{beside, leaf, parts}
-use Rattle.survey.specs.declared.thing.Thing.{Thing}
+pub use Rattle.check_survey.specs.Things.{beside, leaf, parts}
+use Rattle.check_survey.specs.declared.thing.Thing.{Thing}
 use Rattle.ttcn_syntax.specs.declared.tree.definition.Definition.{Definition}
 use Rattle.ttcn_syntax.specs.declared.tree.definition.DefinitionKind.{DefinitionKind}
 use Rattle.ttcn_syntax.specs.declared.tree.definition.DefinitionKind.TheVariants as kind

@@ -1,7 +1,7 @@
 -- Which rules a module breaks, and the least of them (ES 201 873-1, cut to this subset).
 use Rattle.std.specs.Prelude.{ℕ, ◌≤◌, ◌⊎◌, List, Contains}
-use Rattle.survey.specs.Graphs.{BeginsLongerChain, IsOnCircle, WeighsMore}
-use Rattle.survey.specs.declared.thing.Thing.{Thing}
+use Rattle.check_survey.specs.Graphs.{BeginsLongerChain, IsOnCircle, WeighsMore}
+use Rattle.check_survey.specs.declared.thing.Thing.{Thing}
 use Rattle.ttcn_syntax.specs.declared.tree.definition.Definition.{Definition}
 use Rattle.check_statements.specs.Definitions.{check_sites}
 use Rattle.check_scope.specs.Numbers.{number_of}

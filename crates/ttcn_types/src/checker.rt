@@ -1,6 +1,6 @@
 //! Which modules are well typed.
 ghost use Rattle.std.specs.Prelude.{◌≡◌, ◌<◌, ◌≤◌, length, IfErr, IfOk, IfSome, OnOk};
-ghost use Rattle.survey.specs.Graphs.{AreComplete};
+ghost use Rattle.check_survey.specs.Graphs.{AreComplete};
 ghost use Rattle.check_scope.specs.internal.Checking.{least_in};
 ghost use Rattle.check_scope.specs.Numbers.{number_of};
 ghost use Rattle.ttcn_types.specs.Rules.{AreWellTyped, Breaks, IsRefusal};
@@ -13,8 +13,8 @@ use check_scope::least::Least;
 use check_scope::rule::Rule;
 use check_scope::scope::Scope;
 use check_statements::check_definitions;
+use check_survey::{Findings, Thing, survey};
 use std::alloc::{AllocError, Global};
-use survey::{Findings, Thing, survey};
 use ttcn_syntax::{Definition, Module};
 
 /// How many members a chain may have, of records, of constants and templates, or of altsteps.

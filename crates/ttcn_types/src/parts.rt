@@ -1,6 +1,6 @@
 //! What records, constants, templates and altsteps refer to, and of how many parts they are.
 ghost use Rattle.std.specs.Prelude.{◌≡◌, IfOk, OnOk, map};
-ghost use Rattle.survey.specs.Things.{add, tally};
+ghost use Rattle.check_survey.specs.Things.{add, tally};
 ghost use Rattle.ttcn_types.specs.Parts as spec;
 
 mod numbers;
@@ -11,8 +11,8 @@ mod written;
 use check_scope::names::Meaning;
 use check_scope::scope::Scope;
 use check_scope::types::DataType;
+use check_survey::Thing;
 use std::alloc::{AllocError, Global};
-use survey::Thing;
 use ttcn_syntax::{Alternative, Branch, DefinitionKind, Field};
 pub(crate) use written::constants_and_templates;
 

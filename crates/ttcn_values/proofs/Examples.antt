@@ -2,7 +2,7 @@
 use Rattle.std.proofs.Common.{◌≡◌, refl, true, false, Some, None}
 use Rattle.std.specs.Prelude.{pos, neg_ℤ}
 use Rattle.ttcn_syntax.specs.declared.operator.Operator.TheVariants as operator
-use Rattle.arithmetic.specs.Integers.{calculated}
+use Rattle.value_arithmetic.specs.Integers.{calculated}
 use Rattle.ttcn_values.specs.Matching.{in_range}
 use Rattle.ttcn_values.specs.Operations.{fitting, logical, ordered, truth}
 use Rattle.ttcn_values.specs.Outcomes.{dynamic_error, unmet}

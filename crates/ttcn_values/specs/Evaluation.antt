@@ -4,7 +4,7 @@ use Rattle.ttcn_syntax.specs.declared.operator.Operator.{Operator}
 use Rattle.ttcn_syntax.specs.declared.tree.expression.Expr.{Expr, fold-Expr}
 use Rattle.ttcn_syntax.specs.declared.tree.expression.Expr.TheOpen.{Expr-F, Link-F}
 use Rattle.ttcn_syntax.specs.declared.tree.expression.Link.{Link, fold-Link}
-use Rattle.arithmetic.specs.Integers.{within}
+use Rattle.value_arithmetic.specs.Integers.{within}
 use Rattle.ttcn_values.specs.Operations.{applied, decides, fitting, negated, truth, under_sign}
 use Rattle.ttcn_values.specs.Outcomes.{Outcome, Yields, or_unmet, outcome_and_then}
 use Rattle.ttcn_values.specs.Readings.{Reading, component_at, named, presence, runs}

@@ -5,7 +5,7 @@ use Rattle.ttcn_syntax.specs.declared.operator.Operator.{Operator}
 use Rattle.ttcn_syntax.specs.declared.operator.Operator.TheVariants as operator
 use Rattle.ttcn_syntax.specs.declared.operator.Sign.{Sign}
 use Rattle.ttcn_syntax.specs.declared.operator.Sign.TheVariants as sign
-use Rattle.arithmetic.specs.Integers.{calculated, within}
+use Rattle.value_arithmetic.specs.Integers.{calculated, within}
 use Rattle.ttcn_values.specs.Outcomes.{Outcome, Yields, dynamic_error, or_error, or_unmet, outcome_and_then, outcome_map, unmet}
 use Rattle.ttcn_values.specs.Values.{boolean, equal, integer, is_complete}
 use Rattle.ttcn_values.specs.declared.value.Value.{Value}

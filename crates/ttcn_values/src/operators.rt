@@ -1,6 +1,6 @@
 //! What the operators give (ES 201 873-1, section 7.1).
 ghost use Rattle.std.specs.Prelude.{◌≡◌, pos};
-ghost use Rattle.arithmetic.specs.Integers.{within};
+ghost use Rattle.value_arithmetic.specs.Integers.{within};
 ghost use Rattle.ttcn_values.specs.Operations.{applied, compared, decides, fitting, logical, negated, ordered, under_sign};
 ghost use Rattle.ttcn_values.specs.Outcomes.{Answers, Gives};
 
@@ -23,7 +23,7 @@ pub(crate) fn number(digits: u64) -> Result<Value, Fault>
     ensures gives { Gives (fitting (within (pos digits))) result }
     ensures answers { Answers result }
 {
-    fit(arithmetic::number(digits))
+    fit(value_arithmetic::number(digits))
 }
 
 pub(crate) fn negate(value: &Value) -> Result<Value, Fault>
@@ -42,7 +42,7 @@ pub(crate) fn sign(sign: Sign, value: &Value) -> Result<Value, Fault>
 {
     match (sign, value) {
         (Sign::Plus, Value::Integer(number)) => Ok(Value::Integer(*number)),
-        (Sign::Minus, Value::Integer(number)) => fit(arithmetic::opposite(*number)),
+        (Sign::Minus, Value::Integer(number)) => fit(value_arithmetic::opposite(*number)),
         _ => Err(Fault::Dynamic),
     }
 }
@@ -76,7 +76,9 @@ pub(crate) fn apply(operator: Operator, left: &Value, right: &Value) -> Result<V
             }
         }
         _ => match (left, right) {
-            (Value::Integer(x), Value::Integer(y)) => fit(arithmetic::calculate(operator, *x, *y)),
+            (Value::Integer(x), Value::Integer(y)) => fit(value_arithmetic::calculate(
+                operator, *x, *y,
+            )),
             _ => Err(Fault::Dynamic),
         },
     }

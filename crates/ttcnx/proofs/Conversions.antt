@@ -14,7 +14,7 @@ use Rattle.step_labels.specs.declared.fine.FineLabel.{FineLabel}
 use Rattle.step_labels.specs.declared.fine.FineLabel.TheVariants as kept
 use Rattle.step_labels.specs.declared.label.Expiry.{Expiry}
 use Rattle.step_labels.specs.declared.label.Label.{Label}
-use Rattle.step_rules.specs.Snapshots.{Test}
+use Rattle.semantics.specs.Snapshots.{Test}
 use Rattle.ttcn_step.specs.FineAnswers.{Coarsens, Doubles, IsDoubling}
 use Rattle.ttcn_step.specs.FineLabels.{fine_label_by}
 use Rattle.ttcn_step.specs.Machines.{Machine}

@@ -3,14 +3,14 @@ use Rattle.std.proofs.Common.{◌≡◌, ℕ, List, map, refl, ap, inl, inr}
 use Rattle.std.specs.Prelude.{◌⊎◌, Ok, Err}
 use Rattle.std.specs.declared.alloc.Global.{Global}
 use Rattle.std.specs.declared.vec.Vec.{Vec}
-use Rattle.ttcn_config.specs.declared.config.Config.{Config}
+use Rattle.config_parts.specs.declared.config.Config.{Config}
 use Rattle.report.specs.Runs.{ReadsRun, TellsError, lines_of}
 use Rattle.report.specs.declared.run.RunError.{RunError}
 use Rattle.report.specs.declared.run.RunError.TheVariants as listing
 use Rattle.step_labels.specs.Labels.{label_by}
 use Rattle.step_labels.specs.declared.label.Label.{Label}
-use Rattle.step_rules.specs.Runs.{replay}
-use Rattle.step_rules.specs.Snapshots.{Test}
+use Rattle.semantics.specs.Runs.{replay}
+use Rattle.semantics.specs.Snapshots.{Test}
 use Rattle.ttcn_step.specs.Answers.{Ends}
 use Rattle.ttcn_step.specs.Machines.{Machine, said}
 use Rattle.ttcn_step.specs.declared.error.ReplayError.{ReplayError}

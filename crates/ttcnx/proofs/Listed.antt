@@ -4,14 +4,14 @@ use Rattle.std.specs.List.{All, cons_option, filter_map}
 use Rattle.std.specs.declared.alloc.Global.{Global}
 use Rattle.std.specs.declared.vec.Vec.{Vec}
 use Rattle.std.proofs.lemmas.List.Elements.{All-cons, All-contains, All-nil}
-use Rattle.exploration.specs.Found.{IsBestRun}
-use Rattle.fine_runs.proofs.Ends.{ends_as_runs}
-use Rattle.fine_runs.proofs.Laws.{same_verdicts}
-use Rattle.fine_runs.specs.Verdicts.{EndsFinelyWith, EndsWith, HasRun}
+use Rattle.ttcnx_runs.specs.Found.{IsBestRun}
+use Rattle.laws_fine.proofs.Ends.{ends_as_runs}
+use Rattle.laws_fine.proofs.Laws.{same_verdicts}
+use Rattle.laws_fine.specs.Verdicts.{EndsFinelyWith, EndsWith, HasRun}
 use Rattle.report.specs.declared.report.Outcome.{Outcome}
 use Rattle.report.specs.declared.report.Report.{Report}
 use Rattle.step_labels.specs.declared.label.Label.{Label}
-use Rattle.step_rules.specs.Snapshots.{Test}
+use Rattle.semantics.specs.Snapshots.{Test}
 use Rattle.ttcn_syntax.specs.declared.tree.definition.Module.{Module}
 use Rattle.ttcn_syntax.specs.declared.tree.statement.Verdict.{Verdict}
 use Rattle.ttcn_syntax.specs.declared.tree.statement.Verdict.TheVariants as verdict

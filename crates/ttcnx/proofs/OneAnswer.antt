@@ -2,8 +2,8 @@
 use Rattle.std.proofs.Common.{◌≡◌, ℕ, List, refl, sym, subst, ◌∙◌, arith}
 use Rattle.std.specs.Prelude.{Some}
 use Rattle.search_layer.specs.declared.plan.Plan.{Plan}
-use Rattle.live_laws.proofs.PartCounts.{counts_once}
-use Rattle.step_rules.specs.Snapshots.{Test}
+use Rattle.laws_live.proofs.PartCounts.{counts_once}
+use Rattle.semantics.specs.Snapshots.{Test}
 use Rattle.ttcn_syntax.proofs.Once.{reads_once}
 use Rattle.ttcn_syntax.specs.declared.tree.definition.Module.{Module}
 use Rattle.ttcn_parse.proofs.Complete.{one_tree}

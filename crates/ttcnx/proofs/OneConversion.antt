@@ -1,15 +1,15 @@
 -- A text, the name of a test case and a run file have one conversion.
 use Rattle.std.proofs.Common.{◌≡◌, ℕ, List, Result, Ok, Err, refl, sym, ap, subst, ◌∙◌}
 use Rattle.std.specs.Prelude.{map}
-use Rattle.fine_runs.specs.Doubling.{doubled}
-use Rattle.fine_runs.specs.Fates.{coarse}
-use Rattle.fine_runs.specs.Fine.{Fine, fine_replay}
+use Rattle.laws_fine.specs.Doubling.{doubled}
+use Rattle.laws_fine.specs.Fates.{coarse}
+use Rattle.laws_fine.specs.Fine.{Fine, fine_replay}
 use Rattle.report.proofs.Lines.{fine_run_has_no_bad, fine_run_same, first_bad_fine_same, first_bad_same, run_has_no_bad, run_same}
 use Rattle.report.specs.Runs.{ReadsFineRun, lines_of}
 use Rattle.step_labels.specs.Labels.{label_by}
 use Rattle.step_labels.specs.declared.fine.FineLabel.{FineLabel}
-use Rattle.step_rules.specs.Configurations.{Configuration}
-use Rattle.step_rules.specs.Snapshots.{Test}
+use Rattle.semantics.specs.Configurations.{Configuration}
+use Rattle.semantics.specs.Snapshots.{Test}
 use Rattle.ttcn_step.specs.FineAnswers.{HasEnded, LeadTo}
 use Rattle.ttcn_step.specs.FineLabels.{fine_label_by}
 use Rattle.ttcnx.proofs.OneAnswer.{not_both, one_reason, one_test}

@@ -5,9 +5,9 @@ use Rattle.report.proofs.Lines.{first_bad_same, run_has_no_bad, run_same}
 use Rattle.report.specs.Runs.{ReadsRun, lines_of}
 use Rattle.step_labels.specs.Labels.{label_by}
 use Rattle.step_labels.specs.declared.label.Label.{Label}
-use Rattle.step_rules.specs.Configurations.{Configuration}
-use Rattle.step_rules.specs.Runs.{replay}
-use Rattle.step_rules.specs.Snapshots.{Test}
+use Rattle.semantics.specs.Configurations.{Configuration}
+use Rattle.semantics.specs.Runs.{replay}
+use Rattle.semantics.specs.Snapshots.{Test}
 use Rattle.ttcnx.specs.Replayed.{Answer, HasOneReplay, OfRun, SameReplay, bad_label, lacking, named, not_enabled, replayed, replayed_text}
 use Rattle.ttcnx.specs.declared.fault.Fault.TheVariants as fault
 use Rattle.ttcnx.proofs.OneAnswer.{not_both, one_reason, one_test}

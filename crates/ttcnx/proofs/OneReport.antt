@@ -15,12 +15,12 @@ use Rattle.summary.specs.Run.{Run, Before, NoLater, labels_of}
 use Rattle.summary.specs.Exploration.{IsBest}
 use Rattle.explore.proofs.RunOrder.{before_trans}
 use Rattle.search_layer.specs.declared.plan.Plan.{Plan}
-use Rattle.exploration.specs.Found.{AreBlocked, AreBranches, IsBestRun}
-use Rattle.live_laws.proofs.PartCounts.{counts_once}
-use Rattle.place_summaries.proofs.OneAscent.{one_ascent}
-use Rattle.place_summaries.specs.Ascent.{Ascends}
-use Rattle.place_summaries.specs.KeyCode.{same_keys}
-use Rattle.place_summaries.specs.KeySet.{from_list}
+use Rattle.ttcnx_runs.specs.Found.{AreBlocked, AreBranches, IsBestRun}
+use Rattle.laws_live.proofs.PartCounts.{counts_once}
+use Rattle.summary.proofs.OneAscent.{one_ascent}
+use Rattle.summary.specs.Ascent.{Ascends}
+use Rattle.summary.specs.KeyCode.{same_keys}
+use Rattle.summary.specs.KeySet.{from_list}
 use Rattle.report.specs.Json.{json_text, label_json, list_of, outcome_json, place_json, standing_json}
 use Rattle.report.specs.Texts.{blocked_line, branch_line, header_text, line, outcome_text, report_text, step_line, word_of, yes_or_no}
 use Rattle.report.specs.declared.report.Outcome.{Outcome}
@@ -32,17 +32,17 @@ use Rattle.serde_json.specs.Written.{compact_text}
 use Rattle.step_labels.specs.Labels.{label_by, label_with}
 use Rattle.step_labels.specs.declared.label.Expiry.{Expiry}
 use Rattle.step_labels.specs.declared.label.Label.{Label}
-use Rattle.step_rules.specs.Configurations.{badness}
-use Rattle.step_rules.specs.Labels.{label_cmp}
-use Rattle.step_rules.specs.Runs.{graph_of}
-use Rattle.step_rules.specs.Snapshots.{Test}
-use Rattle.step_rules.specs.Steps as rules
+use Rattle.semantics.specs.Configurations.{badness}
+use Rattle.semantics.specs.Labels.{label_cmp}
+use Rattle.semantics.specs.Runs.{graph_of}
+use Rattle.semantics.specs.Snapshots.{Test}
+use Rattle.semantics.specs.Steps as rules
 use Rattle.ttcn_syntax.specs.declared.place.Span.{Span}
 use Rattle.ttcn_syntax.specs.declared.tree.statement.Verdict.{Verdict}
 use Rattle.ttcn_values.specs.declared.path.Path.{Path}
 use Rattle.ttcnx.specs.Tells.{Tells, all_verdicts, labels_in, outcome_of, standing_in}
-use Rattle.exploration.specs.Labels.{label_total}
-use Rattle.exploration.specs.Orders.{place_total, standing_total}
+use Rattle.ttcnx_runs.specs.Labels.{label_total}
+use Rattle.ttcnx_runs.specs.Orders.{place_total, standing_total}
 
 -- ---- a mark has one best run
 

@@ -5,7 +5,7 @@ use Rattle.std.specs.List.{filter_map, zip}
 use Rattle.std.specs.declared.alloc.Global.{Global}
 use Rattle.std.specs.declared.vec.Vec.{Vec}
 use Rattle.step_labels.specs.declared.label.Label.{Label}
-use Rattle.step_rules.specs.Configurations.{badness}
+use Rattle.semantics.specs.Configurations.{badness}
 use Rattle.ttcn_syntax.specs.declared.tree.statement.Verdict.{Verdict}
 use Rattle.ttcnx.specs.Tells.{all_verdicts, outcome_of, outcomes_of}
 

@@ -8,8 +8,8 @@ use Rattle.search_layer.specs.Limits.{IsWithinLimits}
 use Rattle.search_layer.specs.declared.plan.ExploreError.{ExploreError}
 use Rattle.search_layer.specs.declared.plan.ExploreError.TheVariants as searching
 use Rattle.search_layer.specs.declared.plan.Plan.{Plan}
-use Rattle.live_laws.specs.Parts.{CountsParts}
-use Rattle.step_rules.specs.Snapshots.{Test}
+use Rattle.laws_live.specs.Parts.{CountsParts}
+use Rattle.semantics.specs.Snapshots.{Test}
 use Rattle.ttcn_syntax.specs.Cut.{Stops, at_fault, past_gap, past_token, no_piece, unended_comment, unended_text, number_too_large}
 use Rattle.ttcn_syntax.specs.Limits.{longest_text}
 use Rattle.ttcn_syntax.specs.declared.error.LexError.{LexError}

@@ -4,10 +4,10 @@ use Rattle.std.specs.Prelude.{◌⊎◌, Ok, Err}
 use Rattle.report.specs.declared.report.Report.{Report}
 use Rattle.search_layer.specs.Limits.{IsWithinLimits}
 use Rattle.search_layer.specs.declared.plan.Plan.{Plan}
-use Rattle.streams.proofs.Known.{known_text}
-use Rattle.streams.specs.Transfers.{BrokeOff, Device, Stopped, WasRead}
-use Rattle.streams.specs.declared.reading.ReadError.{ReadError}
-use Rattle.streams.specs.declared.reading.ReadError.TheVariants as reading
+use Rattle.ttcnx_streams.proofs.Known.{known_text}
+use Rattle.ttcnx_streams.specs.Transfers.{BrokeOff, Device, Stopped, WasRead}
+use Rattle.ttcnx_streams.specs.declared.reading.ReadError.{ReadError}
+use Rattle.ttcnx_streams.specs.declared.reading.ReadError.TheVariants as reading
 use Rattle.ttcnx.specs.Answer.{Answer, IsAnswer}
 use Rattle.ttcnx.specs.Streamed.{Streams, HasOneText, IsStreamed, enough, read_fault, refused, starved, unread}
 use Rattle.ttcnx.specs.declared.fault.Fault.{Fault}

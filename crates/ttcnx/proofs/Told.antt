@@ -3,11 +3,11 @@ use Rattle.std.proofs.Common.{◌≡◌, ◌≤◌, ℕ, Bool, List, map, sym, s
 use Rattle.std.specs.Prelude.{◌↔◌, IsTrue, string_bytes}
 use Rattle.std.specs.List.{filter_map, zip}
 use Rattle.search_layer.specs.declared.plan.Plan.{Plan}
-use Rattle.exploration.specs.Found.{AreBlocked, AreBranches, AreFound}
-use Rattle.exploration.specs.declared.exploration.Exploration.{Exploration}
-use Rattle.live_laws.specs.Parts.{CountsParts, IsCompleteByParts}
+use Rattle.ttcnx_runs.specs.Found.{AreBlocked, AreBranches, AreFound}
+use Rattle.ttcnx_runs.specs.declared.exploration.Exploration.{Exploration}
+use Rattle.laws_live.specs.Parts.{CountsParts, IsCompleteByParts}
 use Rattle.report.specs.declared.report.Report.{Report}
-use Rattle.step_rules.specs.Snapshots.{Test}
+use Rattle.semantics.specs.Snapshots.{Test}
 use Rattle.ttcn_step.specs.Standing.{standing_by}
 use Rattle.ttcn_syntax.specs.declared.place.Span.{Span}
 use Rattle.ttcn_values.specs.declared.path.Path.{Path}

@@ -1,15 +1,15 @@
 -- The runs of the test case that a text and a name mean stay well typed.
 use Rattle.std.proofs.Common.{◌≡◌, ℕ, true, List, Option, Some, None, is_some, option_map, refl, sym, subst}
 use Rattle.check_scope.specs.Names.{kind_at}
-use Rattle.step_rules.specs.Runs.{testcase_body}
-use Rattle.step_rules.specs.Snapshots.{Test}
+use Rattle.semantics.specs.Runs.{testcase_body}
+use Rattle.semantics.specs.Snapshots.{Test}
 use Rattle.ttcn_syntax.specs.declared.tree.definition.Module.{Module}
 use Rattle.ttcn_types.proofs.TestCaseLemmas.{named-at}
 use Rattle.ttcn_types.specs.Programs.{IsTestCaseAt, test_case_named}
 use Rattle.ttcnx.proofs.Listed.{well-typed}
 use Rattle.ttcnx.specs.Named.{IsTestOf}
-use Rattle.type_laws.proofs.Running.{stays_well_typed}
-use Rattle.type_laws.specs.Runs.{StaysWellTyped}
+use Rattle.laws_types.proofs.Running.{stays_well_typed}
+use Rattle.laws_types.specs.Runs.{StaysWellTyped}
 
 has-body : (tree : Module) (at : ℕ) (name : List ℕ) → IsTestCaseAt tree.definitions name at → is_some (testcase_body (kind_at tree.definitions at)) ≡ true
 has-body tree at name is = subst (λ k. is_some (testcase_body k) ≡ true) (sym is.1) refl

@@ -3,11 +3,11 @@
 use Rattle.std.specs.Prelude.{◌≡◌, ℕ, ◌<◌, List, Result, Ok, Err}
 use Rattle.search_layer.specs.Limits.{IsWithinLimits}
 use Rattle.search_layer.specs.declared.plan.Plan.{Plan}
-use Rattle.live_laws.specs.Parts.{CountsParts}
+use Rattle.laws_live.specs.Parts.{CountsParts}
 use Rattle.report.specs.Json.{json_text}
 use Rattle.report.specs.Texts.{report_text}
 use Rattle.report.specs.declared.report.Report.{Report}
-use Rattle.step_rules.specs.Snapshots.{Test}
+use Rattle.semantics.specs.Snapshots.{Test}
 use Rattle.ttcnx.specs.Fault.{SameFault}
 use Rattle.ttcnx.specs.Named.{HasNoTest, IsTestOf}
 use Rattle.ttcnx.specs.Tells.{Tells}

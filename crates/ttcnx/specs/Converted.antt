@@ -5,10 +5,10 @@ use Rattle.std.specs.Prelude.{◌≡◌, ℕ, List, map, None, Some, Ok, Err}
 use Rattle.std.specs.List.{flat_map}
 use Rattle.std.specs.declared.alloc.Global.{Global}
 use Rattle.std.specs.declared.vec.Vec.{Vec}
-use Rattle.fine_runs.specs.Doubling.{doubled}
-use Rattle.fine_runs.specs.Fates.{coarse}
-use Rattle.fine_runs.specs.Fine as fine
-use Rattle.fine_runs.specs.Fine.{fine_replay}
+use Rattle.laws_fine.specs.Doubling.{doubled}
+use Rattle.laws_fine.specs.Fates.{coarse}
+use Rattle.laws_fine.specs.Fine as fine
+use Rattle.laws_fine.specs.Fine.{fine_replay}
 use Rattle.report.specs.Labels.{fine_text, label_text}
 use Rattle.report.specs.Runs.{IsFirstBad, IsFirstBadFine, ReadsFineRun, ReadsRun, lines_of}
 use Rattle.report.specs.Texts.{line}
@@ -16,10 +16,10 @@ use Rattle.step_labels.specs.Labels.{label_by}
 use Rattle.step_labels.specs.declared.fine.FineLabel.{FineLabel}
 use Rattle.step_labels.specs.declared.fine.FineLabel.TheVariants as kept
 use Rattle.step_labels.specs.declared.label.Label.{Label}
-use Rattle.step_rules.specs.Configurations.{Configuration}
-use Rattle.step_rules.specs.Runs.{replay}
-use Rattle.step_rules.specs.Snapshots.{Test}
-use Rattle.step_rules.specs.Steps as rules
+use Rattle.semantics.specs.Configurations.{Configuration}
+use Rattle.semantics.specs.Runs.{replay}
+use Rattle.semantics.specs.Snapshots.{Test}
+use Rattle.semantics.specs.Steps as rules
 use Rattle.ttcn_step.specs.FineAnswers.{HasEnded, LeadTo}
 use Rattle.ttcn_step.specs.FineLabels.{fine_label_by}
 use Rattle.ttcnx.specs.Named.{HasNoTest, IsTestOf}

@@ -1,7 +1,7 @@
 -- Which test case is meant by a text and a name, and what is answered where there is none.
 use Rattle.std.specs.Prelude.{◌≡◌, ℕ, List, Option, Some, None}
 use Rattle.std.specs.Option.{option_map}
-use Rattle.step_rules.specs.Snapshots.{Test}
+use Rattle.semantics.specs.Snapshots.{Test}
 use Rattle.ttcn_syntax.specs.declared.tree.definition.Module.{Module}
 use Rattle.ttcn_types.specs.Programs.{test_case_named}
 use Rattle.ttcnx.specs.Checked.{IsRefusedWith, IsTextOf}

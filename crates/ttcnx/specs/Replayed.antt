@@ -8,11 +8,11 @@ use Rattle.report.specs.Runs.{IsFirstBad, ReadsRun, lines_of}
 use Rattle.report.specs.Texts.{line, word_of}
 use Rattle.step_labels.specs.Labels.{label_by}
 use Rattle.step_labels.specs.declared.label.Label.{Label}
-use Rattle.step_rules.specs.Configurations.{Configuration, Ended, Goes}
-use Rattle.step_rules.specs.Labels.{labels}
-use Rattle.step_rules.specs.Runs.{replay}
-use Rattle.step_rules.specs.Snapshots.{Test}
-use Rattle.step_rules.specs.Steps as rules
+use Rattle.semantics.specs.Configurations.{Configuration, Ended, Goes}
+use Rattle.semantics.specs.Labels.{labels}
+use Rattle.semantics.specs.Runs.{replay}
+use Rattle.semantics.specs.Snapshots.{Test}
+use Rattle.semantics.specs.Steps as rules
 use Rattle.ttcnx.specs.Fault.{SameFault}
 use Rattle.ttcnx.specs.Named.{HasNoTest, IsTestOf}
 use Rattle.ttcnx.specs.declared.fault.Fault.{Fault}

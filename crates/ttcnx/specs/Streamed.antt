@@ -6,10 +6,10 @@ use Rattle.report.specs.Texts.{report_text}
 use Rattle.report.specs.declared.report.Report.{Report}
 use Rattle.search_layer.specs.Limits.{IsWithinLimits}
 use Rattle.search_layer.specs.declared.plan.Plan.{Plan}
-use Rattle.streams.specs.Transfers.{BrokeOff, Device, Stopped, Took, TookPart, WasRead, device_by}
-use Rattle.streams.specs.declared.counted.Counted.{Counted}
-use Rattle.streams.specs.declared.reading.ReadError.{ReadError}
-use Rattle.streams.specs.declared.reading.ReadError.TheVariants as reading
+use Rattle.ttcnx_streams.specs.Transfers.{BrokeOff, Device, Stopped, Took, TookPart, WasRead, device_by}
+use Rattle.ttcnx_streams.specs.declared.counted.Counted.{Counted}
+use Rattle.ttcnx_streams.specs.declared.reading.ReadError.{ReadError}
+use Rattle.ttcnx_streams.specs.declared.reading.ReadError.TheVariants as reading
 use Rattle.ttcn_syntax.specs.Limits.{longest_text}
 use Rattle.ttcnx.specs.Answer.{IsAnswer}
 use Rattle.ttcnx.specs.declared.fault.Fault.{Fault}

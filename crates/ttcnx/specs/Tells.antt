@@ -8,11 +8,11 @@ use Rattle.ttcn_syntax.specs.declared.place.Span.{Span}
 use Rattle.ttcn_syntax.specs.declared.tree.statement.Verdict.{Verdict}
 use Rattle.ttcn_syntax.specs.declared.tree.statement.Verdict.TheVariants as verdict
 use Rattle.ttcn_values.specs.declared.path.Path.{Path}
-use Rattle.step_rules.specs.Snapshots.{Test}
+use Rattle.semantics.specs.Snapshots.{Test}
 use Rattle.step_labels.specs.declared.label.Label.{Label}
-use Rattle.live_laws.specs.Parts.{CountsParts, IsCompleteByParts}
+use Rattle.laws_live.specs.Parts.{CountsParts, IsCompleteByParts}
 use Rattle.search_layer.specs.declared.plan.Plan.{Plan}
-use Rattle.exploration.specs.Found.{AreBlocked, AreBranches, IsBestRun}
+use Rattle.ttcnx_runs.specs.Found.{AreBlocked, AreBranches, IsBestRun}
 use Rattle.report.specs.declared.report.Outcome.{Outcome}
 use Rattle.report.specs.declared.report.Report.{Report}
 use Rattle.report.specs.declared.report.Standing.{Standing}

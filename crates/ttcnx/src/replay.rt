@@ -4,12 +4,12 @@ ghost use Rattle.std.specs.Fmt.{decimal};
 ghost use Rattle.ttcn_step.specs.Machines.{Fits, said};
 ghost use Rattle.report.specs.Texts.{line};
 ghost use Rattle.step_labels.specs.Labels.{label_by};
-ghost use Rattle.step_rules.specs.Snapshots.{Test};
+ghost use Rattle.semantics.specs.Snapshots.{Test};
 ghost use Rattle.ttcn_syntax.specs.Limits.{longest_text};
 ghost use Rattle.ttcnx.specs.Fault.{lexical_fault};
 ghost use Rattle.ttcnx.specs.Named.{IsTestOf};
 ghost use Rattle.ttcnx.specs.Replayed.{HasOneReplay, IsReplay, ending_text, open_or_blocked};
-ghost use Rattle.type_laws.specs.Runs.{StaysWellTyped};
+ghost use Rattle.laws_types.specs.Runs.{StaysWellTyped};
 
 use crate::fault::Fault;
 use crate::testcase::testcase_of;

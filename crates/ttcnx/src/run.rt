@@ -1,9 +1,9 @@
 //! From the text of a module to the report on one of its test cases.
 ghost use Rattle.std.specs.Prelude.{◌≡◌, ℕ, ◌<◌, ◌≤◌, ◌⊎◌, ◌↔◌, length, Err, IfOk, IsErrOf, IsTrue, map, string_bytes};
 ghost use Rattle.std.specs.List.{filter_map, zip};
-ghost use Rattle.fine_runs.specs.Verdicts.{EndsFinelyWith, EndsWith};
+ghost use Rattle.laws_fine.specs.Verdicts.{EndsFinelyWith, EndsWith};
 ghost use Rattle.search_layer.specs.Limits.{IsWithinLimits};
-ghost use Rattle.step_rules.specs.Snapshots.{Test};
+ghost use Rattle.semantics.specs.Snapshots.{Test};
 ghost use Rattle.ttcn_step.specs.Standing.{standing_by};
 ghost use Rattle.ttcn_syntax.specs.Limits.{longest_text};
 ghost use Rattle.ttcn_syntax.specs.declared.tree.statement.Verdict as tree;
@@ -11,11 +11,10 @@ ghost use Rattle.ttcnx.specs.Answer.{HasOneAnswer, IsAnswer};
 ghost use Rattle.ttcnx.specs.Fault.{lexical_fault};
 ghost use Rattle.ttcnx.specs.Named.{IsTestOf};
 ghost use Rattle.ttcnx.specs.Tells.{Lists, TellsOfRuns, all_verdicts, outcome_of, standing_in};
-ghost use Rattle.type_laws.specs.Runs.{StaysWellTyped};
+ghost use Rattle.laws_types.specs.Runs.{StaysWellTyped};
 
 use crate::fault::Fault;
 use crate::testcase::testcase_of;
-use exploration::{Exploration, explore_runs};
 use explore::{Gate, Plan};
 use report::{Outcome, Report, Standing};
 use std::alloc::{AllocError, Global};
@@ -23,6 +22,7 @@ use std::thread::Threads;
 use step_labels::Label;
 use ttcn_step::Machine;
 use ttcn_syntax::{LexError, Verdict};
+use ttcnx_runs::{Exploration, explore_runs};
 
 /// The verdicts, from the best on.
 const VERDICTS: [Verdict; 5] = [

@@ -1,7 +1,7 @@
 //! From a reader that gives the text of a module to a writer that takes the report on one of its test cases.
 ghost use Rattle.std.specs.Prelude.{◌≡◌, ℕ, ◌<◌, ◌-◌, ◌^◌, List, take, Err, IfErr, IfOk, IfSome, string_bytes};
 ghost use Rattle.search_layer.specs.Limits.{IsWithinLimits};
-ghost use Rattle.streams.specs.Transfers.{device_by};
+ghost use Rattle.ttcnx_streams.specs.Transfers.{device_by};
 ghost use Rattle.ttcnx.specs.Answer.{HasOneAnswer};
 ghost use Rattle.ttcnx.specs.Streamed.{HasOneText, IsStreamed, streams_by, enough, told_as};
 
@@ -12,9 +12,9 @@ use report::{Report, to_json, to_text};
 use std::alloc::{AllocError, Global};
 use std::io::{Read, Write};
 use std::thread::Threads;
-use streams::{Counted, ReadError, WriteError, read_up_to, write_whole};
 use thiserror::Error;
 use ttcn_syntax::LONGEST_TEXT;
+use ttcnx_streams::{Counted, ReadError, WriteError, read_up_to, write_whole};
 
 /// How many bytes of a text are read: one that has them all is refused as too long.
 const ENOUGH: usize = LONGEST_TEXT + 1;

@@ -6,8 +6,8 @@ ghost use Rattle.std.proofs.lemmas.List.{length-replicate, length-set};
 ghost use Rattle.bench.specs.Counters.{counters, labels_ascend};
 
 use super::row::Row;
-use std::alloc::Global;
-use summary::{Memory, System};
+use std::alloc::{AllocError, Global};
+use summary::System;
 
 /// Rows of 96 bytes. A label is the place of one of the first five, which it counts up.
 #[derive(Drop)]
@@ -25,7 +25,7 @@ impl Counters {
     }
 
     /// A label, with the row that it leads to.
-    fn successor(&self, alloc: Global, row: &Row, label: u8) -> Result<(u8, Row), Memory>
+    fn successor(&self, alloc: Global, row: &Row, label: u8) -> Result<(u8, Row), AllocError>
         requires { length row.now ≡ 96 }
         ensures { IfOk result (λ pair. pair ≡ (label, (counters self.now.values).after row.now label)) }
     {
@@ -53,19 +53,19 @@ impl System for Counters {
 
     ghost marks_below_8 = { λ it s f. tt };
 
-    fn start(&self, alloc: Global) -> Result<Row, Memory> {
+    fn start(&self, alloc: Global) -> Result<Row, AllocError> {
         Row::zeros(alloc)
     }
 
-    fn labels(&self, alloc: Global, _row: &Row) -> Result<Vec<u8>, Memory> {
+    fn labels(&self, alloc: Global, _row: &Row) -> Result<Vec<u8>, AllocError> {
         Vec::from_slice(alloc, &[0, 1, 2, 3, 4])
     }
 
-    fn next(&self, alloc: Global, row: &Row, label: &u8) -> Result<Row, Memory> {
+    fn next(&self, alloc: Global, row: &Row, label: &u8) -> Result<Row, AllocError> {
         row.counted(alloc, usize::from(*label % 5), self.values)
     }
 
-    fn successors(&self, alloc: Global, row: &Row) -> Result<Vec<(u8, Row)>, Memory> {
+    fn successors(&self, alloc: Global, row: &Row) -> Result<Vec<(u8, Row)>, AllocError> {
         let all = [
             self.successor(alloc, row, 0)?,
             self.successor(alloc, row, 1)?,
@@ -76,7 +76,7 @@ impl System for Counters {
         Ok(Vec::from_array(alloc, all)?)
     }
 
-    fn copy(&self, _alloc: Global, label: &u8) -> Result<u8, Memory> {
+    fn copy(&self, _alloc: Global, label: &u8) -> Result<u8, AllocError> {
         Ok(*label)
     }
 

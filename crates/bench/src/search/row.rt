@@ -1,10 +1,9 @@
 //! Rows of bytes.
 ghost use Rattle.std.specs.Prelude.{◌≡◌, ◌+◌, ◌%◌, ◌<◌, ◌≤◌, length, replicate, slice_index, slice_set, IfOk};
 
-use std::alloc::Global;
+use std::alloc::{AllocError, Global};
 use std::hash::{Hash, Hasher};
 use std::marker::Model;
-use summary::Memory;
 
 pub const LENGTH: usize = 96;
 
@@ -27,7 +26,7 @@ impl Model for Row {
 
 impl Row {
     /// 96 zeros.
-    pub fn zeros(alloc: Global) -> Result<Row, Memory>
+    pub fn zeros(alloc: Global) -> Result<Row, AllocError>
         ensures { IfOk result (λ row. row ≡ replicate 96 0) }
     {
         Ok(Row {
@@ -36,7 +35,7 @@ impl Row {
     }
 
     /// The row in which the byte at a place counts up, through so many values.
-    pub fn counted(&self, alloc: Global, place: usize, values: u8) -> Result<Row, Memory>
+    pub fn counted(&self, alloc: Global, place: usize, values: u8) -> Result<Row, AllocError>
         requires place { place < length self.now }
         requires values { 1 ≤ values }
         ensures { IfOk result (λ row. row ≡ slice_set self.now place ((slice_index self.now place + 1) % values)) }

@@ -2,7 +2,7 @@
 use Rattle.std.specs.Prelude.{ℕ, List, [], ◌∷◌, ◌++◌, Some, bytes_eq, if◌then◌else◌}
 use Rattle.std.specs.List.{flat_map, list_any}
 use Rattle.ttcn_syntax.specs.declared.tree.definition.Definition.{Definition}
-use Rattle.step_rules.specs.Items.{Item, action_of}
+use Rattle.semantics.specs.Items.{Item, action_of}
 use Rattle.graph_items.specs.Standing.{part_of}
 use Rattle.graph_items.specs.declared.first.First.{First}
 use Rattle.graph_items.specs.declared.first.First.TheVariants as first

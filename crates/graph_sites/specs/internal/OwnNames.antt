@@ -5,7 +5,7 @@ use Rattle.ttcn_syntax.specs.declared.tree.definition.Definition.{Definition}
 use Rattle.ttcn_syntax.specs.declared.tree.definition.Parameter.{Parameter}
 use Rattle.check_expressions.specs.Calls.{parameters_of}
 use Rattle.check_scope.specs.Names.{Entry, Names, behind, kind_at}
-use Rattle.step_rules.specs.Sites.{Site}
+use Rattle.semantics.specs.Sites.{Site}
 
 -- names that are declared one after the other, the last one first
 abbrev pub own_names : List Entry → Names

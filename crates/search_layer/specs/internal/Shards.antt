@@ -1,7 +1,7 @@
 -- Which shards the states of candidates belong to.
 use Rattle.std.specs.Prelude.{◌≡◌, ℕ, ◌+◌, ◌<◌, List, length, slice_get, slice_index, Some}
 use Rattle.std.specs.List.{AllZip}
-use Rattle.sharded_set.specs.Sharded.{shard_of}
+use Rattle.search_shards.specs.Sharded.{shard_of}
 use Rattle.search_layer.specs.declared.visited.Candidate.{Candidate}
 
 module _ {C L : Type 0} (input : C → List (List ℕ)) (shards : ℕ) (cs : List (Candidate C L)) where

@@ -9,7 +9,7 @@ ghost use Rattle.search_layer.specs.internal.Work.{in_pieces, AreFirst, AreFirst
 use super::{Work, Worked, Worker};
 use crate::plan::{Gate, Plan};
 use crate::visited::Candidate;
-use sharded_set::ShardedSet;
+use search_shards::ShardedSet;
 use shared::{Board, BoardSeat, Seen, SeenSeat};
 use std::alloc::{AllocError, Global};
 use std::thread;

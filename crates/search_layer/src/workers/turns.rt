@@ -7,7 +7,7 @@ ghost use Rattle.shared.specs.SeenSeats.{view, IsSeatOf};
 ghost use Rattle.search_layer.specs.internal.Search.{IsStep, with_steps};
 ghost use Rattle.search_layer.specs.internal.Shards.{AreShardsFrom};
 ghost use Rattle.search_layer.specs.internal.Work.{have_same_state, in_pieces, AddsNew, HasPlaced, IsIdle, IsSameBoardSeat, IsReady, IsDone};
-ghost use Rattle.sharded_set.specs.Sharded.{shard_of};
+ghost use Rattle.search_shards.specs.Sharded.{shard_of};
 
 use super::{Work, Worked, Worker};
 use crate::plan::Gate;

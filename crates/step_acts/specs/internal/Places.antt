@@ -1,7 +1,7 @@
 -- What stands at positions.
 use Rattle.std.specs.Prelude.{ℕ, List, [], ◌∷◌, get_or}
-use Rattle.step_rules.specs.Items.{Item}
-use Rattle.step_rules.specs.Sites.{Site}
+use Rattle.semantics.specs.Items.{Item}
+use Rattle.semantics.specs.Sites.{Site}
 use Rattle.step_snapshot.specs.declared.test_case.TestCase.{TestCase}
 use Rattle.graph_items.specs.Begun.{site_of_list}
 

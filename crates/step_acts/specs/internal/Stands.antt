@@ -2,11 +2,11 @@
 use Rattle.std.specs.Prelude.{map}
 use Rattle.step_acts.specs.internal.Places.{behind_first, list_at, site_at}
 use Rattle.step_acts.specs.declared.stand.Stand.{Stand}
-use Rattle.step_rules.specs.Sites.{Site}
-use Rattle.step_rules.specs.Statements as said
+use Rattle.semantics.specs.Sites.{Site}
+use Rattle.semantics.specs.Statements as said
 use Rattle.step_snapshot.specs.Seen.{own_by, seen_by}
 use Rattle.step_snapshot.specs.Tests.{legend_by, test_by}
-use Rattle.ttcn_config.specs.Legend.{Legend, frame_by}
+use Rattle.config_parts.specs.Legend.{Legend, frame_by}
 
 -- the legend of the test case in which the component stands
 abbrev pub legend_of : Stand → Legend

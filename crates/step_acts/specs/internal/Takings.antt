@@ -5,14 +5,14 @@ use Rattle.step_acts.specs.declared.stand.Stand.{Stand}
 use Rattle.step_choice.specs.Choices.{IsTaken, IsWayOf}
 use Rattle.step_choice.specs.Deeds.{Deed, Elapses, Nothing, Receives}
 use Rattle.step_choice.specs.declared.taken.Taken.{Taken}
-use Rattle.step_rules.specs.Branches.{Chance}
-use Rattle.step_rules.specs.Configurations.{Data}
-use Rattle.step_rules.specs.Entries.{put}
-use Rattle.step_rules.specs.Events.{Effect}
-use Rattle.step_rules.specs.Items.{Target}
-use Rattle.step_rules.specs.Snapshots.{Test}
-use Rattle.step_rules.specs.Statements as said
-use Rattle.step_rules.specs.Storing.{in_frame, store, with_timers}
+use Rattle.semantics.specs.Branches.{Chance}
+use Rattle.semantics.specs.Configurations.{Data}
+use Rattle.semantics.specs.Entries.{put}
+use Rattle.semantics.specs.Events.{Effect}
+use Rattle.semantics.specs.Items.{Target}
+use Rattle.semantics.specs.Snapshots.{Test}
+use Rattle.semantics.specs.Statements as said
+use Rattle.semantics.specs.Storing.{in_frame, store, with_timers}
 use Rattle.ttcn_values.specs.Outcomes.{Outcome, Yields, outcome_and_then}
 use Rattle.ttcn_values.specs.declared.frame.TimerState.TheVariants as timer
 use Rattle.ttcn_values.specs.declared.value.Value.{Value}

@@ -1,7 +1,7 @@
 -- Arguments, one by one.
 use Rattle.std.specs.Prelude.{Option, Some, None}
 use Rattle.ttcn_syntax.specs.declared.tree.definition.Parameter.{Parameter}
-use Rattle.step_rules.specs.Entries.{Entries, put}
+use Rattle.semantics.specs.Entries.{Entries, put}
 use Rattle.ttcn_values.specs.declared.value.Value.{Value}
 
 -- a parameter, if there is one, has a value

@@ -9,14 +9,14 @@ use Rattle.ttcn_syntax.specs.declared.tree.definition.DefinitionKind.TheVariants
 use Rattle.ttcn_syntax.specs.declared.tree.template.MessageTemplate.{MessageTemplate}
 use Rattle.check_scope.specs.Typings.{same_type}
 use Rattle.check_scope.specs.declared.types.DataType.{DataType}
-use Rattle.step_rules.specs.Branches.{Judge, Written, Writing}
-use Rattle.step_rules.specs.Branches as branches
-use Rattle.step_rules.specs.Configurations as rules
-use Rattle.step_rules.specs.Events as events
-use Rattle.step_rules.specs.Events.{Choice, Effect, Faulty, Happened, Passed, Redirect, Trial}
-use Rattle.step_rules.specs.Items.{Item}
-use Rattle.step_rules.specs.Sites.{Site}
-use Rattle.step_rules.specs.Snapshots.{Test}
+use Rattle.semantics.specs.Branches.{Judge, Written, Writing}
+use Rattle.semantics.specs.Branches as branches
+use Rattle.semantics.specs.Configurations as rules
+use Rattle.semantics.specs.Events as events
+use Rattle.semantics.specs.Events.{Choice, Effect, Faulty, Happened, Passed, Redirect, Trial}
+use Rattle.semantics.specs.Items.{Item}
+use Rattle.semantics.specs.Sites.{Site}
+use Rattle.semantics.specs.Snapshots.{Test}
 use Rattle.step_choice.specs.Deeds.{deed_by, deed_of, stored_by, stored_of}
 use Rattle.step_choice.specs.declared.taken.Deed.{Deed}
 use Rattle.step_choice.specs.declared.taken.Deed.TheVariants as code
@@ -24,8 +24,8 @@ use Rattle.step_choice.specs.declared.taken.Stored.{Stored}
 use Rattle.step_snapshot.specs.Seen.{own_by, seen_by}
 use Rattle.step_snapshot.specs.Tests.{legend_by, test_by}
 use Rattle.step_snapshot.specs.declared.snapshot.Snapshot.{Snapshot}
-use Rattle.ttcn_config.specs.Views.{view_by}
-use Rattle.ttcn_config.specs.declared.frame.Cells.{Cells}
+use Rattle.config_parts.specs.Views.{view_by}
+use Rattle.config_parts.specs.declared.frame.Cells.{Cells}
 use Rattle.ttcn_values.specs.Outcomes.{Failure, Fails, Outcome, Yields, unmet}
 use Rattle.ttcn_values.specs.Readings.{Reading}
 use Rattle.ttcn_values.specs.declared.fault.Fault.{Fault}

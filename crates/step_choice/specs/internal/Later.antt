@@ -1,10 +1,10 @@
 -- Choices one after the other.
 use Rattle.std.specs.Prelude.{ℕ, List}
-use Rattle.step_rules.specs.Branches.{Chance, way_through}
-use Rattle.step_rules.specs.Events as events
-use Rattle.step_rules.specs.Events.{Choice, Refused}
-use Rattle.step_rules.specs.Items.{Item}
-use Rattle.step_rules.specs.Snapshots.{Test}
+use Rattle.semantics.specs.Branches.{Chance, way_through}
+use Rattle.semantics.specs.Events as events
+use Rattle.semantics.specs.Events.{Choice, Refused}
+use Rattle.semantics.specs.Items.{Item}
+use Rattle.semantics.specs.Snapshots.{Test}
 use Rattle.ttcn_values.specs.declared.value.Value.{Value}
 
 -- a choice, or another one where it chooses nothing

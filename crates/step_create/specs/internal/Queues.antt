@@ -1,10 +1,10 @@
 -- The ports of components that code makes, among those of the rules.
 use Rattle.std.specs.Prelude.{ℕ, List, [], map}
-use Rattle.step_rules.specs.Configurations as rules
+use Rattle.semantics.specs.Configurations as rules
 use Rattle.step_snapshot.specs.Tests.{legend_by}
 use Rattle.step_snapshot.specs.declared.test_case.TestCase.{TestCase}
-use Rattle.ttcn_config.specs.Legend.{queue_by}
-use Rattle.ttcn_config.specs.declared.component.Queue.{Queue}
+use Rattle.config_parts.specs.Legend.{queue_by}
+use Rattle.config_parts.specs.declared.component.Queue.{Queue}
 
 -- a port at which no message waits
 abbrev pub no_messages : List ℕ → rules.Queue

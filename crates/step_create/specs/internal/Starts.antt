@@ -1,17 +1,17 @@
 -- Where a test case starts, as code makes it.
 use Rattle.std.specs.Prelude.{ℕ, [], ◌∷◌}
 use Rattle.ttcn_syntax.specs.declared.tree.statement.Verdict.TheVariants as verdict
-use Rattle.step_rules.specs.Configurations as rules
-use Rattle.step_rules.specs.Creating.{new_component}
-use Rattle.step_rules.specs.Snapshots.{mtc_of}
-use Rattle.step_rules.specs.Steps.{begin}
+use Rattle.semantics.specs.Configurations as rules
+use Rattle.semantics.specs.Creating.{new_component}
+use Rattle.semantics.specs.Snapshots.{mtc_of}
+use Rattle.semantics.specs.Steps.{begin}
 use Rattle.step_snapshot.specs.Tests.{legend_by, test_by}
 use Rattle.step_snapshot.specs.declared.test_case.TestCase.{TestCase}
-use Rattle.ttcn_config.specs.Legend.{frame_with}
-use Rattle.ttcn_config.specs.declared.component.Component.{Component}
-use Rattle.ttcn_config.specs.declared.config.Config.{Config}
-use Rattle.ttcn_config.specs.declared.config.Config.TheVariants as config
-use Rattle.ttcn_config.specs.declared.frame.Cells.{Cells}
+use Rattle.config_parts.specs.Legend.{frame_with}
+use Rattle.config_parts.specs.declared.component.Component.{Component}
+use Rattle.config_parts.specs.declared.config.Config.{Config}
+use Rattle.config_parts.specs.declared.config.Config.TheVariants as config
+use Rattle.config_parts.specs.declared.frame.Cells.{Cells}
 
 -- the MTC, with the list at a position as frame 1, and these names in frame 0
 abbrev pub mtc_at : TestCase → ℕ → Cells → rules.Component

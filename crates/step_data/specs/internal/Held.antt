@@ -2,8 +2,8 @@
 use Rattle.std.specs.Prelude.{ℕ, Bool, List, Option, nat_eq}
 use Rattle.std.specs.List.{find}
 use Rattle.std.specs.Option.{option_map}
-use Rattle.ttcn_config.specs.declared.frame.Data.{Data}
-use Rattle.ttcn_config.specs.internal.Stored.{cells_in}
+use Rattle.config_parts.specs.declared.frame.Data.{Data}
+use Rattle.config_parts.specs.internal.Stored.{cells_in}
 use Rattle.ttcn_values.specs.declared.value.Value.{Value}
 
 -- what the first entry of a slot says

@@ -6,8 +6,8 @@ use Rattle.ttcn_syntax.specs.declared.tree.statement.Action.{Action}
 use Rattle.ttcn_syntax.specs.declared.tree.statement.Conditional.{Conditional, out-Conditional}
 use Rattle.ttcn_syntax.specs.declared.tree.statement.Statement.{Statement, out-Statement}
 use Rattle.ttcn_syntax.specs.declared.tree.statement.Variable.{Variable}
-use Rattle.step_rules.specs.Items.{Doing, Item, Name, items, site_after}
-use Rattle.step_rules.specs.Sites.{Site}
+use Rattle.semantics.specs.Items.{Doing, Item, Name, items, site_after}
+use Rattle.semantics.specs.Sites.{Site}
 use Rattle.graph_sites.specs.internal.OwnNames.{retracted}
 use Rattle.ttcn_graph.specs.Ways.{Lists, ways_of, ways_of_variable}
 

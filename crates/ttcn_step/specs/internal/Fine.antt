@@ -1,17 +1,17 @@
 -- Fine configurations, as the private functions know them.
 use Rattle.std.specs.Prelude.{◌≡◌, ℕ, Bool, false, List, [], map, bytes_eq, Option, Some, None}
 use Rattle.std.specs.List.{All, filter, find}
-use Rattle.fine_runs.specs.Fates as rules
-use Rattle.fine_runs.specs.Fine.{FineLabel}
-use Rattle.fine_runs.specs.Gathering.{Told}
-use Rattle.fine_runs.specs.Holding.{Held, Holding, hold_fate, hold_next}
+use Rattle.laws_fine.specs.Fates as rules
+use Rattle.laws_fine.specs.Fine.{FineLabel}
+use Rattle.laws_fine.specs.Gathering.{Told}
+use Rattle.laws_fine.specs.Holding.{Held, Holding, hold_fate, hold_next}
 use Rattle.step_labels.specs.Labels.{label_by}
-use Rattle.step_rules.specs.Configurations.{is_running_state}
-use Rattle.ttcn_config.specs.Legend.{Legend, going_by, state_by}
-use Rattle.ttcn_config.specs.declared.component.Component.{Component}
-use Rattle.ttcn_config.specs.declared.config.Config.{Config}
-use Rattle.ttcn_config.specs.declared.config.Config.TheVariants as form
-use Rattle.ttcn_config.specs.declared.config.Going.{Going}
+use Rattle.semantics.specs.Configurations.{is_running_state}
+use Rattle.config_parts.specs.Legend.{Legend, going_by, state_by}
+use Rattle.config_parts.specs.declared.component.Component.{Component}
+use Rattle.config_parts.specs.declared.config.Config.{Config}
+use Rattle.config_parts.specs.declared.config.Config.TheVariants as form
+use Rattle.config_parts.specs.declared.config.Going.{Going}
 use Rattle.ttcn_step.specs.FineLabels.{fine_label_by}
 use Rattle.ttcn_step.specs.Machines.{Fits, Machine, legend, said}
 use Rattle.ttcn_step.specs.declared.coarsen.Told.{Told as KeptTold}

@@ -1,9 +1,9 @@
 -- Fine runs, as the private functions know them.
 use Rattle.std.specs.Prelude.{◌≡◌, List, map, Option, Some, None, Result, Ok, Err}
-use Rattle.fine_runs.specs.Fates as rules
-use Rattle.fine_runs.specs.Fine.{FineLabel}
-use Rattle.fine_runs.specs.Gathering.{Told, first_by}
-use Rattle.fine_runs.specs.Holding.{hold_run}
+use Rattle.laws_fine.specs.Fates as rules
+use Rattle.laws_fine.specs.Fine.{FineLabel}
+use Rattle.laws_fine.specs.Gathering.{Told, first_by}
+use Rattle.laws_fine.specs.Holding.{hold_run}
 use Rattle.ttcn_step.specs.Machines.{Machine}
 use Rattle.ttcn_step.specs.declared.coarsen.Followed.{Followed}
 use Rattle.ttcn_step.specs.declared.error.CoarsenError.{CoarsenError}

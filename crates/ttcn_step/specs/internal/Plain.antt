@@ -1,10 +1,10 @@
 -- Where a component stands at no `alt`: it has a step, and takes no branch.
 use Rattle.std.specs.Prelude.{◌≡◌, true, List, ◌∷◌, is_some}
 use Rattle.ttcn_syntax.specs.declared.tree.statement.Action.TheOpen.{Action-F}
-use Rattle.step_rules.specs.Configurations.{Component, Going, is_running_state}
-use Rattle.step_rules.specs.Items.{Does, Doing, Item, Whole, action_of}
-use Rattle.step_rules.specs.Snapshots.{Test}
-use Rattle.step_rules.specs.Steps.{statement_step}
+use Rattle.semantics.specs.Configurations.{Component, Going, is_running_state}
+use Rattle.semantics.specs.Items.{Does, Doing, Item, Whole, action_of}
+use Rattle.semantics.specs.Snapshots.{Test}
+use Rattle.semantics.specs.Steps.{statement_step}
 
 -- no `alt`, and nothing that may stand for one: a call may be one of an altstep
 abbrev pub IsPlain : Does → Type 0

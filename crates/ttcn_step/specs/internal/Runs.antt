@@ -1,7 +1,7 @@
 -- Runs, as the private functions know them.
 use Rattle.std.specs.Prelude.{◌≡◌, ℕ, Option, Some, None, Result, Ok, Err}
-use Rattle.step_rules.specs.Configurations as rules
-use Rattle.ttcn_config.specs.declared.config.Config.{Config}
+use Rattle.semantics.specs.Configurations as rules
+use Rattle.config_parts.specs.declared.config.Config.{Config}
 use Rattle.ttcn_step.specs.Machines.{Machine, said}
 use Rattle.ttcn_step.specs.declared.error.ReplayError.{ReplayError}
 use Rattle.ttcn_step.specs.declared.error.ReplayError.TheVariants as replay

@@ -2,18 +2,18 @@
 use Rattle.std.specs.Prelude.{◌≡◌, List, [], ◌∷◌, Option, if◌then◌else◌}
 use Rattle.std.specs.List.{filter_map, flat_map}
 use Rattle.std.specs.Option.{option_map}
-use Rattle.step_rules.specs.Configurations as rules
-use Rattle.step_rules.specs.Configurations.{is_running_state, path_of}
-use Rattle.step_rules.specs.Labels.{expiries}
-use Rattle.step_rules.specs.Snapshots.{Test, snapshot_of}
-use Rattle.step_rules.specs.Statements as said
-use Rattle.step_rules.specs.Steps.{Label, Statement, next, settled}
+use Rattle.semantics.specs.Configurations as rules
+use Rattle.semantics.specs.Configurations.{is_running_state, path_of}
+use Rattle.semantics.specs.Labels.{expiries}
+use Rattle.semantics.specs.Snapshots.{Test, snapshot_of}
+use Rattle.semantics.specs.Statements as said
+use Rattle.semantics.specs.Steps.{Label, Statement, next, settled}
 use Rattle.step_snapshot.specs.Tests.{legend_by, test_by}
 use Rattle.step_snapshot.specs.declared.test_case.TestCase.{TestCase}
-use Rattle.ttcn_config.specs.Legend.{Legend, component_by, config_by, data_by, going_by}
-use Rattle.ttcn_config.specs.declared.component.Component.{Component}
-use Rattle.ttcn_config.specs.declared.config.Config.{Config}
-use Rattle.ttcn_config.specs.declared.config.Going.{Going}
+use Rattle.config_parts.specs.Legend.{Legend, component_by, config_by, data_by, going_by}
+use Rattle.config_parts.specs.declared.component.Component.{Component}
+use Rattle.config_parts.specs.declared.config.Config.{Config}
+use Rattle.config_parts.specs.declared.config.Going.{Going}
 use Rattle.ttcn_values.specs.Outcomes.{Outcome}
 
 -- what a component asks for

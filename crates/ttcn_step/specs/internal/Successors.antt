@@ -1,8 +1,8 @@
 -- Successors, as the private functions know them.
 use Rattle.std.specs.Prelude.{List, map}
 use Rattle.step_labels.specs.Labels.{label_by}
-use Rattle.step_rules.specs.Configurations as rules
-use Rattle.step_rules.specs.Steps.{Label}
+use Rattle.semantics.specs.Configurations as rules
+use Rattle.semantics.specs.Steps.{Label}
 use Rattle.ttcn_step.specs.Machines.{Machine, said}
 use Rattle.ttcn_step.specs.declared.successor.Successor.{Successor}
 

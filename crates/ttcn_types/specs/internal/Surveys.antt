@@ -1,7 +1,7 @@
 -- The least of what is broken, and what surveys of circles and sizes find, in the words of their private contracts.
 use Rattle.std.specs.Prelude.{ℕ, ◌≤◌, ◌⊎◌, List, Option, Some, None}
 use Rattle.std.specs.Option.{option_map}
-use Rattle.survey.specs.declared.thing.Thing.{Thing}
+use Rattle.check_survey.specs.declared.thing.Thing.{Thing}
 use Rattle.ttcn_syntax.specs.declared.tree.definition.Definition.{Definition}
 use Rattle.check_scope.specs.Numbers.{number_of}
 use Rattle.ttcn_types.specs.Limits.{longest_chain, most_fields, most_parts}

@@ -1,15 +1,15 @@
 //! What stands in constants and templates.
 ghost use Rattle.std.specs.Prelude.{◌≡◌, IfOk, OnOk, map};
 ghost use Rattle.check_scope.specs.internal.Tables.{said};
-ghost use Rattle.survey.specs.Things.{add, tally};
+ghost use Rattle.check_survey.specs.Things.{add, tally};
 ghost use Rattle.ttcn_types.specs.internal.Numbering.{AreNumbers, IsNumbered, NoConstants};
 
 use super::numbers::Numbers;
 use check_scope::names::Meaning;
 use check_scope::scope::Scope;
 use check_scope::table::Table;
+use check_survey::Thing;
 use std::alloc::{AllocError, Global};
-use survey::Thing;
 use ttcn_syntax::{ComponentRef, Constant, Expr, FieldValue, Reference, Value};
 
 /// What stands round a constant or a template: the module, and the template's parameters.

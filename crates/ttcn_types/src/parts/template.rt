@@ -1,11 +1,11 @@
 //! What stands in templates.
 ghost use Rattle.std.specs.Prelude.{◌≡◌, IfOk, OnOk, map};
-ghost use Rattle.survey.specs.Things.{add, tally};
+ghost use Rattle.check_survey.specs.Things.{add, tally};
 
 use super::surroundings::Surroundings;
 use check_expressions::template::template_meant;
+use check_survey::Thing;
 use std::alloc::{AllocError, Global};
-use survey::Thing;
 use ttcn_syntax::{Bound, Call, ComponentRef, Expr, FieldTemplate, Template, TemplateBody};
 
 impl Surroundings<'_, '_> {

@@ -1,6 +1,6 @@
 //! The constants and templates of a module.
 ghost use Rattle.std.specs.Prelude.{◌≡◌, [], ◌∷◌, ◌++◌, length, IfOk, OnOk, map};
-ghost use Rattle.survey.specs.Things.{tally};
+ghost use Rattle.check_survey.specs.Things.{tally};
 ghost use Rattle.ttcn_types.specs.internal.Surrounding.{scope_of};
 ghost use Rattle.check_scope.specs.Scopes.{module_scope};
 ghost use Rattle.check_statements.specs.Definitions.{with_parameters};
@@ -14,8 +14,8 @@ use check_scope::names::Meaning;
 use check_scope::scope::{Scope, built_in, type_meant};
 use check_scope::table::Table;
 use check_scope::types::DataType;
+use check_survey::Thing;
 use std::alloc::{AllocError, Global};
-use survey::Thing;
 use ttcn_syntax::{Constant, DefinitionKind, Parameter, Span, TemplateDefinition, TypeName};
 
 impl<'p, 'a> Surroundings<'p, 'a> {

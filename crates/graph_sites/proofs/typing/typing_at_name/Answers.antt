@@ -3,7 +3,7 @@ use Rattle.check_expressions.specs.Calls.{template_type}
 use Rattle.check_expressions.specs.Templates.{typing_at_name}
 use Rattle.check_scope.specs.Names.{kind_at}
 use Rattle.check_scope.specs.Typings.{typed}
-use Rattle.step_rules.specs.Sites.{scope_at}
+use Rattle.semantics.specs.Sites.{scope_at}
 use Rattle.graph_sites.proofs.Sites.{definitions_at}
 use Rattle.graph_sites.proofs.typing.typing_at_name.Goals as goal
 

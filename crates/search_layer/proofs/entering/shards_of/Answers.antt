@@ -2,7 +2,7 @@ use Rattle.std.proofs.Common.{◌≡◌, ℕ, ap, ◌∙◌}
 use Rattle.std.specs.Prelude.{slice_get, Some}
 use Rattle.rayon.proofs.ListFacts.{IfOk-then}
 use Rattle.rayon.proofs.ToStd.{slice-AllZip}
-use Rattle.sharded_set.specs.Sharded.{shard_of}
+use Rattle.search_shards.specs.Sharded.{shard_of}
 use Rattle.search_layer.specs.declared.visited.Candidate.{Candidate}
 use Rattle.search_layer.proofs.entering.shards_of.Goals as goal
 

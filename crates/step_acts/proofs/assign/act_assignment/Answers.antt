@@ -2,8 +2,8 @@ use Rattle.std.proofs.Common.{subst}
 use Rattle.step_acts.proofs.assign.act_assignment.Goals as goal
 use Rattle.step_acts.specs.Asks.{Asks}
 use Rattle.step_acts.specs.internal.Stands.{legend_of, site_of, stand_by}
-use Rattle.step_rules.specs.Configurations.{Data}
-use Rattle.step_rules.specs.Statements as said
+use Rattle.semantics.specs.Configurations.{Data}
+use Rattle.semantics.specs.Statements as said
 use Rattle.graph_items.specs.Standing.{target_of}
 use Rattle.ttcn_syntax.specs.declared.tree.value.Rhs.{Rhs}
 

@@ -2,10 +2,10 @@ use Rattle.std.proofs.Common.{Option, ap, subst, sym, true, ◌∙◌}
 use Rattle.step_acts.proofs.assign.act_variable.Goals as goal
 use Rattle.step_acts.specs.Asks.{Asks}
 use Rattle.step_acts.specs.internal.Stands.{legend_of, site_of, stand_by}
-use Rattle.step_rules.specs.Configurations.{Data}
-use Rattle.step_rules.specs.Items.{Target}
-use Rattle.step_rules.specs.Statements as said
-use Rattle.step_rules.specs.Storing.{forget, in_frame}
+use Rattle.semantics.specs.Configurations.{Data}
+use Rattle.semantics.specs.Items.{Target}
+use Rattle.semantics.specs.Statements as said
+use Rattle.semantics.specs.Storing.{forget, in_frame}
 use Rattle.graph_items.specs.Standing.{target_of}
 use Rattle.ttcn_syntax.specs.declared.tree.value.Rhs.{Rhs}
 

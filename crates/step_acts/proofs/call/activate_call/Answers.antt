@@ -2,8 +2,8 @@ use Rattle.std.proofs.Common.{subst, sym}
 use Rattle.step_acts.proofs.Called.{activated-as}
 use Rattle.step_acts.proofs.call.activate_call.Goals as goal
 use Rattle.step_acts.specs.internal.Stands.{legend_of, site_of, stand_by}
-use Rattle.step_rules.specs.Configurations.{Data}
-use Rattle.ttcn_config.specs.Legend.{data_by}
+use Rattle.semantics.specs.Configurations.{Data}
+use Rattle.config_parts.specs.Legend.{data_by}
 use Rattle.ttcn_values.specs.Outcomes.{GivesBy, Outcome}
 
 pub returns-clause-activated : goal.returns-clause-activated

@@ -3,10 +3,10 @@ use Rattle.step_acts.proofs.Asking.{acting-fails, there}
 use Rattle.step_acts.proofs.call.call_function.Goals as goal
 use Rattle.step_acts.specs.internal.Places.{list_at}
 use Rattle.step_acts.specs.internal.Stands.{legend_of, site_of, stand_by}
-use Rattle.step_rules.specs.Configurations.{Frame}
-use Rattle.step_rules.specs.Statements as said
+use Rattle.semantics.specs.Configurations.{Frame}
+use Rattle.semantics.specs.Statements as said
 use Rattle.step_snapshot.specs.Tests.{extent_of}
-use Rattle.ttcn_config.specs.Legend.{data_by, frame_by}
+use Rattle.config_parts.specs.Legend.{data_by, frame_by}
 
 pub returns-in_err-own-clause-asks : goal.returns-in_err-own-clause-asks
 returns-in_err-own-clause-asks c =

@@ -2,8 +2,8 @@ use Rattle.check_scope.specs.Names.{kind_at}
 use Rattle.step_acts.proofs.Called.{parameters-known}
 use Rattle.step_acts.proofs.call.frame_of_call.Goals as goal
 use Rattle.step_acts.specs.internal.Places.{list_at}
-use Rattle.step_rules.specs.Items.{items}
-use Rattle.step_rules.specs.Sites.{beginning}
+use Rattle.semantics.specs.Items.{items}
+use Rattle.semantics.specs.Sites.{beginning}
 
 pub argument_cells-requires : goal.argument_cells-requires
 argument_cells-requires c =

@@ -1,6 +1,6 @@
 use Rattle.step_acts.proofs.Standing.{known-there}
 use Rattle.step_acts.proofs.choice.chosen_at_alt.Goals as goal
-use Rattle.step_rules.specs.Items.{Whole}
+use Rattle.semantics.specs.Items.{Whole}
 use Rattle.ttcn_graph.proofs.Forms.{does-Alt}
 use Rattle.ttcn_syntax.specs.declared.tree.statement.Action.TheOpen.{Action-F}
 

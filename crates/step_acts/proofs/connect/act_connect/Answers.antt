@@ -1,7 +1,7 @@
 use Rattle.step_acts.proofs.Asking.{part-fails, there}
 use Rattle.step_acts.proofs.connect.act_connect.Goals as goal
 use Rattle.step_acts.specs.internal.Stands.{legend_of, site_of, stand_by}
-use Rattle.step_rules.specs.Statements as said
+use Rattle.semantics.specs.Statements as said
 
 pub returns-in_err-second-clause-asks : goal.returns-in_err-second-clause-asks
 returns-in_err-second-clause-asks c =

@@ -3,7 +3,7 @@ use Rattle.step_acts.proofs.Creating.{created-as, stored-children}
 use Rattle.step_acts.proofs.create.create_as.Goals as goal
 use Rattle.step_acts.specs.internal.Stands.{legend_of, stand_by}
 use Rattle.step_snapshot.specs.Tests.{extent_of}
-use Rattle.ttcn_config.specs.Legend.{component_by, data_by, frame_with}
+use Rattle.config_parts.specs.Legend.{component_by, data_by, frame_with}
 use Rattle.graph_items.specs.Standing.{target_of}
 use Rattle.ttcn_values.specs.declared.value.Value.TheVariants as value
 

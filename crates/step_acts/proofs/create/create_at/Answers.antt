@@ -2,8 +2,8 @@ use Rattle.std.proofs.Common.{subst}
 use Rattle.step_acts.proofs.create.create_at.Goals as goal
 use Rattle.step_acts.specs.Asks.{Asks}
 use Rattle.step_acts.specs.internal.Stands.{legend_of, stand_by}
-use Rattle.step_rules.specs.Statements as said
-use Rattle.ttcn_config.specs.Legend.{data_by}
+use Rattle.semantics.specs.Statements as said
+use Rattle.config_parts.specs.Legend.{data_by}
 use Rattle.graph_items.specs.Standing.{target_of}
 use Rattle.ttcn_values.specs.declared.path.Path.{Path}
 

@@ -7,12 +7,12 @@ use Rattle.step_acts.proofs.end.act_leave.Goals as goal
 use Rattle.step_acts.specs.internal.Places.{behind_first}
 use Rattle.step_acts.specs.internal.Stands.{legend_of, stand_by}
 use Rattle.step_data.specs.Frames.{left}
-use Rattle.step_rules.specs.Items.{Item}
-use Rattle.step_rules.specs.Statements as said
+use Rattle.semantics.specs.Items.{Item}
+use Rattle.semantics.specs.Statements as said
 use Rattle.step_snapshot.specs.Seen.{own_by}
 use Rattle.step_snapshot.specs.Slots.{NoneIsMissing}
-use Rattle.ttcn_config.specs.declared.frame.Data.{Data}
-use Rattle.ttcn_config.specs.declared.frame.Frame.{Frame}
+use Rattle.config_parts.specs.declared.frame.Data.{Data}
+use Rattle.config_parts.specs.declared.frame.Frame.{Frame}
 use Rattle.graph_names.specs.Known.{names_of}
 
 pub give_back-requires-clause-known : goal.give_back-requires-clause-known

@@ -1,7 +1,7 @@
 use Rattle.std.proofs.Common.{subst, sym, ◌∙◌}
 use Rattle.step_acts.proofs.end.left_data.Goals as goal
 use Rattle.step_snapshot.specs.Tests.{extent_of}
-use Rattle.ttcn_config.specs.Views.{IsWithin}
+use Rattle.config_parts.specs.Views.{IsWithin}
 
 pub returns-clause-within : goal.returns-clause-within
 returns-clause-within c =

@@ -1,7 +1,7 @@
 use Rattle.std.proofs.Common.{◌≡◌}
 use Rattle.step_acts.specs.internal.Places.{list_at}
 use Rattle.step_acts.proofs.marks.from_mark.Given as goal
-use Rattle.step_rules.specs.Taking.{from_mark}
+use Rattle.semantics.specs.Taking.{from_mark}
 
 -- no mark was passed
 abbrev pub invariant-loop-rest : goal.invariant-loop-rest

@@ -3,7 +3,7 @@ use Rattle.step_acts.proofs.Marking.{frame-found, frames-drop}
 use Rattle.step_acts.proofs.marks.marked_frame.Goals as goal
 use Rattle.step_acts.specs.internal.Places.{list_at}
 use Rattle.step_acts.specs.internal.Marks.{going_on_from}
-use Rattle.step_rules.specs.Configurations.{Frame}
+use Rattle.semantics.specs.Configurations.{Frame}
 use Rattle.step_snapshot.specs.Tests.{legend_by}
 
 pub returns-in-Some-clause-found : goal.returns-in-Some-clause-found

@@ -2,7 +2,7 @@ use Rattle.std.proofs.Common.{List, arith, slice_get, ap, ◌∙◌}
 use Rattle.step_acts.proofs.Marking.{first-within}
 use Rattle.step_acts.proofs.marks.uncover.Goals as goal
 use Rattle.step_snapshot.specs.Tests.{extent_of}
-use Rattle.ttcn_config.specs.declared.frame.Frame.{Frame}
+use Rattle.config_parts.specs.declared.frame.Frame.{Frame}
 
 pub returns-in-Some-clause-within : goal.returns-in-Some-clause-within
 returns-in-Some-clause-within c within =

@@ -2,11 +2,11 @@ use Rattle.std.proofs.Common.{List, ap, drop, map, subst, sym, ◌∙◌}
 use Rattle.std.specs.List.{All}
 use Rattle.step_acts.proofs.Marking.{all-drop, frames-drop}
 use Rattle.step_acts.proofs.marks.without_frames.Goals as goal
-use Rattle.step_rules.specs.Configurations as rules
-use Rattle.step_rules.specs.Storing.{with_calls}
-use Rattle.ttcn_config.specs.Legend.{data_by, frame_by}
-use Rattle.ttcn_config.specs.Views.{IsFrameWithin}
-use Rattle.ttcn_config.specs.declared.frame.Frame.{Frame}
+use Rattle.semantics.specs.Configurations as rules
+use Rattle.semantics.specs.Storing.{with_calls}
+use Rattle.config_parts.specs.Legend.{data_by, frame_by}
+use Rattle.config_parts.specs.Views.{IsFrameWithin}
+use Rattle.config_parts.specs.declared.frame.Frame.{Frame}
 
 pub returns-clause-calls : goal.returns-clause-calls
 returns-clause-calls c legend =

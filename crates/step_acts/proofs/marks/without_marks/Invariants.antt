@@ -1,7 +1,7 @@
 use Rattle.std.proofs.Common.{◌≡◌, ◌≤◌}
 use Rattle.step_acts.specs.internal.Places.{list_at}
 use Rattle.step_acts.proofs.marks.without_marks.Given as goal
-use Rattle.step_rules.specs.Taking.{without_marks}
+use Rattle.semantics.specs.Taking.{without_marks}
 
 -- the marks that were passed are gone
 abbrev pub invariant-loop-rest : goal.invariant-loop-rest

@@ -1,8 +1,8 @@
 use Rattle.std.proofs.Common.{◌≡◌, Option, IfOk, sym, subst, ◌∙◌}
 use Rattle.step_acts.proofs.Placing.{none_taken}
 use Rattle.step_acts.proofs.place.branch.Goals as goal
-use Rattle.step_rules.specs.Places.{place_in_frames, unless_fault}
-use Rattle.step_rules.specs.Statements as said
+use Rattle.semantics.specs.Places.{place_in_frames, unless_fault}
+use Rattle.semantics.specs.Statements as said
 use Rattle.step_snapshot.specs.Seen.{own_by, seen_by}
 use Rattle.step_snapshot.specs.Tests.{legend_by, test_by}
 use Rattle.ttcn_syntax.specs.declared.place.Span.{Span}

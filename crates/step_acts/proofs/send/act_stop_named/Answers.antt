@@ -2,9 +2,9 @@ use Rattle.std.proofs.Common.{None, ap, sym, ◌∙◌}
 use Rattle.step_acts.proofs.Asking.{asked}
 use Rattle.step_acts.proofs.send.act_stop_named.Goals as goal
 use Rattle.step_acts.specs.internal.Stands.{legend_of, site_of, stand_by}
-use Rattle.step_rules.specs.Sites.{is_own}
-use Rattle.step_rules.specs.Statements as said
-use Rattle.step_rules.specs.Storing.{set_timer}
+use Rattle.semantics.specs.Sites.{is_own}
+use Rattle.semantics.specs.Statements as said
+use Rattle.semantics.specs.Storing.{set_timer}
 use Rattle.ttcn_values.specs.declared.frame.TimerState.TheVariants as timer
 
 pub act_timer_state-requires-clause-own : goal.act_timer_state-requires-clause-own

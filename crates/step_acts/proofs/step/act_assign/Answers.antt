@@ -3,7 +3,7 @@ use Rattle.step_acts.proofs.Standing.{one-goal}
 use Rattle.step_acts.proofs.step.act_assign.Goals as goal
 use Rattle.step_acts.specs.Asks.{Asks}
 use Rattle.step_acts.specs.internal.Stands.{legend_of, site_of, stand_by}
-use Rattle.step_rules.specs.Statements as said
+use Rattle.semantics.specs.Statements as said
 use Rattle.graph_sites.specs.Facts.{Goal, goal_at, goal_by}
 
 pub returns-clause-asks : goal.returns-clause-asks

@@ -2,10 +2,10 @@ use Rattle.std.proofs.Common.{[], ◌∷◌, ap, arith, map, refl, subst, ◌∙
 use Rattle.step_acts.proofs.First.{first-asks}
 use Rattle.step_acts.proofs.step.act_at.Goals as goal
 use Rattle.step_acts.specs.internal.Places.{behind_first, list_at, site_at}
-use Rattle.step_rules.specs.Items.{Doing}
+use Rattle.semantics.specs.Items.{Doing}
 use Rattle.step_snapshot.specs.Seen.{own_by, seen_by}
 use Rattle.step_snapshot.specs.Tests.{legend_by, test_by}
-use Rattle.ttcn_config.specs.Legend.{frame_by}
+use Rattle.config_parts.specs.Legend.{frame_by}
 use Rattle.graph_items.specs.Begun.{StandsIn, item_at}
 use Rattle.graph_items.specs.Standing.{part_of}
 use Rattle.graph_items.specs.declared.first.First.{First}

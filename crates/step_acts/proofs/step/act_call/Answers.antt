@@ -4,8 +4,8 @@ use Rattle.step_acts.proofs.Forms.{whole-asks}
 use Rattle.step_acts.proofs.step.act_call.Goals as goal
 use Rattle.step_acts.specs.Asks.{Asks}
 use Rattle.step_acts.specs.internal.Stands.{legend_of, site_of, stand_by}
-use Rattle.step_rules.specs.Events.{Choice}
-use Rattle.step_rules.specs.Statements as said
+use Rattle.semantics.specs.Events.{Choice}
+use Rattle.semantics.specs.Statements as said
 use Rattle.ttcn_graph.proofs.Forms.{does-Call}
 use Rattle.ttcn_syntax.specs.declared.tree.statement.Action.TheOpen.{Action-F}
 

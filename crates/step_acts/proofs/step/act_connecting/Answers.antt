@@ -2,7 +2,7 @@ use Rattle.std.proofs.Common.{[], ◌∷◌}
 use Rattle.step_acts.proofs.Forms.{does-Connect}
 use Rattle.step_acts.proofs.Standing.{first-known, known-there, second-known}
 use Rattle.step_acts.proofs.step.act_connecting.Goals as goal
-use Rattle.step_rules.specs.Items.{Whole}
+use Rattle.semantics.specs.Items.{Whole}
 use Rattle.ttcn_syntax.specs.declared.tree.statement.Action.TheOpen.{Action-F}
 
 pub act_connect-requires-clause-one : goal.act_connect-requires-clause-one

@@ -3,8 +3,8 @@ use Rattle.step_acts.proofs.Forms.{whole-asks}
 use Rattle.step_acts.proofs.Standing.{facts-kept, first-event, known-there, one-list}
 use Rattle.step_acts.proofs.step.act_event.Goals as goal
 use Rattle.step_acts.specs.internal.Stands.{legend_of, site_of, stand_by}
-use Rattle.step_rules.specs.Items.{Whole}
-use Rattle.step_rules.specs.Statements as said
+use Rattle.semantics.specs.Items.{Whole}
+use Rattle.semantics.specs.Statements as said
 use Rattle.graph_sites.specs.Facts.{event_by, event_facts}
 use Rattle.ttcn_graph.proofs.Forms.{does-Event}
 use Rattle.ttcn_syntax.specs.declared.tree.statement.Action.TheOpen.{Action-F}

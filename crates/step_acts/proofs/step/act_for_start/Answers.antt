@@ -1,7 +1,7 @@
 use Rattle.std.proofs.Common.{ap, [], ◌∙◌}
 use Rattle.step_acts.proofs.Standing.{first-known, known-there}
 use Rattle.step_acts.proofs.step.act_for_start.Goals as goal
-use Rattle.step_rules.specs.Items.{Start}
+use Rattle.semantics.specs.Items.{Start}
 use Rattle.ttcn_graph.proofs.Forms.{does-For}
 use Rattle.ttcn_syntax.specs.declared.tree.statement.Action.TheOpen.{Action-F}
 use Rattle.ttcn_syntax.specs.declared.tree.statement.Action.TheVariants as form

@@ -2,7 +2,7 @@ use Rattle.std.proofs.Common.{[]}
 use Rattle.step_acts.proofs.Parts.{step-asks}
 use Rattle.step_acts.proofs.Standing.{first-known, known-there}
 use Rattle.step_acts.proofs.step.act_for_step.Goals as goal
-use Rattle.step_rules.specs.Items.{Last}
+use Rattle.semantics.specs.Items.{Last}
 use Rattle.ttcn_graph.proofs.Forms.{does-For}
 use Rattle.ttcn_syntax.specs.declared.tree.statement.Action.TheOpen.{Action-F}
 

@@ -1,7 +1,7 @@
 use Rattle.std.proofs.Common.{ap, IfSome, List, slice_get, subst, sym, ◌∙◌}
 use Rattle.step_acts.proofs.Standing.{declared-known, known-there}
 use Rattle.step_acts.proofs.step.act_name.Goals as goal
-use Rattle.step_rules.specs.Items.{Name}
+use Rattle.semantics.specs.Items.{Name}
 use Rattle.step_snapshot.specs.Slots.{IsKnown}
 use Rattle.ttcn_graph.proofs.Forms.{does-Constants, does-For, does-Timers, does-Variables}
 use Rattle.ttcn_syntax.specs.declared.tree.statement.Action.TheOpen.{Action-F}

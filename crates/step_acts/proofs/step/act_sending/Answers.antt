@@ -3,9 +3,9 @@ use Rattle.step_acts.proofs.Forms.{does-Send}
 use Rattle.step_acts.proofs.Standing.{facts-kept, first-known, known-there}
 use Rattle.step_acts.proofs.step.act_sending.Goals as goal
 use Rattle.step_acts.specs.internal.Stands.{site_of}
-use Rattle.step_rules.specs.Items.{Whole}
-use Rattle.step_rules.specs.Sites.{scope_at}
-use Rattle.step_rules.specs.Statements as said
+use Rattle.semantics.specs.Items.{Whole}
+use Rattle.semantics.specs.Sites.{scope_at}
+use Rattle.semantics.specs.Statements as said
 use Rattle.ttcn_syntax.specs.declared.tree.statement.Action.TheOpen.{Action-F}
 
 pub act_send-requires-clause-known : goal.act_send-requires-clause-known

@@ -3,8 +3,8 @@ use Rattle.step_acts.proofs.Forms.{does-StartTimer, whole-asks}
 use Rattle.step_acts.proofs.Standing.{facts-kept, first-known, known-there}
 use Rattle.step_acts.proofs.step.act_start_timer.Goals as goal
 use Rattle.step_acts.specs.internal.Stands.{legend_of, site_of, stand_by}
-use Rattle.step_rules.specs.Items.{Whole}
-use Rattle.step_rules.specs.Sites.{is_own}
+use Rattle.semantics.specs.Items.{Whole}
+use Rattle.semantics.specs.Sites.{is_own}
 use Rattle.ttcn_syntax.specs.declared.tree.statement.Action.TheOpen.{Action-F}
 
 pub act_timer_state-requires-clause-known : goal.act_timer_state-requires-clause-known

@@ -2,9 +2,9 @@ use Rattle.step_acts.proofs.Forms.{does-StopOf}
 use Rattle.step_acts.proofs.Standing.{facts-kept, known-there}
 use Rattle.step_acts.proofs.step.act_stopping.Goals as goal
 use Rattle.step_acts.specs.internal.Stands.{site_of}
-use Rattle.step_rules.specs.Items.{Whole}
-use Rattle.step_rules.specs.Sites.{is_own}
-use Rattle.step_rules.specs.Statements.{name_in}
+use Rattle.semantics.specs.Items.{Whole}
+use Rattle.semantics.specs.Sites.{is_own}
+use Rattle.semantics.specs.Statements.{name_in}
 use Rattle.ttcn_syntax.specs.declared.tree.statement.Action.TheOpen.{Action-F}
 
 pub act_stop_of-requires-clause-known : goal.act_stop_of-requires-clause-known

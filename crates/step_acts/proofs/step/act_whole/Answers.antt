@@ -5,8 +5,8 @@ use Rattle.step_acts.proofs.Standing.{first-known, known-there}
 use Rattle.step_acts.proofs.step.act_whole.Goals as goal
 use Rattle.step_acts.specs.Asks.{Asks}
 use Rattle.step_acts.specs.internal.Stands.{legend_of, site_of, stand_by}
-use Rattle.step_rules.specs.Items.{Whole}
-use Rattle.step_rules.specs.Statements as said
+use Rattle.semantics.specs.Items.{Whole}
+use Rattle.semantics.specs.Statements as said
 use Rattle.ttcn_graph.proofs.Forms.{does-Assign, does-If, does-While}
 use Rattle.ttcn_syntax.specs.declared.tree.statement.Action.TheOpen.{Action-F}
 use Rattle.ttcn_syntax.specs.declared.tree.statement.Conditional.{Conditional}

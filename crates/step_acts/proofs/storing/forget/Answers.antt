@@ -1,8 +1,8 @@
 use Rattle.std.proofs.Common.{ap, true, ◌∙◌}
 use Rattle.step_acts.proofs.storing.forget.Goals as goal
-use Rattle.step_rules.specs.Storing as rules
+use Rattle.semantics.specs.Storing as rules
 use Rattle.step_snapshot.specs.Tests.{extent_of, legend_by}
-use Rattle.ttcn_config.specs.Legend.{data_by}
+use Rattle.config_parts.specs.Legend.{data_by}
 
 pub returns-clause-changed : goal.returns-clause-changed
 returns-clause-changed c =

@@ -1,9 +1,9 @@
 use Rattle.std.proofs.Common.{ap, ◌∙◌}
 use Rattle.step_acts.proofs.storing.set_timer.Goals as goal
-use Rattle.step_rules.specs.Entries.{put}
-use Rattle.step_rules.specs.Storing as rules
+use Rattle.semantics.specs.Entries.{put}
+use Rattle.semantics.specs.Storing as rules
 use Rattle.step_snapshot.specs.Tests.{extent_of, legend_by}
-use Rattle.ttcn_config.specs.Legend.{data_by}
+use Rattle.config_parts.specs.Legend.{data_by}
 
 pub returns-clause-changed : goal.returns-clause-changed
 returns-clause-changed c =

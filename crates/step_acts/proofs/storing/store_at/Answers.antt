@@ -2,7 +2,7 @@ use Rattle.std.proofs.Common.{refl, ◌∙◌}
 use Rattle.step_acts.proofs.Changed.{stored-as}
 use Rattle.step_acts.proofs.storing.store_at.Goals as goal
 use Rattle.step_snapshot.specs.Tests.{extent_of, legend_by, test_by}
-use Rattle.ttcn_config.specs.Legend.{data_by}
+use Rattle.config_parts.specs.Legend.{data_by}
 
 pub returns-clause-stored : goal.returns-clause-stored
 returns-clause-stored c =

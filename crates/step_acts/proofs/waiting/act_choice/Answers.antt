@@ -5,8 +5,8 @@ use Rattle.step_acts.specs.Asks.{Asks}
 use Rattle.step_acts.specs.internal.Stands.{legend_of, site_of, stand_by}
 use Rattle.step_choice.specs.Choices.{Finds, IsWayOf}
 use Rattle.step_choice.specs.declared.taken.Taken.{Taken}
-use Rattle.step_rules.specs.Events.{Choice}
-use Rattle.step_rules.specs.Statements as said
+use Rattle.semantics.specs.Events.{Choice}
+use Rattle.semantics.specs.Statements as said
 use Rattle.ttcn_values.specs.declared.fault.Fault.{Fault}
 
 pub returns-in-Ok-Some-clause-asks : goal.returns-in-Ok-Some-clause-asks

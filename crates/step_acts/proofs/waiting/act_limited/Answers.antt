@@ -2,9 +2,9 @@ use Rattle.std.proofs.Common.{ap, refl}
 use Rattle.step_acts.proofs.Asking.{acting-fails}
 use Rattle.step_acts.proofs.waiting.act_limited.Goals as goal
 use Rattle.step_acts.specs.internal.Takings.{limited}
-use Rattle.step_rules.specs.Statements as said
+use Rattle.semantics.specs.Statements as said
 use Rattle.step_snapshot.specs.Tests.{extent_of, legend_by}
-use Rattle.ttcn_config.specs.Legend.{data_by}
+use Rattle.config_parts.specs.Legend.{data_by}
 
 pub returns-in_err-own-clause-asks : goal.returns-in_err-own-clause-asks
 returns-in_err-own-clause-asks c =

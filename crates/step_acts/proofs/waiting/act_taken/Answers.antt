@@ -8,10 +8,10 @@ use Rattle.step_acts.specs.internal.Stands.{legend_of, site_of, stand_by}
 use Rattle.step_acts.specs.internal.Takings.{effected_by}
 use Rattle.step_choice.specs.Deeds.{deed_by}
 use Rattle.step_data.specs.Frames.{entered_all}
-use Rattle.step_rules.specs.Events as events
-use Rattle.step_rules.specs.Statements as said
-use Rattle.ttcn_config.specs.Legend.{data_by, frame_by}
-use Rattle.ttcn_config.specs.declared.frame.Frame.{Frame}
+use Rattle.semantics.specs.Events as events
+use Rattle.semantics.specs.Statements as said
+use Rattle.config_parts.specs.Legend.{data_by, frame_by}
+use Rattle.config_parts.specs.declared.frame.Frame.{Frame}
 
 pub returns-clause-asks : goal.returns-clause-asks
 returns-clause-asks c chance effect is =

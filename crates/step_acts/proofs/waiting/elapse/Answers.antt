@@ -3,9 +3,9 @@ use Rattle.step_acts.proofs.Asking.{asked}
 use Rattle.step_acts.proofs.waiting.elapse.Goals as goal
 use Rattle.step_acts.specs.internal.Takings.{effected_by, limited}
 use Rattle.step_choice.specs.Deeds as deeds
-use Rattle.step_rules.specs.Statements as said
+use Rattle.semantics.specs.Statements as said
 use Rattle.step_snapshot.specs.Tests.{legend_by, test_by}
-use Rattle.ttcn_config.specs.Legend.{data_by}
+use Rattle.config_parts.specs.Legend.{data_by}
 
 pub returns-clause-asks : goal.returns-clause-asks
 returns-clause-asks c =

@@ -3,9 +3,9 @@ use Rattle.step_acts.proofs.Asking.{acting-fails}
 use Rattle.step_acts.proofs.waiting.receive.Goals as goal
 use Rattle.step_acts.specs.internal.Takings.{limited, stored_all}
 use Rattle.step_choice.specs.Deeds.{stored_by}
-use Rattle.step_rules.specs.Statements as said
+use Rattle.semantics.specs.Statements as said
 use Rattle.step_snapshot.specs.Tests.{legend_by, test_by}
-use Rattle.ttcn_config.specs.Legend.{data_by}
+use Rattle.config_parts.specs.Legend.{data_by}
 use Rattle.ttcn_values.specs.Outcomes.{outcome_and_then}
 
 pub returns-in_err-own-2-clause-asks : goal.returns-in_err-own-2-clause-asks

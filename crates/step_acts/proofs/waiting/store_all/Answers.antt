@@ -3,11 +3,11 @@ use Rattle.step_acts.proofs.waiting.store_all.Goals as goal
 use Rattle.step_acts.specs.internal.Takings.{stored_all}
 use Rattle.step_choice.specs.Deeds.{stored_by}
 use Rattle.step_choice.specs.declared.taken.Stored.{Stored}
-use Rattle.step_rules.specs.Storing.{store}
+use Rattle.semantics.specs.Storing.{store}
 use Rattle.step_snapshot.specs.Slots.{IsKnown}
 use Rattle.step_snapshot.specs.Tests.{legend_by, test_by}
 use Rattle.std.proofs.Common.{map}
-use Rattle.ttcn_config.specs.Legend.{data_by}
+use Rattle.config_parts.specs.Legend.{data_by}
 use Rattle.graph_items.specs.Standing.{target_of}
 use Rattle.ttcn_values.proofs.Faults.{given_by, handed_on_by}
 

@@ -3,8 +3,8 @@ use Rattle.step_acts.specs.internal.Takings.{stored_all}
 use Rattle.step_acts.proofs.waiting.store_all.Given as goal
 use Rattle.step_choice.specs.Deeds.{stored_by}
 use Rattle.step_snapshot.specs.Tests.{extent_of, legend_by, test_by}
-use Rattle.ttcn_config.specs.Legend.{data_by}
-use Rattle.ttcn_config.specs.Views.{IsWithin}
+use Rattle.config_parts.specs.Legend.{data_by}
+use Rattle.config_parts.specs.Views.{IsWithin}
 use Rattle.ttcn_values.specs.Outcomes.{Yields}
 
 -- the values so far are stored

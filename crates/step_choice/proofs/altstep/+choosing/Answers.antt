@@ -6,10 +6,10 @@ use Rattle.ttcn_syntax.specs.declared.tree.definition.Altstep.{Altstep}
 use Rattle.ttcn_syntax.specs.declared.tree.statement.Branch.{out-Branch}
 use Rattle.check_expressions.specs.Calls.{altstep_meant, parameters_of}
 use Rattle.check_scope.specs.Names.{kind_at, module_names}
-use Rattle.step_rules.specs.Branches.{branches_of, guard_holds, open_branch, written_call}
-use Rattle.step_rules.specs.Events as events
-use Rattle.step_rules.specs.Items.{items, items_if_any}
-use Rattle.step_rules.specs.Sites.{Site, beginning}
+use Rattle.semantics.specs.Branches.{branches_of, guard_holds, open_branch, written_call}
+use Rattle.semantics.specs.Events as events
+use Rattle.semantics.specs.Items.{items, items_if_any}
+use Rattle.semantics.specs.Sites.{Site, beginning}
 use Rattle.step_choice.proofs.Alternatives.{facts-of-event, of-call, of-else, of-event}
 use Rattle.step_choice.proofs.Altsteps.{as-long, fault-through, first_from_call, found-in-altstep, from-call, memory-found, no-levels, none-from-call, parameters-known, there}
 use Rattle.step_choice.proofs.Choosing.{among, branch-next, first_of_branch, first_of_branches, known-at, none-chosen}

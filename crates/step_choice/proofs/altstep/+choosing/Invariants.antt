@@ -1,5 +1,5 @@
 use Rattle.std.proofs.Common.{◌≡◌, ◌+◌, ◌*◌, drop, map}
-use Rattle.step_rules.specs.Sites.{Site}
+use Rattle.semantics.specs.Sites.{Site}
 use Rattle.step_choice.proofs.Choosing.{first_of_branches}
 use Rattle.step_choice.specs.internal.Judged.{test_of}
 use Rattle.step_choice.proofs.altstep.+choosing.Given as goal

@@ -1,6 +1,6 @@
 use Rattle.std.proofs.Common.{◌≡◌, Ok, Some, Option, [], ◌∷◌, subst, sym}
-use Rattle.step_rules.specs.Branches.{open_branch}
-use Rattle.step_rules.specs.Events.{try_event}
+use Rattle.semantics.specs.Branches.{open_branch}
+use Rattle.semantics.specs.Events.{try_event}
 use Rattle.step_choice.proofs.Guarded.{open-taken}
 use Rattle.step_choice.specs.Choices.{Finds}
 use Rattle.step_choice.specs.declared.taken.Deed.{Deed}

@@ -1,5 +1,5 @@
 use Rattle.std.proofs.Common.{ap, sym, ◌∙◌}
-use Rattle.step_rules.specs.Branches.{guard_holds}
+use Rattle.semantics.specs.Branches.{guard_holds}
 use Rattle.step_choice.specs.internal.Judged.{reads}
 use Rattle.step_choice.proofs.altstep.holds.Goals as goal
 use Rattle.ttcn_values.proofs.Faults.{gives_same}

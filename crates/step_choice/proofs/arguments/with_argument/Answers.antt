@@ -1,15 +1,15 @@
 use Rattle.std.proofs.Common.{◌≡◌, Bor, Option, length, ap, sym, ◌∙◌}
 use Rattle.std.specs.Option.{option_map}
 use Rattle.ttcn_syntax.specs.declared.tree.definition.Parameter.{Parameter}
-use Rattle.step_rules.specs.Snapshots.{view_of_arguments}
+use Rattle.semantics.specs.Snapshots.{view_of_arguments}
 use Rattle.step_choice.proofs.Argued.{argument-by, only-one}
 use Rattle.step_choice.specs.internal.Arguments.{with_argument}
 use Rattle.step_choice.proofs.arguments.with_argument.Goals as goal
 use Rattle.step_snapshot.specs.Tests.{legend_by}
-use Rattle.ttcn_config.proofs.Within.{declare-keeps}
-use Rattle.ttcn_config.specs.Views.{HasSlotsWithin, view_by}
-use Rattle.ttcn_config.specs.declared.frame.Cells.{Cells}
-use Rattle.ttcn_config.specs.internal.Stored.{declare}
+use Rattle.config_parts.proofs.Within.{declare-keeps}
+use Rattle.config_parts.specs.Views.{HasSlotsWithin, view_by}
+use Rattle.config_parts.specs.declared.frame.Cells.{Cells}
+use Rattle.config_parts.specs.internal.Stored.{declare}
 
 pub returns-clause-within : goal.returns-clause-within
 returns-clause-within c within =

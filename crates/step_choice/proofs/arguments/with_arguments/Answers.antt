@@ -1,8 +1,8 @@
 use Rattle.std.proofs.Common.{length, ap, ◌∙◌}
 use Rattle.std.proofs.Common.{drop}
 use Rattle.std.specs.List.{slice_get, zip}
-use Rattle.step_rules.specs.Branches.{with_arguments}
-use Rattle.step_rules.specs.Snapshots.{view_of_arguments}
+use Rattle.semantics.specs.Branches.{with_arguments}
+use Rattle.semantics.specs.Snapshots.{view_of_arguments}
 use Rattle.step_choice.proofs.Argued.{argument-taken, first-view, first-whole, lent-at, one-known, still-whole}
 use Rattle.step_choice.proofs.arguments.with_arguments.Goals as goal
 use Rattle.step_snapshot.proofs.Framed.{none-within}

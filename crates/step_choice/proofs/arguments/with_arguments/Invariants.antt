@@ -1,10 +1,10 @@
 use Rattle.std.proofs.Common.{◌≡◌, ◌++◌, drop, length, vec_len}
 use Rattle.std.specs.List.{zip}
-use Rattle.step_rules.specs.Branches.{with_arguments}
-use Rattle.step_rules.specs.Snapshots.{view_of_arguments}
+use Rattle.semantics.specs.Branches.{with_arguments}
+use Rattle.semantics.specs.Snapshots.{view_of_arguments}
 use Rattle.step_choice.proofs.arguments.with_arguments.Given as goal
 use Rattle.step_snapshot.specs.Tests.{legend_by}
-use Rattle.ttcn_config.specs.Views.{HasSlotsWithin, view_by}
+use Rattle.config_parts.specs.Views.{HasSlotsWithin, view_by}
 
 -- the values that were taken so far go to their parameters, and those that are left stand before them
 abbrev pub invariant-loop-value : goal.invariant-loop-value

@@ -7,7 +7,7 @@ use Rattle.step_choice.specs.Choices.{Finds, IsWayOf}
 use Rattle.step_choice.specs.declared.taken.Taken.{Taken}
 use Rattle.step_choice.specs.internal.Judged.{Is, IsAmong, first_of, test_of}
 use Rattle.step_choice.proofs.choose.choose_alt.Goals as goal
-use Rattle.step_rules.specs.Branches.{written_defaults}
+use Rattle.semantics.specs.Branches.{written_defaults}
 use Rattle.step_snapshot.specs.Seen.{own_by, seen_by}
 use Rattle.ttcn_graph.proofs.Forms.{does-Alt}
 use Rattle.ttcn_graph.specs.Ways.{items_of_branch}

@@ -1,6 +1,6 @@
 use Rattle.std.proofs.Common.{◌≡◌, Option, Some, None, Ok, Err, [], refl, ap, sym, subst, ◌∙◌}
-use Rattle.step_rules.specs.Branches.{written_call, written_defaults}
-use Rattle.step_rules.specs.Sites.{beginning}
+use Rattle.semantics.specs.Branches.{written_call, written_defaults}
+use Rattle.semantics.specs.Sites.{beginning}
 use Rattle.step_choice.proofs.Chosen.{call-found, call-way}
 use Rattle.step_choice.proofs.Found.{after-none, fault-before, other-way, taken-before}
 use Rattle.step_choice.proofs.KnownBranches.{lone-call-known}

@@ -1,6 +1,6 @@
 use Rattle.std.proofs.Common.{◌≡◌, ◌+◌, arith, drop, Option, Some, None, Ok, Err, [], ap, sym, subst, ◌∙◌}
 use Rattle.std.proofs.lemmas.List.{at_drop_all}
-use Rattle.step_rules.specs.Branches.{written_defaults}
+use Rattle.semantics.specs.Branches.{written_defaults}
 use Rattle.step_choice.proofs.Choosing.{none-chosen}
 use Rattle.step_choice.proofs.Defaulted.{default-is, default-next, first_of_default, first_of_defaults}
 use Rattle.step_choice.proofs.Found.{fault-before, same-choice, taken-before}
@@ -10,7 +10,7 @@ use Rattle.step_choice.specs.internal.Judged.{Is, first_of, test_of}
 use Rattle.step_choice.specs.internal.Later.{or_later}
 use Rattle.step_choice.proofs.choose.choose_default.Goals as goal
 use Rattle.step_snapshot.specs.Seen.{own_by, seen_by}
-use Rattle.ttcn_config.specs.declared.frame.Data.{Data}
+use Rattle.config_parts.specs.declared.frame.Data.{Data}
 use Rattle.ttcn_types.specs.Limits.{longest_chain}
 
 pub loop-default-init : goal.loop-default-init

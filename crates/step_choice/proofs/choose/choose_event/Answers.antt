@@ -1,6 +1,6 @@
 use Rattle.std.proofs.Common.{◌≡◌, Option, Some, None, Ok, Err, [], ◌∷◌, ap, sym, subst, ◌∙◌}
 use Rattle.ttcn_syntax.specs.declared.tree.statement.Statement.{out-Statement}
-use Rattle.step_rules.specs.Branches.{open_branch, written_defaults}
+use Rattle.semantics.specs.Branches.{open_branch, written_defaults}
 use Rattle.step_choice.proofs.Chosen.{event-found, event-way}
 use Rattle.step_choice.proofs.Found.{after-none, fault-before, other-way, taken-before}
 use Rattle.step_choice.proofs.KnownBranches.{lone-event-known}

@@ -1,5 +1,5 @@
-use Rattle.step_rules.specs.Events.{happened_if}
-use Rattle.step_rules.specs.Snapshots.{is_terminated_in}
+use Rattle.semantics.specs.Events.{happened_if}
+use Rattle.semantics.specs.Snapshots.{is_terminated_in}
 use Rattle.step_choice.proofs.Tried.{failing}
 use Rattle.step_snapshot.specs.Seen.{seen_by}
 use Rattle.ttcn_values.specs.Frames.{reading}

@@ -1,11 +1,11 @@
 use Rattle.std.proofs.Common.{ap, sym, ◌∙◌}
-use Rattle.step_rules.specs.Events.{try_all_done, try_done, try_event, try_receive}
+use Rattle.semantics.specs.Events.{try_all_done, try_done, try_event, try_receive}
 use Rattle.step_choice.proofs.Tried.{same-trial}
 use Rattle.step_choice.specs.internal.Judged.{judge_of, reads, test_of}
 use Rattle.step_choice.proofs.event.try_event.Goals as goal
 use Rattle.step_snapshot.specs.Seen.{own_by, seen_by}
 use Rattle.step_snapshot.specs.Tests.{legend_by}
-use Rattle.ttcn_config.specs.Views.{view_by}
+use Rattle.config_parts.specs.Views.{view_by}
 use Rattle.graph_sites.specs.Facts.{event_facts}
 use Rattle.ttcn_values.specs.Frames.{reading}
 

@@ -1,5 +1,5 @@
 use Rattle.std.proofs.Common.{Some, sym, ap, ◌∙◌}
-use Rattle.step_rules.specs.Events as events
+use Rattle.semantics.specs.Events as events
 use Rattle.step_choice.specs.Deeds as deeds
 use Rattle.step_choice.proofs.event.try_timeout.Goals as goal
 

@@ -1,6 +1,6 @@
 use Rattle.std.proofs.Common.{◌≡◌, drop}
-use Rattle.step_rules.specs.Events.{try_fronts}
-use Rattle.step_rules.specs.Sites.{Site}
+use Rattle.semantics.specs.Events.{try_fronts}
+use Rattle.semantics.specs.Sites.{Site}
 use Rattle.step_choice.proofs.Ported.{queues-tried}
 use Rattle.step_choice.specs.internal.Judged.{test_of}
 use Rattle.step_choice.proofs.receive.try_any.Given as goal

@@ -1,12 +1,12 @@
 use Rattle.std.proofs.Common.{Some, List, map, ap, sym, ◌∙◌}
-use Rattle.step_rules.specs.Events.{try_front}
-use Rattle.step_rules.specs.Snapshots.{front_of}
+use Rattle.semantics.specs.Events.{try_front}
+use Rattle.semantics.specs.Snapshots.{front_of}
 use Rattle.step_choice.proofs.Ported.{front-there}
 use Rattle.step_choice.proofs.Tried.{same-trial}
 use Rattle.step_choice.specs.internal.Judged.{names_of, test_of}
 use Rattle.step_choice.proofs.receive.try_front.Goals as goal
-use Rattle.ttcn_config.specs.Legend.{message_by}
-use Rattle.ttcn_config.specs.declared.component.Message.{Message}
+use Rattle.config_parts.specs.Legend.{message_by}
+use Rattle.config_parts.specs.declared.component.Message.{Message}
 use Rattle.ttcn_values.specs.Frames.{reading}
 
 pub returns-in-Some : goal.returns-in-Some

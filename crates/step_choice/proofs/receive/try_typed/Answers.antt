@@ -1,12 +1,12 @@
 use Rattle.std.proofs.Common.{true, Ok, Err, Some, ap, ◌∙◌}
-use Rattle.step_rules.specs.Events.{from_fits, happened_or_passed, redirects, template_fits, try_template}
-use Rattle.step_rules.specs.Sites.{scope_at}
+use Rattle.semantics.specs.Events.{from_fits, happened_or_passed, redirects, template_fits, try_template}
+use Rattle.semantics.specs.Sites.{scope_at}
 use Rattle.step_choice.proofs.Received.{stored-fault, stored-received}
 use Rattle.step_choice.proofs.Tried.{failing, trying}
 use Rattle.step_choice.specs.declared.taken.Deed.TheVariants as code
 use Rattle.step_choice.specs.internal.Judged.{names_of, test_of}
 use Rattle.step_choice.proofs.receive.try_typed.Goals as goal
-use Rattle.ttcn_config.specs.Legend.{message_by}
+use Rattle.config_parts.specs.Legend.{message_by}
 use Rattle.ttcn_values.specs.Frames.{reading}
 use Rattle.ttcn_values.specs.Outcomes.{Yields}
 

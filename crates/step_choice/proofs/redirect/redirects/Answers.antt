@@ -1,6 +1,6 @@
 use Rattle.std.proofs.Common.{[], ◌∷◌, ◌++◌, map, sym, ap, ◌∙◌}
 use Rattle.std.specs.Option.{option_map}
-use Rattle.step_rules.specs.Events.{redirected_value}
+use Rattle.semantics.specs.Events.{redirected_value}
 use Rattle.step_choice.proofs.Redirected.{both-stored, one-sender}
 use Rattle.step_choice.specs.Deeds.{stored_by}
 use Rattle.graph_items.specs.Standing.{target_of}

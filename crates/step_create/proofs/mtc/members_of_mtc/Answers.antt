@@ -1,11 +1,11 @@
 use Rattle.std.proofs.Common.{[], subst, sym}
 use Rattle.step_create.proofs.Alone.{alone-runs}
 use Rattle.step_create.proofs.mtc.members_of_mtc.Goals as goal
-use Rattle.step_rules.specs.Creating.{new_members}
-use Rattle.step_rules.specs.Runs.{first_snapshot}
+use Rattle.semantics.specs.Creating.{new_members}
+use Rattle.semantics.specs.Runs.{first_snapshot}
 use Rattle.step_snapshot.specs.Tests.{legend_by, test_by}
-use Rattle.ttcn_config.specs.Legend.{frame_with}
-use Rattle.ttcn_config.specs.declared.frame.Cells.{Cells}
+use Rattle.config_parts.specs.Legend.{frame_with}
+use Rattle.config_parts.specs.declared.frame.Cells.{Cells}
 use Rattle.ttcn_values.specs.Outcomes.{GivesBy}
 use Rattle.ttcn_values.specs.declared.value.ComponentId.{ComponentId}
 

@@ -1,9 +1,9 @@
 use Rattle.std.proofs.Common.{ap, ◌∙◌, not, nat_eq}
 use Rattle.std.specs.List.{filter}
-use Rattle.step_rules.specs.Statements as rules
+use Rattle.semantics.specs.Statements as rules
 use Rattle.step_data.proofs.Changes.{defaults-left}
-use Rattle.ttcn_config.specs.Legend.{data_by, default_by}
-use Rattle.ttcn_config.specs.declared.frame.ActiveDefault.{ActiveDefault}
+use Rattle.config_parts.specs.Legend.{data_by, default_by}
+use Rattle.config_parts.specs.declared.frame.ActiveDefault.{ActiveDefault}
 use Rattle.std.specs.Prelude.{List, map}
 use Rattle.step_data.proofs.defaults.deactivate.Goals as goal
 

@@ -1,8 +1,8 @@
 use Rattle.std.proofs.Common.{ap, subst, ◌∙◌, map, ◌∷◌, [], ◌++◌}
 use Rattle.step_data.specs.Frames.{entered_all}
-use Rattle.step_rules.specs.Configurations as rules
-use Rattle.step_rules.specs.Statements as said
-use Rattle.ttcn_config.specs.Legend.{data_by, frame_by}
+use Rattle.semantics.specs.Configurations as rules
+use Rattle.semantics.specs.Statements as said
+use Rattle.config_parts.specs.Legend.{data_by, frame_by}
 use Rattle.ttcn_values.specs.Outcomes.{GivesBy}
 use Rattle.step_data.proofs.frames.enter.Goals as goal
 

@@ -1,8 +1,8 @@
 use Rattle.std.proofs.Common.{ap, sym, subst, ◌∙◌, ◌++◌, List}
 use Rattle.std.specs.List.{All}
 use Rattle.step_data.proofs.Changes.{all-append}
-use Rattle.ttcn_config.specs.Views.{IsFrameWithin}
-use Rattle.ttcn_config.specs.declared.frame.Frame.{Frame}
+use Rattle.config_parts.specs.Views.{IsFrameWithin}
+use Rattle.config_parts.specs.declared.frame.Frame.{Frame}
 use Rattle.step_data.proofs.frames.enter_all.Goals as goal
 
 pub returns-clause-within : goal.returns-clause-within

@@ -1,8 +1,8 @@
 use Rattle.std.proofs.Common.{ap, sym, subst, ◌∙◌, List}
 use Rattle.std.specs.List.{All, remove}
 use Rattle.step_data.proofs.Changes.{all-remove}
-use Rattle.ttcn_config.specs.Views.{IsFrameWithin}
-use Rattle.ttcn_config.specs.declared.frame.Frame.{Frame}
+use Rattle.config_parts.specs.Views.{IsFrameWithin}
+use Rattle.config_parts.specs.declared.frame.Frame.{Frame}
 use Rattle.step_data.proofs.frames.leave.Goals.{then-len-gt0, else-len-gt0}
 use Rattle.step_data.proofs.frames.leave.Goals as goal
 

@@ -1,11 +1,11 @@
 use Rattle.std.proofs.Common.{ap, sym, ◌∙◌}
-use Rattle.assignment.specs.Assignment.{assigned}
-use Rattle.step_rules.specs.Storing as storing
+use Rattle.value_assignment.specs.Assignment.{assigned}
+use Rattle.semantics.specs.Storing as storing
 use Rattle.step_data.proofs.Changes.{held-by}
-use Rattle.ttcn_config.specs.Legend.{data_by}
+use Rattle.config_parts.specs.Legend.{data_by}
 use Rattle.ttcn_values.specs.Outcomes.{Yields, outcome_map}
-use Rattle.step_rules.specs.Entries.{put}
-use Rattle.step_rules.specs.Items.{Target}
+use Rattle.semantics.specs.Entries.{put}
+use Rattle.semantics.specs.Items.{Target}
 use Rattle.ttcn_values.specs.Frames.{entry}
 use Rattle.ttcn_values.proofs.Faults.{handed_on_by}
 use Rattle.step_data.proofs.storing.store.Goals as goal

@@ -4,8 +4,8 @@ use Rattle.ttcn_syntax.specs.declared.tree.statement.Action.TheOpen.{Action-F}
 use Rattle.ttcn_syntax.specs.declared.tree.statement.Conditional.{out-Conditional}
 use Rattle.check_scope.specs.Names.{resolved}
 use Rattle.check_scope.specs.declared.names.Meaning.TheVariants as meaning
-use Rattle.step_rules.specs.Items as rules
-use Rattle.step_rules.specs.Sites as sites
+use Rattle.semantics.specs.Items as rules
+use Rattle.semantics.specs.Sites as sites
 use Rattle.ttcn_graph.specs.Drafts.{AreDrawn, Draft, IsDrawn, at_site}
 use Rattle.ttcn_graph.specs.internal.Drawing.{declared_before, site_before, ways_of_condition}
 use Rattle.std.specs.List.{slice_get}

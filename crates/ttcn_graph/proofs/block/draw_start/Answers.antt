@@ -1,6 +1,6 @@
 use Rattle.std.proofs.Common.{[], ◌++◌, ◌≡◌, get_or, length}
-use Rattle.step_rules.specs.Items as rules
-use Rattle.step_rules.specs.Sites as sites
+use Rattle.semantics.specs.Items as rules
+use Rattle.semantics.specs.Sites as sites
 use Rattle.ttcn_graph.specs.Drafts.{IsDrawn, at_site}
 use Rattle.ttcn_graph.specs.internal.Drawing.{declared_before, site_before}
 use Rattle.ttcn_graph.proofs.Growing.{ok-map, start-drawn}

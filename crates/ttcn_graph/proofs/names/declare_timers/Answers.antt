@@ -1,6 +1,6 @@
 use Rattle.std.proofs.Common.{map}
 use Rattle.check_scope.specs.declared.names.Meaning.TheVariants as meaning
-use Rattle.step_rules.specs.Sites as sites
+use Rattle.semantics.specs.Sites as sites
 use Rattle.ttcn_graph.specs.Drafts.{at_site}
 use Rattle.ttcn_graph.proofs.Growing.{declare-end, declare-next}
 use Rattle.ttcn_graph.proofs.names.declare_timers.Goals as goal

@@ -1,6 +1,6 @@
 use Rattle.std.proofs.Common.{[], ◌∷◌, ◌<◌, length, get_or, sym, subst}
 use Rattle.std.specs.Option.{option_map}
-use Rattle.step_rules.specs.Items as rules
+use Rattle.semantics.specs.Items as rules
 use Rattle.ttcn_graph.specs.Drafts.{Draft, IsDrawn}
 use Rattle.ttcn_graph.specs.Ways.{ways_of_variable}
 use Rattle.ttcn_graph.proofs.Growing.{put-drawn}

@@ -1,5 +1,5 @@
 use Rattle.std.proofs.Common.{◌≡◌, ◌∷◌, subst, sym}
-use Rattle.fine_runs.specs.Fine.{begins_with_alt}
+use Rattle.laws_fine.specs.Fine.{begins_with_alt}
 use Rattle.graph_items.specs.Begun.{item_at}
 use Rattle.graph_items.specs.declared.first.First.{First}
 use Rattle.step_snapshot.specs.Tests.{test_by}

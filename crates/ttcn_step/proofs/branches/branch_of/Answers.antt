@@ -1,8 +1,8 @@
 use Rattle.std.proofs.Common.{◌≡◌, Bor, List, subst, sym, ◌∙◌}
 use Rattle.std.specs.List.{list_any}
-use Rattle.step_rules.specs.Snapshots.{runs_in, snapshot_of}
+use Rattle.semantics.specs.Snapshots.{runs_in, snapshot_of}
 use Rattle.step_snapshot.specs.Tests.{legend_by}
-use Rattle.ttcn_config.specs.Legend.{component_by, going_by}
+use Rattle.config_parts.specs.Legend.{component_by, going_by}
 use Rattle.ttcn_step.proofs.Branching.{branch-taken}
 use Rattle.ttcn_values.specs.contracts.path.PathPartialEq.TheImpl as equality
 use Rattle.ttcn_values.specs.declared.path.Path.{Path}

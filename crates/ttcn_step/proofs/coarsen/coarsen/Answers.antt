@@ -1,5 +1,5 @@
 use Rattle.std.proofs.Common.{ap, map, subst, sym, ◌∙◌}
-use Rattle.fine_runs.specs.Gathering.{gathered}
+use Rattle.laws_fine.specs.Gathering.{gathered}
 use Rattle.ttcn_step.proofs.Coarsening.{coarsens-ended, coarsens-err, coarsens-open}
 use Rattle.ttcn_step.proofs.Doubling.{as-error}
 use Rattle.ttcn_step.proofs.coarsen.coarsen.Goals as goal

@@ -1,5 +1,5 @@
 use Rattle.std.proofs.Common.{◌≡◌, drop, map}
-use Rattle.fine_runs.specs.Gathering.{first_told}
+use Rattle.laws_fine.specs.Gathering.{first_told}
 use Rattle.ttcn_step.specs.internal.Fine.{told_by}
 use Rattle.ttcn_step.proofs.coarsen.first_told.Given as goal
 

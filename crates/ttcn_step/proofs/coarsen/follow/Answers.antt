@@ -1,10 +1,10 @@
 use Rattle.std.proofs.Common.{List, Option, IfSome, ap, map, refl, subst, sym, ◌∙◌}
 use Rattle.std.specs.List.{All}
 use Rattle.std.proofs.lemmas.List.Elements.{All-nil}
-use Rattle.fine_runs.specs.Holding.{hold_run}
-use Rattle.step_rules.specs.Runs.{start}
+use Rattle.laws_fine.specs.Holding.{hold_run}
+use Rattle.semantics.specs.Runs.{start}
 use Rattle.step_snapshot.specs.Tests.{test_by}
-use Rattle.ttcn_config.specs.declared.config.Config.TheVariants as config
+use Rattle.config_parts.specs.declared.config.Config.TheVariants as config
 use Rattle.ttcn_step.proofs.FineRuns.{begins, goes-on}
 use Rattle.ttcn_step.proofs.coarsen.follow.Goals as goal
 use Rattle.ttcn_step.specs.FineLabels.{fine_label_by}

@@ -1,5 +1,5 @@
 use Rattle.std.proofs.Common.{◌≡◌, map}
-use Rattle.fine_runs.specs.Holding.{hold_run}
+use Rattle.laws_fine.specs.Holding.{hold_run}
 use Rattle.step_snapshot.specs.Tests.{test_by}
 use Rattle.ttcn_step.proofs.FineRuns.{Left}
 use Rattle.ttcn_step.specs.FineLabels.{fine_label_by}

@@ -1,5 +1,5 @@
 use Rattle.std.proofs.Common.{◌≡◌, ◌++◌, drop, map}
-use Rattle.fine_runs.specs.Gathering.{gathered}
+use Rattle.laws_fine.specs.Gathering.{gathered}
 use Rattle.step_labels.specs.Labels.{label_by}
 use Rattle.ttcn_step.specs.internal.Fine.{told_by}
 use Rattle.ttcn_step.proofs.coarsen.gather.Given as goal

@@ -1,7 +1,7 @@
 use Rattle.std.proofs.Common.{map}
-use Rattle.fine_runs.specs.Doubling.{doubled}
+use Rattle.laws_fine.specs.Doubling.{doubled}
 use Rattle.step_labels.specs.Labels.{label_by}
-use Rattle.step_rules.specs.Runs as runs
+use Rattle.semantics.specs.Runs as runs
 use Rattle.step_snapshot.specs.Tests.{test_by}
 use Rattle.ttcn_step.proofs.Doubling.{as-error, double-refused, doubled-end, doubled-more, led-end}
 use Rattle.ttcn_step.proofs.Replaying.{run-goes-on}

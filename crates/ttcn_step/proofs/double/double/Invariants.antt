@@ -1,7 +1,7 @@
 use Rattle.std.proofs.Common.{◌≡◌, ◌+◌, ◌++◌, drop, map}
-use Rattle.fine_runs.specs.Doubling.{doubled, doubled_from}
+use Rattle.laws_fine.specs.Doubling.{doubled, doubled_from}
 use Rattle.step_labels.specs.Labels.{label_by}
-use Rattle.step_rules.specs.Runs as runs
+use Rattle.semantics.specs.Runs as runs
 use Rattle.step_snapshot.specs.Tests.{test_by}
 use Rattle.ttcn_step.specs.FineLabels.{fine_label_by}
 use Rattle.ttcn_step.specs.Machines.{Fits, machine_of, said}

@@ -1,14 +1,14 @@
 use Rattle.std.proofs.Common.{◌≡◌, Option, Some, None, Ok, Err, ap, subst, sym, ◌∙◌, option_map}
-use Rattle.fine_runs.specs.Holding.{act_then, follow}
+use Rattle.laws_fine.specs.Holding.{act_then, follow}
 use Rattle.step_acts.specs.Asks.{Asks, AsksWithin, IsFault, uncovered_act}
 use Rattle.step_labels.specs.Labels.{label_by}
-use Rattle.step_rules.specs.Snapshots.{snapshot_of}
-use Rattle.step_rules.specs.Statements as said
-use Rattle.step_rules.specs.Steps.{apply, settled}
+use Rattle.semantics.specs.Snapshots.{snapshot_of}
+use Rattle.semantics.specs.Statements as said
+use Rattle.semantics.specs.Steps.{apply, settled}
 use Rattle.step_snapshot.specs.Tests.{extent_of, legend_by, test_by}
-use Rattle.ttcn_config.specs.Acts.{IsUncovered, act_by}
-use Rattle.ttcn_config.specs.Legend.{component_by, config_by, going_by}
-use Rattle.ttcn_config.specs.declared.act.Act.{Act}
+use Rattle.config_parts.specs.Acts.{IsUncovered, act_by}
+use Rattle.config_parts.specs.Legend.{component_by, config_by, going_by}
+use Rattle.config_parts.specs.declared.act.Act.{Act}
 use Rattle.ttcn_step.proofs.FineChoices.{fault-chosen, fault-fate, takes-chosen, takes-fate, then-found, waits-chosen, waits-fate}
 use Rattle.ttcn_step.proofs.FineSteps.{fits-done}
 use Rattle.ttcn_step.proofs.Found.{found-within, said-found, searched}

@@ -1,5 +1,5 @@
 use Rattle.std.proofs.Common.{◌≡◌, drop, map}
-use Rattle.fine_runs.specs.Holding as holding
+use Rattle.laws_fine.specs.Holding as holding
 use Rattle.step_labels.specs.Labels.{label_by}
 use Rattle.step_snapshot.specs.Tests.{test_by}
 use Rattle.ttcn_step.specs.Machines.{Fits, machine_of, said}

@@ -1,4 +1,4 @@
-use Rattle.fine_runs.specs.Holding.{noted}
+use Rattle.laws_fine.specs.Holding.{noted}
 use Rattle.step_labels.specs.Labels.{label_by}
 use Rattle.ttcn_step.proofs.Noted.{map-more, map-same-more}
 use Rattle.ttcn_step.specs.declared.fine.Stored.{Stored}

@@ -1,7 +1,7 @@
 use Rattle.std.proofs.Common.{◌≡◌, map}
-use Rattle.fine_runs.specs.Holding.{noted}
+use Rattle.laws_fine.specs.Holding.{noted}
 use Rattle.step_labels.specs.Labels.{label_by}
-use Rattle.ttcn_config.specs.Legend.{Legend}
+use Rattle.config_parts.specs.Legend.{Legend}
 use Rattle.ttcn_step.specs.declared.fine.Stored.{Stored}
 use Rattle.ttcn_step.specs.internal.Fine.{held_by}
 use Rattle.ttcn_step.proofs.fine.note_all.Given as goal

@@ -1,7 +1,7 @@
 use Rattle.std.proofs.Common.{◌≡◌, drop}
-use Rattle.step_rules.specs.Labels.{labels_of_component}
+use Rattle.semantics.specs.Labels.{labels_of_component}
 use Rattle.step_snapshot.specs.Tests.{legend_by, test_by}
-use Rattle.ttcn_config.specs.Legend.{going_by}
+use Rattle.config_parts.specs.Legend.{going_by}
 use Rattle.ttcn_step.proofs.Listed.{parts_of}
 use Rattle.ttcn_step.proofs.labels.is_stuck_going.Given as goal
 

@@ -1,8 +1,8 @@
 use Rattle.std.proofs.Common.{◌≡◌, ◌++◌, drop, map}
 use Rattle.step_labels.specs.Labels.{label_by}
-use Rattle.step_rules.specs.Labels.{labels_of_component}
+use Rattle.semantics.specs.Labels.{labels_of_component}
 use Rattle.step_snapshot.specs.Tests.{legend_by, test_by}
-use Rattle.ttcn_config.specs.Legend.{going_by}
+use Rattle.config_parts.specs.Legend.{going_by}
 use Rattle.ttcn_step.proofs.Listed.{parts_of}
 use Rattle.ttcn_step.proofs.labels.labels_of.Given as goal
 

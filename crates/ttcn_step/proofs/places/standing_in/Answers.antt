@@ -1,10 +1,10 @@
 use Rattle.std.proofs.Common.{List, map, refl}
 use Rattle.std.specs.List.{flat_map}
 use Rattle.ttcn_syntax.specs.declared.place.Span.{Span}
-use Rattle.step_rules.specs.Places.{place_of, with_place}
+use Rattle.semantics.specs.Places.{place_of, with_place}
 use Rattle.step_snapshot.specs.Tests.{legend_by}
-use Rattle.ttcn_config.specs.Legend.{component_by}
-use Rattle.ttcn_config.specs.declared.component.Component.{Component}
+use Rattle.config_parts.specs.Legend.{component_by}
+use Rattle.config_parts.specs.declared.component.Component.{Component}
 use Rattle.ttcn_step.proofs.Listed.{grown}
 use Rattle.ttcn_step.specs.Standing.{standing_by}
 use Rattle.ttcn_values.specs.declared.path.Path.{Path}

@@ -1,8 +1,8 @@
 use Rattle.std.proofs.Common.{◌≡◌, ◌++◌, drop, map}
 use Rattle.std.specs.List.{flat_map}
-use Rattle.step_rules.specs.Places.{place_of, with_place}
+use Rattle.semantics.specs.Places.{place_of, with_place}
 use Rattle.step_snapshot.specs.Tests.{legend_by}
-use Rattle.ttcn_config.specs.Legend.{component_by}
+use Rattle.config_parts.specs.Legend.{component_by}
 use Rattle.ttcn_step.specs.Standing.{standing_by}
 use Rattle.ttcn_step.proofs.places.standing_in.Given as goal
 

@@ -1,7 +1,7 @@
 use Rattle.std.proofs.Common.{List, ap, slice_get, ◌∙◌}
 use Rattle.step_snapshot.specs.Tests.{legend_by, test_by}
-use Rattle.ttcn_config.specs.declared.frame.Data.{Data}
-use Rattle.ttcn_config.specs.declared.frame.Frame.{Frame}
+use Rattle.config_parts.specs.declared.frame.Data.{Data}
+use Rattle.config_parts.specs.declared.frame.Frame.{Frame}
 use Rattle.ttcn_step.proofs.NoWait.{plain-frame-has-step}
 use Rattle.ttcn_step.proofs.plain.stands_at_plain.Goals as goal
 

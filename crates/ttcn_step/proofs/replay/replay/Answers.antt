@@ -1,6 +1,6 @@
 use Rattle.std.proofs.Common.{map}
 use Rattle.step_labels.specs.Labels.{label_by}
-use Rattle.step_rules.specs.Runs as runs
+use Rattle.semantics.specs.Runs as runs
 use Rattle.step_snapshot.specs.Tests.{test_by}
 use Rattle.ttcn_step.proofs.Replaying.{run-goes-on}
 use Rattle.ttcn_step.specs.Machines.{machine_of, said}

@@ -1,6 +1,6 @@
 use Rattle.std.proofs.Common.{◌≡◌, ◌+◌, drop, map}
 use Rattle.step_labels.specs.Labels.{label_by}
-use Rattle.step_rules.specs.Runs as runs
+use Rattle.semantics.specs.Runs as runs
 use Rattle.step_snapshot.specs.Tests.{test_by}
 use Rattle.ttcn_step.specs.Machines.{Fits, machine_of, said}
 use Rattle.ttcn_step.proofs.replay.replay.Given as goal

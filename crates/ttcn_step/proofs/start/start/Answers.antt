@@ -1,8 +1,8 @@
 use Rattle.std.proofs.Common.{◌≡◌}
-use Rattle.step_rules.specs.Runs as runs
+use Rattle.semantics.specs.Runs as runs
 use Rattle.step_snapshot.specs.Tests.{extent_of, test_by}
-use Rattle.ttcn_config.specs.Views.{IsConfigWithin}
-use Rattle.ttcn_config.specs.declared.config.Config.{Config}
+use Rattle.config_parts.specs.Views.{IsConfigWithin}
+use Rattle.config_parts.specs.declared.config.Config.{Config}
 use Rattle.ttcn_step.proofs.Following.{fits-start}
 use Rattle.ttcn_step.proofs.Stepping.{ok-both}
 use Rattle.ttcn_step.specs.Machines.{Fits, machine_of, said}

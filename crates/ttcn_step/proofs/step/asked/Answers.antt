@@ -1,13 +1,13 @@
 use Rattle.std.proofs.Common.{◌≡◌, Bor, List, Option, Result, subst, sym}
 use Rattle.std.specs.List.{list_any}
 use Rattle.step_acts.specs.Asks.{Asks, uncovered_act}
-use Rattle.step_rules.specs.Snapshots.{runs_in, snapshot_of}
+use Rattle.semantics.specs.Snapshots.{runs_in, snapshot_of}
 use Rattle.step_snapshot.specs.Tests.{legend_by}
 use Rattle.step_snapshot.specs.declared.test_case.TestCase.{TestCase}
-use Rattle.ttcn_config.specs.Legend.{component_by, going_by}
-use Rattle.ttcn_config.specs.declared.act.Act.{Act}
-use Rattle.ttcn_config.specs.declared.component.Component.{Component}
-use Rattle.ttcn_config.specs.declared.config.Going.{Going}
+use Rattle.config_parts.specs.Legend.{component_by, going_by}
+use Rattle.config_parts.specs.declared.act.Act.{Act}
+use Rattle.config_parts.specs.declared.component.Component.{Component}
+use Rattle.config_parts.specs.declared.config.Going.{Going}
 use Rattle.ttcn_step.specs.internal.Steps as spec
 use Rattle.ttcn_values.specs.contracts.path.PathPartialEq.TheImpl as equality
 use Rattle.ttcn_values.specs.declared.fault.Fault.{Fault}

@@ -1,6 +1,6 @@
 use Rattle.std.proofs.Common.{subst, sym}
-use Rattle.ttcn_config.specs.Views.{AreAllWithin}
-use Rattle.ttcn_config.specs.declared.config.Going.{Going}
+use Rattle.config_parts.specs.Views.{AreAllWithin}
+use Rattle.config_parts.specs.declared.config.Going.{Going}
 use Rattle.ttcn_step.proofs.Stepping.{copy-behind, copy-fails, order-of-copy}
 use Rattle.ttcn_step.proofs.step.done.Goals as goal
 

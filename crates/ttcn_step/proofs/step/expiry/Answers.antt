@@ -1,8 +1,8 @@
 use Rattle.std.proofs.Common.{subst, sym}
-use Rattle.step_rules.specs.Steps.{Expiry}
+use Rattle.semantics.specs.Steps.{Expiry}
 use Rattle.step_snapshot.specs.Tests.{extent_of, legend_by, test_by}
-use Rattle.ttcn_config.specs.Views.{AreAllWithin}
-use Rattle.ttcn_config.specs.declared.config.Going.{Going}
+use Rattle.config_parts.specs.Views.{AreAllWithin}
+use Rattle.config_parts.specs.declared.config.Going.{Going}
 use Rattle.ttcn_step.proofs.Stepping.{copy-expires, copy-rests, order-of-copy}
 use Rattle.ttcn_step.proofs.step.expiry.Goals as goal
 

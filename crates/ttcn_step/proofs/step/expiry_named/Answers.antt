@@ -1,5 +1,5 @@
 use Rattle.std.proofs.Common.{ap, length, sym, option_map}
-use Rattle.step_rules.specs.Steps.{settled}
+use Rattle.semantics.specs.Steps.{settled}
 use Rattle.step_snapshot.specs.Tests.{legend_by, test_by}
 use Rattle.ttcn_step.proofs.Expiring.{no-expiry}
 use Rattle.ttcn_step.proofs.step.expiry_named.Goals as goal

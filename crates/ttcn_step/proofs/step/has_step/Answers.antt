@@ -1,6 +1,6 @@
 use Rattle.std.proofs.Common.{sym, ◌∙◌}
 use Rattle.step_snapshot.specs.Tests.{legend_by}
-use Rattle.ttcn_config.specs.Legend.{going_by}
+use Rattle.config_parts.specs.Legend.{going_by}
 use Rattle.ttcn_step.proofs.step.has_step.Goals as goal
 
 pub returns-then-stands_at_plain : goal.returns-then-stands_at_plain

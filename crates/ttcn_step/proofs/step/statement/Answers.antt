@@ -1,10 +1,10 @@
 use Rattle.std.proofs.Common.{◌≡◌, Option, Ok, ap, subst, sym, ◌∙◌, option_map}
 use Rattle.step_acts.specs.Asks.{Asks, uncovered_act}
-use Rattle.step_rules.specs.Steps.{settled}
+use Rattle.semantics.specs.Steps.{settled}
 use Rattle.step_snapshot.specs.Tests.{legend_by, test_by}
-use Rattle.ttcn_config.specs.Acts.{IsUncovered, act_by}
-use Rattle.ttcn_config.specs.Legend.{component_by, going_by}
-use Rattle.ttcn_config.specs.declared.act.Act.{Act}
+use Rattle.config_parts.specs.Acts.{IsUncovered, act_by}
+use Rattle.config_parts.specs.Legend.{component_by, going_by}
+use Rattle.config_parts.specs.declared.act.Act.{Act}
 use Rattle.ttcn_step.proofs.Steps.{asks, is-uncovered}
 use Rattle.ttcn_step.specs.internal.Steps as spec
 use Rattle.ttcn_step.proofs.step.statement.Goals as goal

@@ -1,11 +1,11 @@
 use Rattle.std.proofs.Common.{Option, Some, None, IfSome}
 use Rattle.step_labels.specs.Labels.{label_by}
-use Rattle.step_rules.specs.Steps.{Expiry, statement_step, step_in}
+use Rattle.semantics.specs.Steps.{Expiry, statement_step, step_in}
 use Rattle.step_snapshot.specs.Tests.{extent_of, legend_by, test_by}
-use Rattle.ttcn_config.specs.Legend.{component_by, going_by}
-use Rattle.ttcn_config.specs.Views.{IsConfigWithin}
-use Rattle.ttcn_config.specs.declared.config.Config.{Config}
-use Rattle.ttcn_config.specs.declared.config.Config.TheVariants as config
+use Rattle.config_parts.specs.Legend.{component_by, going_by}
+use Rattle.config_parts.specs.Views.{IsConfigWithin}
+use Rattle.config_parts.specs.declared.config.Config.{Config}
+use Rattle.config_parts.specs.declared.config.Config.TheVariants as config
 use Rattle.ttcn_step.proofs.Following.{fits-behind}
 use Rattle.ttcn_step.proofs.Found.{found-within, searched}
 use Rattle.ttcn_step.proofs.Stepping.{Stepped, behind-expiry, behind-missing, behind-statement, ok-both, ok-more}

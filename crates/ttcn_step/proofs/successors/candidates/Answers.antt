@@ -1,7 +1,7 @@
 use Rattle.std.proofs.Common.{map, refl}
 use Rattle.step_labels.specs.Labels.{label_by}
 use Rattle.step_snapshot.specs.Tests.{extent_of, legend_by}
-use Rattle.ttcn_config.specs.Legend.{component_by}
+use Rattle.config_parts.specs.Legend.{component_by}
 use Rattle.ttcn_step.proofs.Limits.{kept-at, within-at}
 use Rattle.ttcn_step.proofs.Listed.{grown, parts_of}
 use Rattle.ttcn_step.specs.internal.Steps.{candidates_of}

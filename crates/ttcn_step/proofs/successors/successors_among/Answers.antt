@@ -1,6 +1,6 @@
-use Rattle.step_rules.specs.Configurations as rules
+use Rattle.semantics.specs.Configurations as rules
 use Rattle.step_snapshot.specs.Tests.{legend_by, test_by}
-use Rattle.ttcn_config.specs.Legend.{going_by}
+use Rattle.config_parts.specs.Legend.{going_by}
 use Rattle.ttcn_step.proofs.Succeeding.{leads-more}
 use Rattle.ttcn_step.specs.Machines.{machine_of}
 use Rattle.ttcn_step.specs.internal.Successors.{pairs_by}

@@ -1,9 +1,9 @@
 use Rattle.std.proofs.Common.{◌≡◌, map}
 use Rattle.std.specs.List.{All}
 use Rattle.step_labels.specs.Labels.{label_by}
-use Rattle.step_rules.specs.Configurations as rules
+use Rattle.semantics.specs.Configurations as rules
 use Rattle.step_snapshot.specs.Tests.{legend_by, test_by}
-use Rattle.ttcn_config.specs.Legend.{going_by}
+use Rattle.config_parts.specs.Legend.{going_by}
 use Rattle.ttcn_step.specs.Machines.{Fits, machine_of}
 use Rattle.ttcn_step.specs.internal.Steps.{leads}
 use Rattle.ttcn_step.specs.internal.Successors.{pairs_by}

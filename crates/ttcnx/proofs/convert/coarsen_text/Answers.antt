@@ -4,7 +4,7 @@ use Rattle.std.specs.Prelude.{◌⊎◌, Err}
 use Rattle.report.specs.Labels.{label_text}
 use Rattle.report.specs.Runs.{ReadsFineRun, lines_of}
 use Rattle.report.specs.Texts.{line}
-use Rattle.step_rules.specs.Snapshots.{Test}
+use Rattle.semantics.specs.Snapshots.{Test}
 use Rattle.ttcnx.proofs.Conversions.{coarse_answers, coarsen_answers, fine_listing, name_converts}
 use Rattle.ttcnx.proofs.Stages.{as_error}
 use Rattle.ttcnx.proofs.convert.coarsen_text.Goals as goal

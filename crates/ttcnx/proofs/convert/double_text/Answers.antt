@@ -4,7 +4,7 @@ use Rattle.std.specs.Prelude.{◌⊎◌, Err}
 use Rattle.report.specs.Labels.{fine_text}
 use Rattle.report.specs.Runs.{ReadsRun, lines_of}
 use Rattle.report.specs.Texts.{line}
-use Rattle.step_rules.specs.Snapshots.{Test}
+use Rattle.semantics.specs.Snapshots.{Test}
 use Rattle.ttcnx.proofs.Conversions.{double_answers, doubled_answers, name_converts, plain_listing}
 use Rattle.ttcnx.proofs.Stages.{as_error}
 use Rattle.ttcnx.proofs.convert.double_text.Goals as goal

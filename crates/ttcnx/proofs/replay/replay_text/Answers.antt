@@ -3,7 +3,7 @@ use Rattle.std.specs.Fmt.{decimal}
 use Rattle.std.specs.Prelude.{◌⊎◌, Err, codes}
 use Rattle.report.specs.Texts.{line}
 use Rattle.report.specs.Runs.{ReadsRun, lines_of}
-use Rattle.step_rules.specs.Snapshots.{Test}
+use Rattle.semantics.specs.Snapshots.{Test}
 use Rattle.ttcnx.proofs.Following.{end_answers, listing_answers, name_answers, replay_answers}
 use Rattle.ttcnx.proofs.Stages.{as_error}
 use Rattle.ttcnx.proofs.WellTyped.{runs_stay_well_typed}

@@ -1,6 +1,6 @@
 use Rattle.std.proofs.Common.{◌≡◌, inl, inr, refl, sym, ap, subst}
 use Rattle.std.specs.Prelude.{◌⊎◌, Err}
-use Rattle.step_rules.specs.Snapshots.{Test}
+use Rattle.semantics.specs.Snapshots.{Test}
 use Rattle.ttcnx.proofs.Listed.{lists_verdicts}
 use Rattle.ttcnx.proofs.OneAnswer.{one_test}
 use Rattle.ttcnx.proofs.Stages.{as_error, name_answers, search_answers}

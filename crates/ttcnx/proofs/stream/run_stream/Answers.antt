@@ -1,6 +1,6 @@
 use Rattle.std.proofs.Common.{refl, ap, subst, sym, ◌∙◌}
 use Rattle.std.specs.Prelude.{Err}
-use Rattle.streams.specs.Transfers.{Took, TookPart, WasRead}
+use Rattle.ttcnx_streams.specs.Transfers.{Took, TookPart, WasRead}
 use Rattle.ttcnx.proofs.OneAnswer.{one_answer}
 use Rattle.ttcnx.proofs.Stages.{as_error}
 use Rattle.ttcnx.proofs.Streams.{read_answers, report_answers, text_answers}

@@ -2,7 +2,7 @@ use Rattle.std.proofs.Common.{◌≡◌, ap, sym, subst, ◌∙◌}
 use Rattle.std.specs.Option.{option_map}
 use Rattle.check_scope.specs.internal.Checking.{view}
 use Rattle.check_scope.specs.internal.Tables.{has}
-use Rattle.step_rules.specs.Sites.{behaviour_scope}
+use Rattle.semantics.specs.Sites.{behaviour_scope}
 use Rattle.graph_sites.specs.internal.OwnNames.{is_one_of, is_parameter}
 use Rattle.graph_sites.proofs.Sites.{at_beginning}
 use Rattle.graph_sites.proofs.here.Here.at.Goals as goal

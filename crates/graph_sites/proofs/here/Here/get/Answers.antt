@@ -1,6 +1,6 @@
 use Rattle.std.proofs.Common.{ap, ◌∙◌}
 use Rattle.check_scope.specs.internal.Checking.{view}
-use Rattle.step_rules.specs.Sites.{scope_at}
+use Rattle.semantics.specs.Sites.{scope_at}
 use Rattle.graph_sites.proofs.Sites.{found_inside, found_outside}
 use Rattle.graph_sites.proofs.here.Here.get.Goals as goal
 

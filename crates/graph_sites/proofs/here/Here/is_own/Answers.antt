@@ -1,6 +1,6 @@
 use Rattle.std.proofs.Common.{ap, sym, ◌∙◌, Bool, ◌||◌, ℕ, List, bytes_eq, is_some}
 use Rattle.std.specs.List.{list_any}
-use Rattle.step_rules.specs.Sites.{is_own}
+use Rattle.semantics.specs.Sites.{is_own}
 use Rattle.graph_sites.proofs.Sites.{declared_among}
 use Rattle.graph_sites.proofs.here.Here.is_own.Goals as goal
 

@@ -1,6 +1,6 @@
 use Rattle.std.proofs.Common.{ap, sym, ◌∙◌}
 use Rattle.check_scope.specs.Names.{Scope}
-use Rattle.step_rules.specs.Sites.{scope_at}
+use Rattle.semantics.specs.Sites.{scope_at}
 use Rattle.graph_sites.proofs.Sites.{itself_at}
 use Rattle.graph_sites.proofs.here.Here.itself.Goals as goal
 

@@ -2,7 +2,7 @@ use Rattle.std.proofs.Common.{ap, sym, ◌∙◌, Some}
 use Rattle.check_expressions.specs.Expressions.{check_meaning}
 use Rattle.check_scope.specs.Typings.{type_known}
 use Rattle.check_scope.specs.declared.names.Meaning.TheVariants as meaning
-use Rattle.step_rules.specs.Sites.{scope_at}
+use Rattle.semantics.specs.Sites.{scope_at}
 use Rattle.graph_sites.proofs.Sites.{definitions_at, known-typed}
 use Rattle.graph_sites.proofs.here.Here.type_of_name.Goals as goal
 

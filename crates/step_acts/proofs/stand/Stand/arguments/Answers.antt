@@ -3,7 +3,7 @@ use Rattle.check_expressions.specs.Calls.{parameters_of}
 use Rattle.check_scope.specs.Names.{kind_at}
 use Rattle.step_acts.proofs.stand.Stand.arguments.Goals as goal
 use Rattle.step_acts.specs.internal.Stands.{site_of, stand_by}
-use Rattle.step_rules.specs.Statements.{reads}
+use Rattle.semantics.specs.Statements.{reads}
 use Rattle.ttcn_values.proofs.Faults.{gives_same}
 use Rattle.ttcn_values.specs.Frames.{reading}
 use Rattle.ttcn_values.specs.Templates.{arguments}

@@ -2,7 +2,7 @@ use Rattle.std.proofs.Common.{ap, ◌∙◌}
 use Rattle.step_acts.proofs.Stood.{cells-within, view-is}
 use Rattle.step_acts.proofs.stand.Stand.reads.Goals as goal
 use Rattle.step_acts.specs.internal.Stands.{site_of}
-use Rattle.step_rules.specs.Snapshots.{View, reading_in}
+use Rattle.semantics.specs.Snapshots.{View, reading_in}
 use Rattle.step_snapshot.specs.Seen.{own_by, seen_by}
 use Rattle.step_snapshot.specs.Tests.{test_by}
 

@@ -1,7 +1,7 @@
 use Rattle.step_acts.proofs.Evaluated.{gives-read}
 use Rattle.step_acts.proofs.stand.Stand.template.Goals as goal
 use Rattle.step_acts.specs.internal.Stands.{site_of, stand_by}
-use Rattle.step_rules.specs.Statements.{reads}
+use Rattle.semantics.specs.Statements.{reads}
 use Rattle.ttcn_values.specs.Frames.{reading}
 use Rattle.ttcn_values.specs.Templates.{template_wanted}
 

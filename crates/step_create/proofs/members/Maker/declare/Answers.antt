@@ -2,12 +2,12 @@ use Rattle.std.proofs.Common.{subst, sym}
 use Rattle.step_create.proofs.Declared.{declared-fails, declared-yields}
 use Rattle.step_create.proofs.members.Maker.declare.Goals as goal
 use Rattle.step_create.specs.Makers.{frame_for, legend_of, size_of}
-use Rattle.step_rules.specs.Creating as rules
+use Rattle.semantics.specs.Creating as rules
 use Rattle.step_snapshot.specs.Tests.{test_by}
-use Rattle.ttcn_config.proofs.Naming.{make_legend}
-use Rattle.ttcn_config.proofs.Within.{declare-keeps}
-use Rattle.ttcn_config.specs.Views.{HasSlotsWithin}
-use Rattle.ttcn_config.specs.declared.frame.Cells.{Cells}
+use Rattle.config_parts.proofs.Naming.{make_legend}
+use Rattle.config_parts.proofs.Within.{declare-keeps}
+use Rattle.config_parts.specs.Views.{HasSlotsWithin}
+use Rattle.config_parts.specs.declared.frame.Cells.{Cells}
 use Rattle.ttcn_values.proofs.Faults.{handed_on_by}
 use Rattle.ttcn_values.specs.Frames.{reading}
 use Rattle.ttcn_values.specs.Literals.{value_wanted}

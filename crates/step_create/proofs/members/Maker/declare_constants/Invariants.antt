@@ -2,10 +2,10 @@ use Rattle.step_create.proofs.Turns.{HaveTurned}
 use Rattle.step_create.proofs.members.Maker.declare_constants.Given as goal
 use Rattle.step_create.specs.Makers.{RunIn, frame_for, size_of}
 use Rattle.check_scope.specs.Names.{module_names, resolved}
-use Rattle.step_rules.specs.Creating as rules
-use Rattle.step_rules.specs.Snapshots.{Snapshot}
+use Rattle.semantics.specs.Creating as rules
+use Rattle.semantics.specs.Snapshots.{Snapshot}
 use Rattle.step_snapshot.specs.Tests.{test_by}
-use Rattle.ttcn_config.specs.Views.{HasSlotsWithin}
+use Rattle.config_parts.specs.Views.{HasSlotsWithin}
 
 abbrev pub invariant-loop-constant : goal.invariant-loop-constant
 invariant-loop-constant l =

@@ -2,7 +2,7 @@ use Rattle.step_create.proofs.Declared.{member-among}
 use Rattle.step_create.proofs.Turns.{fault-turned, one-turned}
 use Rattle.step_create.proofs.members.Maker.declare_members.Goals as goal
 use Rattle.step_create.specs.Makers.{frame_for}
-use Rattle.step_rules.specs.Creating as rules
+use Rattle.semantics.specs.Creating as rules
 use Rattle.step_snapshot.specs.Tests.{test_by}
 
 pub declare_member-requires-clause-known : goal.declare_member-requires-clause-known

@@ -3,12 +3,12 @@ use Rattle.std.proofs.lemmas.Result.{IfOk-weaker}
 use Rattle.step_create.proofs.Declared.{timer-added}
 use Rattle.step_create.proofs.members.Maker.declare_timer.Goals as goal
 use Rattle.step_create.specs.Makers.{frame_for, legend_of, size_of}
-use Rattle.step_rules.specs.Storing as storing
-use Rattle.ttcn_config.proofs.Naming.{make_legend}
-use Rattle.ttcn_config.proofs.Within.{timer-declared-keeps}
-use Rattle.ttcn_config.specs.Views.{HasSlotsWithin}
-use Rattle.ttcn_config.specs.declared.frame.Cells.{Cells}
-use Rattle.ttcn_config.specs.internal.Stored as stored
+use Rattle.semantics.specs.Storing as storing
+use Rattle.config_parts.proofs.Naming.{make_legend}
+use Rattle.config_parts.proofs.Within.{timer-declared-keeps}
+use Rattle.config_parts.specs.Views.{HasSlotsWithin}
+use Rattle.config_parts.specs.declared.frame.Cells.{Cells}
+use Rattle.config_parts.specs.internal.Stored as stored
 
 pub returns-clause-declared : goal.returns-clause-declared
 returns-clause-declared c =

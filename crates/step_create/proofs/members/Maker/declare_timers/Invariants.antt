@@ -1,8 +1,8 @@
 use Rattle.step_create.proofs.Turns.{HaveTurned}
 use Rattle.step_create.proofs.members.Maker.declare_timers.Given as goal
 use Rattle.step_create.specs.Makers.{frame_for, size_of}
-use Rattle.step_rules.specs.Storing as storing
-use Rattle.ttcn_config.specs.Views.{HasSlotsWithin}
+use Rattle.semantics.specs.Storing as storing
+use Rattle.config_parts.specs.Views.{HasSlotsWithin}
 use Rattle.ttcn_values.specs.Outcomes.{Yields}
 
 abbrev pub invariant-loop-timer : goal.invariant-loop-timer

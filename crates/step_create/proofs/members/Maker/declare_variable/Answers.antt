@@ -2,12 +2,12 @@ use Rattle.std.proofs.Common.{subst, sym, ap, ◌∙◌}
 use Rattle.step_create.proofs.Declared.{forgotten}
 use Rattle.step_create.proofs.members.Maker.declare_variable.Goals as goal
 use Rattle.step_create.specs.Makers.{frame_for, legend_of, size_of}
-use Rattle.step_rules.specs.Creating as rules
+use Rattle.semantics.specs.Creating as rules
 use Rattle.step_snapshot.specs.Tests.{test_by}
-use Rattle.ttcn_config.proofs.Naming.{make_legend}
-use Rattle.ttcn_config.proofs.Within.{forget-keeps}
-use Rattle.ttcn_config.specs.Views.{HasSlotsWithin}
-use Rattle.ttcn_config.specs.declared.frame.Cells.{Cells}
+use Rattle.config_parts.proofs.Naming.{make_legend}
+use Rattle.config_parts.proofs.Within.{forget-keeps}
+use Rattle.config_parts.specs.Views.{HasSlotsWithin}
+use Rattle.config_parts.specs.declared.frame.Cells.{Cells}
 use Rattle.ttcn_values.specs.Outcomes.{Yields}
 
 pub returns-in-None-clause-declared : goal.returns-in-None-clause-declared

@@ -5,9 +5,9 @@ use Rattle.step_create.proofs.Declared.{part-known}
 use Rattle.step_create.proofs.Turns.{all-turned, fault-turned, one-turned}
 use Rattle.step_create.proofs.members.Maker.declare_variables.Goals as goal
 use Rattle.step_create.specs.Makers.{frame_for}
-use Rattle.step_rules.specs.Creating as rules
-use Rattle.step_rules.specs.Snapshots.{Snapshot, Test}
-use Rattle.step_rules.specs.Configurations.{Frame}
+use Rattle.semantics.specs.Creating as rules
+use Rattle.semantics.specs.Snapshots.{Snapshot, Test}
+use Rattle.semantics.specs.Configurations.{Frame}
 use Rattle.step_snapshot.specs.Tests.{test_by}
 use Rattle.ttcn_syntax.specs.declared.tree.definition.MemberVariable.{MemberVariable}
 use Rattle.ttcn_values.specs.Outcomes.{GivesBy, Outcome, Yields}

@@ -1,11 +1,11 @@
 use Rattle.std.proofs.Common.{ℕ, List, length, refl, sym, ap, subst, ◌∙◌}
 use Rattle.step_create.proofs.Declared.{none-within}
 use Rattle.step_create.proofs.members.Maker.reads.Goals as goal
-use Rattle.step_rules.specs.Snapshots.{View, facts_of}
+use Rattle.semantics.specs.Snapshots.{View, facts_of}
 use Rattle.step_snapshot.specs.Tests.{legend_by, test_by}
-use Rattle.ttcn_config.proofs.Naming.{are_names}
-use Rattle.ttcn_config.specs.Views.{AreNames, HasSlotsWithin, view_by}
-use Rattle.ttcn_config.specs.declared.frame.Cells.{Cells}
+use Rattle.config_parts.proofs.Naming.{are_names}
+use Rattle.config_parts.specs.Views.{AreNames, HasSlotsWithin, view_by}
+use Rattle.config_parts.specs.declared.frame.Cells.{Cells}
 use Rattle.ttcn_values.specs.Chains.{within_chains}
 use Rattle.ttcn_values.specs.Frames.{longest_chain}
 

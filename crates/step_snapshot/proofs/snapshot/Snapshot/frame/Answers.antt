@@ -1,13 +1,13 @@
 use Rattle.std.proofs.Common.{Bor, List, ◌≡◌, length, refl, sym, ap, subst, ◌∙◌, ℕ}
-use Rattle.step_rules.specs.Snapshots.{facts_of, members_in, seen_members}
+use Rattle.semantics.specs.Snapshots.{facts_of, members_in, seen_members}
 use Rattle.step_snapshot.specs.Seen.{own_by, seen_by}
 use Rattle.step_snapshot.specs.Tests.{legend_by, test_by}
 use Rattle.step_snapshot.proofs.Framed.{members-seen, none-within, nothing-seen}
 use Rattle.step_snapshot.proofs.snapshot.Snapshot.frame.Goals as goal
 use Rattle.step_snapshot.proofs.snapshot.Snapshot.frame.Goals.{then-sees_members, else-sees_members}
-use Rattle.ttcn_config.specs.Views.{AreNames, HasSlotsWithin, view_by}
-use Rattle.ttcn_config.specs.declared.frame.Cells.{Cells}
-use Rattle.ttcn_config.specs.declared.frame.Data.{Data}
+use Rattle.config_parts.specs.Views.{AreNames, HasSlotsWithin, view_by}
+use Rattle.config_parts.specs.declared.frame.Cells.{Cells}
+use Rattle.config_parts.specs.declared.frame.Data.{Data}
 use Rattle.ttcn_values.specs.Chains.{within_chains}
 use Rattle.ttcn_values.specs.Frames.{longest_chain}
 

@@ -1,12 +1,12 @@
 use Rattle.std.proofs.Common.{sym, ap, ◌∙◌}
 use Rattle.std.specs.List.{find}
 use Rattle.std.specs.Option.{option_map}
-use Rattle.step_rules.specs.Configurations.{is_terminated_state, same_path}
-use Rattle.step_rules.specs.Snapshots.{holds}
+use Rattle.semantics.specs.Configurations.{is_terminated_state, same_path}
+use Rattle.semantics.specs.Snapshots.{holds}
 use Rattle.step_snapshot.specs.Tests.{legend_by}
 use Rattle.step_snapshot.proofs.Entries.{state-by}
 use Rattle.step_snapshot.proofs.snapshot.Snapshot.is_terminated.Goals as goal
-use Rattle.ttcn_config.specs.Legend.{state_by}
+use Rattle.config_parts.specs.Legend.{state_by}
 
 pub returns-in-Some : goal.returns-in-Some
 returns-in-Some c =

@@ -1,10 +1,10 @@
 use Rattle.std.proofs.Common.{◌&&◌, not, ap, ◌∙◌}
 use Rattle.std.specs.List.{list_any}
-use Rattle.step_rules.specs.Configurations.{is_running_state, same_path}
+use Rattle.semantics.specs.Configurations.{is_running_state, same_path}
 use Rattle.step_snapshot.specs.Tests.{legend_by}
 use Rattle.step_snapshot.proofs.Entries.{any-by}
 use Rattle.step_snapshot.proofs.snapshot.Snapshot.others_run.Goals as goal
-use Rattle.ttcn_config.specs.Legend.{state_by}
+use Rattle.config_parts.specs.Legend.{state_by}
 
 pub returns : goal.returns
 returns c =

@@ -1,5 +1,5 @@
 use Rattle.std.proofs.Common.{ap, length, ◌∙◌}
-use Rattle.interner.specs.Lists.{lists_of}
+use Rattle.graph_numbers.specs.Lists.{lists_of}
 use Rattle.ttcn_graph.proofs.ListsKept.{all-within-more, lists-kept, longer}
 use Rattle.ttcn_graph.proofs.cells.Cells.declare.Goals as goal
 

@@ -1,5 +1,5 @@
 use Rattle.std.proofs.Common.{subst}
-use Rattle.interner.specs.Lists.{AreDifferent, lists_of}
+use Rattle.graph_numbers.specs.Lists.{AreDifferent, lists_of}
 use Rattle.ttcn_graph.proofs.Apart.{remaining-apart}
 use Rattle.ttcn_graph.proofs.cells.Cells.lists_differ.Goals as goal
 

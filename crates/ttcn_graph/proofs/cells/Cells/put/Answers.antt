@@ -1,5 +1,5 @@
 use Rattle.std.proofs.Common.{◌≡◌, [], ◌∷◌, ◌++◌, sym, ap, subst, ◌∙◌, map, length, get_or, take}
-use Rattle.interner.specs.Lists.{IsPut, lists_of}
+use Rattle.graph_numbers.specs.Lists.{IsPut, lists_of}
 use Rattle.graph_items.specs.Standing.{item_of, remaining_of}
 use Rattle.graph_sites.specs.Facts.{facts_by}
 use Rattle.ttcn_graph.specs.internal.Within.{IsWithin}

@@ -1,6 +1,6 @@
 use Rattle.std.proofs.Common.{◌<◌, [], ◌∷◌, ap, get_or, length, subst, sym, ◌∙◌}
-use Rattle.step_rules.specs.Items as rules
-use Rattle.step_rules.specs.Items.{action_of}
+use Rattle.semantics.specs.Items as rules
+use Rattle.semantics.specs.Items.{action_of}
 use Rattle.graph_items.specs.Standing.{part_of}
 use Rattle.graph_sites.specs.Facts.{facts_of, facts_of_part}
 use Rattle.ttcn_graph.specs.Drafts.{Draft, IsBegun}

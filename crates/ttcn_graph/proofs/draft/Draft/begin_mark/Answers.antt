@@ -1,5 +1,5 @@
 use Rattle.std.proofs.Common.{[], ◌∷◌, get_or, subst}
-use Rattle.step_rules.specs.Items as rules
+use Rattle.semantics.specs.Items as rules
 use Rattle.ttcn_graph.specs.Drafts.{Draft, IsBegun}
 use Rattle.ttcn_graph.proofs.Drafted.{begun}
 use Rattle.ttcn_graph.proofs.draft.Draft.begin_mark.Goals as goal

@@ -1,6 +1,6 @@
 use Rattle.std.proofs.Common.{List, ap, map, sym, ◌∙◌}
 use Rattle.ttcn_syntax.specs.declared.tree.definition.Definition.{Definition}
-use Rattle.step_rules.specs.Sites.{Site}
+use Rattle.semantics.specs.Sites.{Site}
 use Rattle.graph_sites.specs.Facts.{facts_of}
 use Rattle.ttcn_graph.proofs.draft.Draft.go_to.Goals as goal
 

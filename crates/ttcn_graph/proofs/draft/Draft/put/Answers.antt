@@ -1,5 +1,5 @@
 use Rattle.std.proofs.Common.{◌∷◌, [], get_or}
-use Rattle.step_rules.specs.Items as rules
+use Rattle.semantics.specs.Items as rules
 use Rattle.graph_items.specs.Standing.{part_of}
 use Rattle.ttcn_graph.proofs.Drafted.{drawn, ways-begun}
 use Rattle.ttcn_graph.proofs.draft.Draft.put.Goals as goal

@@ -1,5 +1,5 @@
 use Rattle.std.proofs.Common.{◌≡◌, ◌++◌, drop, map}
-use Rattle.survey.specs.Things.{tally}
+use Rattle.check_survey.specs.Things.{tally}
 use Rattle.ttcn_types.specs.Parts.{things_from, constants_and_templates}
 use Rattle.ttcn_types.proofs.parts.written.things_of.Given as goal
 

@@ -1,6 +1,0 @@
-use Rattle.std.proofs.Common.{◌≡◌, map, take, None}
-use Rattle.assignment.proofs.record.blank.Given as goal
-
--- a field without a value for each that was passed
-abbrev pub invariant-loop : goal.invariant-loop
-invariant-loop l = l.fields ≡ map (λ field. None) (take l.index l.items)

@@ -1,7 +1,0 @@
-use Rattle.std.proofs.Common.{◌≡◌, drop}
-use Rattle.canonical.specs.internal.Husks.{forgotten}
-use Rattle.canonical.proofs.canonical.forgotten.Given as goal
-
--- the worst of those so far and of those to come
-abbrev pub invariant-loop-component : goal.invariant-loop-component
-invariant-loop-component l = forgotten l.worst (drop l.component-index l.components) ≡ forgotten l.fn.forgotten l.components

@@ -1,6 +1,0 @@
-use Rattle.std.proofs.Common.{◌≡◌, map}
-use Rattle.canonical.specs.internal.Husks.{live_component}
-use Rattle.canonical.proofs.canonical.live_components.Given as goal
-
-abbrev pub invariant-loop-component : goal.invariant-loop-component
-invariant-loop-component l = l.live.items ≡ map live_component l.yielded

@@ -1,0 +1,152 @@
+-- The canonical form of a configuration stands for its live part.
+use Rattle.std.proofs.Common.{◌≡◌, ◌<◌, Bool, true, false, ◌&&◌, ◌||◌, not, true≢false, List, [], ◌∷◌, map, Some, refl, sym, ap, ◌∙◌, if◌then◌else◌}
+use Rattle.std.proofs.lemmas.List.Elements.{All-cons, All-head, All-nil, All-tail}
+use Rattle.std.specs.List.{filter, find, fold, list_any}
+use Rattle.ttcn_syntax.specs.declared.tree.statement.Verdict.{Verdict}
+use Rattle.config_canonical.specs.internal.Husks.{forgotten, husk, is_dead, is_live, is_over, is_over_if_any, is_terminated, is_terminated_at, live_component, live_components, live_connections, live_going}
+use Rattle.semantics.specs.Configurations as rules
+use Rattle.semantics.specs.Configurations.{same_path}
+use Rattle.semantics.specs.LiveParts as live
+use Rattle.semantics.specs.Steps as steps
+use Rattle.config_parts.specs.Legend.{Legend, component_by, config_by, connection_by, going_by, state_by}
+use Rattle.config_parts.specs.Views.{AreAllWithin, Extent, IsConfigWithin, IsFrameWithin, IsWithin}
+use Rattle.config_parts.specs.declared.component.Component.{Component}
+use Rattle.config_parts.specs.declared.component.State.{State}
+use Rattle.config_parts.specs.declared.component.State.TheVariants as state
+use Rattle.config_parts.specs.declared.config.Config.{Config}
+use Rattle.config_parts.specs.declared.config.Config.TheVariants as config
+use Rattle.config_parts.specs.declared.config.Going.{Going}
+use Rattle.config_parts.specs.declared.connection.Connection.{Connection}
+use Rattle.ttcn_values.specs.declared.path.Path.{Path}
+
+state-over : (s : State) → rules.is_terminated_state (state_by s) ≡ is_terminated s
+state-over state.Created = refl
+state-over state.Running = refl
+state-over state.Terminated = refl
+
+-- by whether a component is terminated
+by-over : (P : Bool → Type 0) (b : Bool) → P true → P false → P b
+by-over P true over alive = over
+by-over P false over alive = alive
+
+module _ (legend : Legend) where
+  component-over : (c : Component) → rules.is_terminated_state (component_by legend c).state ≡ is_over c
+  component-over c = state-over c.state
+
+  pub component-live : (c : Component) → component_by legend (live_component c) ≡ live.live_component (component_by legend c)
+  component-live c =
+      by-over (λ b. component_by legend (if b then husk c.itself.path else c) ≡ (if b then live.husk c.itself.path else component_by legend c)) (is_over c) refl refl
+      ∙ ap (λ b. if b then live.husk c.itself.path else component_by legend c) (sym (component-over c))
+
+  pub components-live : (cs : List Component) → map (component_by legend) (live_components cs) ≡ map live.live_component (map (component_by legend) cs)
+  components-live [] = refl
+  components-live (c ∷ cs) =
+      ap (λ x. x ∷ map (component_by legend) (live_components cs)) (component-live c) ∙ ap (λ xs. live.live_component (component_by legend c) ∷ xs) (components-live cs)
+
+  -- a component that is found is found among those of the rules
+  found-over : (path : Path) (cs : List Component)
+      → steps.is_terminated_component (find (λ x. same_path (rules.path_of x) path) (map (component_by legend) cs)) ≡ is_over_if_any (find (λ x. same_path x.itself.path path) cs)
+  found-over path [] = refl
+  found-over path (c ∷ cs) =
+      by-over (λ b. steps.is_terminated_component (if b then Some (component_by legend c) else find (λ x. same_path (rules.path_of x) path) (map (component_by legend) cs)) ≡ is_over_if_any (if b then Some c else find (λ x. same_path x.itself.path path) cs))
+      (same_path c.itself.path path) (component-over c) (found-over path cs)
+
+  connection-live : (g : Going) (k : Connection) → live.is_live (going_by legend g) (connection_by legend k) ≡ is_live g.components k
+  connection-live g k =
+      ap (λ b. not (b && steps.is_terminated_at (going_by legend g) k.other.component)) (found-over k.one.component g.components)
+      ∙ ap (λ b. not (is_terminated_at g.components k.one.component && b)) (found-over k.other.component g.components)
+
+  pub connections-live : (g : Going) (ks : List Connection) → map (connection_by legend) (live_connections g.components ks) ≡ filter (live.is_live (going_by legend g)) (map (connection_by legend) ks)
+  connections-live g [] = refl
+  connections-live g (k ∷ ks) =
+      by-over (λ b. map (connection_by legend) (if b then k ∷ live_connections g.components ks else live_connections g.components ks)
+      ≡ (if b then connection_by legend k ∷ filter (live.is_live (going_by legend g)) (map (connection_by legend) ks) else filter (live.is_live (going_by legend g)) (map (connection_by legend) ks)))
+      (is_live g.components k) (ap (λ xs. connection_by legend k ∷ xs) (connections-live g ks)) (connections-live g ks)
+      ∙ ap (λ b. if b then connection_by legend k ∷ filter (live.is_live (going_by legend g)) (map (connection_by legend) ks) else filter (live.is_live (going_by legend g)) (map (connection_by legend) ks))
+      (sym (connection-live g k))
+
+  pub verdicts-live : (v : Verdict) (cs : List Component) → forgotten v cs ≡ fold live.forget_verdict v (map (component_by legend) cs)
+  verdicts-live v [] = refl
+  verdicts-live v (c ∷ cs) =
+      ap (λ w. forgotten w cs) (ap (λ b. if b then rules.worse v c.verdict else v) (sym (component-over c)))
+      ∙ verdicts-live (live.forget_verdict v (component_by legend c)) cs
+
+  pub going-live : (g : Going) → going_by legend (live_going g) ≡ live.live_going (going_by legend g)
+  going-live g = λ i. record {
+    components = components-live g.components i;
+    connections = connections-live g g.connections i;
+    forgotten = verdicts-live g.forgotten g.components i;
+  }
+
+-- the code's form of the live part
+abbrev pub live_config : Config → Config
+live_config (config.Ended v) = config.Ended v
+live_config (config.Going g) = config.Going (live_going g)
+
+pub config-live : (legend : Legend) (c : Config) → config_by legend (live_config c) ≡ live.live_part (config_by legend c)
+config-live legend (config.Ended v) = refl
+config-live legend (config.Going g) = ap rules.Goes (going-live legend g)
+
+-- ---- where no component is terminated
+
+or-parts : (a b : Bool) → (a || b) ≡ false → (a ≡ false) × (b ≡ false)
+or-parts true b h = absurd (true≢false h)
+or-parts false b h = (refl, h)
+
+module _ (xs : List Component) where
+  none-over-at : (path : Path) (cs : List Component) → list_any is_over cs ≡ false → is_over_if_any (find (λ x. same_path x.itself.path path) cs) ≡ false
+  none-over-at path [] none = refl
+  none-over-at path (c ∷ cs) none =
+      let p = or-parts (is_over c) (list_any is_over cs) none in
+      by-over (λ b. is_over_if_any (if b then Some c else find (λ x. same_path x.itself.path path) cs) ≡ false) (same_path c.itself.path path) p.0 (none-over-at path cs p.1)
+
+  connections-stay : list_any is_over xs ≡ false → (ks : List Connection) → live_connections xs ks ≡ ks
+  connections-stay none [] = refl
+  connections-stay none (k ∷ ks) =
+      ap (λ b. if not (b && is_terminated_at xs k.other.component) then k ∷ live_connections xs ks else live_connections xs ks) (none-over-at k.one.component xs none)
+      ∙ ap (λ rest. k ∷ rest) (connections-stay none ks)
+
+components-stay : (cs : List Component) → list_any is_over cs ≡ false → live_components cs ≡ cs
+components-stay [] none = refl
+components-stay (c ∷ cs) none =
+    let p = or-parts (is_over c) (list_any is_over cs) none in
+    ap (λ b. (if b then husk c.itself.path else c) ∷ live_components cs) p.0 ∙ ap (λ rest. c ∷ rest) (components-stay cs p.1)
+
+verdict-stays : (v : Verdict) (cs : List Component) → list_any is_over cs ≡ false → forgotten v cs ≡ v
+verdict-stays v [] none = refl
+verdict-stays v (c ∷ cs) none =
+    let p = or-parts (is_over c) (list_any is_over cs) none in
+    ap (λ b. forgotten (if b then rules.worse v c.verdict else v) cs) p.0 ∙ verdict-stays v cs p.1
+
+pub going-stays : (g : Going) → list_any is_over g.components ≡ false → g ≡ live_going g
+going-stays g none = λ i. record {
+  components = sym (components-stay g.components none) i;
+  connections = sym (connections-stay g.components none g.connections) i;
+  forgotten = sym (verdict-stays g.forgotten g.components none) i;
+}
+
+-- ---- where all connections stay
+
+kept-first : (b : Bool) (k : Connection) (ks live : List Connection) → not b ≡ false → live ≡ ks → (if b then k ∷ live else live) ≡ k ∷ ks
+kept-first true k ks live stays rest = ap (λ xs. k ∷ xs) rest
+kept-first false k ks live stays rest = absurd (true≢false stays)
+
+pub none-dead : (xs : List Component) (ks : List Connection) → list_any (is_dead xs) ks ≡ false → live_connections xs ks ≡ ks
+none-dead xs [] none = refl
+none-dead xs (k ∷ ks) none =
+    let p = or-parts (is_dead xs k) (list_any (is_dead xs) ks) none in
+    kept-first (is_live xs k) k ks (live_connections xs ks) p.0 (none-dead xs ks p.1)
+
+-- ---- what remains has positions still
+
+component-within : (size : Extent) (c : Component) → IsWithin size c.own → IsWithin size (live_component c).own
+component-within size c within = by-over (λ b. IsWithin size (if b then husk c.itself.path else c).own) (is_over c) (record { members = record { values = All-nil (λ e. e.0 < size.names); timers = All-nil (λ e. e.0 < size.names) }; calls = All-nil (IsFrameWithin size) }) within
+
+components-within : (size : Extent) (cs : List Component) → AreAllWithin size cs → AreAllWithin size (live_components cs)
+components-within size [] all = All-nil (λ x. IsWithin size x.own)
+components-within size (c ∷ cs) all =
+    All-cons (λ x. IsWithin size x.own) (live_component c) (live_components cs) (component-within size c (All-head (λ x. IsWithin size x.own) c cs all)) (components-within size cs (All-tail (λ x. IsWithin size x.own) c cs all))
+
+pub config-within : (size : Extent) (c : Config) → IsConfigWithin size c → IsConfigWithin size (live_config c)
+config-within size (config.Ended v) within = within
+config-within size (config.Going g) within = components-within size g.components within

@@ -1,0 +1,183 @@
+-- How configurations are spelled as bytes. A byte of the definitions is a number: those of the code's numbers are below 256.
+use Rattle.std.specs.Prelude.{ℕ, ◌+◌, ◌*◌, ◌/◌, ◌%◌, ℤ, pos, negsuc, nat_lt, if◌then◌else◌, List, [], ◌∷◌, ◌++◌, length, Option, Some, None}
+use Rattle.std.specs.List.{flat_map}
+use Rattle.ttcn_syntax.specs.declared.tree.statement.Verdict.{Verdict}
+use Rattle.ttcn_syntax.specs.declared.tree.statement.Verdict.TheVariants as verdict
+use Rattle.ttcn_values.specs.declared.frame.TimerState.{TimerState}
+use Rattle.ttcn_values.specs.declared.frame.TimerState.TheVariants as timer
+use Rattle.ttcn_values.specs.declared.path.Path.{Path}
+use Rattle.ttcn_values.specs.declared.value.ComponentId.{ComponentId}
+use Rattle.ttcn_values.specs.declared.value.Value.{Value, fold-Value}
+use Rattle.ttcn_values.specs.declared.value.Value.TheOpen.{Value-F}
+use Rattle.config_parts.specs.declared.component.Component.{Component}
+use Rattle.config_parts.specs.declared.component.Message.{Message}
+use Rattle.config_parts.specs.declared.component.Queue.{Queue}
+use Rattle.config_parts.specs.declared.component.State.{State}
+use Rattle.config_parts.specs.declared.component.State.TheVariants as state
+use Rattle.config_parts.specs.declared.config.Config.{Config}
+use Rattle.config_parts.specs.declared.config.Config.TheVariants as config
+use Rattle.config_parts.specs.declared.config.Going.{Going}
+use Rattle.config_parts.specs.declared.connection.Connection.{Connection}
+use Rattle.config_parts.specs.declared.connection.End.{End}
+use Rattle.config_parts.specs.declared.frame.ActiveDefault.{ActiveDefault}
+use Rattle.config_parts.specs.declared.frame.Cells.{Cells}
+use Rattle.config_parts.specs.declared.frame.Data.{Data}
+use Rattle.config_parts.specs.declared.frame.Frame.{Frame}
+
+-- ---- numbers
+
+-- a number in four bytes, the lowest one first: the last one takes all that is left
+abbrev pub four : ℕ → List ℕ
+four n = (n % 256) ∷ ((n / 256) % 256) ∷ ((n / 256 / 256) % 256) ∷ (n / 256 / 256 / 256) ∷ []
+
+-- a number in eight bytes, its lower half first
+abbrev pub eight : ℕ → List ℕ
+eight n = four (n % 4294967296) ++ four (n / 4294967296)
+
+-- a number below 192 in one byte, and one below 63 * 256 in two, of which the first is from 192 to 254
+abbrev pub short : ℕ → List ℕ
+short n = if nat_lt n 192 then n ∷ [] else (192 + n / 256) ∷ (n % 256) ∷ []
+
+-- a number: where it isn't short, the byte 255 and then its wide form
+abbrev pub number_in : (ℕ → List ℕ) → ℕ → List ℕ
+number_in wide n = if nat_lt n 16128 then short n else 255 ∷ wide n
+
+-- a number of 32 bits
+unfoldable pub spell_number : ℕ → List ℕ
+spell_number n = number_in four n
+
+-- a number of 64 bits
+unfoldable pub spell_long : ℕ → List ℕ
+spell_long n = number_in eight n
+
+-- ---- lists
+
+-- how many items there are, and then the items
+unfoldable pub spell_list : {A : Type 0} → (A → List ℕ) → List A → List ℕ
+spell_list spell items = spell_long (length items) ++ flat_map spell items
+
+-- ---- values
+
+-- an integer by a number: 0, -1, 1, -2 and so on
+abbrev pub number_of : ℤ → ℕ
+number_of (pos n) = 2 * n
+number_of (negsuc n) = 2 * n + 1
+
+-- an integer, by its number
+unfoldable pub spell_integer : ℤ → List ℕ
+spell_integer z = spell_long (number_of z)
+
+-- the name of a component: the numbers of its path
+unfoldable pub spell_path : Path → List ℕ
+spell_path path = spell_list spell_number path.numbers
+
+-- a component that a reference names: its path, and then its type
+unfoldable pub spell_identity : ComponentId → List ℕ
+spell_identity component = spell_path component.path ++ spell_long component.component_type
+
+-- a field without value is the byte 0, and the byte 1 stands before a value
+abbrev pub spell_field : Option (List ℕ) → List ℕ
+spell_field None = 0 ∷ []
+spell_field (Some bytes) = 1 ∷ bytes
+
+-- a byte for the variant, and then what it holds
+abbrev pub spell_level : Value-F (List ℕ) → List ℕ
+spell_level (Value-F.Integer integer) = 0 ∷ spell_integer integer
+spell_level (Value-F.Boolean truth) = (if truth then 2 else 1) ∷ []
+spell_level (Value-F.Enumerated at name) = 3 ∷ (spell_long at ++ spell_long name)
+spell_level (Value-F.Record at fields) = 4 ∷ (spell_long at ++ spell_list spell_field fields)
+spell_level (Value-F.Component component) = 5 ∷ spell_identity component
+spell_level (Value-F.Default activation) = 6 ∷ spell_number activation
+spell_level Value-F.Null = 7 ∷ []
+spell_level Value-F.Omit = 8 ∷ []
+
+-- a value, level by level
+unfoldable pub spell_value : Value → List ℕ
+spell_value value = fold-Value (List ℕ) spell_level value
+
+-- ---- what components have of their own
+
+-- a byte for the state of a timer
+abbrev pub timer_code : TimerState → ℕ
+timer_code timer.Inactive = 0
+timer_code timer.Running = 1
+timer_code timer.Expired = 2
+
+-- the state of a timer
+abbrev pub spell_timer : TimerState → List ℕ
+spell_timer state = timer_code state ∷ []
+
+-- what a slot has
+abbrev pub spell_entry : {A : Type 0} → (A → List ℕ) → ℕ × A → List ℕ
+spell_entry spell entry = spell_number entry.0 ++ spell entry.1
+
+-- the values of names, and then the states of timers
+unfoldable pub spell_cells : Cells → List ℕ
+spell_cells cells = spell_list (spell_entry spell_value) cells.values ++ spell_list (spell_entry spell_timer) cells.timers
+
+-- what remains in a frame, and then its names
+unfoldable pub spell_frame : Frame → List ℕ
+spell_frame frame = spell_long frame.remaining ++ spell_cells frame.cells
+
+-- an activated default: its number, its altstep and its arguments
+unfoldable pub spell_default : ActiveDefault → List ℕ
+spell_default active = spell_number active.number ++ spell_long active.altstep ++ spell_list spell_value active.arguments
+
+-- frame 0, the frames above, the defaults, and how many defaults and components there were so far
+unfoldable pub spell_data : Data → List ℕ
+spell_data own = spell_cells own.members ++ spell_list spell_frame own.calls ++ spell_list spell_default own.defaults ++ spell_number own.activations ++ spell_number own.children
+
+-- ---- components and connections
+
+-- a byte for a verdict
+abbrev pub verdict_code : Verdict → ℕ
+verdict_code verdict.None = 0
+verdict_code verdict.Pass = 1
+verdict_code verdict.Inconc = 2
+verdict_code verdict.Fail = 3
+verdict_code verdict.Error = 4
+
+-- a verdict
+abbrev pub spell_verdict : Verdict → List ℕ
+spell_verdict v = verdict_code v ∷ []
+
+-- a byte for the state of a component
+abbrev pub state_code : State → ℕ
+state_code state.Created = 0
+state_code state.Running = 1
+state_code state.Terminated = 2
+
+-- the state of a component
+abbrev pub spell_state : State → List ℕ
+spell_state s = state_code s ∷ []
+
+-- a message, and then its sender
+unfoldable pub spell_message : Message → List ℕ
+spell_message message = spell_value message.value ++ spell_identity message.sender
+
+-- a port, and then the messages that wait there
+unfoldable pub spell_queue : Queue → List ℕ
+spell_queue queue = spell_number queue.port ++ spell_list spell_message queue.messages
+
+-- a component: its name, its data, its state, its verdict and its queues
+unfoldable pub spell_component : Component → List ℕ
+spell_component component = spell_identity component.itself ++ spell_data component.own ++ spell_state component.state ++ spell_verdict component.verdict ++ spell_list spell_queue component.queues
+
+-- a component's port
+unfoldable pub spell_end : End → List ℕ
+spell_end e = spell_path e.component ++ spell_number e.port
+
+-- the two ends of a connection
+unfoldable pub spell_connection : Connection → List ℕ
+spell_connection connection = spell_end connection.one ++ spell_end connection.other
+
+-- ---- configurations
+
+-- components, connections, and the verdict of those that are forgotten
+unfoldable pub spell_going : Going → List ℕ
+spell_going going = spell_list spell_component going.components ++ spell_list spell_connection going.connections ++ spell_verdict going.forgotten
+
+-- a configuration: the byte 0 stands before the verdict of a test case that ended, and the byte 1 before one that goes on
+unfoldable pub spell_config : Config → List ℕ
+spell_config (config.Ended v) = 0 ∷ spell_verdict v
+spell_config (config.Going going) = 1 ∷ spell_going going

@@ -1,0 +1,90 @@
+//! What can be spelled as bytes.
+ghost use Rattle.std.specs.Prelude.{◌≡◌, ◌++◌, IfOk, OnOk};
+
+use crate::byte_reader::ByteReader;
+use crate::number::{put_long, put_number, take_long, take_number};
+use std::alloc::{AllocError, Global};
+use ttcn_syntax::Seq;
+use ttcn_values::Slot;
+
+/// What can be spelled as bytes, and read again.
+pub trait Spelled: Drop {
+    ghost use Rattle.std.specs.Prelude.{List, ℕ};
+
+    ghost spell: { Self → List ℕ };
+
+    ghost read: { List ℕ → Self × List ℕ };
+
+    fn put(&self, bytes: &mut Vec<u8>) -> Result<(), AllocError>
+        ensures { OnOk result (bytes.new.items ≡ bytes.old.items ++ spell self.now) };
+
+    fn take(alloc: Global, reader: &mut ByteReader<'_>) -> Result<Self, AllocError>
+        ensures value { IfOk result (λ thing. thing ≡ (read reader.old).0) }
+        ensures rest { OnOk result (reader.new ≡ (read reader.old).1) };
+}
+
+impl Spelled for u32 {
+    ghost use Rattle.config_packed.specs.Reading.{read_number};
+    ghost use Rattle.config_packed.specs.Spelling.{spell_number};
+
+    ghost spell = { spell_number };
+
+    ghost read = { read_number };
+
+    fn put(&self, bytes: &mut Vec<u8>) -> Result<(), AllocError> {
+        put_number(bytes, *self)
+    }
+
+    fn take(_alloc: Global, reader: &mut ByteReader<'_>) -> Result<u32, AllocError> {
+        Ok(take_number(reader))
+    }
+}
+
+impl<T: Spelled> Spelled for Seq<T> {
+    ghost use Rattle.config_packed.specs.Reading.{read_list};
+    ghost use Rattle.config_packed.specs.Spelling.{spell_list};
+
+    ghost spell = { spell_list T.spell };
+
+    ghost read = { read_list T.read };
+
+    #[tactic(auto, unfolding(crate::specs::Spelling::spell_list))]
+    fn put(&self, bytes: &mut Vec<u8>) -> Result<(), AllocError> {
+        put_long(bytes, self.len())?;
+        for item in self.as_slice() {
+            item.put(bytes)?;
+        }
+        Ok(())
+    }
+
+    fn take(alloc: Global, reader: &mut ByteReader<'_>) -> Result<Seq<T>, AllocError> {
+        let count = take_long(reader);
+        let mut items = Vec::with_capacity(alloc, count.min(reader.left()))?;
+        for _turn in 0..count {
+            items.push(T::take(alloc, reader)?)?;
+        }
+        Ok(Seq::from_vec(items))
+    }
+}
+
+/// What a slot has.
+impl<T: Spelled> Spelled for (Slot, T) {
+    ghost use Rattle.config_packed.specs.Reading.{read_entry};
+    ghost use Rattle.config_packed.specs.Spelling.{spell_entry};
+
+    ghost spell = { spell_entry T.spell };
+
+    ghost read = { read_entry T.read };
+
+    fn put(&self, bytes: &mut Vec<u8>) -> Result<(), AllocError> {
+        put_number(bytes, self.0)?;
+        self.1.put(bytes)
+    }
+
+    #[tactic(auto, unfolding(crate::specs::Reading::read_entry))]
+    fn take(alloc: Global, reader: &mut ByteReader<'_>) -> Result<(Slot, T), AllocError> {
+        let slot = take_number(reader);
+        let stored = T::take(alloc, reader)?;
+        Ok((slot, stored))
+    }
+}

@@ -1,0 +1,65 @@
+-- What components ask for, as the code keeps it, and what comes of it.
+use Rattle.std.specs.Prelude.{◌≡◌, Bool, true, false, map, AllPairs, Option, Some, None, Result, Ok, Err}
+use Rattle.std.specs.Option.{option_map}
+use Rattle.std.specs.declared.cmp.Ordering.TheVariants.{Less}
+use Rattle.semantics.specs.Configurations as rules
+use Rattle.semantics.specs.Statements as said
+use Rattle.semantics.specs.Taking.{uncovered}
+use Rattle.config_parts.specs.Legend.{Legend, component_by, config_by, data_by, end_by, frame_by, going_by}
+use Rattle.config_parts.specs.declared.act.Act.{Act}
+use Rattle.config_parts.specs.declared.act.Act.TheVariants as act
+use Rattle.config_parts.specs.declared.config.Config.{Config}
+use Rattle.config_parts.specs.declared.config.Going.{Going}
+use Rattle.ttcn_values.specs.Outcomes.{Fails, Outcome, Yields}
+use Rattle.ttcn_values.specs.declared.fault.Fault.{Fault}
+use Rattle.ttcn_values.specs.declared.fault.Fault.TheVariants.{Dynamic, Memory}
+
+-- what the code's form of that which a component asks for stands for among those of the rules
+abbrev pub act_by : Legend → Act → said.Act
+act_by legend (act.Continues own) = said.Continues (data_by legend own)
+act_by legend (act.Worsens v own) = said.Worsens v (data_by legend own)
+act_by legend (act.Removes port own) = said.Removes (legend.names port) (data_by legend own)
+act_by legend (act.Sends port to v own) = said.Sends (legend.names port) to v (data_by legend own)
+act_by legend (act.Creates new own) = said.Creates (component_by legend new) (data_by legend own)
+act_by legend (act.Starts path frame own) = said.Starts path (frame_by legend frame) (data_by legend own)
+act_by legend (act.Stops path own) = said.Stops path (data_by legend own)
+act_by legend (act.Connects one other own) = said.Connects (end_by legend one) (end_by legend other) (data_by legend own)
+
+-- the data behind a step, where it has any
+abbrev pub data_behind : said.Act → Option rules.Data
+data_behind said.Waits = None
+data_behind (said.Errs why) = None
+data_behind (said.Continues own) = Some own
+data_behind (said.Worsens v own) = Some own
+data_behind (said.Removes port own) = Some own
+data_behind (said.Sends port to v own) = Some own
+data_behind (said.Creates new own) = Some own
+data_behind (said.Starts path frame own) = Some own
+data_behind (said.Stops path own) = Some own
+data_behind (said.Connects d e own) = Some own
+
+-- the marks that come first are gone from the data behind a step
+abbrev pub IsUncovered : said.Act → Type 0
+IsUncovered asked = option_map uncovered (data_behind asked) ≡ data_behind asked
+
+-- the components stand in the order of their paths
+abbrev pub HasPathsInOrder : Going → Type 0
+HasPathsInOrder going = AllPairs (λ p q. rules.path_cmp p q ≡ Less) (map (λ component. component.itself.path) going.components)
+
+-- there is a step, and it fails
+abbrev pub IsFailing : Option (Outcome rules.Configuration) → Type 0
+IsFailing None = ⊥
+IsFailing (Some (Yields c)) = ⊥
+IsFailing (Some (Fails why)) = Unit {0}
+
+-- a call does the step, and says whether there is one, unless memory was refused
+abbrev pub DoesStep : {E : Type 0} → Legend → Option (Outcome rules.Configuration) → Going → Result Bool E → Type 0
+DoesStep legend step going (Ok true) = step ≡ Some (Yields (rules.Goes (going_by legend going)))
+DoesStep legend step going (Ok false) = step ≡ None
+DoesStep legend step going (Err refused) = Unit {0}
+
+-- a call gives the configuration that a step leads to, or says that the step fails, unless memory was refused
+abbrev pub Leads : Legend → Option (Outcome rules.Configuration) → Result Config Fault → Type 0
+Leads legend step (Ok config) = step ≡ Some (Yields (config_by legend config))
+Leads legend step (Err Dynamic) = IsFailing step
+Leads legend step (Err Memory) = Unit {0}

@@ -1,0 +1,71 @@
+-- What expressions read of a component, as the code keeps it.
+use Rattle.std.specs.Prelude.{◌≡◌, ◌<◌, ℕ, Bool, List, map, length, get_or, [], Some, slice_get}
+use Rattle.std.specs.List.{All, filter, list_any}
+use Rattle.semantics.specs.Snapshots.{View}
+use Rattle.config_parts.specs.Legend.{Legend, entries_by}
+use Rattle.config_parts.specs.declared.act.Act.{Act}
+use Rattle.config_parts.specs.declared.act.Act.TheVariants as act
+use Rattle.config_parts.specs.declared.component.Component.{Component}
+use Rattle.config_parts.specs.declared.config.Config.{Config}
+use Rattle.config_parts.specs.declared.config.Config.TheVariants as config
+use Rattle.config_parts.specs.declared.frame.Cells.{Cells}
+use Rattle.config_parts.specs.declared.frame.Data.{Data}
+use Rattle.config_parts.specs.declared.frame.Frame.{Frame}
+use Rattle.config_parts.specs.internal.Expiries.{is_running_state}
+use Rattle.ttcn_values.specs.declared.path.Path.{Path}
+
+-- each slot with a name has that which a legend gives it
+abbrev pub AreNames : Legend → List (List ℕ) → Type 0
+AreNames legend names = (slot : ℕ) → slot < length names → slice_get names slot ≡ Some (legend.names slot)
+
+-- the slots of these entries are less than this
+abbrev pub AreWithin : {A : Type 0} → ℕ → List (ℕ × A) → Type 0
+AreWithin size entries = All (λ e. e.0 < size) entries
+
+-- each slot has a name
+pub record HasSlotsWithin (size : ℕ) (cells : Cells) : Type 0 where
+  pub values : AreWithin size cells.values
+  pub timers : AreWithin size cells.timers
+
+-- how many lists have positions, and how many names have slots
+pub record Extent : Type 0 where
+  pub lists : ℕ
+  pub names : ℕ
+
+-- what remains in a frame has a position, and each of its slots a name
+pub record IsFrameWithin (size : Extent) (frame : Frame) : Type 0 where
+  pub remaining : frame.remaining < size.lists
+  pub cells : HasSlotsWithin size.names frame.cells
+
+-- in all frames of a component what remains has a position, and each slot a name
+pub record IsWithin (size : Extent) (own : Data) : Type 0 where
+  pub members : HasSlotsWithin size.names own.members
+  pub calls : All (IsFrameWithin size) own.calls
+
+-- in all frames of all components what remains has a position, and each slot a name
+abbrev pub AreAllWithin : Extent → List Component → Type 0
+AreAllWithin size components = All (λ component. IsWithin size component.own) components
+
+-- in all frames of a configuration what remains has a position, and each slot a name: a test case that ended has no frames
+abbrev pub IsConfigWithin : Extent → Config → Type 0
+IsConfigWithin size (config.Ended v) = Unit {0}
+IsConfigWithin size (config.Going going) = AreAllWithin size going.components
+
+-- in all frames of what is asked for what remains has a position, and each slot a name
+abbrev pub IsActWithin : Extent → Act → Type 0
+IsActWithin size (act.Continues own) = IsWithin size own
+IsActWithin size (act.Worsens v own) = IsWithin size own
+IsActWithin size (act.Removes port own) = IsWithin size own
+IsActWithin size (act.Sends port to v own) = IsWithin size own
+IsActWithin size (act.Creates new own) = IsWithin size new.own × IsWithin size own
+IsActWithin size (act.Starts path frame own) = IsFrameWithin size frame × IsWithin size own
+IsActWithin size (act.Stops path own) = IsWithin size own
+IsActWithin size (act.Connects one other own) = IsWithin size own
+
+-- what is seen of the names of a frame
+abbrev pub view_by : Legend → Cells → View
+view_by legend cells = record { values = entries_by legend cells.values; timers = entries_by legend cells.timers }
+
+-- the paths of the components that run
+abbrev pub running_paths : List Component → List Path
+running_paths components = map (λ component. component.itself.path) (filter (λ component. is_running_state component.state) components)

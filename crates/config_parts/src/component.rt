@@ -1,0 +1,63 @@
+//! Components, and the messages that wait for them.
+ghost use Rattle.std.specs.Prelude.{◌≡◌};
+ghost use Rattle.config_parts.specs.internal.Changes.{is_terminated};
+ghost use Rattle.config_parts.specs.internal.Done.{is_created};
+
+use crate::frame::Data;
+use crate::shared::Shared;
+use ttcn_syntax::{Seq, Verdict};
+use ttcn_values::{ComponentId, Slot, Value};
+
+/// How far a component has come (ES 201 873-1, 21.3).
+#[derive(Clone, Copy, Debug, PartialEq, Eq, Hash)]
+pub enum State {
+    Created,
+    Running,
+    Terminated,
+}
+
+impl State {
+    pub(crate) fn is_created(self) -> bool
+        ensures { result ≡ is_created self }
+    {
+        match self {
+            State::Created => true,
+            State::Running | State::Terminated => false,
+        }
+    }
+
+    pub(crate) fn is_terminated(self) -> bool
+        ensures { result ≡ is_terminated self }
+    {
+        match self {
+            State::Terminated => true,
+            State::Created | State::Running => false,
+        }
+    }
+}
+
+/// A message, and the component that sent it.
+#[derive(Debug, Drop, PartialEq, Eq, Hash)]
+pub struct Message {
+    pub value: Value,
+    pub sender: ComponentId,
+}
+
+/// The messages that wait at a port, the one that came first in front (ES 201 873-1, 22.1).
+#[derive(Debug, Drop, PartialEq, Eq, Hash)]
+pub struct Queue {
+    pub port: Slot,
+    pub messages: Seq<Message>,
+}
+
+/// A component. Configurations share what a step leaves as it was.
+#[derive(Debug, Drop, PartialEq, Eq, Hash)]
+pub struct Component {
+    /// The component's path, with its type.
+    pub itself: ComponentId,
+    pub own: Shared<Data>,
+    pub state: State,
+    pub verdict: Verdict,
+    /// The ports of its type in the order of their declaration.
+    pub queues: Shared<Seq<Queue>>,
+}

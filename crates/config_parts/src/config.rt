@@ -1,0 +1,24 @@
+//! Configurations.
+use crate::component::Component;
+use crate::connection::Connection;
+use crate::shared::Shared;
+use ttcn_syntax::{Seq, Verdict};
+
+/// A test case that goes on.
+#[derive(Debug, Drop, PartialEq, Eq, Hash)]
+pub struct Going {
+    /// The components by their paths, ascending.
+    pub components: Seq<Component>,
+    /// Ascending.
+    pub connections: Shared<Seq<Connection>>,
+    /// The worst verdict of the components of which nothing but their paths is left.
+    pub forgotten: Verdict,
+}
+
+/// A configuration of a test case.
+#[derive(Debug, Drop, PartialEq, Eq, Hash)]
+pub enum Config {
+    /// The test case ended with a verdict.
+    Ended(Verdict),
+    Going(Going),
+}

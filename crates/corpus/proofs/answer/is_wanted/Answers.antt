@@ -1,5 +1,0 @@
-use Rattle.corpus.proofs.Texts.{no_prefix}
-use Rattle.corpus.proofs.answer.is_wanted.Goals as goal
-
-pub returns-in-None : goal.returns-in-None
-returns-in-None c = (λ t. absurd (cc t), λ w. absurd (no_prefix _ _ c.in-None.ensures.cases w))

@@ -1,8 +1,0 @@
-use Rattle.evaluation_laws.proofs.TypedChains.{chains_fit, names_fit}
-use Rattle.evaluation_laws.proofs.typing.chains_fit_their_module.Goals as goal
-
-pub returns-clause-chains : goal.returns-clause-chains
-returns-clause-chains c = chains_fit
-
-pub returns-clause-names : goal.returns-clause-names
-returns-clause-names c = names_fit

@@ -1,4 +1,0 @@
-use Rattle.exploration.proofs.exploration.explore_runs.Given as goal
-
-abbrev pub ghosts-explore_within : goal.ghosts-explore_within
-ghosts-explore_within g a = record { machine = a.machine.now }

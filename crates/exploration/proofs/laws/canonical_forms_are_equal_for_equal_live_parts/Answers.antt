@@ -1,5 +1,0 @@
-use Rattle.exploration.proofs.Forms.{equal_forms}
-use Rattle.exploration.proofs.laws.canonical_forms_are_equal_for_equal_live_parts.Goals as goal
-
-pub returns : goal.returns
-returns c = equal_forms

@@ -1,8 +1,0 @@
-use Rattle.std.proofs.Common.{◌≡◌, map}
-use Rattle.exploration.proofs.runs.pairs_of.Given as goal
-use Rattle.step_labels.specs.Labels.{label_by}
-use Rattle.step_rules.specs.LiveParts.{live_part}
-use Rattle.ttcn_step.specs.Machines.{said}
-
-abbrev pub invariant-loop-label : goal.invariant-loop-label
-invariant-loop-label g l = l.pairs.items ≡ map (λ s. (label_by s.label, live_part (said g.K.Scheme.machine s.config))) l.yielded

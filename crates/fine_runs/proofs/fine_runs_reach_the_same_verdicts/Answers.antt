@@ -1,5 +1,0 @@
-use Rattle.fine_runs.proofs.Laws.{same_verdicts}
-use Rattle.fine_runs.proofs.fine_runs_reach_the_same_verdicts.Goals as goal
-
-pub returns : goal.returns
-returns c = λ test v well. same_verdicts test v well

@@ -1,9 +1,0 @@
-use Rattle.std.proofs.Common.{arith}
-use Rattle.interner.proofs.Cells.{count_lists, empty_there}
-use Rattle.interner.proofs.lists.Lists.empty.Goals as goal
-
-pub returns-clause-within : goal.returns-clause-within
-returns-clause-within g c = let all = count_lists c.args.self.now.cells.keys in omega (arith, all)
-
-pub returns-clause-empty : goal.returns-clause-empty
-returns-clause-empty g c = empty_there c.args.self.now.cells.keys

@@ -1,5 +1,0 @@
-use Rattle.interner.proofs.OneSlot.{one_slot}
-use Rattle.interner.proofs.slots.Slots.values_differ.Goals as goal
-
-pub returns : goal.returns
-returns g c = one_slot g.T.PartialEq.eq g.met.T.Eq.laws.refl c.args.self.now.values.keys c.len.ensures.unique

@@ -1,8 +1,0 @@
-//! Values and lists by numbers: equal ones have one number, and a number stands for one of them.
-#![tactic(auto)]
-
-mod lists;
-mod slots;
-
-pub use lists::{Cell, Lists};
-pub use slots::Slots;

@@ -1,0 +1,221 @@
+-- The configurations of runs stand in their order.
+use Rattle.std.proofs.Common.{◌≡◌, ℕ, ◌+◌, Bool, true, false, List, [], ◌∷◌, Option, Some, None, Result, Ok, Err, IfSome, is_some, option_map, refl, sym, ap, subst, ◌↔◌, if◌then◌else◌}
+use Rattle.std.specs.List.{AllPairs, Contains}
+use Rattle.std.specs.declared.cmp.Ordering.TheVariants.{Less}
+use Rattle.std.proofs.lemmas.List.Elements.{All-cons, All-nil}
+use Rattle.std.proofs.lemmas.List.Kept.{AllPairs-cons, AllPairs-filter}
+use Rattle.ttcn_syntax.specs.declared.tree.statement.Statement.{Statement}
+use Rattle.ttcn_syntax.specs.declared.tree.statement.Verdict.TheVariants as verdict
+use Rattle.check_scope.specs.Names.{kind_at}
+use Rattle.laws_order.proofs.Changes.{IsComponentInOrder, IsConfigurationInOrder, IsGentle, IsGoingInOrder, LeadsToOrder, Precedes, applied-ordered, each-ordered, step-ordered}
+use Rattle.laws_order.proofs.Members.{members-ordered}
+use Rattle.laws_order.proofs.Outcomes.{any-yields, map-yields, then-yields}
+use Rattle.laws_order.proofs.Puts.{none-ordered}
+use Rattle.laws_order.proofs.Stored.{IsDataInOrder, IsFrameInOrder}
+use Rattle.laws_order.proofs.Unmarked.{LastHasNone, block-none, none-uncovered, uncovered-none}
+use Rattle.laws_order.specs.Order.{HasNoMarkFirst, HasValuesInOrder, IsInOrder, StandsInOrder}
+use Rattle.semantics.proofs.CanonicalRuns.{ends_live}
+use Rattle.semantics.proofs.LabelOrder.{labels_ascend}
+use Rattle.semantics.proofs.LabelsEnabled.{labels_enabled}
+use Rattle.semantics.proofs.Pairs.{All-both, All-more, pairs-nil}
+use Rattle.semantics.specs.Canonical.{canonical_graph}
+use Rattle.semantics.specs.Configurations.{Component, Configuration, Data, Ended, Frame, Goes, Going, component_at, is_terminated_state, path_of}
+use Rattle.semantics.specs.Creating.{new_members}
+use Rattle.semantics.specs.Labels.{label_cmp, labels}
+use Rattle.semantics.specs.LiveParts.{husk, is_live, live_component, live_going, live_part}
+use Rattle.semantics.specs.Order.{HasNamesInOrder, HasTimersInOrder, IsOrderedWithin}
+use Rattle.semantics.specs.Runs.{body_frame, first_snapshot, graph_of, mtc_with, option_elim, replay, replay_from, start, started, testcase_body}
+use Rattle.semantics.specs.Sites.{beginning}
+use Rattle.semantics.specs.Snapshots.{Snapshot, Test, mtc_of}
+use Rattle.semantics.specs.Statements.{act}
+use Rattle.semantics.specs.Steps.{Label, apply, connection_cmp, next, settled, step}
+use Rattle.summary.specs.Run.{Run, Start, Then, end_of}
+use Rattle.ttcn_values.specs.Outcomes.{Fails, IfYields, Outcome, Yields, or_unmet, outcome_and_then}
+use Rattle.ttcn_values.specs.declared.path.Path.{Path}
+use Rattle.ttcn_values.specs.declared.value.ComponentId.{ComponentId}
+
+-- ---- in the words of the laws
+
+told-data : (x : Component) → IsOrderedWithin x → HasValuesInOrder x → IsDataInOrder x.own.children x.own
+told-data x timers values = record {
+  members = record { values = values.members; timers = timers.members };
+  calls = All-both HasTimersInOrder (λ frame. HasNamesInOrder frame.values) IsFrameInOrder (λ frame t v. record { values = v; timers = t }) x.own.calls timers.calls values.calls;
+  count = refl;
+}
+
+told-component : (x : Component) → IsOrderedWithin x → HasValuesInOrder x × HasNoMarkFirst x → IsComponentInOrder x
+told-component x timers others = record {
+  own = told-data x timers others.0;
+  marks = subst LastHasNone (ap (λ (own : Data). own.calls) others.1) (none-uncovered x.own.calls);
+}
+
+told-going : (c : Going) → IsInOrder c → IsGoingInOrder c
+told-going c is = record {
+  components = is.ordered.components;
+  within = All-both IsOrderedWithin (λ x. HasValuesInOrder x × HasNoMarkFirst x) IsComponentInOrder told-component c.components is.ordered.within
+      (All-both HasValuesInOrder HasNoMarkFirst (λ x. HasValuesInOrder x × HasNoMarkFirst x) (λ x v m. (v, m)) c.components is.values is.marks);
+  connections = is.connections;
+}
+
+said-timers : (x : Component) → IsComponentInOrder x → IsOrderedWithin x
+said-timers x is = record { members = is.own.members.timers; calls = All-more IsFrameInOrder HasTimersInOrder (λ frame fine. fine.timers) x.own.calls is.own.calls }
+
+said-values : (x : Component) → IsComponentInOrder x → HasValuesInOrder x
+said-values x is = record { members = is.own.members.values; calls = All-more IsFrameInOrder (λ frame. HasNamesInOrder frame.values) (λ frame fine. fine.values) x.own.calls is.own.calls }
+
+said-marks : (x : Component) → IsComponentInOrder x → HasNoMarkFirst x
+said-marks x is = uncovered-none x.own x.own.calls refl is.marks
+
+said-going : (c : Going) → IsGoingInOrder c → IsInOrder c
+said-going c is = record {
+  ordered = record { components = is.components; within = All-more IsComponentInOrder IsOrderedWithin said-timers c.components is.within };
+  values = All-more IsComponentInOrder HasValuesInOrder said-values c.components is.within;
+  connections = is.connections;
+  marks = All-more IsComponentInOrder HasNoMarkFirst said-marks c.components is.within;
+}
+
+told : (c : Configuration) → StandsInOrder c → IsConfigurationInOrder c
+told (Ended v) is = tt
+told (Goes c) is = told-going c is
+
+said : (c : Configuration) → IsConfigurationInOrder c → StandsInOrder c
+said (Ended v) is = tt
+said (Goes c) is = said-going c is
+
+-- ---- the start
+
+settled-ordered : (o : Outcome Configuration) → IfYields o IsConfigurationInOrder → IsConfigurationInOrder (settled o)
+settled-ordered (Yields c) is = is
+settled-ordered (Fails why) is = tt
+
+mtc-ordered : (test : Test) (body : List Statement) (members : Frame) → IsFrameInOrder members → IsComponentInOrder (mtc_with test body members)
+mtc-ordered test body members is = record {
+  own = record {
+    members = is;
+    calls = All-cons IsFrameInOrder (body_frame test body) [] (record { values = none-ordered; timers = none-ordered }) (All-nil IsFrameInOrder);
+    count = refl;
+  };
+  marks = block-none test.definitions (beginning test.testcase) body;
+}
+
+first-ordered : (test : Test) (body : List Statement) (members : Frame) → IsFrameInOrder members
+    → IsGoingInOrder (record { components = mtc_with test body members ∷ []; connections = []; forgotten = verdict.None })
+first-ordered test body members is = record {
+  components = AllPairs-cons Precedes (mtc_with test body members) [] (All-nil (Precedes (mtc_with test body members))) (pairs-nil Precedes);
+  within = All-cons IsComponentInOrder (mtc_with test body members) [] (mtc-ordered test body members is) (All-nil IsComponentInOrder);
+  connections = pairs-nil (λ k l. connection_cmp k l ≡ Less);
+}
+
+started-ordered : (test : Test) (body : List Statement) → IfYields (started test body) IsConfigurationInOrder
+started-ordered test body =
+    map-yields IsFrameInOrder IsConfigurationInOrder (λ members. Goes (record { components = mtc_with test body members ∷ []; connections = []; forgotten = verdict.None })) (new_members test (mtc_of test) (first_snapshot test))
+    (first-ordered test body) (members-ordered test (mtc_of test) (first_snapshot test))
+
+pub starts : (test : Test) → IsConfigurationInOrder (start test)
+starts test =
+    settled-ordered (outcome_and_then (started test) (or_unmet (testcase_body (kind_at test.definitions test.testcase))))
+    (then-yields (λ body. Unit {0}) IsConfigurationInOrder (started test) (or_unmet (testcase_body (kind_at test.definitions test.testcase))) (λ body any. started-ordered test body)
+    (any-yields (or_unmet (testcase_body (kind_at test.definitions test.testcase)))))
+
+pub start_ordered : (test : Test) → StandsInOrder (start test)
+start_ordered test = said (start test) (starts test)
+
+-- ---- steps
+
+step-of : (test : Test) (c : Configuration) (label : Label) → IsConfigurationInOrder c → LeadsToOrder (step test c label)
+step-of test (Ended v) label is = tt
+step-of test (Goes c) label is = step-ordered test c label is
+
+settled-step : (o : Option (Outcome Configuration)) → LeadsToOrder o → IfSome (option_map settled o) IsConfigurationInOrder
+settled-step None is = tt
+settled-step (Some out) is = settled-ordered out is
+
+pub next-of : (test : Test) (c : Configuration) (label : Label) → IsConfigurationInOrder c → IfSome (next test c label) IsConfigurationInOrder
+next-of test c label is = settled-step (step test c label) (step-of test c label is)
+
+pub some-of : {A : Type 0} (P : A → Type 0) (o : Option A) (a : A) → o ≡ Some a → IfSome o P → P a
+some-of P o a e is = subst (λ x. IfSome x P) e is
+
+pub next_ordered : (test : Test) (c d : Configuration) (label : Label) → StandsInOrder c → next test c label ≡ Some d → StandsInOrder d
+next_ordered test c d label is e = said d (some-of IsConfigurationInOrder (next test c label) d e (next-of test c label (told c is)))
+
+said-option : (o : Option Configuration) → IfSome o IsConfigurationInOrder → IfSome o StandsInOrder
+said-option None fine = tt
+said-option (Some d) fine = said d fine
+
+-- what a component asks for by whatever snapshot, as its data are in one configuration, is done in another
+pub applied_ordered : (test : Test) (c old : Going) (itself : ComponentId) (p : Path) (x : Component) (snapshot : Snapshot) → StandsInOrder (Goes c) → StandsInOrder (Goes old) → component_at old p ≡ Some x
+    → IfSome (option_map settled (apply test c itself (act test snapshot x.own))) StandsInOrder
+applied_ordered test c old itself p x snapshot is also there =
+    said-option (option_map settled (apply test c itself (act test snapshot x.own)))
+    (settled-step (apply test c itself (act test snapshot x.own)) (applied-ordered test c old itself p x snapshot (told-going c is) (told-going old also) there))
+
+-- ---- runs
+
+abbrev Holds : Result Configuration ℕ → Type 0
+Holds (Ok c) = IsConfigurationInOrder c
+Holds (Err number) = Unit {0}
+
+goes-on : (number : ℕ) (more : Configuration → Result Configuration ℕ) (o : Option Configuration) → ((c : Configuration) → IsConfigurationInOrder c → Holds (more c)) → IfSome o IsConfigurationInOrder
+    → Holds (option_elim (Err number) more o)
+goes-on number more None fine is = tt
+goes-on number more (Some c) fine is = fine c is
+
+replays-from : (test : Test) (run : List Label) (number : ℕ) (c : Configuration) → IsConfigurationInOrder c → Holds (replay_from test run number c)
+replays-from test [] number c is = is
+replays-from test (label ∷ others) number c is =
+    goes-on number (replay_from test others (number + 1)) (next test c label) (λ d also. replays-from test others (number + 1) d also) (next-of test c label is)
+
+pub replay_ordered : (test : Test) (run : List Label) (c : Configuration) → replay test run ≡ Ok c → StandsInOrder c
+replay_ordered test run c e = said c (subst Holds e (replays-from test run 1 (start test) (starts test)))
+
+after-ordered : (c : Configuration) (o : Option Configuration) → IsConfigurationInOrder c → IfSome o IsConfigurationInOrder → IsConfigurationInOrder (option_elim c (λ d. d) o)
+after-ordered c None is found = is
+after-ordered c (Some d) is found = found
+
+ends : (test : Test) (run : Run Label) → IsConfigurationInOrder (end_of (graph_of test) run)
+ends test Start = starts test
+ends test (Then run label) =
+    after-ordered (end_of (graph_of test) run) (next test (end_of (graph_of test) run) label) (ends test run) (next-of test (end_of (graph_of test) run) label (ends test run))
+
+pub ends_ordered : (test : Test) (run : Run Label) → StandsInOrder (end_of (graph_of test) run)
+ends_ordered test run = said (end_of (graph_of test) run) (ends test run)
+
+-- ---- what follows from the order
+
+pub labels_ascend_in_runs : (test : Test) (run : List Label) (c : Going) → replay test run ≡ Ok (Goes c) → AllPairs (λ k l. label_cmp k l ≡ Less) (labels test (Goes c))
+labels_ascend_in_runs test run c e = let is : IsInOrder c = replay_ordered test run (Goes c) e in labels_ascend test c is.ordered
+
+pub labels_step_in_runs : (test : Test) (run : List Label) (c : Going) → replay test run ≡ Ok (Goes c) → (label : Label) → Contains (labels test (Goes c)) label ↔ (is_some (step test (Goes c) label) ≡ true)
+labels_step_in_runs test run c e label = let is : IsInOrder c = replay_ordered test run (Goes c) e in labels_enabled test c is.ordered label
+
+-- ---- live parts
+
+live-component : (b : Bool) (x : Component) → IsComponentInOrder x → IsComponentInOrder (if b then husk (path_of x) else x)
+live-component true x is = record {
+  own = record { members = record { values = none-ordered; timers = none-ordered }; calls = All-nil IsFrameInOrder; count = refl };
+  marks = tt;
+}
+live-component false x is = is
+
+live-path : (b : Bool) (x : Component) → path_of (if b then husk (path_of x) else x) ≡ path_of x
+live-path true x = refl
+live-path false x = refl
+
+live-gentle : IsGentle live_component
+live-gentle = record {
+  path = λ x. live-path (is_terminated_state x.state) x;
+  within = λ x is. live-component (is_terminated_state x.state) x is;
+}
+
+live-going : (c : Going) → IsGoingInOrder c → IsGoingInOrder (live_going c)
+live-going c is =
+    let each = each-ordered live_component live-gentle c is in
+    record { components = each.components; within = each.within; connections = AllPairs-filter (λ k l. connection_cmp k l ≡ Less) (is_live c) c.connections is.connections }
+
+pub live_ordered : (c : Configuration) → StandsInOrder c → StandsInOrder (live_part c)
+live_ordered (Ended v) is = tt
+live_ordered (Goes c) is = said-going (live_going c) (live-going c (told-going c is))
+
+pub canonical_ends_ordered : (test : Test) (run : Run Label) → StandsInOrder (end_of (canonical_graph test) run)
+canonical_ends_ordered test run = subst StandsInOrder (sym (ends_live test run)) (live_ordered (end_of (graph_of test) run) (ends_ordered test run))

@@ -1,0 +1,404 @@
+-- What is done among the components leaves each component there that is referred to.
+use Rattle.std.proofs.Common.{◌≡◌, ℕ, ◌+◌, Bool, true, false, ◌||◌, List, [], ◌∷◌, ◌++◌, map, Option, Some, None, IfSome, IsSomeAnd, inl, inr, is_some, length, nat_eq, option_map, bytes_eq, refl, sym, ap, subst, ◌∙◌, if◌then◌else◌}
+use Rattle.std.specs.List.{All, filter, find, list_any}
+use Rattle.std.specs.Ordering.{is_lt, match_ordering}
+use Rattle.std.specs.declared.cmp.Ordering.{Ordering}
+use Rattle.std.specs.declared.cmp.Ordering.TheVariants.{Less, Equal, Greater}
+use Rattle.std.proofs.lemmas.List.Elements.{All-append, All-cons, All-filter, All-head, All-map, All-nil, All-tail}
+use Rattle.ttcn_syntax.specs.declared.tree.definition.Definition.{Definition}
+use Rattle.ttcn_syntax.specs.declared.tree.statement.Verdict.{Verdict}
+use Rattle.laws_references.proofs.Asked.{IsAsked, IsEndOf}
+use Rattle.laws_references.proofs.Families.{child-new}
+use Rattle.laws_references.proofs.More.{component-more}
+use Rattle.laws_references.proofs.Ports.{names-kept, queue-found}
+use Rattle.laws_references.proofs.Stored.{last-refers}
+use Rattle.laws_references.proofs.There.{StayThere, found-map, found-path, found-there, new-there, stay-beside, stay-touched, there-is, touching, touching-same}
+use Rattle.laws_references.specs.Acts.{HoldsOrIs}
+use Rattle.laws_references.specs.References.{ComponentRefersTo, DataReferTo, FrameRefersTo, MessageRefersTo, QueueRefersTo}
+use Rattle.laws_references.specs.There.{HasAllReferred, HasItsPorts, IsBetweenPorts, IsPortThere, IsThere, StandsWithAllReferred, port_names}
+use Rattle.laws_order.proofs.Changes.{found-each, insert-each}
+use Rattle.laws_order.specs.Families.{IsFamily}
+use Rattle.semantics.proofs.Pairs.{All-more}
+use Rattle.semantics.specs.Configurations.{Component, Configuration, Connection, Created, Data, End, Ended, Frame, Goes, Going, Message, Queue, Running, State, Terminated, component_at, end_cmp, is_terminated_state, overall, path_of, same_path}
+use Rattle.semantics.specs.Creating.{child_of}
+use Rattle.semantics.specs.Entries.{Entries}
+use Rattle.semantics.specs.Snapshots.{Test, mtc_of}
+use Rattle.semantics.specs.Statements.{Act, Connects, Continues, Creates, Errs, Removes, Sends, Starts, Stops, Waits, Worsens}
+use Rattle.semantics.specs.Steps.{addressed, add_connection, apply, at_queue, begin, change_queue, connect, connection, connection_cmp, deliver, ending, exchanged, expire_in, expired, expired_call, expired_frame, insert, is_double, is_terminated_at, peers, send, settle, start_component, start_created, start_in, touch, unless_terminated, with_connection, with_data, with_new, with_state, with_verdict, without_first}
+use Rattle.semantics.specs.Storing.{with_calls, with_members, with_remaining, with_timers}
+use Rattle.semantics.specs.Taking.{without_marks}
+use Rattle.ttcn_values.specs.Frames.{entry}
+use Rattle.ttcn_values.specs.Outcomes.{Fails, IfYields, Outcome, Yields, dynamic_error}
+use Rattle.ttcn_values.specs.declared.frame.TimerState.{TimerState}
+use Rattle.ttcn_values.specs.declared.path.Path.{Path}
+use Rattle.ttcn_values.specs.declared.value.ComponentId.{ComponentId}
+
+module _ (P : ComponentId → Type 0) (definitions : List Definition) where
+  abbrev Refers : Component → Type 0
+  Refers = ComponentRefersTo P
+
+  -- both ends of a connection are those of such components
+  abbrev ConnectionRefers : Connection → Type 0
+  ConnectionRefers k = IsEndOf P definitions k.one × IsEndOf P definitions k.other
+
+  -- all that is there refers only to such components
+  pub record GoingRefers (c : Going) : Type 0 where
+    pub components : All (ComponentRefersTo P) c.components
+    pub ports : All (HasItsPorts definitions) c.components
+    pub connections : All ConnectionRefers c.connections
+
+  -- ---- changes of a component
+
+  -- it adds no other references, and leaves path, type and ports
+  pub record IsGentle (change : Component → Component) : Type 0 where
+    pub refers : (x : Component) → Refers x → Refers (change x)
+    pub same : (x : Component) → (change x).itself ≡ x.itself
+    pub ports : (x : Component) → map (λ queue. queue.0) (change x).queues ≡ map (λ queue. queue.0) x.queues
+
+  unless-refers : (b : Bool) (change : Component → Component) (x : Component) → Refers x → Refers (change x) → Refers (if b then x else change x)
+  unless-refers true change x is also = is
+  unless-refers false change x is also = also
+
+  if-refers : (b : Bool) (change : Component → Component) (x : Component) → Refers x → Refers (change x) → Refers (if b then change x else x)
+  if-refers true change x is also = also
+  if-refers false change x is also = is
+
+  touching-refers : (p : Path) (change : Component → Component) → IsGentle change → (x : Component) → Refers x → Refers (touching p change x)
+  touching-refers p change gentle x is =
+      if-refers (same_path (path_of x) p) (unless_terminated change) x is (unless-refers (is_terminated_state x.state) change x is (gentle.refers x is))
+
+  unless-ports : (b : Bool) (change : Component → Component) (x : Component) → map (λ queue. queue.0) (change x).queues ≡ map (λ queue. queue.0) x.queues
+      → map (λ queue. queue.0) (if b then x else change x).queues ≡ map (λ queue. queue.0) x.queues
+  unless-ports true change x e = refl
+  unless-ports false change x e = e
+
+  if-ports : (b : Bool) (change : Component → Component) (x : Component) → map (λ queue. queue.0) (change x).queues ≡ map (λ queue. queue.0) x.queues
+      → map (λ queue. queue.0) (if b then change x else x).queues ≡ map (λ queue. queue.0) x.queues
+  if-ports true change x e = e
+  if-ports false change x e = refl
+
+  touching-ports : (p : Path) (change : Component → Component) → IsGentle change → (x : Component) → HasItsPorts definitions x → HasItsPorts definitions (touching p change x)
+  touching-ports p change gentle x is =
+      if-ports (same_path (path_of x) p) (unless_terminated change) x (unless-ports (is_terminated_state x.state) change x (gentle.ports x))
+      ∙ is ∙ ap (λ (id : ComponentId). port_names definitions id.component_type) (sym (touching-same p change gentle.same x))
+
+  pub touch-refers : (c : Going) (p : Path) (change : Component → Component) → IsGentle change → GoingRefers c → GoingRefers (touch c p change)
+  touch-refers c p change gentle is = record {
+    components = All-map Refers (touching p change) c.components (All-more Refers (λ x. Refers (touching p change x)) (touching-refers p change gentle) c.components is.components);
+    ports = All-map (HasItsPorts definitions) (touching p change) c.components (All-more (HasItsPorts definitions) (λ x. HasItsPorts definitions (touching p change x)) (touching-ports p change gentle) c.components is.ports);
+    connections = is.connections;
+  }
+
+  pub data-gentle : (own : Data) → DataReferTo P own → IsGentle (with_data own)
+  data-gentle own is = record {
+    refers = λ x also. record {
+      own = record {
+        members = is.members;
+        calls = last-refers P (λ frame. with_remaining (without_marks frame.remaining) frame) (λ frame all. all) own.calls is.calls;
+        defaults = is.defaults;
+      };
+      queues = also.queues;
+    };
+    same = λ x. refl;
+    ports = λ x. refl;
+  }
+
+  state-gentle : (state : State) → IsGentle (with_state state)
+  state-gentle state = record { refers = λ x is. record { own = is.own; queues = is.queues }; same = λ x. refl; ports = λ x. refl }
+
+  verdict-gentle : (v : Verdict) → IsGentle (with_verdict v)
+  verdict-gentle v = record { refers = λ x is. record { own = is.own; queues = is.queues }; same = λ x. refl; ports = λ x. refl }
+
+  begin-gentle : (frame : Frame) → FrameRefersTo P frame → IsGentle (begin frame)
+  begin-gentle frame fine = record {
+    refers = λ x is. record {
+      own = record { members = is.own.members; calls = All-cons (FrameRefersTo P) frame [] fine (All-nil (FrameRefersTo P)); defaults = is.own.defaults };
+      queues = is.queues;
+    };
+    same = λ x. refl;
+    ports = λ x. refl;
+  }
+
+  pub exchanged-gentle : (own : Data) → DataReferTo P own → IsGentle (exchanged own)
+  exchanged-gentle own is = record { refers = λ x also. record { own = is; queues = also.queues }; same = λ x. refl; ports = λ x. refl }
+
+  -- ---- messages
+
+  -- a change of messages adds no other references
+  abbrev KeepsMessages : (List Message → List Message) → Type 0
+  KeepsMessages change = (messages : List Message) → All (MessageRefersTo P) messages → All (MessageRefersTo P) (change messages)
+
+  queue-if : (port : List ℕ) (change : List Message → List Message) (queue : Queue) (queues : List Queue) (b : Bool) → KeepsMessages change → All (QueueRefersTo P) (queue ∷ queues)
+      → All (QueueRefersTo P) (change_queue port change queues) → All (QueueRefersTo P) (if b then (queue.0, change queue.1) ∷ queues else queue ∷ change_queue port change queues)
+  queue-if port change queue queues true keeps all others =
+      All-cons (QueueRefersTo P) (queue.0, change queue.1) queues (keeps queue.1 (All-head (QueueRefersTo P) queue queues all)) (All-tail (QueueRefersTo P) queue queues all)
+  queue-if port change queue queues false keeps all others = All-cons (QueueRefersTo P) queue (change_queue port change queues) (All-head (QueueRefersTo P) queue queues all) others
+
+  queues-refer : (port : List ℕ) (change : List Message → List Message) → KeepsMessages change → (queues : List Queue) → All (QueueRefersTo P) queues → All (QueueRefersTo P) (change_queue port change queues)
+  queues-refer port change keeps [] all = all
+  queues-refer port change keeps (queue ∷ queues) all =
+      queue-if port change queue queues (bytes_eq queue.0 port) keeps all (queues-refer port change keeps queues (All-tail (QueueRefersTo P) queue queues all))
+
+  queue-gentle : (port : List ℕ) (change : List Message → List Message) → KeepsMessages change → IsGentle (at_queue port change)
+  queue-gentle port change keeps = record { refers = λ x is. record { own = is.own; queues = queues-refer port change keeps x.queues is.queues }; same = λ x. refl; ports = λ x. names-kept port change x.queues }
+
+  first-kept : KeepsMessages without_first
+  first-kept [] all = all
+  first-kept (message ∷ messages) all = All-tail (MessageRefersTo P) message messages all
+
+  behind-kept : (message : Message) → MessageRefersTo P message → KeepsMessages (λ messages. messages ++ message ∷ [])
+  behind-kept message is messages all = All-append (MessageRefersTo P) messages (message ∷ []) all (All-cons (MessageRefersTo P) message [] is (All-nil (MessageRefersTo P)))
+
+  -- ---- connections
+
+  connection-if : (d e : End) (o : Ordering) → IsEndOf P definitions d → IsEndOf P definitions e → ConnectionRefers (match_ordering o (record { one = d; other = e }) (record { one = d; other = e }) (record { one = e; other = d }))
+  connection-if d e Less one other = (one, other)
+  connection-if d e Equal one other = (one, other)
+  connection-if d e Greater one other = (other, one)
+
+  added-refer : (new : Connection) (ks : List Connection) → ConnectionRefers new → All ConnectionRefers ks → All ConnectionRefers (add_connection new ks)
+  added-refer new ks is all =
+      All-append ConnectionRefers (filter (λ k. is_lt (connection_cmp k new)) ks) (new ∷ filter (λ k. is_lt (connection_cmp new k)) ks)
+      (All-filter (λ k. is_lt (connection_cmp k new)) ConnectionRefers ks all)
+      (All-cons ConnectionRefers new (filter (λ k. is_lt (connection_cmp new k)) ks) is (All-filter (λ k. is_lt (connection_cmp new k)) ConnectionRefers ks all))
+
+  connected-refers : (c : Going) (d e : End) → IsEndOf P definitions d → IsEndOf P definitions e → GoingRefers c → GoingRefers (with_connection (connection d e) c)
+  connected-refers c d e one other is = record {
+    components = is.components;
+    ports = is.ports;
+    connections = added-refer (connection d e) c.connections (connection-if d e (end_cmp d e) one other) is.connections;
+  }
+
+  -- ---- new components
+
+  new-if : (Q : Component → Type 0) (new : Component) (c : Going) (b : Bool) → Q new → All Q c.components → All Q (if b then c.components else insert new c.components)
+  new-if Q new c true fine all = all
+  new-if Q new c false fine all = insert-each Q new fine c.components all
+
+  pub new-refers : (new : Component) (c : Going) → Refers new → HasItsPorts definitions new → GoingRefers c → GoingRefers (with_new new c)
+  new-refers new c fine its is = record {
+    components = new-if Refers new c (is_some (component_at c (path_of new))) fine is.components;
+    ports = new-if (HasItsPorts definitions) new c (is_some (component_at c (path_of new))) its is.ports;
+    connections = is.connections;
+  }
+
+  -- ---- one change after another
+
+  -- what is behind a configuration refers only to such components, and all that were there are there
+  pub record Follows (c d : Going) : Type 0 where
+    pub refers : GoingRefers d
+    pub stay : StayThere c d
+
+  pub touch-follows : (c d : Going) (p : Path) (change : Component → Component) → IsGentle change → Follows c d → Follows c (touch d p change)
+  touch-follows c d p change gentle is = record {
+    refers = touch-refers d p change gentle is.refers;
+    stay = λ id there. stay-touched d p change gentle.same id (is.stay id there);
+  }
+
+  pub itself-follows : (c : Going) → GoingRefers c → Follows c c
+  itself-follows c is = record { refers = is; stay = λ id there. there }
+
+  pub settle-follows : (c : Going) (p : Path) (own : Data) → DataReferTo P own → GoingRefers c → Follows c (settle c p own)
+  settle-follows c p own fine is = touch-follows c c p (with_data own) (data-gentle own fine) (itself-follows c is)
+
+  abbrev pub Leads : Going → Configuration → Type 0
+  Leads c (Ended v) = Unit {0}
+  Leads c (Goes d) = Follows c d
+
+  ending-follows : (c : Going) (o : Outcome Going) → IfYields o (Follows c) → IfYields (ending o) (Leads c)
+  ending-follows c (Yields d) is = is
+  ending-follows c (Fails why) is = tt
+
+  deliver-follows : (c d : Going) (message : Message) (ends : List End) → MessageRefersTo P message → Follows c d → IfYields (deliver d message ends) (Follows c)
+  deliver-follows c d message [] fine is = tt
+  deliver-follows c d message (e ∷ []) fine is =
+      touch-follows c d e.component (at_queue e.port (λ messages. messages ++ message ∷ [])) (queue-gentle e.port (λ messages. messages ++ message ∷ []) (behind-kept message fine)) is
+  deliver-follows c d message (e ∷ f ∷ ends) fine is = tt
+
+  start-follows-in : (c d : Going) (p : Path) (frame : Frame) (state : State) → FrameRefersTo P frame → Follows c d → IfYields (start_in d p frame state) (Follows c)
+  start-follows-in c d p frame Created fine is = touch-follows c d p (begin frame) (begin-gentle frame fine) is
+  start-follows-in c d p frame Running fine is = tt
+  start-follows-in c d p frame Terminated fine is = tt
+
+  start-follows : (c d : Going) (p : Path) (frame : Frame) (found : Option Component) → FrameRefersTo P frame → Follows c d → IfYields (start_created d p frame found) (Follows c)
+  start-follows c d p frame None fine is = tt
+  start-follows c d p frame (Some component) fine is = start-follows-in c d p frame component.state fine is
+
+  stop-follows : (b : Bool) (c d : Going) (p : Path) → Follows c d → Leads c (if b then Ended (overall d) else Goes (touch d p (with_state Terminated)))
+  stop-follows true c d p is = tt
+  stop-follows false c d p is = touch-follows c d p (with_state Terminated) (state-gentle Terminated) is
+
+  connect-follows : (b : Bool) (c g : Going) (d e : End) → IsEndOf P definitions d → IsEndOf P definitions e → Follows c g → IfYields (if b then dynamic_error else Yields (with_connection (connection d e) g)) (Follows c)
+  connect-follows true c g d e one other is = tt
+  connect-follows false c g d e one other is = record { refers = connected-refers g d e one other is.refers; stay = λ id there. is.stay id there }
+
+  -- ---- timers
+
+  frame-expired : (frame : Frame) (o : Option (Entries TimerState)) → FrameRefersTo P frame → IfSome (option_map (λ timers. with_timers timers frame) o) (FrameRefersTo P)
+  frame-expired frame None is = tt
+  frame-expired frame (Some timers) is = is
+
+  expired-frame : (name : List ℕ) (frame : Frame) → FrameRefersTo P frame → IfSome (expired_frame name frame) (FrameRefersTo P)
+  expired-frame name frame is = frame-expired frame (expire_in frame.timers name (entry frame.timers name)) is
+
+  abbrev Calls : List Frame → Type 0
+  Calls calls = All (FrameRefersTo P) calls
+
+  first-expired : (frames : List Frame) (o : Option Frame) → Calls frames → IfSome o (FrameRefersTo P) → IfSome (option_map (λ changed. changed ∷ frames) o) Calls
+  first-expired frames None all found = tt
+  first-expired frames (Some changed) all found = All-cons (FrameRefersTo P) changed frames found all
+
+  rest-expired : (frame : Frame) (o : Option (List Frame)) → FrameRefersTo P frame → IfSome o Calls → IfSome (option_map (λ changed. frame ∷ changed) o) Calls
+  rest-expired frame None is found = tt
+  rest-expired frame (Some changed) is found = All-cons (FrameRefersTo P) frame changed is found
+
+  call-expired-if : (name : List ℕ) (frame : Frame) (frames : List Frame) (b : Bool) (others : Option (List Frame)) → Calls (frame ∷ frames) → IfSome others Calls
+      → IfSome (if b then option_map (λ changed. changed ∷ frames) (expired_frame name frame) else option_map (λ changed. frame ∷ changed) others) Calls
+  call-expired-if name frame frames true others all found =
+      first-expired frames (expired_frame name frame) (All-tail (FrameRefersTo P) frame frames all) (expired-frame name frame (All-head (FrameRefersTo P) frame frames all))
+  call-expired-if name frame frames false others all found = rest-expired frame others (All-head (FrameRefersTo P) frame frames all) found
+
+  calls-expired : (number : ℕ) (name : List ℕ) (calls : List Frame) → Calls calls → IfSome (expired_call number name calls) Calls
+  calls-expired number name [] all = tt
+  calls-expired number name (frame ∷ frames) all =
+      call-expired-if name frame frames (nat_eq number (length frames + 1)) (expired_call number name frames) all (calls-expired number name frames (All-tail (FrameRefersTo P) frame frames all))
+
+  members-expired : (own : Data) (o : Option Frame) → DataReferTo P own → IfSome o (FrameRefersTo P) → IfSome (option_map (λ members. with_members members own) o) (DataReferTo P)
+  members-expired own None is found = tt
+  members-expired own (Some members) is found = record { members = found; calls = is.calls; defaults = is.defaults }
+
+  with-calls-expired : (own : Data) (o : Option (List Frame)) → DataReferTo P own → IfSome o Calls → IfSome (option_map (λ calls. with_calls calls own) o) (DataReferTo P)
+  with-calls-expired own None is found = tt
+  with-calls-expired own (Some calls) is found = record { members = is.members; calls = found; defaults = is.defaults }
+
+  expired-if : (number : ℕ) (name : List ℕ) (own : Data) (b : Bool) → DataReferTo P own
+      → IfSome (if b then option_map (λ members. with_members members own) (expired_frame name own.members) else option_map (λ calls. with_calls calls own) (expired_call number name own.calls)) (DataReferTo P)
+  expired-if number name own true is = members-expired own (expired_frame name own.members) is (expired-frame name own.members is.members)
+  expired-if number name own false is = with-calls-expired own (expired_call number name own.calls) is (calls-expired number name own.calls is.calls)
+
+  pub expired-refers : (number : ℕ) (name : List ℕ) (own : Data) → DataReferTo P own → IfSome (expired number name own) (DataReferTo P)
+  expired-refers number name own is = expired-if number name own (nat_eq number 0) is
+
+-- more components
+end-more : (P Q : ComponentId → Type 0) (definitions : List Definition) → ((id : ComponentId) → P id → Q id) → (e : End) → IsEndOf P definitions e → IsEndOf Q definitions e
+end-more P Q definitions more e is = (is.0, more is.0 is.1, is.2, is.3)
+
+going-more : (P Q : ComponentId → Type 0) (definitions : List Definition) → ((id : ComponentId) → P id → Q id) → (c : Going) → GoingRefers P definitions c → GoingRefers Q definitions c
+going-more P Q definitions more c is = record {
+  components = All-more (ComponentRefersTo P) (ComponentRefersTo Q) (component-more P Q more) c.components is.components;
+  ports = is.ports;
+  connections = All-more (ConnectionRefers P definitions) (ConnectionRefers Q definitions) (λ k ends. (end-more P Q definitions more k.one ends.0, end-more P Q definitions more k.other ends.1)) c.connections is.connections;
+}
+
+-- ---- in the words of the laws
+
+-- a port of a component that is there, by its queue and by its type
+end-there-in : (definitions : List Definition) (c : Going) (e : End) (o : Option Component) → component_at c e.component ≡ o → IfSome o (HasItsPorts definitions)
+    → IsSomeAnd o (λ x. is_some (find (λ queue. bytes_eq queue.0 e.port) x.queues) ≡ true) → IsEndOf (IsThere c) definitions e
+end-there-in definitions c e None found its is = absurd is
+end-there-in definitions c e (Some x) found its is =
+    (x.itself, found-there c e.component x found, found-path c e.component x found, ap (list_any (λ name. bytes_eq name e.port)) (sym its) ∙ sym (queue-found x.queues e.port) ∙ is)
+
+end-there : (definitions : List Definition) (c : Going) (e : End) → All (HasItsPorts definitions) c.components → IsPortThere c e → IsEndOf (IsThere c) definitions e
+end-there definitions c e its is =
+    end-there-in definitions c e (component_at c e.component) refl (found-each (HasItsPorts definitions) (λ x. same_path (path_of x) e.component) c.components its) is
+
+there-end : (definitions : List Definition) (c : Going) (e : End) → All (HasItsPorts definitions) c.components → IsEndOf (IsThere c) definitions e → IsPortThere c e
+there-end definitions c e its is =
+    let x = there-is c is.0 is.1 in
+    let here : HasItsPorts definitions x.0 = subst (λ o. IfSome o (HasItsPorts definitions)) x.1 (found-each (HasItsPorts definitions) (λ y. same_path (path_of y) is.0.path) c.components its) in
+    subst (λ o. IsSomeAnd o (λ (y : Component). is_some (find (λ queue. bytes_eq queue.0 e.port) y.queues) ≡ true)) (sym (ap (component_at c) (sym is.2) ∙ x.1))
+    (queue-found x.0.queues e.port ∙ ap (list_any (λ name. bytes_eq name e.port)) (here ∙ ap (λ (id : ComponentId). port_names definitions id.component_type) x.2) ∙ is.3)
+
+module _ (test : Test) where
+  pub told : (c : Going) → HasAllReferred test c → GoingRefers (IsThere c) test.definitions c
+  told c is = record {
+    components = is.components;
+    ports = is.ports;
+    connections = All-more (IsBetweenPorts c) (ConnectionRefers (IsThere c) test.definitions)
+        (λ k ends. (end-there test.definitions c k.one is.ports ends.0, end-there test.definitions c k.other is.ports ends.1)) c.connections is.connections;
+  }
+
+  -- where all such components are there
+  pub said : (P : ComponentId → Type 0) (c : Going) → ((id : ComponentId) → P id → IsThere c id) → P (mtc_of test) → GoingRefers P test.definitions c → HasAllReferred test c
+  said P c there mtc is = record {
+    mtc = there (mtc_of test) mtc;
+    components = All-more (ComponentRefersTo P) (ComponentRefersTo (IsThere c)) (component-more P (IsThere c) there) c.components is.components;
+    ports = is.ports;
+    connections = All-more (ConnectionRefers P test.definitions) (IsBetweenPorts c)
+        (λ k ends. (there-end test.definitions c k.one is.ports (end-more P (IsThere c) test.definitions there k.one ends.0), there-end test.definitions c k.other is.ports (end-more P (IsThere c) test.definitions there k.other ends.1)))
+        c.connections is.connections;
+  }
+
+  -- ---- what a component asks for
+
+  abbrev pub LeadsToReferred : Option (Outcome Configuration) → Type 0
+  LeadsToReferred o = IfSome o (λ out. IfYields out (StandsWithAllReferred test))
+
+  module _ (c : Going) (is : HasAllReferred test c) where
+    pub followed : (d : Going) → Follows (IsThere c) test.definitions c d → HasAllReferred test d
+    followed d follows = said (IsThere c) d follows.stay is.mtc follows.refers
+
+    led : (d : Configuration) → Leads (IsThere c) test.definitions c d → StandsWithAllReferred test d
+    led (Ended v) leads = tt
+    led (Goes d) leads = followed d leads
+
+    led-yields : (o : Outcome Configuration) → IfYields o (Leads (IsThere c) test.definitions c) → IfYields o (StandsWithAllReferred test)
+    led-yields (Yields d) leads = led d leads
+    led-yields (Fails why) leads = tt
+
+    module _ (x : Component) (there : component_at c (path_of x) ≡ Some x) (family : IsFamily c) (here : IsThere c x.itself) where
+      settled-follows : (own : Data) → DataReferTo (IsThere c) own → Follows (IsThere c) test.definitions c (settle c (path_of x) own)
+      settled-follows own fine = settle-follows (IsThere c) test.definitions c (path_of x) own fine (told c is)
+
+      -- ---- a new component
+
+      -- none has its path
+      none-there : (new : Component) (own : Data) → path_of new ≡ child_of x.itself x.own.children → component_at (settle c (path_of x) own) (path_of new) ≡ None
+      none-there new own path =
+          found-map (touching (path_of x) (with_data own)) (touching-same (path_of x) (with_data own) (λ y. refl)) (path_of new) c.components
+          ∙ ap (option_map (touching (path_of x) (with_data own))) (child-new c x (path_of new) family there path)
+
+      new-follows : (new : Component) (own : Data) → path_of new ≡ child_of x.itself x.own.children → ComponentRefersTo (HoldsOrIs (IsThere c) new.itself) new → DataReferTo (HoldsOrIs (IsThere c) new.itself) own
+          → HasItsPorts test.definitions new → HasAllReferred test (with_new new (settle c (path_of x) own))
+      new-follows new own path refers fine its =
+          said (HoldsOrIs (IsThere c) new.itself) (with_new new (settle c (path_of x) own)) all-there (inl is.mtc)
+          (new-refers (HoldsOrIs (IsThere c) new.itself) test.definitions new (settle c (path_of x) own) refers its settled.refers)
+        where
+          settled : Follows (HoldsOrIs (IsThere c) new.itself) test.definitions c (settle c (path_of x) own)
+          settled = settle-follows (HoldsOrIs (IsThere c) new.itself) test.definitions c (path_of x) own fine (going-more (IsThere c) (HoldsOrIs (IsThere c) new.itself) test.definitions (λ id holds. inl holds) c (told c is))
+
+          all-there : (id : ComponentId) → HoldsOrIs (IsThere c) new.itself id → IsThere (with_new new (settle c (path_of x) own)) id
+          all-there id (inl holds) = stay-beside new (settle c (path_of x) own) (none-there new own path) id (settled.stay id holds)
+          all-there id (inr e) = subst (IsThere (with_new new (settle c (path_of x) own))) (sym e) (new-there new (settle c (path_of x) own) (none-there new own path))
+
+      -- ---- all of them
+
+      pub applied : (asked : Act) → IsAsked (IsThere c) test.definitions x.itself x.own.children asked → LeadsToReferred (apply test c x.itself asked)
+      applied Waits fine = tt
+      applied (Errs why) fine = tt
+      applied (Continues own) fine = followed (settle c (path_of x) own) (settled-follows own fine)
+      applied (Worsens v own) fine =
+          followed (touch (settle c (path_of x) own) (path_of x) (with_verdict v)) (touch-follows (IsThere c) test.definitions c (settle c (path_of x) own) (path_of x) (with_verdict v) (verdict-gentle (IsThere c) test.definitions v) (settled-follows own fine))
+      applied (Removes port own) fine =
+          followed (touch (settle c (path_of x) own) (path_of x) (at_queue port without_first))
+          (touch-follows (IsThere c) test.definitions c (settle c (path_of x) own) (path_of x) (at_queue port without_first) (queue-gentle (IsThere c) test.definitions port without_first (first-kept (IsThere c) test.definitions)) (settled-follows own fine))
+      applied (Sends port to v own) fine =
+          led-yields (ending (send (settle c (path_of x) own) x.itself port to v))
+          (ending-follows (IsThere c) test.definitions c (send (settle c (path_of x) own) x.itself port to v)
+          (deliver-follows (IsThere c) test.definitions c (settle c (path_of x) own) (record { value = v; sender = x.itself })
+          (filter (addressed to) (peers (settle c (path_of x) own) (record { component = path_of x; port = port }))) (record { value = fine.1; sender = here }) (settled-follows own fine.2)))
+      applied (Creates new own) fine = new-follows new own fine.0 fine.1 fine.2 fine.3
+      applied (Starts path frame own) fine =
+          led-yields (ending (start_component (settle c (path_of x) own) path frame))
+          (ending-follows (IsThere c) test.definitions c (start_component (settle c (path_of x) own) path frame)
+          (start-follows (IsThere c) test.definitions c (settle c (path_of x) own) path frame (component_at (settle c (path_of x) own) path) fine.1 (settled-follows own fine.2)))
+      applied (Stops path own) fine =
+          led (if same_path path (mtc_of test).path then Ended (overall (settle c (path_of x) own)) else Goes (touch (settle c (path_of x) own) path (with_state Terminated)))
+          (stop-follows (IsThere c) test.definitions (same_path path (mtc_of test).path) c (settle c (path_of x) own) path (settled-follows own fine.1))
+      applied (Connects d e own) fine =
+          led-yields (ending (connect (settle c (path_of x) own) d e))
+          (ending-follows (IsThere c) test.definitions c (connect (settle c (path_of x) own) d e)
+          (connect-follows (IsThere c) test.definitions
+          (is_terminated_at (settle c (path_of x) own) d.component || is_terminated_at (settle c (path_of x) own) e.component || is_double (settle c (path_of x) own) d e || is_double (settle c (path_of x) own) e d)
+          c (settle c (path_of x) own) d e fine.0 fine.1 (settled-follows own fine.2)))

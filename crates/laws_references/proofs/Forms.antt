@@ -1,0 +1,48 @@
+-- What values of each form refer to.
+use Rattle.std.proofs.Common.{◌≡◌, ℕ, ℤ, Bool, List, [], ◌∷◌, ◌++◌, map, Option, Some, None, refl, sym, ap, ◌∙◌}
+use Rattle.std.specs.List.{flat_map}
+use Rattle.laws_references.specs.References.{references, references_in_field, references_step}
+use Rattle.semantics.specs.Runs.{option_elim}
+use Rattle.ttcn_values.specs.declared.value.ComponentId.{ComponentId}
+use Rattle.ttcn_values.specs.declared.value.Value.{Value, roll-Value}
+use Rattle.ttcn_values.specs.declared.value.Value.TheFolds.{fold-roll-Value, map-Value}
+use Rattle.ttcn_values.specs.declared.value.Value.TheOpen.{Value-F}
+use Rattle.ttcn_values.specs.declared.value.Value.TheShapes.{former-Value-Record-1-at-1}
+use Rattle.ttcn_values.specs.declared.value.Value.TheVariants as value
+
+rolled : (x : Value-F Value) (v : Value) → roll-Value x ≡ v → references v ≡ references_step (map-Value Value (List ComponentId) references x)
+rolled x v e = ap references (sym e) ∙ fold-roll-Value (List ComponentId) references_step x
+
+pub of_component : (c : ComponentId) → references (value.Component c) ≡ c ∷ []
+of_component c = rolled (Value-F.Component c) (value.Component c) (value.rolls-Component c)
+
+field-is : (field : Option Value) → references_in_field (former-Value-Record-1-at-1.map Value (List ComponentId) references field) ≡ option_elim [] references field
+field-is None = refl
+field-is (Some v) = refl
+
+fields-are : (fields : List (Option Value)) → flat_map references_in_field (map (former-Value-Record-1-at-1.map Value (List ComponentId) references) fields) ≡ flat_map (option_elim [] references) fields
+fields-are [] = refl
+fields-are (field ∷ fields) =
+    ap (λ first. first ++ flat_map references_in_field (map (former-Value-Record-1-at-1.map Value (List ComponentId) references) fields)) (field-is field)
+    ∙ ap (λ others. option_elim [] references field ++ others) (fields-are fields)
+
+pub of_record : (at : ℕ) (fields : List (Option Value)) → references (value.Record at fields) ≡ flat_map (option_elim [] references) fields
+of_record at fields = rolled (Value-F.Record at fields) (value.Record at fields) (value.rolls-Record at fields) ∙ fields-are fields
+
+pub of_null : references value.Null ≡ []
+of_null = rolled Value-F.Null value.Null value.rolls-Null
+
+pub of_omit : references value.Omit ≡ []
+of_omit = rolled Value-F.Omit value.Omit value.rolls-Omit
+
+pub of_integer : (z : ℤ) → references (value.Integer z) ≡ []
+of_integer z = rolled (Value-F.Integer z) (value.Integer z) (value.rolls-Integer z)
+
+pub of_boolean : (b : Bool) → references (value.Boolean b) ≡ []
+of_boolean b = rolled (Value-F.Boolean b) (value.Boolean b) (value.rolls-Boolean b)
+
+pub of_enumerated : (at n : ℕ) → references (value.Enumerated at n) ≡ []
+of_enumerated at n = rolled (Value-F.Enumerated at n) (value.Enumerated at n) (value.rolls-Enumerated at n)
+
+pub of_default : (n : ℕ) → references (value.Default n) ≡ []
+of_default n = rolled (Value-F.Default n) (value.Default n) (value.rolls-Default n)

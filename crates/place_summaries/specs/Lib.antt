@@ -1,4 +1,0 @@
-pub mod KeySet
-pub mod KeyCode
-pub mod Ascent
-pub mod Ties

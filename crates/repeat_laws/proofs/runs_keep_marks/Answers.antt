@@ -1,5 +1,0 @@
-use Rattle.repeat_laws.proofs.Repeats.{end_marked}
-use Rattle.repeat_laws.proofs.runs_keep_marks.Goals as goal
-
-pub returns-clause-ends : goal.returns-clause-ends
-returns-clause-ends c = λ test run well. end_marked test well run

@@ -1,0 +1,84 @@
+-- The values at places, one by one.
+use Rattle.std.proofs.Common.{◌≡◌, ℕ, zero, suc, ◌<◌, List, [], ◌∷◌, ◌++◌, All, length, get_or, slice_get, Some, inl, inr, refl, sym, ap, subst, ◌∙◌, arith}
+use Rattle.std.proofs.lemmas.Bool.{cases_lt}
+use Rattle.std.proofs.lemmas.List.{get_or_default, get_or_past}
+use Rattle.std.proofs.lemmas.Option.{slice_get-get_or}
+use Rattle.std.proofs.lemmas.List.Elements.{All-get_or, All-head, All-tail}
+use Rattle.search_shards.specs.declared.place.Place.{Place}
+use Rattle.search_shards.specs.internal.Places.{one_at, value_at, values_in, IsHeld}
+
+module _ {T : Type 0} where
+  pub one_at-append : (xs ys : List T) (i : ℕ) → i < length xs → one_at (xs ++ ys) i ≡ one_at xs i
+  one_at-append [] ys i low = absurd (omega arith)
+  one_at-append (x ∷ xs) ys zero low = refl
+  one_at-append (x ∷ xs) ys (suc i) low = one_at-append xs ys i (omega arith)
+
+  pub one_at-end : (xs : List T) (x : T) → one_at (xs ++ x ∷ []) (length xs) ≡ x ∷ []
+  one_at-end [] x = refl
+  one_at-end (y ∷ ys) x = one_at-end ys x
+
+  pub one_at-get : (xs : List T) (i : ℕ) (x : T) → slice_get xs i ≡ Some x → one_at xs i ≡ x ∷ []
+  one_at-get [] i x e = cc
+  one_at-get (y ∷ ys) zero x e = let same : y ≡ x = cc in ap (λ (z : T). z ∷ []) same
+  one_at-get (y ∷ ys) (suc i) x e = one_at-get ys i x e
+
+  pub one_at-held : (xs : List T) (i : ℕ) → i < length xs → (x : T) × (one_at xs i ≡ x ∷ [])
+  one_at-held [] i low = absurd (omega arith)
+  one_at-held (x ∷ xs) zero low = (x, refl)
+  one_at-held (x ∷ xs) (suc i) low = one_at-held xs i (omega arith)
+
+  module _ (shards : List (List T)) where
+    -- a place that holds a value is that of a shard
+    pub shard_low : (p : Place) → IsHeld shards p → p.shard < length shards
+    shard_low p held = elim (cases_lt p.shard (length shards)) [
+      | inl low ↦ low
+      | inr past ↦ (let none = ap length (get_or_past shards p.shard [] past) in absurd (omega arith))
+    ]
+
+    -- there are as many values as places
+    pub length-values_in : (places : List Place) → All (IsHeld shards) places → length (values_in shards places) ≡ length places
+    length-values_in [] held = refl
+    length-values_in (p ∷ ps) held =
+        let one = one_at-held (get_or shards p.shard []) p.index (All-head (IsHeld shards) p ps held) in
+        ap (λ (xs : List T). length (xs ++ values_in shards ps)) one.1
+        ∙ ap suc (length-values_in ps (All-tail (IsHeld shards) p ps held))
+
+    -- the value at the place of a number is the value of that number
+    pub values_in-get : (places : List Place) (i : ℕ) (p : Place) (x : T) → All (IsHeld shards) places → slice_get places i ≡ Some p
+        → slice_get (get_or shards p.shard []) p.index ≡ Some x → slice_get (values_in shards places) i ≡ Some x
+    values_in-get [] i p x held at has = cc
+    values_in-get (q ∷ qs) zero p x held at has =
+        let same : q ≡ p = cc in
+        ap (λ (xs : List T). slice_get (xs ++ values_in shards qs) 0) (ap (value_at shards) same ∙ one_at-get (get_or shards p.shard []) p.index x has)
+    values_in-get (q ∷ qs) (suc i) p x held at has =
+        let one = one_at-held (get_or shards q.shard []) q.index (All-head (IsHeld shards) q qs held) in
+        ap (λ (xs : List T). slice_get (xs ++ values_in shards qs) (suc i)) one.1
+        ∙ values_in-get qs i p x (All-tail (IsHeld shards) q qs held) at has
+
+    -- the same values stand at the places of other shards
+    pub values_in-same : (others : List (List T)) (places : List Place) → All (IsHeld shards) places
+        → ((p : Place) → IsHeld shards p → value_at others p ≡ value_at shards p) → values_in others places ≡ values_in shards places
+    values_in-same others [] held same = refl
+    values_in-same others (p ∷ ps) held same = λ i. same p (All-head (IsHeld shards) p ps held) i ++ values_in-same others ps (All-tail (IsHeld shards) p ps held) same i
+
+    -- the place of a number below the length
+    module _ (places : List Place) (held : All (IsHeld shards) places) (keys : List T) (are : values_in shards places ≡ keys) (i : ℕ) (low : i < length keys) where
+      pub in_places : i < length places
+      in_places = let count = length-values_in places held in let long = ap length are in omega arith
+
+      module _ (p : Place) (at : p ≡ get_or places i p) where
+        pub place_held : IsHeld shards p
+        place_held = subst (IsHeld shards) (sym at) (All-get_or (IsHeld shards) places i p in_places held)
+
+        module _ (kept : List T) (read : kept ≡ get_or shards p.shard kept) where
+          kept_is : kept ≡ get_or shards p.shard []
+          kept_is = read ∙ get_or_default shards p.shard kept [] (shard_low p place_held)
+
+          pub in_shard : p.index < length kept
+          in_shard = subst (λ (xs : List T). p.index < length xs) (sym kept_is) place_held
+
+          pub value_of : (x : T) → slice_get kept p.index ≡ Some x → slice_get keys i ≡ Some x
+          value_of x has =
+              ap (λ (xs : List T). slice_get xs i) (sym are)
+              ∙ values_in-get places i p x held (slice_get-get_or places i p in_places ∙ ap Some (sym at))
+              (ap (λ (xs : List T). slice_get xs p.index) (sym kept_is) ∙ has)

@@ -1,0 +1,400 @@
+-- Each step from a live part has the live part of the step from the whole.
+use Rattle.std.proofs.Common.{◌≡◌, ℕ, Bool, true, false, ◌&&◌, ◌||◌, not, List, [], ◌∷◌, ◌++◌, map, Option, Some, None, is_some, option_map, refl, sym, ap, subst, ◌∙◌, if◌then◌else◌, bytes_eq}
+use Rattle.std.specs.List.{filter, find, flat_map, fold, list_any}
+use Rattle.std.specs.Option.{option_and_then}
+use Rattle.ttcn_syntax.specs.declared.tree.statement.Verdict.{Verdict}
+use Rattle.ttcn_syntax.specs.declared.tree.statement.Verdict.TheVariants as verdict
+use Rattle.semantics.proofs.LiveSteps.{alike, by-state, component-live, contribution, contribution-alive, contribution-over, fold-total, found-over, is_over, keeps_connection, keeps_new, keeps_touch, live-alive, live-over, live-over-in, live-path, live-twice, map-same, map-twice, over_in, path-is, pick, total}
+use Rattle.semantics.proofs.Verdicts.{none_worse, worse_associates, worse_none, worse_pairs}
+use Rattle.semantics.specs.Configurations.{Component, Configuration, Connection, Created, Data, End, Ended, Frame, Goes, Going, Message, Running, State, Terminated, component_at, is_running_state, is_terminated_state, overall, path_of, same_path, worse}
+use Rattle.semantics.specs.Labels.{expiries, labels, labels_of_component, statement_labels}
+use Rattle.semantics.specs.LiveParts.{forget_verdict, is_live, live_component, live_going, live_part}
+use Rattle.semantics.specs.Places.{blocked, branch_in, branch_of, branch_of_component, if_none, place_in_frames, place_of, place_of_frames, standings, unless_fault, with_place}
+use Rattle.semantics.specs.Runs.{mark_of}
+use Rattle.semantics.specs.Snapshots.{Test, mtc_of, snapshot_of}
+use Rattle.semantics.specs.Statements.{Act, Connects, Continues, Creates, Errs, Removes, Sends, Starts, Stops, Waits, Worsens, act, same_end}
+use Rattle.semantics.specs.Steps.{Expiry, Label, Statement, addressed, apply, at_queue, begin, connect, connection, deliver, ending, exchanged, expired, expiry_step, if_running, is_double, is_terminated_at, is_terminated_component, next, opposite, peers, send, settle, settled, start_component, start_created, start_in, statement_step, step, step_in, touch, with_connection, with_data, with_new, with_state, with_verdict, without_first}
+use Rattle.ttcn_values.specs.Outcomes.{Fails, Outcome, Yields, dynamic_error, outcome_map}
+use Rattle.ttcn_values.specs.declared.path.Path.{Path}
+use Rattle.ttcn_values.specs.declared.value.ComponentId.{ComponentId}
+use Rattle.ttcn_values.specs.declared.value.Value.{Value}
+
+-- ---- connections of components that aren't terminated
+
+end-path : (d e : End) → same_end d e ≡ true → same_path d.component e.component ≡ true
+end-path d e is = first-of (same_path d.component e.component) (bytes_eq d.port e.port) is
+  where
+    first-of : (a b : Bool) → (a && b) ≡ true → a ≡ true
+    first-of true b e = refl
+    first-of false b e = e
+
+not-over : (c : Going) (d e : End) → is_terminated_at c d.component ≡ false → same_end d e ≡ true → is_terminated_at c e.component ≡ false
+not-over c d e alive is = ap (is_terminated_at c) (sym (path-is d.component e.component (end-path d e is))) ∙ alive
+
+one-alive : (a b : Bool) → a ≡ false → not (a && b) ≡ true
+one-alive a b e = ap (λ x. not (x && b)) e
+
+other-alive : (a b : Bool) → b ≡ false → not (a && b) ≡ true
+other-alive true b e = ap not e
+other-alive false b e = refl
+
+opposite-first : (c : Going) (d : End) (k : Connection) → is_terminated_at c d.component ≡ false → is_live c k ≡ false → (a : Bool) → same_end d k.one ≡ a → (b : Bool) → same_end d k.other ≡ b
+    → (if a then k.other ∷ [] else if b then k.one ∷ [] else []) ≡ []
+opposite-first c d k alive dead true one b other = absurd (let no : true ≡ false = sym (one-alive (is_terminated_at c k.one.component) (is_terminated_at c k.other.component) (not-over c d k.one alive one)) ∙ dead in cc)
+opposite-first c d k alive dead false one true other = absurd (let no : true ≡ false = sym (other-alive (is_terminated_at c k.one.component) (is_terminated_at c k.other.component) (not-over c d k.other alive other)) ∙ dead in cc)
+opposite-first c d k alive dead false one false other = refl
+
+peers-first : (c : Going) (d : End) (k : Connection) (ks : List Connection) → is_terminated_at c d.component ≡ false → (b : Bool) → is_live c k ≡ b
+    → flat_map (opposite d) (filter (is_live c) ks) ≡ flat_map (opposite d) ks
+    → flat_map (opposite d) (if b then k ∷ filter (is_live c) ks else filter (is_live c) ks) ≡ opposite d k ++ flat_map (opposite d) ks
+peers-first c d k ks alive true is rest = ap (λ us. opposite d k ++ us) rest
+peers-first c d k ks alive false is rest = rest ∙ sym (ap (λ us. us ++ flat_map (opposite d) ks) (opposite-first c d k alive is (same_end d k.one) refl (same_end d k.other) refl))
+
+peers-kept : (c : Going) (d : End) → is_terminated_at c d.component ≡ false → (ks : List Connection) → flat_map (opposite d) (filter (is_live c) ks) ≡ flat_map (opposite d) ks
+peers-kept c d alive [] = refl
+peers-kept c d alive (k ∷ ks) = peers-first c d k ks alive (is_live c k) refl (peers-kept c d alive ks)
+
+peers-live : (c : Going) (d : End) → is_terminated_at c d.component ≡ false → peers (live_going c) d ≡ peers c d
+peers-live c d alive = peers-kept c d alive c.connections
+
+over-live : (c : Going) (p : Path) → is_terminated_at (live_going c) p ≡ is_terminated_at c p
+over-live c p = live-over-in p c.components
+
+-- two configurations with one live part
+abbrev Alike : Going → Going → Type 0
+Alike c d = live_going c ≡ live_going d
+
+alike-over : (c d : Going) → Alike c d → (p : Path) → is_terminated_at c p ≡ is_terminated_at d p
+alike-over c d same p = sym (over-live c p) ∙ ap (λ x. is_terminated_at x p) same ∙ over-live d p
+
+alike-peers : (c d : Going) → Alike c d → (e : End) → is_terminated_at c e.component ≡ false → peers c e ≡ peers d e
+alike-peers c d same e alive = sym (peers-live c e alive) ∙ ap (λ x. peers x e) same ∙ peers-live d e (sym (alike-over c d same e.component) ∙ alive)
+
+-- ---- what is asked for
+
+abbrev live_outcome : Outcome Configuration → Outcome Configuration
+live_outcome = outcome_map live_part
+
+deliver-alike : (c d : Going) → Alike c d → (m : Message) (ends : List End) → live_outcome (ending (deliver c m ends)) ≡ live_outcome (ending (deliver d m ends))
+deliver-alike c d same m [] = refl
+deliver-alike c d same m (e ∷ []) = ap (λ x. Yields (Goes x)) (alike (λ x. touch x e.component (at_queue e.port (λ messages. messages ++ m ∷ []))) (keeps_touch (at_queue e.port (λ messages. messages ++ m ∷ [])) (λ x. refl) e.component) c d same)
+deliver-alike c d same m (e ∷ f ∷ ends) = refl
+
+send-alike : (c d : Going) → Alike c d → (sender : ComponentId) → is_terminated_at c sender.path ≡ false → (port : List ℕ) (to : Option Path) (v : Value)
+    → live_outcome (ending (send c sender port to v)) ≡ live_outcome (ending (send d sender port to v))
+send-alike c d same sender alive port to v =
+    deliver-alike c d same (record { value = v; sender = sender }) (filter (addressed to) (peers c (record { component = sender.path; port = port })))
+    ∙ ap (λ ends. live_outcome (ending (deliver d (record { value = v; sender = sender }) (filter (addressed to) ends)))) (alike-peers c d same (record { component = sender.path; port = port }) alive)
+
+-- the state of a component
+state-over : (s : State) → is_terminated_state s ≡ true → s ≡ Terminated
+state-over Terminated e = refl
+state-over Created e = absurd (let no = e in cc)
+state-over Running e = absurd (let no = e in cc)
+
+live-state : (x : Component) → (live_component x).state ≡ x.state
+live-state x = by-state (λ y. (live_component y).state ≡ y.state) x (λ e. ap (λ y. y.state) (live-over x e) ∙ sym (state-over x.state e)) (λ e. ap (λ y. y.state) (live-alive x e))
+
+states-live : (o : Option Component) → option_map (λ x. x.state) (option_map live_component o) ≡ option_map (λ x. x.state) o
+states-live None = refl
+states-live (Some x) = ap Some (live-state x)
+
+abbrev state_at : Going → Path → Option State
+state_at c p = option_map (λ x. x.state) (component_at c p)
+
+state-live : (c : Going) (p : Path) → state_at (live_going c) p ≡ state_at c p
+state-live c p = ap (option_map (λ x. x.state)) (component-live c p) ∙ states-live (component_at c p)
+
+alike-state : (c d : Going) → Alike c d → (p : Path) → state_at c p ≡ state_at d p
+alike-state c d same p = sym (state-live c p) ∙ ap (λ x. state_at x p) same ∙ state-live d p
+
+abbrev start_by : Going → Path → Frame → Option State → Outcome Going
+start_by c p frame None = start_created c p frame None
+start_by c p frame (Some s) = start_in c p frame s
+
+start-state : (c : Going) (p : Path) (frame : Frame) (o : Option Component) → start_created c p frame o ≡ start_by c p frame (option_map (λ x. x.state) o)
+start-state c p frame None = refl
+start-state c p frame (Some x) = refl
+
+started-alike : (c d : Going) → Alike c d → (p : Path) (frame : Frame) (o : Option State) → live_outcome (ending (start_by c p frame o)) ≡ live_outcome (ending (start_by d p frame o))
+started-alike c d same p frame None = refl
+started-alike c d same p frame (Some Created) = ap (λ x. Yields (Goes x)) (alike (λ x. touch x p (begin frame)) (keeps_touch (begin frame) (λ x. refl) p) c d same)
+started-alike c d same p frame (Some Running) = refl
+started-alike c d same p frame (Some Terminated) = refl
+
+start-alike : (c d : Going) → Alike c d → (p : Path) (frame : Frame) → live_outcome (ending (start_component c p frame)) ≡ live_outcome (ending (start_component d p frame))
+start-alike c d same p frame =
+    ap (λ o. live_outcome (ending o)) (start-state c p frame (component_at c p))
+    ∙ started-alike c d same p frame (state_at c p)
+    ∙ ap (λ o. live_outcome (ending (start_by d p frame o))) (alike-state c d same p)
+    ∙ sym (ap (λ o. live_outcome (ending o)) (start-state d p frame (component_at d p)))
+
+-- the worst verdict of all
+verdicts : List Component → Verdict
+verdicts [] = verdict.None
+verdicts (x ∷ xs) = worse x.verdict (verdicts xs)
+
+fold-verdicts : (v : Verdict) (xs : List Component) → fold (λ w x. worse w x.verdict) v xs ≡ worse v (verdicts xs)
+unfolding verdicts
+fold-verdicts v [] = sym (worse_none v)
+fold-verdicts v (x ∷ xs) = fold-verdicts (worse v x.verdict) xs ∙ worse_associates v x.verdict (verdicts xs)
+
+verdict-live : (x : Component) → worse (contribution x) (live_component x).verdict ≡ x.verdict
+verdict-live x = by-state (λ y. worse (contribution y) (live_component y).verdict ≡ y.verdict) x
+    (λ e. ap (λ y. worse (contribution x) y.verdict) (live-over x e) ∙ worse_none (contribution x) ∙ contribution-over x e)
+    (λ e. ap (λ v. worse v (live_component x).verdict) (contribution-alive x e) ∙ none_worse (live_component x).verdict ∙ ap (λ y. y.verdict) (live-alive x e))
+
+verdicts-live : (xs : List Component) → worse (total xs) (verdicts (map live_component xs)) ≡ verdicts xs
+unfolding verdicts total
+verdicts-live [] = refl
+verdicts-live (x ∷ xs) =
+    worse_pairs (contribution x) (total xs) (live_component x).verdict (verdicts (map live_component xs))
+    ∙ ap (λ v. worse v (worse (total xs) (verdicts (map live_component xs)))) (verdict-live x) ∙ ap (worse x.verdict) (verdicts-live xs)
+
+pub overall-live : (c : Going) → overall (live_going c) ≡ overall c
+overall-live c =
+    fold-verdicts (fold forget_verdict c.forgotten c.components) (map live_component c.components)
+    ∙ ap (λ v. worse v (verdicts (map live_component c.components))) (fold-total c.forgotten c.components)
+    ∙ worse_associates c.forgotten (total c.components) (verdicts (map live_component c.components))
+    ∙ ap (worse c.forgotten) (verdicts-live c.components)
+    ∙ sym (fold-verdicts c.forgotten c.components)
+
+stop-told : (b : Bool) (c d : Going) → Alike c d → (p : Path) → live_part (if b then Ended (overall c) else Goes (touch c p (with_state Terminated))) ≡ live_part (if b then Ended (overall d) else Goes (touch d p (with_state Terminated)))
+stop-told true c d same p = ap Ended (sym (overall-live c) ∙ ap overall same ∙ overall-live d)
+stop-told false c d same p = ap Goes (alike (λ x. touch x p (with_state Terminated)) (keeps_touch (with_state Terminated) (λ x. refl) p) c d same)
+
+-- ---- connecting
+
+double-alike : (c d : Going) → Alike c d → (e f : End) → is_terminated_at c e.component ≡ false → is_double c e f ≡ is_double d e f
+double-alike c d same e f alive = ap (list_any (λ peer. same_path peer.component f.component && not (bytes_eq peer.port f.port))) (alike-peers c d same e alive)
+
+refused-told : (c d : Going) → Alike c d → (e f : End) → (a b : Bool) → is_terminated_at c e.component ≡ a → is_terminated_at c f.component ≡ b
+    → (a || b || is_double c e f || is_double c f e) ≡ (a || b || is_double d e f || is_double d f e)
+refused-told c d same e f true b i j = refl
+refused-told c d same e f false true i j = refl
+refused-told c d same e f false false i j = ap (λ x. x || is_double c f e) (double-alike c d same e f i) ∙ ap (λ x. is_double d e f || x) (double-alike c d same f e j)
+
+connect-told : (b : Bool) (c d : Going) → Alike c d → (k : Connection) → live_outcome (ending (if b then dynamic_error else Yields (with_connection k c))) ≡ live_outcome (ending (if b then dynamic_error else Yields (with_connection k d)))
+connect-told true c d same k = refl
+connect-told false c d same k = ap (λ x. Yields (Goes x)) (alike (with_connection k) (keeps_connection k) c d same)
+
+connect-alike : (c d : Going) → Alike c d → (e f : End) → live_outcome (ending (connect c e f)) ≡ live_outcome (ending (connect d e f))
+connect-alike c d same e f =
+    connect-told (is_terminated_at c e.component || is_terminated_at c f.component || is_double c e f || is_double c f e) c d same (connection e f)
+    ∙ ap (λ b. live_outcome (ending (if b then dynamic_error else Yields (with_connection (connection e f) d))))
+    (refused-told c d same e f (is_terminated_at c e.component) (is_terminated_at c f.component) refl refl
+    ∙ ap (λ a. a || is_terminated_at c f.component || is_double d e f || is_double d f e) (alike-over c d same e.component)
+    ∙ ap (λ b. is_terminated_at d e.component || b || is_double d e f || is_double d f e) (alike-over c d same f.component))
+
+-- ---- what a component asks for
+
+settle-alike : (c : Going) (p : Path) (own : Data) → Alike (settle (live_going c) p own) (settle c p own)
+settle-alike c p own = keeps_touch (with_data own) (λ x. refl) p c
+
+-- settling terminates none
+settle-path : (p : Path) (own : Data) (x : Component) → path_of (pick (with_data own) p x) ≡ path_of x
+unfolding pick
+settle-path p own x = told (same_path (path_of x) p) (is_over x)
+  where
+    told : (a b : Bool) → path_of (if a then (if b then x else with_data own x) else x) ≡ path_of x
+    told true true = refl
+    told true false = refl
+    told false b = refl
+
+settle-state : (p : Path) (own : Data) (x : Component) → is_over (pick (with_data own) p x) ≡ is_over x
+unfolding pick
+settle-state p own x = told (same_path (path_of x) p) (is_over x)
+  where
+    told : (a b : Bool) → is_over (if a then (if b then x else with_data own x) else x) ≡ is_over x
+    told true true = refl
+    told true false = refl
+    told false b = refl
+
+settle-over : (c : Going) (p : Path) (own : Data) (q : Path) → is_terminated_at (settle c p own) q ≡ is_terminated_at c q
+unfolding pick
+settle-over c p own q =
+    found-over (pick (with_data own) p) (λ x. x) (settle-path p own) (settle-state p own) q c.components ∙ ap (λ xs. over_in xs q) (map-same c.components)
+
+apply-live : (test : Test) (c : Going) (itself : ComponentId) → is_terminated_at c itself.path ≡ false → (a : Act)
+    → option_map live_outcome (apply test (live_going c) itself a) ≡ option_map live_outcome (apply test c itself a)
+apply-live test c itself alive Waits = refl
+apply-live test c itself alive (Errs why) = refl
+apply-live test c itself alive (Continues own) = ap (λ x. Some (Yields (Goes x))) (settle-alike c itself.path own)
+apply-live test c itself alive (Worsens v own) =
+    ap (λ x. Some (Yields (Goes x))) (alike (λ x. touch x itself.path (with_verdict v)) (keeps_touch (with_verdict v) (λ x. refl) itself.path) (settle (live_going c) itself.path own) (settle c itself.path own) (settle-alike c itself.path own))
+apply-live test c itself alive (Removes port own) =
+    ap (λ x. Some (Yields (Goes x))) (alike (λ x. touch x itself.path (at_queue port without_first)) (keeps_touch (at_queue port without_first) (λ x. refl) itself.path) (settle (live_going c) itself.path own) (settle c itself.path own) (settle-alike c itself.path own))
+apply-live test c itself alive (Sends port to v own) =
+    ap Some (send-alike (settle (live_going c) itself.path own) (settle c itself.path own) (settle-alike c itself.path own) itself
+    (settle-over (live_going c) itself.path own itself.path ∙ over-live c itself.path ∙ alive) port to v)
+apply-live test c itself alive (Creates new own) =
+    ap (λ x. Some (Yields (Goes x))) (alike (with_new new) (keeps_new new) (settle (live_going c) itself.path own) (settle c itself.path own) (settle-alike c itself.path own))
+apply-live test c itself alive (Starts path frame own) = ap Some (start-alike (settle (live_going c) itself.path own) (settle c itself.path own) (settle-alike c itself.path own) path frame)
+apply-live test c itself alive (Stops path own) =
+    ap (λ x. Some (Yields x)) (stop-told (same_path path (mtc_of test).path) (settle (live_going c) itself.path own) (settle c itself.path own) (settle-alike c itself.path own) path)
+apply-live test c itself alive (Connects d e own) = ap Some (connect-alike (settle (live_going c) itself.path own) (settle c itself.path own) (settle-alike c itself.path own) d e)
+
+-- ---- snapshots
+
+snapshot-live : (c : Going) (x : Component) → snapshot_of (live_going c) x ≡ snapshot_of c x
+snapshot-live c x =
+    ap (λ states. record { itself = x.itself; fronts = (snapshot_of c x).fronts; timers = (snapshot_of c x).timers; member_timers = x.own.members.timers; states = states })
+    (map-twice (λ other. (path_of other, other.state)) live_component (λ other. (path_of other, other.state)) (λ other. ap (λ p. (p, (live_component other).state)) (live-path other) ∙ ap (λ s. (path_of other, s)) (live-state other)) c.components)
+
+-- ---- steps
+
+over-rests : (x : Component) → is_over x ≡ true → is_running_state x.state ≡ false
+over-rests x e = ap is_running_state (state-over x.state e)
+
+running-told : {A B : Type 0} (f : A → B) (b : Bool) (o p : Option A) → (b ≡ true → option_map f o ≡ option_map f p) → option_map f (if b then o else None) ≡ option_map f (if b then p else None)
+running-told f true o p same = same refl
+running-told f false o p same = refl
+
+found-alive : (c : Going) (p : Path) (x : Component) → component_at c p ≡ Some x → path_of x ≡ p → is_over x ≡ false → is_terminated_at c (path_of x) ≡ false
+found-alive c p x found same alive = ap (is_terminated_at c) same ∙ ap is_terminated_component found ∙ alive
+
+statement-live : (test : Test) (c : Going) (p : Path) (x : Component) → component_at c p ≡ Some x → path_of x ≡ p
+    → option_map live_outcome (statement_step test (live_going c) (live_component x)) ≡ option_map live_outcome (statement_step test c x)
+statement-live test c p x found same = by-state (λ y. component_at c p ≡ Some y → path_of y ≡ p → option_map live_outcome (statement_step test (live_going c) (live_component y)) ≡ option_map live_outcome (statement_step test c y)) x
+    (λ e i j. ap (λ y. option_map live_outcome (statement_step test (live_going c) y)) (live-over x e)
+    ∙ sym (ap (λ b. option_map live_outcome (if b then apply test c x.itself (act test (snapshot_of c x) x.own) else None)) (over-rests x e)))
+    (λ e i j. ap (λ y. option_map live_outcome (statement_step test (live_going c) y)) (live-alive x e)
+    ∙ ap (λ s. option_map live_outcome (if_running x (apply test (live_going c) x.itself (act test s x.own)))) (snapshot-live c x)
+    ∙ running-told live_outcome (is_running_state x.state) (apply test (live_going c) x.itself (act test (snapshot_of c x) x.own)) (apply test c x.itself (act test (snapshot_of c x) x.own))
+    (λ runs. apply-live test c x.itself (found-alive c p x i j e) (act test (snapshot_of c x) x.own)))
+    found same
+
+expired-told : (c : Going) (p : Path) (o : Option Data) → option_map live_outcome (option_map (λ own. Yields (Goes (touch (live_going c) p (exchanged own)))) o) ≡ option_map live_outcome (option_map (λ own. Yields (Goes (touch c p (exchanged own)))) o)
+expired-told c p None = refl
+expired-told c p (Some own) = ap (λ x. Some (Yields (Goes x))) (keeps_touch (exchanged own) (λ x. refl) p c)
+
+expiry-live : (c : Going) (number : ℕ) (name : List ℕ) (x : Component)
+    → option_map live_outcome (expiry_step (live_going c) number name (live_component x)) ≡ option_map live_outcome (expiry_step c number name x)
+expiry-live c number name x = by-state (λ y. option_map live_outcome (expiry_step (live_going c) number name (live_component y)) ≡ option_map live_outcome (expiry_step c number name y)) x
+    (λ e. ap (λ y. option_map live_outcome (expiry_step (live_going c) number name y)) (live-over x e)
+    ∙ sym (ap (λ b. option_map live_outcome (if b then option_map (λ own. Yields (Goes (touch c (path_of x) (exchanged own)))) (expired number name x.own) else None)) (over-rests x e)))
+    (λ e. ap (λ y. option_map live_outcome (expiry_step (live_going c) number name y)) (live-alive x e)
+    ∙ running-told live_outcome (is_running_state x.state) (option_map (λ own. Yields (Goes (touch (live_going c) (path_of x) (exchanged own)))) (expired number name x.own))
+    (option_map (λ own. Yields (Goes (touch c (path_of x) (exchanged own)))) (expired number name x.own)) (λ runs. expired-told c (path_of x) (expired number name x.own)))
+
+found-path-first : (b : Bool) (x y : Component) (p : Path) (o : Option Component) → same_path (path_of x) p ≡ b → (if b then Some x else o) ≡ Some y → (o ≡ Some y → path_of y ≡ p) → path_of y ≡ p
+found-path-first true x y p o is e rest = subst (λ z. path_of z ≡ p) (let found = e in let same : x ≡ y = cc in same) (path-is (path_of x) p is)
+found-path-first false x y p o is e rest = rest e
+
+found-path : (xs : List Component) (p : Path) (y : Component) → find (λ x. same_path (path_of x) p) xs ≡ Some y → path_of y ≡ p
+found-path [] p y e = absurd (let no = e in cc)
+found-path (x ∷ xs) p y e = found-path-first (same_path (path_of x) p) x y p (find (λ z. same_path (path_of z) p) xs) refl e (found-path xs p y)
+
+statement-told : (test : Test) (c : Going) (p : Path) (o : Option Component) → component_at c p ≡ o
+    → option_map live_outcome (option_and_then (statement_step test (live_going c)) (option_map live_component o)) ≡ option_map live_outcome (option_and_then (statement_step test c) o)
+statement-told test c p None found = refl
+statement-told test c p (Some x) found = statement-live test c p x found (found-path c.components p x found)
+
+expiry-told : (c : Going) (number : ℕ) (name : List ℕ) (o : Option Component)
+    → option_map live_outcome (option_and_then (expiry_step (live_going c) number name) (option_map live_component o)) ≡ option_map live_outcome (option_and_then (expiry_step c number name) o)
+expiry-told c number name None = refl
+expiry-told c number name (Some x) = expiry-live c number name x
+
+step-live : (test : Test) (c : Going) (label : Label) → option_map live_outcome (step_in test (live_going c) label) ≡ option_map live_outcome (step_in test c label)
+step-live test c (Statement p) =
+    ap (λ o. option_map live_outcome (option_and_then (statement_step test (live_going c)) o)) (component-live c p) ∙ statement-told test c p (component_at c p) refl
+step-live test c (Expiry p number name) =
+    ap (λ o. option_map live_outcome (option_and_then (expiry_step (live_going c) number name) o)) (component-live c p) ∙ expiry-told c number name (component_at c p)
+
+pub steps_live : (test : Test) (c : Configuration) (label : Label) → option_map live_outcome (step test (live_part c) label) ≡ option_map live_outcome (step test c label)
+steps_live test (Ended v) label = refl
+steps_live test (Goes c) label = step-live test c label
+
+-- ---- labels
+
+some-map : {A B : Type 0} (f : A → B) (o : Option A) → is_some (option_map f o) ≡ is_some o
+some-map f None = refl
+some-map f (Some a) = refl
+
+waits : Act → Bool
+waits Waits = true
+waits _ = false
+
+apply-some : (test : Test) (c d : Going) (itself : ComponentId) (a : Act) → is_some (apply test c itself a) ≡ is_some (apply test d itself a)
+apply-some test c d itself Waits = refl
+apply-some test c d itself (Errs why) = refl
+apply-some test c d itself (Continues own) = refl
+apply-some test c d itself (Worsens v own) = refl
+apply-some test c d itself (Removes port own) = refl
+apply-some test c d itself (Sends port to v own) = refl
+apply-some test c d itself (Creates new own) = refl
+apply-some test c d itself (Starts path frame own) = refl
+apply-some test c d itself (Stops path own) = refl
+apply-some test c d itself (Connects e f own) = refl
+
+running-some : {A : Type 0} (b : Bool) (o p : Option A) → is_some o ≡ is_some p → is_some (if b then o else None) ≡ is_some (if b then p else None)
+running-some true o p e = e
+running-some false o p e = refl
+
+labels-of-live : (test : Test) (c : Going) (x : Component) → labels_of_component test (live_going c) (live_component x) ≡ labels_of_component test c x
+labels-of-live test c x = by-state (λ y. labels_of_component test (live_going c) (live_component y) ≡ labels_of_component test c y) x
+    (λ e. ap (labels_of_component test (live_going c)) (live-over x e) ∙ sym (ap (λ b. if b then statement_labels test c x ++ expiries x else []) (over-rests x e)))
+    (λ e. ap (labels_of_component test (live_going c)) (live-alive x e)
+    ∙ ap (λ b. if is_running_state x.state then ((if b then Statement (path_of x) ∷ [] else []) ++ expiries x) else [])
+    (ap (λ s. is_some (if_running x (apply test (live_going c) x.itself (act test s x.own)))) (snapshot-live c x)
+    ∙ running-some (is_running_state x.state) (apply test (live_going c) x.itself (act test (snapshot_of c x) x.own)) (apply test c x.itself (act test (snapshot_of c x) x.own))
+    (apply-some test (live_going c) c x.itself (act test (snapshot_of c x) x.own))))
+
+flat-twice : {A B C : Type 0} (f : B → List C) (g : A → B) (h : A → List C) → ((a : A) → f (g a) ≡ h a) → (xs : List A) → flat_map f (map g xs) ≡ flat_map h xs
+flat-twice f g h same [] = refl
+flat-twice f g h same (x ∷ xs) = ap (λ us. us ++ flat_map f (map g xs)) (same x) ∙ ap (λ us. h x ++ us) (flat-twice f g h same xs)
+
+pub labels_live : (test : Test) (c : Configuration) → labels test (live_part c) ≡ labels test c
+labels_live test (Ended v) = refl
+labels_live test (Goes c) = flat-twice (labels_of_component test (live_going c)) live_component (labels_of_component test c) (labels-of-live test c) c.components
+
+-- ---- where labels lead, and what is seen
+
+settled-live : (o : Outcome Configuration) → live_part (settled o) ≡ settled (live_outcome o)
+settled-live (Yields c) = refl
+settled-live (Fails why) = refl
+
+options-settled : (o : Option (Outcome Configuration)) → option_map live_part (option_map settled o) ≡ option_map settled (option_map live_outcome o)
+options-settled None = refl
+options-settled (Some o) = ap Some (settled-live o)
+
+pub next_live : (test : Test) (c : Configuration) (label : Label) → option_map live_part (next test (live_part c) label) ≡ option_map live_part (next test c label)
+next_live test c label = options-settled (step test (live_part c) label) ∙ ap (option_map settled) (steps_live test c label) ∙ sym (options-settled (step test c label))
+
+pub mark_live : (c : Configuration) → mark_of (live_part c) ≡ mark_of c
+mark_live (Ended v) = refl
+mark_live (Goes c) = refl
+
+branch-of-live : (test : Test) (c : Going) (x : Component) → branch_of_component test (live_going c) (live_component x) ≡ branch_of_component test c x
+branch-of-live test c x = by-state (λ y. branch_of_component test (live_going c) (live_component y) ≡ branch_of_component test c y) x
+    (λ e. ap (branch_of_component test (live_going c)) (live-over x e)
+    ∙ sym (ap (λ b. if b then unless_fault (act test (snapshot_of c x) x.own) (place_in_frames test (snapshot_of c x) x.own x.own.calls) else None) (over-rests x e)))
+    (λ e. ap (branch_of_component test (live_going c)) (live-alive x e)
+    ∙ ap (λ s. if_running x (unless_fault (act test s x.own) (place_in_frames test s x.own x.own.calls))) (snapshot-live c x))
+
+branch-told : (test : Test) (c : Going) (o : Option Component) → option_and_then (branch_of_component test (live_going c)) (option_map live_component o) ≡ option_and_then (branch_of_component test c) o
+branch-told test c None = refl
+branch-told test c (Some x) = branch-of-live test c x
+
+branch-in : (test : Test) (c : Going) (label : Label) → branch_in test (live_going c) label ≡ branch_in test c label
+branch-in test c (Statement p) = ap (option_and_then (branch_of_component test (live_going c))) (component-live c p) ∙ branch-told test c (component_at c p)
+branch-in test c (Expiry p number name) = refl
+
+pub branch_live : (test : Test) (c : Configuration) (label : Label) → branch_of test (live_part c) label ≡ branch_of test c label
+branch_live test (Ended v) label = refl
+branch_live test (Goes c) label = branch-in test c label
+
+place-live : (x : Component) → with_place (live_component x) (place_of (live_component x)) ≡ with_place x (place_of x)
+place-live x = by-state (λ y. with_place (live_component y) (place_of (live_component y)) ≡ with_place y (place_of y)) x
+    (λ e. ap (λ y. with_place y (place_of y)) (live-over x e) ∙ sym (ap (λ b. with_place x (if b then place_of_frames x.own.calls else None)) (over-rests x e)))
+    (λ e. ap (λ y. with_place y (place_of y)) (live-alive x e))
+
+pub blocked_live : (test : Test) (c : Configuration) → blocked test (live_part c) ≡ blocked test c
+blocked_live test (Ended v) = refl
+blocked_live test (Goes c) =
+    ap (λ ls. if_none ls (standings (live_going c))) (labels_live test (Goes c))
+    ∙ ap (if_none (labels test (Goes c))) (flat-twice (λ x. with_place x (place_of x)) live_component (λ x. with_place x (place_of x)) place-live c.components)
+
+pub live_twice : (c : Configuration) → live_part (live_part c) ≡ live_part c
+live_twice (Ended v) = refl
+live_twice (Goes c) = ap Goes (live-twice c)

@@ -1,7 +1,0 @@
-use Rattle.std.proofs.Common.{length, sym, ap, ◌∙◌}
-use Rattle.sharded_set.proofs.Values.{length-values_in}
-use Rattle.sharded_set.proofs.set.ShardedSet.len.Goals as goal
-
-pub returns-clause-len : goal.returns-clause-len
-returns-clause-len g c = let inside = c.self.inside in
-    c.len.ensures ∙ inside.places.ok.0 ∙ sym (length-values_in inside.shards.items inside.places.items c.self.invariant.held) ∙ ap (λ s. length s.keys) c.self.view_is

@@ -1,6 +1,0 @@
-use Rattle.std.proofs.Common.{◌≡◌, ◌++◌, map, Ok}
-use Rattle.std.specs.Vec.Iter.{into_iter_items}
-use Rattle.sharded_set.proofs.set.shards_of.Given as goal
-
-abbrev pub invariant-loop-answer : goal.invariant-loop-answer
-invariant-loop-answer g l = l.fn.answers.items ≡ map Ok l.shards.items ++ into_iter_items l.answer-iterator

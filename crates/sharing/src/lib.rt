@@ -1,6 +1,0 @@
-//! Values with several owners.
-#![tactic(auto)]
-
-mod shared;
-
-pub use shared::Shared;

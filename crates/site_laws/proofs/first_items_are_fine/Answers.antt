@@ -1,8 +1,0 @@
-use Rattle.site_laws.proofs.Firsts.{part_fine, whole_fine}
-use Rattle.site_laws.proofs.first_items_are_fine.Goals as goal
-
-pub returns-clause-item : goal.returns-clause-item
-returns-clause-item c = part_fine
-
-pub returns-clause-parts : goal.returns-clause-parts
-returns-clause-parts c = whole_fine

@@ -1,8 +1,0 @@
-use Rattle.site_laws.proofs.Firsts.{queue_found, queues_differ}
-use Rattle.site_laws.proofs.ports_have_names_of_their_own.Goals as goal
-
-pub returns-clause-names : goal.returns-clause-names
-returns-clause-names c = queues_differ
-
-pub returns-clause-found : goal.returns-clause-found
-returns-clause-found c = queue_found

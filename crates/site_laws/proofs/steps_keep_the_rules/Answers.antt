@@ -1,5 +1,0 @@
-use Rattle.site_laws.proofs.Runs.{expiry_stands}
-use Rattle.site_laws.proofs.steps_keep_the_rules.Goals as goal
-
-pub returns-clause-expiry : goal.returns-clause-expiry
-returns-clause-expiry c = expiry_stands

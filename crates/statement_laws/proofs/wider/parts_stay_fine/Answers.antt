@@ -1,8 +1,0 @@
-use Rattle.statement_laws.proofs.Within.{log_stays, setverdict_stays}
-use Rattle.statement_laws.proofs.wider.parts_stay_fine.Goals as goal
-
-pub returns-clause-verdicts : goal.returns-clause-verdicts
-returns-clause-verdicts c = setverdict_stays
-
-pub returns-clause-logs : goal.returns-clause-logs
-returns-clause-logs c = log_stays

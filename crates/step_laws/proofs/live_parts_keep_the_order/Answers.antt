@@ -1,5 +1,0 @@
-use Rattle.step_laws.proofs.Runs.{canonical_ends_ordered}
-use Rattle.step_laws.proofs.live_parts_keep_the_order.Goals as goal
-
-pub returns-clause-ends : goal.returns-clause-ends
-returns-clause-ends c = canonical_ends_ordered

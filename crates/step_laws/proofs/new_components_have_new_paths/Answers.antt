@@ -1,8 +1,0 @@
-use Rattle.step_laws.proofs.Families.{new_inserted, new_path}
-use Rattle.step_laws.proofs.new_components_have_new_paths.Goals as goal
-
-pub returns-clause-path : goal.returns-clause-path
-returns-clause-path c = new_path
-
-pub returns-clause-inserted : goal.returns-clause-inserted
-returns-clause-inserted c = new_inserted

@@ -1,6 +1,0 @@
-use Rattle.step_rules.proofs.CanonicalRuns.{sums_alike}
-use Rattle.step_rules.proofs.canonical_sums_stand_for_all.Goals as goal
-
--- src/lib.rt:95:1
-pub returns : goal.returns
-returns g c = λ test j r sees n. sums_alike test j r sees n

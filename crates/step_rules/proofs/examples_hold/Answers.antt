@@ -1,8 +1,0 @@
-use Rattle.step_rules.proofs.Examples.{awaits_done, takes_done}
-use Rattle.step_rules.proofs.examples_hold.Goals as goal
-
-pub returns-clause-done : goal.returns-clause-done
-returns-clause-done c = takes_done
-
-pub returns-clause-done_awaited : goal.returns-clause-done_awaited
-returns-clause-done_awaited c = awaits_done

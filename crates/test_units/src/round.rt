@@ -1,0 +1,147 @@
+//! What is packed is unpacked again.
+use crate::parts::{large, small};
+use std::alloc::{AllocError, Global};
+use std::hash::{FoldHasher, Hash, Hasher};
+use std::test::Fail;
+use ttcn_config::{Config, pack, unpack};
+use ttcn_syntax::{Seq, Verdict};
+use ttcn_values::Value;
+
+/// Whether a configuration that is packed is unpacked again.
+fn comes_back(alloc: Global, config: &Config) -> Result<bool, AllocError> {
+    let packed = pack(alloc, config)?;
+    Ok(unpack(alloc, &packed)? == *config)
+}
+
+/// One component, its parts in their order, each part as it is spelled.
+const SMALL: &[u8] = &[
+    1, // goes on
+    1, 0, 2, // one component: no numbers in its path, type 2
+    1, 3, 0, 9, // a variable in slot 3: the integer -5
+    1, 4, 1, // a timer in slot 4, which runs
+    1, 192, 200, 0, 0, // a frame at position 200, without names
+    0, 0, 1, // no defaults, none activated, a child
+    1, 1, // running, pass
+    1, 7, 0, // a queue of port 7, empty
+    0, 0, // no connections, and nothing forgotten
+];
+
+#[test]
+fn bytes(rt: HostRuntime) -> Result<(), Fail> {
+    let alloc = rt.alloc();
+    let config = small(alloc, Value::Integer(-5), 200)?;
+    let packed = pack(alloc, &config)?;
+    assert_eq!(rt; packed.as_bytes(), SMALL);
+    assert_eq!(rt; packed.verdict(), None);
+    assert!(rt; unpack(alloc, &packed)? == config);
+    Ok(())
+}
+
+/// The path of these numbers.
+fn path(alloc: Global, numbers: &[u32]) -> Result<Seq<u32>, AllocError> {
+    let numbers = Vec::from_slice(alloc, numbers)?;
+    Ok(Seq::from_vec(numbers))
+}
+
+#[test]
+fn positions(rt: HostRuntime) -> Result<(), Fail> {
+    let alloc = rt.alloc();
+    let packed = pack(alloc, &large(alloc, Verdict::None)?)?;
+    assert_eq!(rt; packed.position(alloc, &path(alloc, &[])?)?, Some(5));
+    assert_eq!(rt; packed.position(alloc, &path(alloc, &[0])?)?, Some(0));
+    assert_eq!(rt; packed.position(alloc, &path(alloc, &[1])?)?, None);
+    let ended = pack(alloc, &Config::Ended(Verdict::Pass))?;
+    assert_eq!(rt; ended.position(alloc, &path(alloc, &[])?)?, None);
+    Ok(())
+}
+
+#[test]
+fn all_parts(rt: HostRuntime) -> Result<(), Fail> {
+    let alloc = rt.alloc();
+    assert!(rt; comes_back(alloc, &large(alloc, Verdict::None)?)?);
+    assert!(rt; comes_back(alloc, &large(alloc, Verdict::Fail)?)?);
+    Ok(())
+}
+
+/// Numbers on both sides of each limit of a form.
+const NUMBERS: &[usize] = &[
+    0,
+    191,
+    192,
+    16_127,
+    16_128,
+    4_294_967_295,
+    4_294_967_296,
+    usize::MAX,
+];
+
+const INTEGERS: &[i64] = &[
+    0,
+    -1,
+    1,
+    95,
+    -96,
+    96,
+    -97,
+    8063,
+    -8064,
+    8064,
+    i64::MAX,
+    i64::MIN,
+];
+
+#[test]
+fn numbers(rt: HostRuntime) -> Result<(), Fail> {
+    let alloc = rt.alloc();
+    for number in NUMBERS {
+        let config = small(alloc, Value::Null, *number)?;
+        assert!(rt; comes_back(alloc, &config)?, "{number}");
+    }
+    for integer in INTEGERS {
+        let config = small(alloc, Value::Integer(*integer), 0)?;
+        assert!(rt; comes_back(alloc, &config)?, "{integer}");
+    }
+    Ok(())
+}
+
+/// Verdicts, and the bytes of a test case that ended with them.
+const ENDED: &[(Verdict, &[u8])] = &[
+    (Verdict::None, &[0, 0]),
+    (Verdict::Pass, &[0, 1]),
+    (Verdict::Inconc, &[0, 2]),
+    (Verdict::Fail, &[0, 3]),
+    (Verdict::Error, &[0, 4]),
+];
+
+#[test]
+fn verdicts(rt: HostRuntime) -> Result<(), Fail> {
+    let alloc = rt.alloc();
+    for (verdict, bytes) in ENDED {
+        let config = Config::Ended(*verdict);
+        let packed = pack(alloc, &config)?;
+        assert_eq!(rt; packed.as_bytes(), *bytes);
+        assert_eq!(rt; packed.verdict(), Some(*verdict));
+        assert!(rt; unpack(alloc, &packed)? == config);
+    }
+    Ok(())
+}
+
+/// What a hasher gives for a configuration that is packed.
+fn hash_of<T: Hash>(packed: &T) -> u64 {
+    let mut hasher = FoldHasher::default();
+    packed.hash(&mut hasher);
+    hasher.finish()
+}
+
+#[test]
+fn equal_ones(rt: HostRuntime) -> Result<(), Fail> {
+    let alloc = rt.alloc();
+    let one = pack(alloc, &large(alloc, Verdict::None)?)?;
+    let again = pack(alloc, &large(alloc, Verdict::None)?)?;
+    let other = pack(alloc, &large(alloc, Verdict::Fail)?)?;
+    assert!(rt; one == again);
+    assert!(rt; one != other);
+    assert!(rt; one.as_bytes() != other.as_bytes());
+    assert_eq!(rt; hash_of(&one), hash_of(&again));
+    Ok(())
+}

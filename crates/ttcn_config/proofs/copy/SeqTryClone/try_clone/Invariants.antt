@@ -1,6 +1,0 @@
-use Rattle.std.proofs.Common.{◌≡◌, take}
-use Rattle.ttcn_config.proofs.copy.SeqTryClone.try_clone.Given as goal
-
--- the elements so far are copied
-abbrev pub invariant-loop-element : goal.invariant-loop-element
-invariant-loop-element g l = l.copies.items ≡ take l.element-index l.element-items

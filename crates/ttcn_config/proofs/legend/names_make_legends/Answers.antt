@@ -1,5 +1,0 @@
-use Rattle.ttcn_config.proofs.Naming.{are_names}
-use Rattle.ttcn_config.proofs.legend.names_make_legends.Goals as goal
-
-pub returns-clause-names : goal.returns-clause-names
-returns-clause-names c = are_names

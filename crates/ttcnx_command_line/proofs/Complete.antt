@@ -1,0 +1,249 @@
+-- Words that have no fault give one of the five subcommands, with all that it takes.
+use Rattle.std.proofs.Common.{◌≡◌, ◌∙◌, ◌==◌, ◌-◌, ◌&&◌, ◌||◌, ℕ, Bool, cond, inl, inr, true, false, not, refl, sym, subst, arith, List, [], ◌∷◌, Option, Some, None, is_some, option_map, codes, true≢false}
+use Rattle.std.specs.List.{find, list_any}
+use Rattle.std.specs.Prelude.{slice_get}
+use Rattle.std.specs.Option.{option_map_or}
+use Rattle.std.specs.Str.{bytes_eq}
+use Rattle.std.proofs.lemmas.Slice.Eq.{bytes_eq-Decides}
+use Rattle.clap.specs.Facts.{explicit_source}
+use Rattle.clap.specs.Values.{read_as, reading_of}
+use Rattle.clap.specs.ValueTests.{accepts}
+use Rattle.clap.specs.Walk.{Held, Names, finished, settled, walk, Row, Rule, Text, answers_to, nothing_held, one_of, rows_after, stop_after, walk_from}
+use Rattle.clap.specs.Simple.{App, Shape, built, entered, label_of, names_of, new_rule, rows_at, subcommand_of}
+use Rattle.clap.specs.Faults.{defaults_fault, entered_fault, fault_of, level_fault, settle_fault, walk_fault}
+use Rattle.clap.specs.Kinds.{Kinds, check_kinds, or_else}
+use Rattle.clap.specs.Takes.{is_given}
+use Rattle.clap.specs.declared.builder.value_parser.ValueParser.{ValueParser}
+use Rattle.clap.specs.declared.builder.value_parser.ValueParser.TheVariants as vp
+use Rattle.clap.proofs.ValueTestLemmas.{accepts-Accepts}
+use Rattle.ttcnx_command_line.specs.App.{ttcnx_app}
+use Rattle.ttcnx_command_line.specs.internal.Given.{GivesCommand, GivesFlag, GivesNumber, GivesRun, GivesRunFile, GivesText}
+use Rattle.ttcnx_command_line.proofs.Walks.{IsNoHelp, none_of, walk_enters}
+use Rattle.ttcnx_command_line.proofs.Fills.{AllOf, Fills, FirstPasses, HasValue, IsWanted, level_values, no_check}
+
+-- ---- from a first value to what is read
+
+text_from : (rows : List Row) (a : Rule) → HasValue rows a → GivesText rows a.id
+text_from rows a v = rw v.is (go v.row.values v.first)
+  where
+    go : (values : List Text) → FirstPasses a values → (text : Text) × (slice_get values 0 ≡ Some text)
+    go [] h = absurd h
+    go (x ∷ xs) h = (x, refl)
+
+passed : (rows : List Row) (a : Rule) (q : ValueParser) → a.parser ≡ Some q → HasValue rows a
+    → (text : Text) × (one_of a.id rows ≡ Some (read_as (reading_of q) text)) × (accepts a.ignore_case q text ≡ true)
+passed rows a q is v = rw (v.is, v.reading, is) (go v.row.values v.first)
+  where
+    go : (values : List Text) → FirstPasses a values
+        → (text : Text) × (option_map (read_as (reading_of q)) (slice_get values 0) ≡ Some (read_as (reading_of q) text)) × (accepts a.ignore_case q text ≡ true)
+    go [] h = absurd h
+    go (x ∷ xs) h = (x, refl, rw is at h)
+
+number_from : (rows : List Row) (a : Rule) (low high : ℕ) → a.parser ≡ Some (vp.Unsigned low high) → HasValue rows a → GivesNumber rows a.id low high
+number_from rows a low high is v =
+    let p = passed rows a (vp.Unsigned low high) is v in
+    (p.0, p.1, accepts-Accepts a.ignore_case (vp.Unsigned low high) p.0 p.2)
+
+flag_from : (rows : List Row) (a : Rule) → a.parser ≡ Some vp.Bool → HasValue rows a → GivesFlag rows a.id
+flag_from rows a is v = passed rows a vp.Bool is v
+
+-- ---- the command as clap builds it
+
+abbrev app : App
+app = built ttcnx_app
+
+abbrev names : Names
+names = names_of app
+
+abbrev at_nth : List Shape → ℕ → Shape
+at_nth [] n = app.top
+at_nth (s ∷ rest) n = cond (n == 0) s (at_nth rest (n - 1))
+
+abbrev nth_rule : List Rule → ℕ → Rule
+nth_rule [] n = new_rule []
+nth_rule (a ∷ rest) n = cond (n == 0) a (nth_rule rest (n - 1))
+
+abbrev check_built : Shape
+check_built = at_nth app.subs 0
+
+abbrev run_built : Shape
+run_built = at_nth app.subs 1
+
+abbrev replay_built : Shape
+replay_built = at_nth app.subs 2
+
+abbrev coarsen_built : Shape
+coarsen_built = at_nth app.subs 3
+
+abbrev double_built : Shape
+double_built = at_nth app.subs 4
+
+abbrev rule_at : Shape → ℕ → Rule
+rule_at s n = nth_rule s.rules n
+
+check_fills : AllOf (Fills check_built.rules) check_built.rules
+check_fills = (set, (request, tt))
+  where
+    set : Fills check_built.rules (rule_at check_built 0)
+    set = record { own = refl; action = refl; full = inr (inl (omega arith)); defaults = tt }
+
+    request : Fills check_built.rules (rule_at check_built 1)
+    request = record { own = refl; action = refl; full = inl refl; defaults = tt }
+
+run_fills : AllOf (Fills run_built.rules) run_built.rules
+run_fills = (
+  record { own = refl; action = refl; full = inr (inl (omega arith)); defaults = tt },
+  (
+    record { own = refl; action = refl; full = inr (inl (omega arith)); defaults = tt },
+    (
+      record { own = refl; action = refl; full = inr (inl (omega arith)); defaults = tt },
+      (
+        record { own = refl; action = refl; full = inr (inl (omega arith)); defaults = refl },
+        (
+          record { own = refl; action = refl; full = inr (inl (omega arith)); defaults = refl },
+          (
+            record { own = refl; action = refl; full = inr (inl (omega arith)); defaults = refl },
+            (
+              record { own = refl; action = refl; full = inr (inr tt); defaults = refl },
+              (
+                record { own = refl; action = refl; full = inl refl; defaults = tt },
+                tt,
+              ),
+            ),
+          ),
+        ),
+      ),
+    ),
+  ),
+)
+
+-- the commands about a run have these arguments
+abbrev run_file_rules : List Rule
+run_file_rules = replay_built.rules
+
+run_file_fills : AllOf (Fills run_file_rules) run_file_rules
+run_file_fills = (
+  record { own = refl; action = refl; full = inr (inl (omega arith)); defaults = tt },
+  (
+    record { own = refl; action = refl; full = inr (inl (omega arith)); defaults = tt },
+    (
+      record { own = refl; action = refl; full = inr (inl (omega arith)); defaults = tt },
+      (
+        record { own = refl; action = refl; full = inl refl; defaults = tt },
+        tt,
+      ),
+    ),
+  ),
+)
+
+-- ---- what one level gives
+
+check_given : (words : List Text) → level_fault check_built [] nothing_held words false [] ≡ [] → GivesText (rows_after check_built.rules [] words) (codes "FILE")
+check_given words e =
+    let v = level_values check_built words check_fills e in
+    text_from _ _ (v.0 (inl refl))
+
+run_given : (words : List Text) → level_fault run_built [] nothing_held words false [] ≡ [] → GivesRun (rows_after run_built.rules [] words)
+run_given words e =
+    let v = level_values run_built words run_fills e in
+    record {
+      file = text_from _ _ (v.0 (inl refl));
+      testcase = text_from _ _ (v.1.0 (inl refl));
+      plan = record {
+        steps = number_from _ _ 0 100000 refl (v.1.1.0 (inl refl));
+        limit = number_from _ _ 1 10000000 refl (v.1.1.1.0 (inr tt));
+        workers = number_from _ _ 1 64 refl (v.1.1.1.1.0 (inr tt));
+        piece = number_from _ _ 1 65536 refl (v.1.1.1.1.1.0 (inr tt));
+      };
+      json = flag_from _ _ refl (v.1.1.1.1.1.1.0 (inr tt));
+    }
+
+run_file_given : (s : Shape) → s.rules ≡ run_file_rules → (words : List Text) → level_fault s [] nothing_held words false [] ≡ [] → GivesRunFile (rows_after s.rules [] words)
+run_file_given s is words e =
+    let rows = rows_after s.rules [] words in
+    let fills = subst (λ rules. AllOf (Fills rules) rules) (sym is) run_file_fills in
+    let v = subst (AllOf (λ a. IsWanted a → HasValue rows a)) is (level_values s words fills e) in
+    record {
+      file = text_from rows _ (v.0 (inl refl));
+      testcase = text_from rows _ (v.1.0 (inl refl));
+      run = text_from rows _ (v.1.1.0 (inl refl));
+    }
+
+-- ---- the subcommand at which the walk stops
+
+chosen : (T : Option Shape → Type 0) (name : Text) (subs : List Shape) → AllOf (λ s. answers_to name (label_of s) ≡ true → T (Some s)) subs → T None
+    → T (find (λ s. answers_to name (label_of s)) subs)
+chosen T name [] all none = none
+chosen T name (s ∷ rest) all none = go (answers_to name (label_of s)) all.0 (chosen T name rest all.1 none)
+  where
+    go : (hit : Bool) → (hit ≡ true → T (Some s)) → T (find (λ x. answers_to name (label_of x)) rest) → T (cond hit (Some s) (find (λ x. answers_to name (label_of x)) rest))
+    go true here later = here refl
+    go false here later = later
+
+-- the level below has no fault, and is entered
+abbrev Gives : List Text → Option Shape → Type 0
+Gives words o = option_map_or (λ s. level_fault s [] nothing_held words false []) o [] ≡ []
+    → is_some (option_map (λ s. rows_at s words) o) ≡ true → GivesCommand (option_map (λ s. rows_at s words) o)
+
+not_help : (name : Text) → bytes_eq name (codes "help") ≡ false → (bytes_eq (codes "help") name || false) ≡ true → ⊥
+not_help name other hit = go (bytes_eq (codes "help") name) refl hit
+  where
+    go : (b : Bool) → bytes_eq (codes "help") name ≡ b → (b || false) ≡ true → ⊥
+    go true is e =
+        let same : codes "help" ≡ name = (bytes_eq-Decides (codes "help") name).0 is in
+        let back = (bytes_eq-Decides name (codes "help")).1 (sym same) in
+        true≢false (sym back ∙ other)
+    go false is e = true≢false (sym e)
+
+entered_given : (p : Text × List Text) → bytes_eq p.0 (codes "help") ≡ false → Gives p.1 (find (λ s. answers_to p.0 (label_of s)) app.subs)
+entered_given p other = chosen (Gives p.1) p.0 app.subs (
+  λ hit e some. inl (refl, check_given p.1 e),
+  (
+    λ hit e some. inr (inl (refl, run_given p.1 e)),
+    (
+      λ hit e some. inr (inr (inl refl, run_file_given replay_built refl p.1 e)),
+      (
+        λ hit e some. inr (inr (inr (inl refl), run_file_given coarsen_built refl p.1 e)),
+        (
+          λ hit e some. inr (inr (inr (inr refl), run_file_given double_built refl p.1 e)),
+          (
+            λ hit e some. absurd (not_help p.0 other hit),
+            tt,
+          ),
+        ),
+      ),
+    ),
+  ),
+) (λ e some. absurd (true≢false (sym some)))
+
+is_entered : (has : Bool) → (not has && true) ≡ false → has ≡ true
+is_entered true e = refl
+is_entered false e = absurd (true≢false e)
+
+-- the walk, the level below and the last checks have no fault
+steps_parts : (a b c d : Kinds) (x y z : Bool) → or_else a (or_else b (or_else c (or_else d (check_kinds x y z)))) ≡ [] → (a ≡ []) × (b ≡ []) × (y ≡ false)
+steps_parts a b c d x y z e =
+    let first = none_of a (or_else b (or_else c (or_else d (check_kinds x y z)))) e in
+    let second = none_of b (or_else c (or_else d (check_kinds x y z))) first.1 in
+    let third = none_of c (or_else d (check_kinds x y z)) second.1 in
+    let fourth = none_of d (check_kinds x y z) third.1 in
+    (first.0, second.0, (no_check x y z fourth.1).0)
+
+level_parts : (s : Shape) (above : Names) (h : Held) (words : List Text) (has : Bool) (below : Kinds) → level_fault s above h words has below ≡ []
+    → (walk_fault s above (walk_from h) words ≡ []) × (below ≡ []) × ((not has && s.subcommand_required) ≡ false)
+level_parts s above h words has below e =
+    let end = (walk s.rules above h words).held in
+    let rows = finished s.rules end in
+    steps_parts (walk_fault s above (walk_from h) words) below (settle_fault s.rules s.args_override_self end) (defaults_fault (settled s.rules end).rows s.rules)
+    (not has && (s.arg_required_else_help && not (list_any (λ r. explicit_source r.source) rows))) (not has && s.subcommand_required)
+    (not (s.subcommand_negates_reqs && has) && list_any (λ a. a.required && not (is_given a.id rows)) s.rules) e
+
+pub all_given : (words : List Text) → fault_of ttcnx_app words ≡ [] → GivesCommand (subcommand_of ttcnx_app words)
+all_given words e =
+    let stop = stop_after app.top.rules names words in
+    let parts = level_parts app.top names nothing_held words (is_some (entered app stop)) (entered_fault app stop) e in
+    go stop (walk_enters app.top refl names (walk_from nothing_held) words tt parts.0) parts.1 (is_entered (is_some (entered app stop)) parts.2)
+  where
+    go : (stop : Option (Text × List Text)) → IsNoHelp stop → entered_fault app stop ≡ [] → is_some (entered app stop) ≡ true → GivesCommand (entered app stop)
+    go None other free some = absurd (true≢false (sym some))
+    go (Some p) other free some = entered_given p other free some

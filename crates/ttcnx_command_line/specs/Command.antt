@@ -1,0 +1,83 @@
+-- What a command line asks for, and why it is refused.
+use Rattle.std.specs.Prelude.{◌≡◌, ◌≢◌, ℕ, Bool, List, Some, codes, option_map, string_bytes}
+use Rattle.std.specs.Str.Parse.{digits_value, without_leading_plus}
+use Rattle.clap.specs.Walk.{Row, Text, first_of, one_of}
+use Rattle.clap.specs.Values.{bool_text}
+use Rattle.clap.specs.Kinds.{IsAmong, Kinds}
+use Rattle.clap.specs.declared.error.kind.ErrorKind.{ErrorKind}
+use Rattle.clap.specs.declared.error.kind.ErrorKind.TheVariants.{DisplayHelp}
+use Rattle.search_layer.specs.Limits.{IsWithinLimits}
+use Rattle.search_layer.specs.declared.plan.Plan.{Plan}
+use Rattle.ttcnx_command_line.specs.declared.command.Line.{Line}
+use Rattle.ttcnx_command_line.specs.declared.command.Line.TheVariants.{Check, Run, Replay, Coarsen, Double}
+use Rattle.ttcnx_command_line.specs.declared.command.LineError.{LineError}
+use Rattle.ttcnx_command_line.specs.declared.command.LineError.TheVariants.{Help, Bad, Memory}
+
+-- how far a command explores is within the limits
+abbrev pub StaysWithinLimits : Line → Type 0
+StaysWithinLimits (Check file) = Unit {0}
+StaysWithinLimits (Run file testcase plan json) = IsWithinLimits plan
+StaysWithinLimits (Replay file testcase run) = Unit {0}
+StaysWithinLimits (Coarsen file testcase run) = Unit {0}
+StaysWithinLimits (Double file testcase run) = Unit {0}
+
+-- the subcommand that asks for this line
+abbrev pub subcommand_for : Line → Text
+subcommand_for (Check file) = codes "check"
+subcommand_for (Run file testcase plan json) = codes "run"
+subcommand_for (Replay file testcase run) = codes "replay"
+subcommand_for (Coarsen file testcase run) = codes "coarsen"
+subcommand_for (Double file testcase run) = codes "double"
+
+-- `text` is the value that the matches have for the argument `id`
+abbrev pub IsText : List Row → Text → Text → Type 0
+IsText matches id text = first_of id matches ≡ Some text
+
+-- `n` is the number that the value of the argument `id` writes in decimal digits
+abbrev pub IsNumber : List Row → Text → ℕ → Type 0
+IsNumber matches id n =
+    option_map (λ text. digits_value 10 (without_leading_plus text)) (one_of id matches) ≡ Some n
+
+-- the value of the flag `id` is `true` or `false`, as `is_set` says
+abbrev pub IsFlag : List Row → Text → Bool → Type 0
+IsFlag matches id is_set = one_of id matches ≡ Some (bool_text is_set)
+
+-- each number of the plan is the value of the option of its name
+pub record HasNumbers (matches : List Row) (plan : Plan) : Type 0 where
+  pub steps : IsNumber matches (codes "steps") plan.steps
+  pub limit : IsNumber matches (codes "limit") plan.limit
+  pub workers : IsNumber matches (codes "workers") plan.workers
+  pub piece : IsNumber matches (codes "piece") plan.piece
+
+-- the values of a command about a run: the file of the module, the test case, and the file of the run
+abbrev pub HasRunFile : List Row → Text → Text → Text → Type 0
+HasRunFile matches file testcase run = IsText matches (codes "FILE") file
+    × IsText matches (codes "testcase") testcase
+    × IsText matches (codes "run") run
+
+-- each part of the line is the value that the subcommand's matches have for the argument of its name
+abbrev pub HasValues : List Row → Line → Type 0
+HasValues matches (Check file) = IsText matches (codes "FILE") (string_bytes file)
+HasValues matches (Run file testcase plan json) = IsText matches (codes "FILE") (string_bytes file)
+    × IsText matches (codes "testcase") (string_bytes testcase)
+    × HasNumbers matches plan
+    × IsFlag matches (codes "json") json
+HasValues matches (Replay file testcase run) =
+    HasRunFile matches (string_bytes file) (string_bytes testcase) (string_bytes run)
+HasValues matches (Coarsen file testcase run) =
+    HasRunFile matches (string_bytes file) (string_bytes testcase) (string_bytes run)
+HasValues matches (Double file testcase run) =
+    HasRunFile matches (string_bytes file) (string_bytes testcase) (string_bytes run)
+
+-- the error fits the faults that clap finds in the words: help is given where that is one of them,
+-- words are refused where another is, and memory may run out at any words
+abbrev pub IsExplained : Kinds → LineError → Type 0
+IsExplained faults (Help text) = IsAmong DisplayHelp faults
+IsExplained faults (Bad text) = (kind : ErrorKind) × IsAmong kind faults × (kind ≢ DisplayHelp)
+IsExplained faults (Memory error) = Unit {0}
+
+-- memory ran out
+abbrev pub IsMemory : LineError → Type 0
+IsMemory (Help text) = ⊥
+IsMemory (Bad text) = ⊥
+IsMemory (Memory error) = Unit {0}

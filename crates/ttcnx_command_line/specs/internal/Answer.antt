@@ -1,0 +1,12 @@
+-- What is answered in place of clap's error.
+use Rattle.std.specs.Prelude.{◌≡◌, ◌≢◌}
+use Rattle.clap.specs.declared.error.kind.ErrorKind.{ErrorKind}
+use Rattle.clap.specs.declared.error.kind.ErrorKind.TheVariants.{DisplayHelp, OutOfMemory}
+use Rattle.ttcnx_command_line.specs.declared.command.LineError.{LineError}
+use Rattle.ttcnx_command_line.specs.declared.command.LineError.TheVariants.{Help, Bad, Memory}
+
+-- what is answered where clap's error has this kind
+abbrev pub IsAnswer : ErrorKind → LineError → Type 0
+IsAnswer kind (Help text) = kind ≡ DisplayHelp
+IsAnswer kind (Bad text) = (kind ≢ DisplayHelp) × (kind ≢ OutOfMemory)
+IsAnswer kind (Memory error) = kind ≡ OutOfMemory

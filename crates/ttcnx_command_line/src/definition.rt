@@ -1,0 +1,147 @@
+//! The commands and what they take, as `clap` is given them.
+ghost use Rattle.std.specs.Prelude.{◌≡◌, IfOk, false};
+ghost use Rattle.clap.specs.Words.{app_of, rule_of};
+ghost use Rattle.clap.specs.declared.builder.command.Command.TheViews.{out-Command as fields_of};
+ghost use Rattle.ttcnx_command_line.specs.App.{check_app, file_word, needed_option, number_option};
+ghost use Rattle.ttcnx_command_line.specs.App.{run_app, run_file_app, steps_option, ttcnx_app};
+ghost use Rattle.std.specs.Prelude.{codes};
+
+use clap::{Arg, ArgAction, Command, value_parser};
+use std::alloc::{AllocError, Global};
+
+/// The program with its commands.
+pub(crate) fn command<'a>(alloc: Global) -> Result<Command<'a>, AllocError>
+    ensures { IfOk result (λ c. app_of c ≡ ttcnx_app) }
+{
+    Command::new(alloc, "ttcnx")
+        .about("Checks modules written in TTCN-3, and explores their test cases")
+        .bin_name("ttcnx")?
+        .no_binary_name(true)
+        .subcommand_required(true)
+        .subcommand(check_command(alloc)?)?
+        .subcommand(run_command(alloc)?)?
+        .subcommand(run_file_command(
+            alloc,
+            "replay",
+            "Follows a run of a test case",
+            "The file of the run, with a label a line",
+        )?)?
+        .subcommand(run_file_command(
+            alloc,
+            "coarsen",
+            "Turns a fine run of a test case into the run that it stands for",
+            "The file of the fine run, with a label a line",
+        )?)?
+        .subcommand(run_file_command(
+            alloc,
+            "double",
+            "Turns a run of a test case into a fine run: each choice apart from its snapshot",
+            "The file of the run, with a label a line",
+        )?)
+}
+
+fn check_command<'a>(alloc: Global) -> Result<Command<'a>, AllocError>
+    ensures app { IfOk result (λ c. app_of c ≡ check_app) }
+    ensures local { IfOk result (λ c. (fields_of c).has_globals ≡ false) }
+{
+    Command::new(alloc, "check")
+        .about("Tests whether a module is well typed")
+        .arg(file(alloc))
+}
+
+fn run_command<'a>(alloc: Global) -> Result<Command<'a>, AllocError>
+    ensures app { IfOk result (λ c. app_of c ≡ run_app) }
+    ensures local { IfOk result (λ c. (fields_of c).has_globals ≡ false) }
+{
+    let limit = number(alloc, "limit", 10_000_000, "1000000").help(
+        "How many configurations may be reached: 1 to 10000000",
+    );
+    let workers = number(alloc, "workers", 64, "1").help(
+        "How many workers share the work: 1 to 64",
+    );
+    let piece = number(alloc, "piece", 65_536, "256").help(
+        "How many candidates a worker takes at once: 1 to 65536",
+    );
+    let json = Arg::new(alloc, "json")
+        .long("json")
+        .action(ArgAction::SetTrue)
+        .help("Writes the report as JSON");
+    Command::new(alloc, "run")
+        .about("Explores the runs of a test case")
+        .arg(file(alloc))?
+        .arg(testcase(alloc))?
+        .arg(steps(alloc))?
+        .arg(limit)?
+        .arg(workers)?
+        .arg(piece)?
+        .arg(json)
+}
+
+/// A command about a run of a test case, which stands in a file.
+fn run_file_command<'a>(
+    alloc: Global,
+    name: &'a str,
+    about: &'a str,
+    run_help: &'a str,
+) -> Result<Command<'a>, AllocError>
+    ensures app { IfOk result (λ c. app_of c ≡ run_file_app name.entry.now) }
+    ensures local { IfOk result (λ c. (fields_of c).has_globals ≡ false) }
+{
+    let run = Arg::new(alloc, "run")
+        .long("run")
+        .value_name("FILE")
+        .required(true)
+        .help(run_help);
+    Command::new(alloc, name)
+        .about(about)
+        .arg(file(alloc))?
+        .arg(testcase(alloc))?
+        .arg(run)
+}
+
+/// The file that a command reads.
+fn file<'a>(alloc: Global) -> Arg<'a>
+    ensures rule { rule_of result ≡ file_word }
+    ensures local { result.global ≡ false }
+{
+    Arg::new(alloc, "FILE")
+        .required(true)
+        .help("The text of the module")
+}
+
+/// The test case that a command is about.
+fn testcase<'a>(alloc: Global) -> Arg<'a>
+    ensures rule { rule_of result ≡ needed_option (codes "testcase") }
+    ensures local { result.global ≡ false }
+{
+    Arg::new(alloc, "testcase")
+        .long("testcase")
+        .value_name("NAME")
+        .required(true)
+        .help("The name of the test case")
+}
+
+/// The number of steps, which has to be given.
+fn steps<'a>(alloc: Global) -> Arg<'a>
+    ensures rule { rule_of result ≡ steps_option }
+    ensures local { result.global ≡ false }
+{
+    Arg::new(alloc, "steps")
+        .long("steps")
+        .value_name("N")
+        .required(true)
+        .value_parser(value_parser!(u64).range(0..=100_000))
+        .help("The greatest number of steps of a run: 0 to 100000")
+}
+
+/// A number from 1 on that may be left out.
+fn number<'a>(alloc: Global, name: &'a str, most: u32, default: &'a str) -> Arg<'a>
+    ensures rule { rule_of result ≡ number_option name.entry.now most default.entry.now }
+    ensures local { result.global ≡ false }
+{
+    Arg::new(alloc, name)
+        .long(name)
+        .value_name("N")
+        .value_parser(value_parser!(u64).range(1..=i64::from(most)))
+        .default_value(default)
+}

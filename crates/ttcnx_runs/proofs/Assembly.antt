@@ -1,0 +1,116 @@
+-- What a search over live parts answers is true of the runs, on whole configurations.
+use Rattle.std.proofs.Common.{◌≡◌, ℕ, ◌<◌, ◌≤◌, map, length, subst, sym, ap, ◌∙◌}
+use lib.ListN.{length-map}
+use Rattle.std.specs.Prelude.{◌↔◌, IsTrue, Ok, Err}
+use Rattle.explore.specs.Best.{AreBest}
+use Rattle.search_layer.specs.Limits.{IsWithinLimits}
+use Rattle.explore.specs.declared.answer.Answer.{Answer}
+use Rattle.search_layer.specs.declared.plan.ExploreError.{ExploreError}
+use Rattle.search_layer.specs.declared.plan.ExploreError.TheVariants as refused
+use Rattle.search_layer.specs.declared.plan.Plan.{Plan}
+use Rattle.ttcnx_runs.proofs.Best.{best_run}
+use Rattle.ttcnx_runs.proofs.Longer.{best_later}
+use Rattle.ttcnx_runs.proofs.Parts.{Shown}
+use Rattle.ttcnx_runs.proofs.Sums.{blocked_found, branches_found}
+use Rattle.ttcnx_runs.specs.Found.{AreFound, place_cmp, run_kept, standing_cmp}
+use Rattle.ttcnx_runs.specs.declared.exploration.Exploration.{Exploration}
+use Rattle.ttcnx_runs.specs.internal.Explored.{IsExplored}
+use Rattle.ttcnx_runs.specs.internal.Kept.{labels_by, labels_in}
+use Rattle.ttcnx_runs.specs.internal.Sums.{blocked_of, branches_of}
+use Rattle.laws_live.proofs.SameRuns.{same_complete, same_counts}
+use Rattle.laws_live.specs.Parts.{CountsParts, IsCompleteByParts}
+use Rattle.summary.specs.Ascent.{Ascends}
+use Rattle.summary.specs.KeySet.{from_list}
+use Rattle.semantics.specs.Canonical.{canonical_graph}
+use Rattle.semantics.specs.Labels.{label_cmp}
+use Rattle.semantics.specs.Places.{blocked, branch_of}
+use Rattle.semantics.specs.Snapshots.{Test}
+use Rattle.semantics.specs.Steps.{Label}
+use Rattle.summary.specs.Exploration.{Counts, IsComplete}
+use Rattle.ttcn_step.specs.Standing.{standing_by}
+use Rattle.ttcn_syntax.specs.declared.place.Span.{Span}
+use Rattle.ttcn_values.specs.declared.path.Path.{Path}
+
+-- what a search over live parts answers
+abbrev pub Searched : Type 0
+Searched = Answer (Shown Span (Path × Span)) Label
+
+-- what is found is made of the answer
+pub record IsMadeOf (found : Exploration) (answer : Searched) : Type 0 where
+  pub configurations : found.configurations ≡ answer.count
+  pub complete : found.complete ≡ answer.complete
+  pub best : map labels_by found.best.items ≡ map labels_in answer.best.items
+  pub branches : from_list found.branches.items ≡ answer.summary.first.places
+  pub ascending : Ascends place_cmp found.branches.items
+  pub blocked : from_list (map standing_by found.blocked.items) ≡ answer.summary.second.components
+  pub in_order : Ascends standing_cmp (map standing_by found.blocked.items)
+
+-- the answer is that of the runs of at most n steps
+pub record AreSummed (test : Test) (n : ℕ) (answer : Searched) : Type 0 where
+  pub counts : Counts (canonical_graph test) n answer.count
+  pub branches : answer.summary.first.places ≡ branches_of (canonical_graph test) (branch_of test) n
+  pub blocked : answer.summary.second.components ≡ blocked_of (canonical_graph test) (blocked test) n
+
+module _ (test : Test) where
+  pub too_many_parts : (n limit : ℕ) → ((count : ℕ) × Counts (canonical_graph test) n count × (limit < count)) → (count : ℕ) × CountsParts test n count × (limit < count)
+  too_many_parts n limit more = (more.0, (same_counts test n more.0).0 more.1, more.2)
+
+  module _ (found : Exploration) (answer : Searched) (made : IsMadeOf found answer) where
+    pub complete_parts : (n : ℕ) → (IsTrue answer.complete ↔ IsComplete (canonical_graph test) n) → IsTrue found.complete ↔ IsCompleteByParts test n
+    complete_parts n is = subst (λ b. IsTrue b ↔ IsCompleteByParts test n) (sym made.complete)
+        (λ h. (same_complete test n).0 (is.0 h), λ h. is.1 ((same_complete test n).1 h))
+
+    counted : (n : ℕ) → Counts (canonical_graph test) n answer.count → CountsParts test n found.configurations
+    counted n counts = subst (CountsParts test n) (sym made.configurations) ((same_counts test n answer.count).0 counts)
+
+    pub are_found : (n : ℕ) → AreSummed test n answer → AreBest (canonical_graph test) label_cmp n answer.best.items → AreFound test n found
+    are_found n summed best = record {
+      configurations = counted n summed.counts;
+      eight = sym (length-map found.best.items labels_by) ∙ ap length made.best ∙ length-map answer.best.items labels_in ∙ best.eight;
+      best = λ v. best_run test n v found.best.items answer.best.items made.best best;
+      branches = branches_found test n answer.summary.first.places summed.branches found.branches.items made.branches made.ascending;
+      blocked = blocked_found test n answer.summary.second.components summed.blocked (map standing_by found.blocked.items) made.blocked made.in_order;
+    }
+
+    pub found_later : (n bound : ℕ) → n ≤ bound → AreFound test n found → AreSummed test bound answer → AreFound test bound found
+    found_later n bound le is summed = record {
+      configurations = counted bound summed.counts;
+      eight = is.eight;
+      best = λ v. best_later test n bound le found.configurations is.configurations (counted bound summed.counts) v (run_kept found v) (is.best v);
+      branches = branches_found test bound answer.summary.first.places summed.branches found.branches.items made.branches made.ascending;
+      blocked = blocked_found test bound answer.summary.second.components summed.blocked (map standing_by found.blocked.items) made.blocked made.in_order;
+    }
+
+    -- what was found, as the answer of an exploration
+    pub found_explored : (plan : Plan) → IsWithinLimits plan → Counts (canonical_graph test) plan.steps answer.count × (answer.count ≤ plan.limit)
+        → answer.summary.first.places ≡ branches_of (canonical_graph test) (branch_of test) plan.steps → answer.summary.second.components ≡ blocked_of (canonical_graph test) (blocked test) plan.steps
+        → (IsTrue answer.complete ↔ IsComplete (canonical_graph test) plan.steps) → AreBest (canonical_graph test) label_cmp plan.steps answer.best.items
+        → (IsTrue answer.complete → (bound : ℕ) → plan.steps ≤ bound → Counts (canonical_graph test) bound answer.count
+        × (answer.summary.first.places ≡ branches_of (canonical_graph test) (branch_of test) bound) × (answer.summary.second.components ≡ blocked_of (canonical_graph test) (blocked test) bound))
+        → IsExplored test plan (Ok found)
+    found_explored plan fine count taken stands complete best later =
+        let is = are_found plan.steps (record { counts = count.0; branches = taken; blocked = stands }) best in
+        record {
+          bad_plan = (λ refused. let no = refused in cc, λ no. absurd (no fine));
+          planned = fine;
+          too_many = λ refused. let no = refused in cc;
+          found = is;
+          within = subst (λ (k : ℕ). k ≤ plan.limit) (sym made.configurations) count.1;
+          complete = complete_parts plan.steps complete;
+          every_bound = λ all bound above.
+              let more = later (subst IsTrue made.complete all) bound above in
+              found_later plan.steps bound above is (record { counts = more.0; branches = more.1; blocked = more.2 });
+        }
+
+  -- why nothing was found
+  pub refused_explored : (plan : Plan) (why : ExploreError) → ((why ≡ refused.BadPlan) → ¬ IsWithinLimits plan) → (¬ IsWithinLimits plan → why ≡ refused.BadPlan)
+      → (why ≡ refused.TooMany → (count : ℕ) × Counts (canonical_graph test) plan.steps count × (plan.limit < count)) → IsExplored test plan (Err why)
+  refused_explored plan why bad_plan beyond too_many = record {
+    bad_plan = (λ is. bad_plan (let same = is in cc), λ no. ap Err (beyond no));
+    planned = tt;
+    too_many = λ is. too_many_parts plan.steps plan.limit (too_many (let same = is in cc));
+    found = tt;
+    within = tt;
+    complete = tt;
+    every_bound = tt;
+  }

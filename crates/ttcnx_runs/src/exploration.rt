@@ -1,0 +1,176 @@
+//! All runs of a test case up to a bound (ES 201 873-4).
+ghost use Rattle.std.specs.Prelude.{◌≡◌, ◌↔◌, ℕ, ◌<◌, ◌≤◌, IfOk, IsErrOf, IsTrue, OnOk, map};
+ghost use Rattle.search_layer.specs.Limits.{IsWithinLimits};
+ghost use Rattle.ttcnx_runs.specs.Found.{AreFound, place_cmp, standing_cmp};
+ghost use Rattle.ttcnx_runs.specs.internal.Explored.{IsExplored};
+ghost use Rattle.ttcnx_runs.specs.internal.Kept.{labels_by, labels_in};
+ghost use Rattle.summary.specs.Ascent.{Ascends};
+ghost use Rattle.summary.specs.KeySet.{from_list};
+ghost use Rattle.step_labels.specs.Labels.{label_by};
+ghost use Rattle.laws_live.specs.Parts.{CountsParts, IsCompleteByParts};
+ghost use Rattle.ttcn_step.specs.Standing.{standing_by};
+
+use crate::search::search;
+use crate::{BlockedComponent, BranchPlace, Runs, Scheme, StepLabel};
+use explore::{Answer, ExploreError, Gate, Plan};
+use std::alloc::{AllocError, Global};
+use std::marker::Brand;
+use std::thread::Threads;
+use step_labels::Label;
+use summary::{Blocked, Both, Branches, OrderedSet};
+use ttcn_step::{Machine, Standing};
+use ttcn_syntax::Span;
+
+/// What is summed up over all runs: the branches that are taken, and the components that are blocked.
+type Shown = Both<Branches<BranchPlace>, Blocked<BlockedComponent>>;
+
+/// What was found.
+#[derive(Drop)]
+pub struct Exploration {
+    /// How many configurations the runs reach, where those that go on alike count as one.
+    pub configurations: u64,
+    /// Whether no longer run reaches another one.
+    pub complete: bool,
+    /// For the number of each verdict the labels of the least of the shortest runs that end with it, if one does.
+    pub best: Vec<Option<Vec<Label>>>,
+    /// The places of the branches that are taken, ascending.
+    pub branches: Vec<Span>,
+    /// The components that are blocked, by their paths and then by the places where they stand.
+    pub blocked: Vec<Standing>,
+}
+
+/// Explores all runs of a machine's test case of at most the plan's steps.
+pub fn explore_runs<G: Gate, R: Threads + Sync>(
+    rt: &R,
+    alloc: Global,
+    machine: &Machine<'_>,
+    plan: &Plan,
+    gate: &G,
+) -> Result<Exploration, ExploreError>
+    ensures bad_plan { IsErrOf result ExploreError.BadPlan ↔ ¬ IsWithinLimits plan.now }
+    ensures planned { OnOk result (IsWithinLimits plan.now) }
+    ensures too_many { IsErrOf result ExploreError.TooMany → (count : ℕ) × CountsParts machine.now.test plan.now.steps count × (plan.now.limit < count) }
+    ensures found { IfOk result (AreFound machine.now.test plan.now.steps) }
+    ensures within { IfOk result (λ found. found.configurations ≤ plan.now.limit) }
+    ensures complete { IfOk result (λ found. IsTrue found.complete ↔ IsCompleteByParts machine.now.test plan.now.steps) }
+
+    // Where no longer run reaches another configuration, the same is true of the runs of every greater bound.
+    ensures every_bound { IfOk result (λ found. IsTrue found.complete → (bound : ℕ) → plan.now.steps ≤ bound → AreFound machine.now.test bound found) }
+{
+    explore_within::<Brand, G, R>(rt, alloc, machine, plan, gate)
+}
+
+/// Explores all runs of a machine's test case of at most the plan's steps, where a type names the machine.
+fn explore_within<K: Scheme + Send + Sync, G: Gate, R: Threads + Sync>(
+    rt: &R,
+    alloc: Global,
+    machine: &Machine<'_>,
+    plan: &Plan,
+    gate: &G,
+) -> Result<Exploration, ExploreError>
+    requires { machine.now ≡ K.machine }
+    ensures { IsExplored K.machine.test plan.now result }
+{
+    let runs = Runs::<K>::new(machine);
+    match search::<Runs<'_, '_, K>, G, R>(rt, alloc, &runs, plan, gate) {
+        Ok(answer) => match found_by(alloc, answer) {
+            Ok(found) => Ok(found),
+            Err(AllocError) => Err(ExploreError::Memory),
+        },
+        Err(refused) => Err(refused),
+    }
+}
+
+/// What an answer of the search tells.
+fn found_by(alloc: Global, answer: Answer<Shown, StepLabel>) -> Result<Exploration, AllocError>
+    ensures configurations { IfOk result (λ found. found.configurations ≡ answer.count) }
+    ensures complete { IfOk result (λ found. found.complete ≡ answer.complete) }
+    ensures best { IfOk result (λ found. map labels_by found.best.items ≡ map labels_in answer.best.items) }
+    ensures branches { IfOk result (λ found. from_list found.branches.items ≡ answer.summary.first.places) }
+    ensures ascending { IfOk result (λ found. Ascends place_cmp found.branches.items) }
+    ensures blocked { IfOk result (λ found. from_list (map standing_by found.blocked.items) ≡ answer.summary.second.components) }
+    ensures in_order { IfOk result (λ found. Ascends standing_cmp (map standing_by found.blocked.items)) }
+{
+    let Answer {
+        summary,
+        count,
+        complete,
+        best,
+    } = answer;
+    let best = runs_of(alloc, best)?;
+    let branches = places_of(alloc, &summary.first.places)?;
+    let blocked = standings_of(alloc, &summary.second.components)?;
+    Ok(Exploration {
+        configurations: count,
+        complete,
+        best,
+        branches,
+        blocked,
+    })
+}
+
+/// The labels of a run.
+fn run_of(alloc: Global, run: Vec<StepLabel>) -> Result<Vec<Label>, AllocError>
+    ensures { IfOk result (λ labels. map label_by labels.items ≡ run.items) }
+{
+    let mut labels = Vec::with_capacity(alloc, run.len())?;
+    for label in run {
+        labels.push(label.into_label())?;
+    }
+    Ok(labels)
+}
+
+/// The labels of a run, where there is one.
+fn run_if_any(alloc: Global, run: Option<Vec<StepLabel>>) -> Result<Option<Vec<Label>>, AllocError>
+    ensures { IfOk result (λ found. labels_by found ≡ labels_in run) }
+{
+    match run {
+        None => Ok(None),
+        Some(run) => Ok(Some(run_of(alloc, run)?)),
+    }
+}
+
+/// The labels of runs.
+fn runs_of(
+    alloc: Global,
+    best: Vec<Option<Vec<StepLabel>>>,
+) -> Result<Vec<Option<Vec<Label>>>, AllocError>
+    ensures { IfOk result (λ runs. map labels_by runs.items ≡ map labels_in best.items) }
+{
+    let mut runs = Vec::with_capacity(alloc, best.len())?;
+    for run in best {
+        runs.push(run_if_any(alloc, run)?)?;
+    }
+    Ok(runs)
+}
+
+/// The places of a set of branches, ascending.
+fn places_of(alloc: Global, set: &OrderedSet<BranchPlace>) -> Result<Vec<Span>, AllocError>
+    ensures keys { IfOk result (λ places. from_list places.items ≡ set.now) }
+    ensures ascend { IfOk result (λ places. Ascends place_cmp places.items) }
+{
+    let mut places = Vec::new(alloc);
+    for key in set.as_slice() {
+        places.push(key.place())?;
+    }
+    Ok(places)
+}
+
+/// The components of a set, each with the place where it stands, ascending.
+fn standings_of(
+    alloc: Global,
+    set: &OrderedSet<BlockedComponent>,
+) -> Result<Vec<Standing>, AllocError>
+    ensures keys { IfOk result (λ standings. from_list (map standing_by standings.items) ≡ set.now) }
+    ensures ascend { IfOk result (λ standings. Ascends standing_cmp (map standing_by standings.items)) }
+{
+    let mut standings = Vec::new(alloc);
+    for key in set.as_slice() {
+        let component = key.component().try_clone(alloc)?;
+        standings.push(Standing {
+            component,
+            place: key.place(),
+        })?;
+    }
+    Ok(standings)
+}

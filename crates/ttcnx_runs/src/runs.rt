@@ -1,0 +1,168 @@
+//! The runs of a test case, as a system.
+ghost use Rattle.std.specs.Prelude.{◌≡◌, IfOk, Contains, map};
+ghost use Rattle.std.specs.List.{All};
+ghost use Rattle.step_labels.specs.Labels.{label_by};
+ghost use Rattle.ttcnx_runs.specs.Laws.{after-fits, ascending, first-fits, marks-below};
+ghost use Rattle.ttcnx_runs.specs.Runs.{FitsRuns};
+ghost use Rattle.ttcnx_runs.specs.Schemes.{IsMachine};
+ghost use Rattle.ttcnx_runs.specs.SameConfigurations.{configuration_one};
+ghost use Rattle.semantics.specs.Canonical.{canonical_graph};
+ghost use Rattle.semantics.specs.Configurations.{badness};
+ghost use Rattle.semantics.specs.LiveParts.{live_part};
+ghost use Rattle.config_parts.specs.Legend.{config_by};
+ghost use Rattle.config_parts.specs.Views.{IsConfigWithin};
+ghost use Rattle.ttcn_step.specs.Machines.{Fits, extent, legend, said};
+
+use crate::label::StepLabel;
+use crate::scheme::Scheme;
+use crate::state::State;
+use std::alloc::{AllocError, Global};
+use std::marker::PhantomData;
+use step_labels::Label;
+use summary::System;
+use ttcn_config::{Config, canon_owned, pack, unpack};
+use ttcn_step::{Machine, StepError, Successor};
+use ttcn_syntax::Verdict;
+
+/// The runs of the test case of a machine, which `K` names.
+#[derive(Drop)]
+pub struct Runs<'t, 'a, K: Scheme> {
+    pub(crate) machine: &'a Machine<'t>,
+    of: PhantomData<K>,
+    ghost is: { machine.now ≡ K.machine },
+}
+
+impl<'t, 'a, K: Scheme> Runs<'t, 'a, K> {
+    pub fn new(machine: &'a Machine<'t>) -> Runs<'t, 'a, K>
+        requires { machine.now ≡ K.machine }
+    {
+        Runs {
+            machine,
+            of: PhantomData,
+        }
+    }
+}
+
+/// The number of a verdict, from the best on.
+fn mark_of(verdict: Verdict) -> u8
+    ensures { result ≡ badness verdict }
+{
+    match verdict {
+        Verdict::None => 0,
+        Verdict::Pass => 1,
+        Verdict::Inconc => 2,
+        Verdict::Fail => 3,
+        Verdict::Error => 4,
+    }
+}
+
+/// The state of the canonical form of a configuration.
+fn state_of<K: Scheme>(
+    alloc: Global,
+    machine: &Machine<'_>,
+    config: Config,
+) -> Result<State<K>, AllocError>
+    requires is { machine.now ≡ K.machine }
+    requires fits { Fits machine.now config }
+    ensures { IfOk result (λ state. state ≡ live_part (config_by (legend K.machine) config)) }
+{
+    machine.is_apart();
+    let goes_on = !machine.is_stuck(alloc, &config)?;
+    let config = canon_owned(alloc, config)?;
+    Ok(State {
+        packed: pack(alloc, &config)?,
+        goes_on,
+        of: PhantomData,
+    })
+}
+
+/// Labels, as the search has them.
+fn step_labels(alloc: Global, labels: Vec<Label>) -> Result<Vec<StepLabel>, AllocError>
+    ensures { IfOk result (λ found. found.items ≡ map label_by labels.items) }
+{
+    let mut found = Vec::with_capacity(alloc, labels.len())?;
+    for label in labels {
+        found.push(StepLabel::new(label))?;
+    }
+    Ok(found)
+}
+
+/// Enabled labels, each with the state to which it leads.
+fn pairs_of<K: Scheme>(
+    alloc: Global,
+    machine: &Machine<'_>,
+    found: Vec<Successor>,
+) -> Result<Vec<(StepLabel, State<K>)>, AllocError>
+    requires is { machine.now ≡ K.machine }
+    requires fits { All (λ s. Fits machine.now s.config) found.items }
+    ensures { IfOk result (λ pairs. pairs.items ≡ map (λ s. (label_by s.label, live_part (said K.machine s.config))) found.items) }
+{
+    let mut pairs = Vec::with_capacity(alloc, found.len())?;
+    for Successor { label, config } in found {
+        let after = state_of(alloc, machine, config)?;
+        pairs.push((StepLabel::new(label), after))?;
+    }
+    Ok(pairs)
+}
+
+impl<'t, 'a, K: Scheme + Send + Sync> System for Runs<'t, 'a, K> {
+    type State = State<K>;
+
+    type Label = StepLabel;
+
+    ghost graph = { λ _. canonical_graph K.machine.test };
+
+    ghost fits = { λ _ state. FitsRuns state };
+
+    fn start(&self, alloc: Global) -> Result<State<K>, AllocError> {
+        let config = self.machine.start(alloc)?;
+        state_of(alloc, self.machine, config)
+    }
+
+    fn labels(&self, alloc: Global, state: &State<K>) -> Result<Vec<StepLabel>, AllocError> {
+        let config = unpack(alloc, &state.packed)?;
+        let labels = self.machine.labels(alloc, &config)?;
+        step_labels(alloc, labels)
+    }
+
+    fn next(
+        &self,
+        alloc: Global,
+        state: &State<K>,
+        label: &StepLabel,
+    ) -> Result<State<K>, AllocError> {
+        let config = unpack(alloc, &state.packed)?;
+        match self.machine.next(alloc, &config, label.as_label()) {
+            Ok(after) => state_of(alloc, self.machine, after),
+            Err(_) => Err(AllocError),
+        }
+    }
+
+    fn successors(
+        &self,
+        alloc: Global,
+        state: &State<K>,
+    ) -> Result<Vec<(StepLabel, State<K>)>, AllocError> {
+        let config = unpack(alloc, &state.packed)?;
+        let found = self.machine.successors(alloc, &config)?;
+        pairs_of(alloc, self.machine, found)
+    }
+
+    fn copy(&self, alloc: Global, label: &StepLabel) -> Result<StepLabel, AllocError> {
+        label.try_clone(alloc)
+    }
+
+    fn mark(&self, state: &State<K>) -> Option<u8> {
+        state.packed.verdict().map(mark_of)
+    }
+
+    ghost same = { λ _ s t _ _ equal. configuration_one s t equal };
+
+    ghost ascending = { λ _ s fits. ascending K.machine.test s fits };
+
+    ghost first_fits = { λ _. first-fits K.machine.test };
+
+    ghost after_fits = { λ _ s label fits _. after-fits K.machine.test s label fits };
+
+    ghost marks_below_8 = { λ _ s _. marks-below s };
+}

@@ -1,0 +1,64 @@
+//! Canonical configurations, as states, which are kept as bytes.
+ghost use Rattle.ttcnx_runs.specs.States.{fed, fed_alike};
+ghost use Rattle.ttcnx_runs.specs.SameConfigurations.{same_configuration, same_configuration_equiv, same_configuration_laws};
+
+use crate::scheme::Scheme;
+use std::hash::{Hash, Hasher};
+use std::marker::{Model, PhantomData};
+use ttcn_config::Packed;
+
+/// A configuration of the machine that `K` names. Contracts see that of the rules for which it stands.
+#[derive(Drop)]
+pub struct State<K: Scheme> {
+    pub(crate) packed: Packed,
+    /// Where this is true, some label is enabled.
+    pub(crate) goes_on: bool,
+    pub(crate) of: PhantomData<K>,
+}
+
+impl<K: Scheme> Model for State<K> {
+    ghost use Rattle.std.specs.Coded.{codes};
+    ghost use Rattle.ttcn_syntax.specs.contracts.tree.statement.Action as action;
+    ghost use Rattle.ttcn_syntax.specs.contracts.tree.statement.Branch as branch;
+    ghost use Rattle.ttcn_syntax.specs.contracts.tree.statement.Statement as statement;
+    ghost use Rattle.ttcn_syntax.specs.contracts.tree.template.Template as template;
+    ghost use Rattle.ttcn_syntax.specs.contracts.tree.value.Value as tree_value;
+    ghost use Rattle.ttcn_values.specs.contracts.value.Value as value;
+    ghost use Rattle.ttcnx_runs.specs.Going.{GoesOn};
+    ghost use Rattle.ttcnx_runs.specs.Schemes.{IsMachine};
+    ghost use Rattle.semantics.specs.Configurations as rules;
+    ghost use Rattle.config_parts.specs.Views.{IsConfigWithin};
+    ghost use Rattle.ttcn_step.specs.Machines.{extent, said};
+
+    ghost Value = { rules.Configuration };
+
+    ghost coded = { Prim.hlevel (codes, action.the_row.coded, branch.the_row.coded, statement.the_row.coded, template.the_row.coded, tree_value.the_row.coded, value.the_row.coded) };
+
+    ghost view = { λ state. said K.machine state.packed };
+
+    ghost invariant = { λ state. IsMachine K.machine × IsConfigWithin (extent K.machine) state.packed × GoesOn K.machine.test (said K.machine state.packed) state.goes_on };
+}
+
+impl<K: Scheme> PartialEq for State<K> {
+    ghost eq = { same_configuration };
+
+    ghost laws = { same_configuration_laws };
+
+    fn eq(&self, other: &State<K>) -> bool {
+        self.packed == other.packed
+    }
+}
+
+impl<K: Scheme> Eq for State<K> {
+    ghost laws = { same_configuration_equiv };
+}
+
+impl<K: Scheme> Hash for State<K> {
+    ghost hash_input = { fed K.machine };
+
+    ghost respects_eq = { fed_alike K.machine };
+
+    fn hash<H: Hasher>(&self, state: &mut H) {
+        self.packed.hash(state);
+    }
+}
