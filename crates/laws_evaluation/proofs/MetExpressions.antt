@@ -19,8 +19,7 @@ use Rattle.ttcn_syntax.specs.declared.tree.expression.Expr.TheOpen.{Expr-F, Link
 use Rattle.ttcn_syntax.specs.declared.tree.expression.Link.{Link, fold_out-Link, out-Link, roll-Link}
 use Rattle.ttcn_syntax.specs.declared.tree.expression.Reference.{Reference}
 use Rattle.laws_checker.proofs.Nothing.{nothing-first, nothing-rest}
-use Rattle.laws_checker.proofs.Typed.{component-typed, reference-typed}
-use Rattle.laws_checker.proofs.Typed.{expression_typed as expression_known}
+use Rattle.laws_checker.proofs.Typed.{component-typed, expression_typed as expression_known, reference-typed}
 use Rattle.laws_checker.specs.Laws.{HasFieldType, IsWhole}
 use Rattle.check_expressions.specs.Expressions as said
 use Rattle.check_expressions.specs.Expressions.{Judgement, Judge, check_component, check_field, check_meaning, check_running, between, join_links, demand, expression, is_timer, names_timer, of_type, within}

@@ -30,8 +30,7 @@ use Rattle.check_scope.specs.Names.{Entry, Names, Scope, constant_entries, const
 use Rattle.ttcn_types.specs.Rules.{AreWellTyped}
 use Rattle.check_expressions.specs.Targets.{check_new_name, check_type}
 use Rattle.check_expressions.specs.Templates.{template, template_meant}
-use Rattle.check_scope.specs.Typings.{typed, unless}
-use Rattle.check_scope.specs.Typings.{target_of}
+use Rattle.check_scope.specs.Typings.{target_of, typed, unless}
 use Rattle.check_expressions.specs.Values.{value as checked}
 use Rattle.check_scope.specs.declared.names.Meaning.{Meaning}
 use Rattle.check_scope.specs.declared.names.Meaning.TheVariants as meaning

@@ -23,10 +23,9 @@ use Rattle.laws_checker.specs.Laws.{AreArguments, AreElements, AreNamedElements,
 use Rattle.check_scope.specs.Names.{Scope, field_named, fields_at, kind_at, module_names, resolved}
 use Rattle.check_expressions.specs.Templates as said
 use Rattle.check_expressions.specs.Templates.{check_name, check_named_template, bare_name, template_by_name, template_meant, type_of_template}
-use Rattle.check_scope.specs.Typings.{fits, goes_to, typed, unless}
+use Rattle.check_scope.specs.Typings.{fits, goes_to, target_of, typed, unless}
 use Rattle.check_expressions.specs.Values as checked
 use Rattle.check_expressions.specs.Values.{AtTarget, check_expression, field_target}
-use Rattle.check_scope.specs.Typings.{target_of}
 use Rattle.check_scope.specs.declared.names.Meaning.{Meaning}
 use Rattle.check_scope.specs.declared.names.Meaning.TheVariants as meaning
 use Rattle.check_scope.specs.declared.rule.Rule.{Rule}

@@ -20,9 +20,8 @@ use Rattle.ttcn_syntax.specs.declared.tree.expression.Reference.{Reference}
 use Rattle.check_expressions.specs.Expressions as said
 use Rattle.check_expressions.specs.Expressions.{Judgement, Judge, check_component, check_field, check_meaning, check_running, check_self, between, join_links, demand, expression, names_timer, of_type, within}
 use Rattle.check_scope.specs.Names.{Scope, fields_at, module_names, resolved}
-use Rattle.check_scope.specs.Typings.{result_of, typed}
+use Rattle.check_scope.specs.Typings.{result_of, target_of, typed}
 use Rattle.check_expressions.specs.Values.{field_target}
-use Rattle.check_scope.specs.Typings.{target_of}
 use Rattle.check_scope.specs.declared.types.DataType.{DataType}
 use Rattle.check_scope.specs.declared.types.DataType.TheVariants as type
 use Rattle.check_scope.specs.declared.types.Target.{Target}

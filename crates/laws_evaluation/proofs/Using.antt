@@ -15,8 +15,7 @@ use Rattle.check_scope.specs.declared.types.Typing.{Typing}
 use Rattle.check_scope.specs.declared.types.Typing.TheVariants as typing
 use Rattle.check_statements.specs.Statements.{check_boolean, check_condition, check_deactivate, refers_to_default}
 use Rattle.laws_checker.proofs.Nothing.{kept, nothing-first, nothing-rest}
-use Rattle.laws_checker.proofs.Typed.{component-typed, reference-typed}
-use Rattle.laws_checker.proofs.Typed.{expression_typed as expression_known}
+use Rattle.laws_checker.proofs.Typed.{component-typed, expression_typed as expression_known, reference-typed}
 use Rattle.laws_checker.specs.Laws.{IsWhole}
 use Rattle.laws_evaluation.proofs.MetExpressions.{boolean-there, component-met, expressions_met, met-then, met-there}
 use Rattle.laws_evaluation.proofs.Only.{only_more, only_of, only_then}

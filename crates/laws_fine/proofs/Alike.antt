@@ -100,26 +100,7 @@ alt-alike test snapshot own other alike judge place (Action-F.«Action::Call» c
     option-alike (λ at. written_call (write_altsteps test snapshot own) test snapshot own judge call [] (Some at)) (λ at. written_call (write_altsteps test snapshot other) test snapshot other judge call [] (Some at))
     (λ at. call-alike (write_altsteps test snapshot own) (write_altsteps test snapshot other) (writes-alike test snapshot own other alike) test snapshot own other alike judge call [] (Some at))
     (altstep_meant (module_names test.definitions call.name))
-alt-alike test snapshot own other alike judge place (Action-F.Variables vs) = refl
-alt-alike test snapshot own other alike judge place (Action-F.Constants cs) = refl
-alt-alike test snapshot own other alike judge place (Action-F.Timers timers) = refl
-alt-alike test snapshot own other alike judge place (Action-F.Assign a) = refl
-alt-alike test snapshot own other alike judge place Action-F.Repeat = refl
-alt-alike test snapshot own other alike judge place (Action-F.If conditionals last) = refl
-alt-alike test snapshot own other alike judge place (Action-F.While condition block) = refl
-alt-alike test snapshot own other alike judge place (Action-F.DoWhile block condition) = refl
-alt-alike test snapshot own other alike judge place (Action-F.For start condition step block) = refl
-alt-alike test snapshot own other alike judge place (Action-F.Return v) = refl
-alt-alike test snapshot own other alike judge place Action-F.Stop = refl
-alt-alike test snapshot own other alike judge place (Action-F.Log logged) = refl
-alt-alike test snapshot own other alike judge place (Action-F.Setverdict verdict reasons) = refl
-alt-alike test snapshot own other alike judge place (Action-F.Connect one other-port) = refl
-alt-alike test snapshot own other alike judge place (Action-F.Send send) = refl
-alt-alike test snapshot own other alike judge place (Action-F.StartComponent reference call) = refl
-alt-alike test snapshot own other alike judge place (Action-F.StartTimer name) = refl
-alt-alike test snapshot own other alike judge place (Action-F.StopOf reference) = refl
-alt-alike test snapshot own other alike judge place (Action-F.Activate call) = refl
-alt-alike test snapshot own other alike judge place (Action-F.Deactivate reference) = refl
+alt-alike test snapshot own other alike judge place _ = refl
 
 defaults-alike : (test : Test) (snapshot : Snapshot) (own other : Data) → AreAlike own other → written_defaults test snapshot own ≡ written_defaults test snapshot other
 defaults-alike test snapshot own other alike =

@@ -11,7 +11,7 @@ use Rattle.laws_fine.proofs.Pending.{StaysStored, fine-after-is, all-ready, all-
 use Rattle.laws_fine.proofs.Sound.{IsKeptBySteps, IsSound, IsSoundIn, Stores, consed-at, moved-sound, only-there}
 use Rattle.laws_fine.specs.Fates.{Fate, Faults, Lapses, Takes, by_fate, coarse_from, fate, fate_of, is_choice_of, judged}
 use Rattle.laws_fine.specs.Fine.{Choose, Fine, FineLabel, Plain, Snap, Stored, chosen, fine_next, is_at_alt, stored_at, without_stored}
-use Rattle.laws_fine.proofs.Finding.{found-path, path-is, path-same, some-is}
+use Rattle.laws_steps.proofs.Finding.{found-path, path-is, path-same, some-is}
 use Rattle.laws_fine.proofs.Leading.{ended-run, fine_of, fine_run, leads}
 use Rattle.semantics.specs.Configurations.{Component, Configuration, Ended, Goes, Going, component_at, is_running_state, path_of, same_path}
 use Rattle.semantics.specs.Snapshots.{Snapshot, Test, snapshot_of}

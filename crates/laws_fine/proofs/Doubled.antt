@@ -5,7 +5,7 @@ use Rattle.laws_fine.proofs.Moves.{HasActed, acted}
 use Rattle.laws_fine.proofs.Sound.{consed-at}
 use Rattle.laws_fine.specs.Doubling.{doubled_from, doubled_label}
 use Rattle.laws_fine.specs.Fine.{Choose, FineLabel, Plain, Snap, Stored, behind, choose, chosen, fine_next, is_found, is_of_alt, snap, stands_at_alt, still_stored, stored_at, without_stored}
-use Rattle.laws_fine.proofs.Finding.{found-path, path-same, some-is}
+use Rattle.laws_steps.proofs.Finding.{found-path, path-same, some-is}
 use Rattle.laws_fine.proofs.Leading.{fine_of, fine_run, leads}
 use Rattle.semantics.specs.Configurations.{Component, Configuration, Ended, Goes, Going, component_at, path_of}
 use Rattle.semantics.specs.Runs.{graph_of, option_elim}

@@ -6,7 +6,7 @@ use Rattle.std.specs.Ordering.{is_lt}
 use Rattle.std.proofs.lemmas.List.Elements.{All-cons, All-head, All-nil, All-tail}
 use Rattle.ttcn_syntax.specs.declared.tree.statement.Verdict.{Verdict}
 use Rattle.laws_fine.specs.Fine.{is_found}
-use Rattle.laws_fine.proofs.Finding.{found-map, path-is}
+use Rattle.laws_steps.proofs.Finding.{found-map, path-is}
 use Rattle.semantics.proofs.Pairs.{All-more}
 use Rattle.semantics.specs.Configurations.{Component, Configuration, Created, Data, End, Ended, Frame, Goes, Going, Message, Queue, Running, State, Terminated, component_at, is_running_state, is_terminated_state, overall, path_cmp, path_of, same_path, worse}
 use Rattle.semantics.specs.Snapshots.{Snapshot, Test, front_of, mtc_of, snapshot_of}

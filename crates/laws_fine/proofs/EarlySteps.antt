@@ -7,7 +7,7 @@ use Rattle.laws_fine.proofs.Choices.{IfData, IsOfAlt, IsSafeIn, act_lapses, act-
 use Rattle.laws_fine.proofs.Early.{Pending, early, early-at, hastened, hastened-path, made, made_by, made_if, map-all, map-map, touch-early, with_components}
 use Rattle.laws_fine.proofs.Lapses.{expired-is, expiring, lapsed, timer_in, uncovered-lapses, uncovered-timer}
 use Rattle.laws_fine.specs.Fine.{is_at_alt}
-use Rattle.laws_fine.proofs.Finding.{alive, path-is}
+use Rattle.laws_steps.proofs.Finding.{alive, path-is}
 use Rattle.semantics.proofs.Pairs.{All-more}
 use Rattle.semantics.specs.Configurations.{Component, Data, Goes, Going, component_at, is_running_state, is_terminated_state, path_of, same_path}
 use Rattle.semantics.specs.Snapshots.{Snapshot, Test}

@@ -3,7 +3,7 @@ use Rattle.std.proofs.Common.{◌≡◌, ℕ, true, List, [], ◌∷◌, ◌++�
 use Rattle.std.specs.Option.{option_and_then}
 use Rattle.ttcn_syntax.specs.declared.tree.statement.Verdict.{Verdict}
 use Rattle.ttcn_syntax.specs.declared.tree.statement.Verdict.TheVariants as verdict
-use Rattle.laws_fine.proofs.Finding.{some-is}
+use Rattle.laws_steps.proofs.Finding.{some-is}
 use Rattle.laws_fine.proofs.Leading.{leads}
 use Rattle.laws_fine.proofs.Replays.{leads-replay, replay-leads}
 use Rattle.laws_fine.specs.Verdicts.{EndsWith, HasRun}

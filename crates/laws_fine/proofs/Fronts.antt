@@ -12,7 +12,7 @@ use Rattle.ttcn_syntax.specs.declared.tree.template.MessageTemplate.{MessageTemp
 use Rattle.check_scope.specs.Typings.{same_type}
 use Rattle.check_scope.specs.declared.types.DataType.{DataType}
 use Rattle.check_statements.specs.Messages.{incoming, received_type}
-use Rattle.laws_fine.proofs.Finding.{find-passes}
+use Rattle.laws_steps.proofs.Finding.{find-passes}
 use Rattle.semantics.proofs.Pairs.{pairs-head, pairs-tail}
 use Rattle.semantics.specs.Branches.{Judge, read_by}
 use Rattle.semantics.specs.Configurations.{Data, Message, same_path}

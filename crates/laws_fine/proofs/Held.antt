@@ -1,8 +1,8 @@
 -- What is kept of a stored snapshot: the configuration in which it was taken, and the timers that expired since.
 use Rattle.std.proofs.Common.{◌≡◌, ℕ, Bool, true, false, not, List, [], ◌∷◌, ◌++◌, map, Option, Some, None, IfSome, option_map, refl, sym, ap, subst, ◌∙◌, if◌then◌else◌}
-use Rattle.std.specs.List.{filter, find}
+use Rattle.std.specs.List.{filter}
 use Rattle.laws_fine.proofs.EarlySteps.{behind_expiry}
-use Rattle.laws_fine.proofs.Finding.{alive, found-path, path-is, path-same, some-is, none-if}
+use Rattle.laws_steps.proofs.Finding.{alive, found-path, path-is, path-same, some-is, none-if}
 use Rattle.laws_fine.proofs.Kept.{kept_safe}
 use Rattle.laws_fine.proofs.Lapses.{lapsed, timer_in}
 use Rattle.laws_fine.proofs.Later.{IsChoice, chosen-later, chosen-now}

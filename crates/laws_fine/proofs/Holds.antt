@@ -1,17 +1,15 @@
 -- What a program holds in place of stored snapshots leads where fine labels lead, and tells what came of each choice.
 use Rattle.std.proofs.Common.{◌≡◌, ℕ, ◌+◌, Bool, true, false, ◌&&◌, not, List, [], ◌∷◌, ◌++◌, map, Option, Some, None, IfSome, Result, Ok, Err, is_some, option_map, refl, sym, ap, subst, ◌∙◌, if◌then◌else◌}
-use Rattle.std.specs.List.{filter}
 use Rattle.std.specs.Option.{option_and_then}
 use Rattle.std.proofs.lemmas.List.{append_assoc}
-use Rattle.laws_fine.proofs.Finding.{found-path, some-is}
+use Rattle.laws_steps.proofs.Finding.{found-path, some-is}
 use Rattle.laws_fine.proofs.Held.{AreHeld, AreHeldAs, IsHeld, chosen-held, held-path, none-held, snapped-held, some-kept, stepped-held}
-use Rattle.laws_fine.proofs.Later.{IsChoice}
 use Rattle.laws_fine.proofs.Leading.{fine_of}
 use Rattle.laws_fine.proofs.Moves.{HasChosen, HasMoved, HasSnapped, HasStepped, moves}
 use Rattle.laws_fine.proofs.Pending.{fine-after-is}
-use Rattle.laws_fine.proofs.Sound.{IsKeptBySteps, IsSound, IsSoundIn, moved-sound, only-there, runs_at}
+use Rattle.laws_fine.proofs.Sound.{IsKeptBySteps, IsSound, IsSoundIn, moved-sound, only-there}
 use Rattle.laws_fine.proofs.Told.{told, told_at}
-use Rattle.laws_fine.specs.Fates.{Fate, Lapses, fate_of, judged, judged_in}
+use Rattle.laws_fine.specs.Fates.{Lapses, fate_of, judged, judged_in}
 use Rattle.laws_fine.specs.Fine.{Choose, Fine, FineLabel, Plain, Snap, Stored, behind, choose, chosen, fine_next, fine_replay_from, fine_step_in, is_at_alt, is_of_alt, snap, stands_at_alt, still_stored, stored_at, without_stored}
 use Rattle.laws_fine.specs.Gathering.{Told}
 use Rattle.laws_fine.specs.Holding.{Held, Holding, act_of, act_then, follow, held_at, hold_behind, hold_choose, hold_chosen, hold_fate, hold_from, hold_next, hold_plainly, hold_snap, hold_step, noted, still_held, without_held}

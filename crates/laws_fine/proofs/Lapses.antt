@@ -5,7 +5,8 @@ use Rattle.std.proofs.lemmas.List.{length-append}
 use Rattle.std.proofs.lemmas.Slice.Eq.{bytes_eq-Decides}
 use Rattle.ttcn_syntax.specs.declared.tree.statement.Statement.{Statement}
 use Rattle.value_assignment.specs.Assignment.{assigned}
-use Rattle.laws_fine.proofs.Puts.{entry_other, put_swap}
+use Rattle.laws_fine.proofs.Puts.{put_swap}
+use Rattle.laws_steps.proofs.Entries.{put-other}
 use Rattle.semantics.specs.Branches.{Chance, Way}
 use Rattle.semantics.specs.Configurations.{Data, Frame}
 use Rattle.semantics.specs.Entries.{put}
@@ -327,7 +328,7 @@ timer_to_set false name own = entry own.members.timers name
 set-bears : (x name : List ℕ) (state : TimerState) (frame : Frame) → bytes_eq name x ≡ false → Bears x (λ f. with_timers (put name state f.timers) f) frame
 set-bears x name state frame differs = record {
   lapses = ap (λ timers. with_timers timers frame) (put_swap name x differs state timer.Expired frame.timers);
-  timer = entry_other name x state differs frame.timers;
+  timer = put-other name x state differs frame.timers;
 }
 
 -- a timer that runs isn't one that doesn't

@@ -1,10 +1,9 @@
 -- A choice that is worked out as it was when the component took its snapshot: the timers that expired since then expire behind it.
 use Rattle.std.proofs.Common.{◌≡◌, ℕ, Bool, true, false, List, [], ◌∷◌, ◌++◌, map, Option, Some, None, option_map, refl, sym, ap, subst, ◌∙◌, if◌then◌else◌}
-use Rattle.std.specs.List.{All}
 use Rattle.laws_fine.proofs.Choices.{IfData, IsOfAlt, IsSafeIn, act_lapses, act-of-alt, act-timer, asked}
 use Rattle.laws_fine.proofs.Early.{made-state, made_by, map-all, map-map, with_components}
-use Rattle.laws_fine.proofs.EarlySteps.{IsOnly, behind_expiry, expiry-is, made-lapses, made-path, made_at, outcome-is}
-use Rattle.laws_fine.proofs.Finding.{alive, found-map, path-same}
+use Rattle.laws_fine.proofs.EarlySteps.{IsOnly, expiry-is, made-lapses, made-path, made_at, outcome-is}
+use Rattle.laws_steps.proofs.Finding.{alive, found-map, path-same}
 use Rattle.laws_fine.proofs.Lapses.{lapsed, timer_in, uncovered-timer}
 use Rattle.laws_fine.proofs.Sound.{asked-fate}
 use Rattle.laws_fine.specs.Fates.{fate_of}
@@ -15,7 +14,7 @@ use Rattle.semantics.specs.Configurations.{Component, Configuration, Data, Goes,
 use Rattle.semantics.specs.Runs.{option_elim}
 use Rattle.semantics.specs.Snapshots.{Snapshot, Test}
 use Rattle.semantics.specs.Statements.{Act, Connects, Continues, Creates, Errs, Removes, Sends, Starts, Stops, Waits, Worsens, act}
-use Rattle.semantics.specs.Steps.{Expiry, Label, apply, exchanged, next, settled, touch, unless_terminated}
+use Rattle.semantics.specs.Steps.{Expiry, Label, apply, exchanged, settled, touch, unless_terminated}
 use Rattle.ttcn_values.specs.declared.frame.TimerState.TheVariants as timer
 use Rattle.ttcn_values.specs.declared.path.Path.{Path}
 

@@ -5,7 +5,6 @@ pub mod Doubled
 pub mod Early
 pub mod EarlySteps
 pub mod Ends
-pub mod Finding
 pub mod Fronts
 pub mod Held
 pub mod Holds

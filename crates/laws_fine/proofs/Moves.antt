@@ -4,7 +4,7 @@ use Rattle.std.specs.Option.{option_and_then}
 use Rattle.laws_fine.proofs.EarlySteps.{behind_expiry}
 use Rattle.laws_fine.proofs.Lapses.{expired-is, expiring, lapsed, timer_in}
 use Rattle.laws_fine.specs.Fine.{Choose, Fine, FineLabel, Plain, Snap, Stored, behind, choose, chosen, fine_step_in, is_at_alt, is_of_alt, snap, stands_at_alt, stored_at, without_stored}
-use Rattle.laws_fine.proofs.Finding.{some-is}
+use Rattle.laws_steps.proofs.Finding.{some-is}
 use Rattle.semantics.specs.Configurations.{Component, Configuration, Goes, Going, component_at, is_running_state, path_of}
 use Rattle.semantics.specs.Snapshots.{Snapshot, Test, snapshot_of}
 use Rattle.semantics.specs.Statements.{act}

@@ -193,26 +193,7 @@ alt-from test snapshot own judge place (Action-F.«Action::Event» event) =
     one (IsFrom (Action-F.«Action::Event» event) judge) (open_branch test judge place (Some event) []) (inl (refl, refl, refl))
 alt-from test snapshot own judge place (Action-F.«Action::Call» call) =
     alt-call-from (Action-F.«Action::Call» call) test snapshot own judge call (altstep_meant (module_names test.definitions call.name))
-alt-from test snapshot own judge place (Action-F.Variables vs) = tt
-alt-from test snapshot own judge place (Action-F.Constants cs) = tt
-alt-from test snapshot own judge place (Action-F.Timers timers) = tt
-alt-from test snapshot own judge place (Action-F.Assign a) = tt
-alt-from test snapshot own judge place Action-F.Repeat = tt
-alt-from test snapshot own judge place (Action-F.If conditionals last) = tt
-alt-from test snapshot own judge place (Action-F.While condition block) = tt
-alt-from test snapshot own judge place (Action-F.DoWhile block condition) = tt
-alt-from test snapshot own judge place (Action-F.For start condition step block) = tt
-alt-from test snapshot own judge place (Action-F.Return v) = tt
-alt-from test snapshot own judge place Action-F.Stop = tt
-alt-from test snapshot own judge place (Action-F.Log logged) = tt
-alt-from test snapshot own judge place (Action-F.Setverdict verdict reasons) = tt
-alt-from test snapshot own judge place (Action-F.Connect one other) = tt
-alt-from test snapshot own judge place (Action-F.Send send) = tt
-alt-from test snapshot own judge place (Action-F.StartComponent reference call) = tt
-alt-from test snapshot own judge place (Action-F.StartTimer name) = tt
-alt-from test snapshot own judge place (Action-F.StopOf reference) = tt
-alt-from test snapshot own judge place (Action-F.Activate call) = tt
-alt-from test snapshot own judge place (Action-F.Deactivate reference) = tt
+alt-from test snapshot own judge place _ = tt
 
 defaults-from : (does : Does) (test : Test) (snapshot : Snapshot) (own : Data) (judge : Judge) → All (IsFrom does judge) (written_defaults test snapshot own)
 defaults-from does test snapshot own judge =

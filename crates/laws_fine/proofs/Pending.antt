@@ -10,7 +10,7 @@ use Rattle.laws_fine.proofs.Sound.{IsKeptBySteps, IsSound, IsSoundIn, Stores, co
 use Rattle.laws_fine.proofs.Stays.{each-found}
 use Rattle.laws_fine.specs.Fates.{Fate, Faults, Lapses, Takes, fate, fate_of, fine_after, is_choice_of, judged, judged_in}
 use Rattle.laws_fine.specs.Fine.{Choose, Fine, FineLabel, Plain, Snap, Stored, behind, chosen, fine_next, is_found, stands_at_alt, still_stored, stored_at, without_stored}
-use Rattle.laws_fine.proofs.Finding.{found-path, path-is, path-same, some-is, none-if}
+use Rattle.laws_steps.proofs.Finding.{found-path, path-is, path-same, some-is, none-if}
 use Rattle.laws_fine.proofs.Leading.{ended-run, fine_of, fine_run}
 use Rattle.semantics.proofs.Pairs.{All-more}
 use Rattle.semantics.specs.Configurations.{Component, Configuration, Ended, Goes, Going, component_at, is_running_state, path_of, same_path}

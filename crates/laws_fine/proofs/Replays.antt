@@ -11,7 +11,7 @@ use Rattle.laws_fine.proofs.Stays.{AscendsIn}
 use Rattle.laws_fine.specs.Doubling.{doubled}
 use Rattle.laws_fine.specs.Fates.{Fate, Faults, Lapses, Takes, by_fate, coarse, coarse_from, fate, fine_after}
 use Rattle.laws_fine.specs.Fine.{Choose, Fine, FineLabel, Plain, Snap, fine_next, fine_replay, fine_replay_from, fine_start}
-use Rattle.laws_fine.proofs.Finding.{some-is}
+use Rattle.laws_steps.proofs.Finding.{some-is}
 use Rattle.laws_fine.proofs.Leading.{fine_of, fine_run, leads}
 use Rattle.semantics.specs.Configurations.{Component, Configuration, Ended, Goes, Going, path_of}
 use Rattle.semantics.specs.Runs.{option_elim, replay, replay_from, start}

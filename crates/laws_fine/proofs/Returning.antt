@@ -4,7 +4,7 @@ use Rattle.std.specs.Option.{option_and_then}
 use Rattle.ttcn_syntax.specs.declared.tree.statement.Verdict.TheVariants as verdict
 use Rattle.laws_fine.proofs.Coarse.{faulting, lapsing}
 use Rattle.laws_fine.proofs.Doubled.{choose-next, plain-next, snap-next, stands-found, stored_of}
-use Rattle.laws_fine.proofs.Finding.{found-path, path-same, some-is}
+use Rattle.laws_steps.proofs.Finding.{found-path, path-same, some-is}
 use Rattle.laws_fine.proofs.Leading.{fine_of, leads}
 use Rattle.laws_fine.proofs.Moves.{HasActed, acted}
 use Rattle.laws_fine.proofs.Pending.{fate-here, fine-after-is}

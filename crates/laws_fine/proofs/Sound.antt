@@ -9,11 +9,12 @@ use Rattle.laws_fine.proofs.Fronts.{HasMessage, PortsDiffer}
 use Rattle.laws_fine.proofs.Kept.{AreLater, IsApart, IsKept, IsLater, kept_safe}
 use Rattle.laws_fine.proofs.Lapses.{at_call, call-runs, lapse, lapsed, timer_in, timer_in_call, zero-runs}
 use Rattle.laws_fine.proofs.Moves.{HasActed, HasChosen, HasExpired, HasMoved, HasSnapped, acted, has_expired}
-use Rattle.laws_fine.proofs.Puts.{entry-own, entry_other}
+use Rattle.laws_steps.proofs.Entries.{put-other, put-own}
+use Rattle.laws_steps.proofs.Found.{some-of}
 use Rattle.laws_fine.proofs.Stays.{Ascends, AscendsIn, IsSteady, Stays, apply-ascends, apply-stays, each-found, touch-ascends, touched-at}
 use Rattle.laws_fine.specs.Fates.{fate_of, is_choice_of}
 use Rattle.laws_fine.specs.Fine.{Choose, Fine, FineLabel, Plain, Snap, Stored, chosen, is_at_alt, is_found, is_of_alt, stands_at_alt, still_stored, stored_at, without_stored}
-use Rattle.laws_fine.proofs.Finding.{alive, found-path, path-is, path-same, some-is, none-if}
+use Rattle.laws_steps.proofs.Finding.{alive, found-path, path-is, path-same, some-is, none-if}
 use Rattle.semantics.proofs.Pairs.{All-more}
 use Rattle.semantics.specs.Configurations.{Component, Configuration, Data, Ended, Frame, Goes, Going, Queue, component_at, is_running_state, is_terminated_state, path_of, same_path}
 use Rattle.semantics.specs.Entries.{Entries, put}
@@ -142,8 +143,8 @@ put-later name timers runs q = told (bytes_eq name q) refl
     told : (b : Bool) → bytes_eq name q ≡ b → IsLater (entry timers q) (entry (put name timer.Expired timers) q)
     told true is =
         let same : name ≡ q = (bytes_eq-Decides name q).0 is in
-        inr (subst (λ m. entry timers m ≡ Some timer.Running) same runs, subst (λ m. entry (put name timer.Expired timers) m ≡ Some timer.Expired) same (entry-own name timer.Expired timers))
-    told false is = inl (entry_other name q timer.Expired is timers)
+        inr (subst (λ m. entry timers m ≡ Some timer.Running) same runs, subst (λ m. entry (put name timer.Expired timers) m ≡ Some timer.Expired) same (put-own name timer.Expired timers))
+    told false is = inl (put-other name q timer.Expired is timers)
 
 same-later : (timers : Entries TimerState) → AreLater timers timers
 same-later timers q = inl refl
@@ -225,9 +226,6 @@ stays-follows p x (Goes c) stays = record { y = stays.y; there = stays.there; fo
 settled-stays : (p : Path) (x : Component) (o : Outcome Configuration) → IfYields o (Stays p x) → FollowsTo p x (settled o)
 settled-stays p x (Yields d) stays = stays-follows p x d stays
 settled-stays p x (Fails why) stays = tt
-
-some-of : {A : Type 0} (P : A → Type 0) (o : Option A) (a : A) → o ≡ Some a → IfSome o P → P a
-some-of P o a e is = subst (λ x. IfSome x P) e is
 
 -- another component's step
 others-follow : (test : Test) (c : Going) (p : Path) (x y : Component) (a : Act) (o : Outcome Configuration) → component_at c p ≡ Some x → is_running_state x.state ≡ true → (p ≡ path_of y → ⊥) → apply test c y.itself a ≡ Some o

@@ -5,13 +5,13 @@ use Rattle.std.specs.declared.cmp.Ordering.TheVariants.{Less, Equal}
 use Rattle.std.proofs.lemmas.Cmp.{nat_list_cmp_total, tied_itself}
 use Rattle.std.proofs.lemmas.List.Elements.{All-cons, All-nil}
 use Rattle.laws_fine.proofs.Early.{HasFront}
-use Rattle.laws_fine.proofs.Finding.{found-map, found-path, path-is, path-same, some-is}
+use Rattle.laws_steps.proofs.Finding.{insert-found, found-map, found-path, path-is, path-same, some-is}
 use Rattle.laws_order.proofs.Changes.{Precedes, insert-ordered, none-found}
 use Rattle.semantics.proofs.Pairs.{pairs-head, pairs-map, pairs-more, pairs-tail}
 use Rattle.semantics.specs.Configurations.{Component, Configuration, Created, Data, End, Ended, Frame, Goes, Going, Message, Queue, Running, State, Terminated, component_at, is_running_state, is_terminated_state, overall, path_cmp, path_of, same_path}
 use Rattle.semantics.specs.Snapshots.{Test, front_of, mtc_of}
 use Rattle.semantics.specs.Statements.{Act, Connects, Continues, Creates, Errs, Removes, Sends, Starts, Stops, Waits, Worsens}
-use Rattle.semantics.specs.Steps.{addressed, apply, at_queue, begin, change_queue, connect, connection, deliver, ending, insert, is_before, is_double, is_terminated_at, peers, send, settle, start_component, start_created, start_in, touch, unless_terminated, with_connection, with_data, with_new, with_state, with_verdict, without_first}
+use Rattle.semantics.specs.Steps.{addressed, apply, at_queue, begin, change_queue, connect, connection, deliver, ending, insert, is_double, is_terminated_at, peers, send, settle, start_component, start_created, start_in, touch, unless_terminated, with_connection, with_data, with_new, with_state, with_verdict, without_first}
 use Rattle.ttcn_values.specs.Outcomes.{Fails, IfYields, Outcome, Yields, dynamic_error}
 use Rattle.ttcn_values.specs.declared.path.Path.{Path}
 use Rattle.ttcn_values.specs.declared.value.ComponentId.{ComponentId}
@@ -123,15 +123,6 @@ new-differs c p x new there none = told (same_path (path_of new) p) refl
     told : (b : Bool) → same_path (path_of new) p ≡ b → b ≡ false
     told true is = let no : true ≡ false = sym (ap is_some there) ∙ ap (λ q. is_some (component_at c q)) (sym (path-is (path_of new) p is)) ∙ none in no
     told false is = refl
-
-insert-first : (p : Path) (new x : Component) (xs : List Component) (b : Bool) → same_path (path_of new) p ≡ false → find (λ y. same_path (path_of y) p) (insert new xs) ≡ find (λ y. same_path (path_of y) p) xs
-    → find (λ y. same_path (path_of y) p) (if b then new ∷ x ∷ xs else x ∷ insert new xs) ≡ find (λ y. same_path (path_of y) p) (x ∷ xs)
-insert-first p new x xs true other e = ap (λ b. if b then Some new else find (λ y. same_path (path_of y) p) (x ∷ xs)) other
-insert-first p new x xs false other e = ap (λ o. if same_path (path_of x) p then Some x else o) e
-
-insert-found : (p : Path) (new : Component) → same_path (path_of new) p ≡ false → (xs : List Component) → find (λ y. same_path (path_of y) p) (insert new xs) ≡ find (λ y. same_path (path_of y) p) xs
-insert-found p new other [] = ap (λ b. if b then Some new else None) other
-insert-found p new other (x ∷ xs) = insert-first p new x xs (is_before new x) other (insert-found p new other xs)
 
 new-at : (c : Going) (p : Path) (x new : Component) (b : Bool) → is_some (component_at c (path_of new)) ≡ b → component_at c p ≡ Some x
     → find (λ y. same_path (path_of y) p) (if b then c.components else insert new c.components) ≡ Some x

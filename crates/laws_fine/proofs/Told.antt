@@ -1,17 +1,16 @@
 -- The run that a fine run stands for, by what came of each choice: the fate of a snapshot is that of the first later choice of its component.
 use Rattle.std.proofs.Common.{◌≡◌, Bool, true, false, List, [], ◌∷◌, Option, Some, None, inl, inr, refl, sym, ap, subst, ◌∙◌, if◌then◌else◌}
 use Rattle.std.specs.Option.{option_and_then}
-use Rattle.laws_fine.proofs.Finding.{found-path, path-is, path-same}
+use Rattle.laws_steps.proofs.Finding.{found-path, path-is, path-same}
 use Rattle.laws_fine.proofs.Leading.{fine_of, fine_run}
 use Rattle.laws_fine.proofs.Moves.{HasSnapped, moves}
 use Rattle.laws_fine.proofs.Pending.{StaysStored, fate-here, fate-on, fine-after-is, stored-stays, touches, unstored}
-use Rattle.laws_fine.specs.Fates.{Fate, Faults, Lapses, Takes, by_fate, coarse_from, fate, fine_after, is_choice_of, judged_in}
+use Rattle.laws_fine.specs.Fates.{Fate, Lapses, by_fate, coarse_from, fate, fine_after, is_choice_of, judged_in}
 use Rattle.laws_fine.specs.Fine.{Choose, Fine, FineLabel, Plain, Snap, Stored, fine_next, stored_at}
 use Rattle.laws_fine.specs.Gathering.{Told, first_by, first_told, gathered}
 use Rattle.semantics.specs.Configurations.{Configuration, Ended, Goes, Going, same_path}
 use Rattle.semantics.specs.Runs.{option_elim}
 use Rattle.semantics.specs.Snapshots.{Snapshot, Test}
-use Rattle.semantics.specs.Steps.{Label}
 use Rattle.ttcn_values.specs.declared.path.Path.{Path}
 
 -- what comes of the choice that a label makes; any other label makes none

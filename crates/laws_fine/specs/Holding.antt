@@ -1,5 +1,5 @@
 -- Fine configurations as a program may hold them: in place of a stored snapshot the configuration in which it was taken, and the expiries of its component's timers since.
-use Rattle.std.specs.Prelude.{ℕ, ◌+◌, Bool, true, false, ◌&&◌, not, List, [], ◌∷◌, ◌++◌, map, Option, Some, None, is_some, Result, Ok, Err, if◌then◌else◌}
+use Rattle.std.specs.Prelude.{ℕ, ◌+◌, ◌&&◌, not, List, [], ◌∷◌, ◌++◌, map, Option, Some, None, is_some, Result, Ok, Err, if◌then◌else◌}
 use Rattle.std.specs.List.{filter, find}
 use Rattle.std.specs.Option.{option_and_then, option_map}
 use Rattle.laws_fine.specs.Fates.{Fate, Lapses, fate_of}

@@ -1,7 +1,6 @@
 -- What is done among the components leaves the order.
-use Rattle.std.proofs.Common.{◌≡◌, ℕ, ◌+◌, Bool, true, false, ◌||◌, List, [], ◌∷◌, ◌++◌, map, Option, Some, None, IfSome, is_some, length, nat_eq, option_map, refl, sym, ap, subst, ◌∙◌, if◌then◌else◌}
+use Rattle.std.proofs.Common.{◌≡◌, ℕ, ◌+◌, Bool, true, false, List, [], ◌∷◌, ◌++◌, map, Option, Some, None, IfSome, is_some, refl, sym, ap, subst, ◌∙◌, if◌then◌else◌}
 use Rattle.std.specs.List.{All, AllPairs, filter, find}
-use Rattle.std.specs.Option.{option_and_then}
 use Rattle.std.specs.Ordering.{is_eq, is_lt, ordering_reverse}
 use Rattle.std.specs.declared.cmp.Ordering.{Ordering}
 use Rattle.std.specs.declared.cmp.Ordering.TheVariants.{Less, Equal, Greater}
@@ -10,21 +9,24 @@ use Rattle.std.proofs.lemmas.List.Kept.{AllPairs-cons, AllPairs-filter}
 use Rattle.std.proofs.lemmas.Map.Text.{is_eq-slice_cmp}
 use Rattle.ttcn_syntax.specs.declared.tree.statement.Verdict.{Verdict}
 use Rattle.laws_order.proofs.Asked.{IsAskedInOrder, asked-ordered}
+use Rattle.laws_steps.proofs.Applying.{Anyhow, Applies, IfGoes, Leads, applied}
+use Rattle.laws_steps.proofs.Expiring.{KeepsTimers, calls-expire, data-expires, frame-expires, remains-expired}
+use Rattle.laws_steps.proofs.Found.{found-each, insert-each, new-each, some-of}
+use Rattle.laws_steps.proofs.Running.{Steps}
 use Rattle.laws_order.proofs.Orders.{connection_total, path_total}
 use Rattle.laws_order.proofs.Puts.{put-ordered}
 use Rattle.laws_order.proofs.Stored.{IsDataInOrder, IsFrameInOrder, last-ordered}
 use Rattle.laws_order.proofs.Unmarked.{HasNone, LastHasNone, none-uncovered}
 use Rattle.semantics.proofs.Pairs.{All-more, pairs-append, pairs-head, pairs-map, pairs-more, pairs-nil, pairs-tail}
-use Rattle.semantics.specs.Configurations.{Component, Configuration, Connection, Created, Data, End, Ended, Frame, Goes, Going, Message, Running, State, Terminated, component_at, is_running_state, is_terminated_state, overall, path_cmp, path_of, same_path}
+use Rattle.semantics.specs.Configurations.{Component, Configuration, Connection, Data, Frame, Going, Message, State, Terminated, component_at, is_terminated_state, path_cmp, path_of, same_path}
 use Rattle.semantics.specs.Entries.{Entries}
 use Rattle.semantics.specs.Order.{Ascends, HasNamesInOrder}
-use Rattle.semantics.specs.Snapshots.{Snapshot, Test, mtc_of, snapshot_of}
-use Rattle.semantics.specs.Statements.{Act, Connects, Continues, Creates, Errs, Removes, Sends, Starts, Stops, Waits, Worsens, act}
-use Rattle.semantics.specs.Steps.{Expiry, Label, Statement, addressed, add_connection, apply, at_queue, begin, connect, connection, connection_cmp, deliver, ending, exchanged, expire_in, expired, expired_call, expired_frame, expiry_step, insert, is_before, is_double, is_terminated_at, peers, send, settle, start_component, start_created, start_in, statement_step, step_in, touch, unless_terminated, with_connection, with_data, with_new, with_state, with_verdict, without_first}
-use Rattle.semantics.specs.Storing.{with_calls, with_members, with_remaining, with_timers}
+use Rattle.semantics.specs.Snapshots.{Snapshot, Test, snapshot_of}
+use Rattle.semantics.specs.Statements.{act}
+use Rattle.semantics.specs.Steps.{add_connection, apply, at_queue, begin, connection, connection_cmp, exchanged, expire_in, expired, expired_call, expired_frame, insert, settle, touch, unless_terminated, with_connection, with_data, with_new, with_state, with_verdict, without_first}
+use Rattle.semantics.specs.Storing.{with_remaining}
 use Rattle.semantics.specs.Taking.{without_marks}
 use Rattle.ttcn_values.specs.Frames.{entry}
-use Rattle.ttcn_values.specs.Outcomes.{Fails, IfYields, Outcome, Yields, dynamic_error}
 use Rattle.ttcn_values.specs.declared.frame.TimerState.{TimerState}
 use Rattle.ttcn_values.specs.declared.frame.TimerState.TheVariants as timer
 use Rattle.ttcn_values.specs.declared.path.Path.{Path}
@@ -129,14 +131,6 @@ settle-ordered c path n own is all = touch-ordered c path (with_data own) (data-
 
 -- ---- new components
 
-pub insert-each : (P : Component → Type 0) (new : Component) → P new → (xs : List Component) → All P xs → All P (insert new xs)
-insert-each P new is [] all = All-cons P new [] is (All-nil P)
-insert-each P new is (x ∷ xs) all = insert-each-first (is_before new x) (insert-each P new is xs (All-tail P x xs all))
-  where
-    insert-each-first : (b : Bool) → All P (insert new xs) → All P (if b then new ∷ x ∷ xs else x ∷ insert new xs)
-    insert-each-first true others = All-cons P new (x ∷ xs) is all
-    insert-each-first false others = All-cons P x (insert new xs) (All-head P x xs all) others
-
 -- no other component has the path of the new one
 abbrev Differs : Component → Component → Type 0
 Differs new x = same_path (path_of x) (path_of new) ≡ false
@@ -174,14 +168,10 @@ new-components : (new : Component) (c : Going) (b : Bool) → is_some (component
 new-components new c true is ordered = ordered
 new-components new c false is ordered = insert-ordered new c.components (none-found (λ x. same_path (path_of x) (path_of new)) c.components is) ordered
 
-new-within : (new : Component) (c : Going) (b : Bool) → IsComponentInOrder new → All IsComponentInOrder c.components → All IsComponentInOrder (if b then c.components else insert new c.components)
-new-within new c true is all = all
-new-within new c false is all = insert-each IsComponentInOrder new is c.components all
-
 new-ordered : (new : Component) (c : Going) → IsComponentInOrder new → IsGoingInOrder c → IsGoingInOrder (with_new new c)
 new-ordered new c fine is = record {
   components = new-components new c (is_some (component_at c (path_of new))) refl is.components;
-  within = new-within new c (is_some (component_at c (path_of new))) fine is.within;
+  within = new-each IsComponentInOrder new c (is_some (component_at c (path_of new))) fine is.within;
   connections = is.connections;
 }
 
@@ -215,38 +205,7 @@ connection-ordered new c is = record { components = is.components; within = is.w
 -- ---- what a component asks for
 
 abbrev pub IsConfigurationInOrder : Configuration → Type 0
-IsConfigurationInOrder (Ended v) = Unit {0}
-IsConfigurationInOrder (Goes c) = IsGoingInOrder c
-
-abbrev pub LeadsToOrder : Option (Outcome Configuration) → Type 0
-LeadsToOrder o = IfSome o (λ out. IfYields out IsConfigurationInOrder)
-
-ending-ordered : (o : Outcome Going) → IfYields o IsGoingInOrder → IfYields (ending o) IsConfigurationInOrder
-ending-ordered (Yields c) is = is
-ending-ordered (Fails why) is = tt
-
-deliver-ordered : (c : Going) (message : Message) (ends : List End) → IsGoingInOrder c → IfYields (deliver c message ends) IsGoingInOrder
-deliver-ordered c message [] is = tt
-deliver-ordered c message (e ∷ []) is =
-    touch-ordered c e.component (at_queue e.port (λ messages. messages ++ message ∷ [])) (queue-gentle e.port (λ messages. messages ++ message ∷ [])) is
-deliver-ordered c message (d ∷ e ∷ ends) is = tt
-
-start-ordered-in : (c : Going) (path : Path) (frame : Frame) (state : State) → IsFrameInOrder frame → HasNone frame.remaining → IsGoingInOrder c → IfYields (start_in c path frame state) IsGoingInOrder
-start-ordered-in c path frame Created fine none is = touch-ordered c path (begin frame) (begin-gentle frame fine none) is
-start-ordered-in c path frame Running fine none is = tt
-start-ordered-in c path frame Terminated fine none is = tt
-
-start-ordered : (c : Going) (path : Path) (frame : Frame) (found : Option Component) → IsFrameInOrder frame → HasNone frame.remaining → IsGoingInOrder c → IfYields (start_created c path frame found) IsGoingInOrder
-start-ordered c path frame None fine none is = tt
-start-ordered c path frame (Some component) fine none is = start-ordered-in c path frame component.state fine none is
-
-stop-ordered : (b : Bool) (c : Going) (path : Path) → IsGoingInOrder c → IsConfigurationInOrder (if b then Ended (overall c) else Goes (touch c path (with_state Terminated)))
-stop-ordered true c path is = tt
-stop-ordered false c path is = touch-ordered c path (with_state Terminated) (state-gentle Terminated) is
-
-connect-ordered : (b : Bool) (c : Going) (d e : End) → IsGoingInOrder c → IfYields (if b then dynamic_error else Yields (with_connection (connection d e) c)) IsGoingInOrder
-connect-ordered true c d e is = tt
-connect-ordered false c d e is = connection-ordered (connection d e) c is
+IsConfigurationInOrder = IfGoes IsGoingInOrder
 
 new-fine : (new : Component) → IsFrameInOrder new.own.members → new.own.calls ≡ [] → IsComponentInOrder new
 new-fine new members calls = record {
@@ -254,26 +213,25 @@ new-fine new members calls = record {
   marks = subst LastHasNone (sym calls) tt;
 }
 
-apply-ordered : (test : Test) (c : Going) (itself asking : ComponentId) (n : ℕ) (asked : Act) → IsGoingInOrder c → IsAskedInOrder asking n asked → LeadsToOrder (apply test c itself asked)
-apply-ordered test c itself asking n Waits is fine = tt
-apply-ordered test c itself asking n (Errs why) is fine = tt
-apply-ordered test c itself asking n (Continues own) is fine = settle-ordered c itself.path n own fine is
-apply-ordered test c itself asking n (Worsens v own) is fine = touch-ordered (settle c itself.path own) itself.path (with_verdict v) (verdict-gentle v) (settle-ordered c itself.path n own fine is)
-apply-ordered test c itself asking n (Removes port own) is fine = touch-ordered (settle c itself.path own) itself.path (at_queue port without_first) (queue-gentle port without_first) (settle-ordered c itself.path n own fine is)
-apply-ordered test c itself asking n (Sends port to v own) is fine =
-    ending-ordered (send (settle c itself.path own) itself port to v)
-    (deliver-ordered (settle c itself.path own) (record { value = v; sender = itself }) (filter (addressed to) (peers (settle c itself.path own) (record { component = itself.path; port = port })))
-    (settle-ordered c itself.path n own fine is))
-apply-ordered test c itself asking n (Creates new own) is fine =
-    new-ordered new (settle c itself.path own) (new-fine new fine.1 fine.2) (settle-ordered c itself.path (n + 1) own fine.4 is)
-apply-ordered test c itself asking n (Starts path frame own) is fine =
-    ending-ordered (start_component (settle c itself.path own) path frame)
-    (start-ordered (settle c itself.path own) path frame (component_at (settle c itself.path own) path) fine.0 fine.1 (settle-ordered c itself.path n own fine.2 is))
-apply-ordered test c itself asking n (Stops path own) is fine = stop-ordered (same_path path (mtc_of test).path) (settle c itself.path own) path (settle-ordered c itself.path n own fine is)
-apply-ordered test c itself asking n (Connects d e own) is fine =
-    ending-ordered (connect (settle c itself.path own) d e)
-    (connect-ordered (is_terminated_at (settle c itself.path own) d.component || is_terminated_at (settle c itself.path own) e.component || is_double (settle c itself.path own) d e || is_double (settle c itself.path own) e d)
-    (settle c itself.path own) d e (settle-ordered c itself.path n own fine is))
+-- a component that has created so many others asks for it, by whatever snapshot
+applies : (c : Going) (itself asking : ComponentId) (n : ℕ) → IsGoingInOrder c → Applies Anyhow (IsAskedInOrder asking n) IsGoingInOrder c itself
+applies c itself asking n is = record {
+  fails = λ why asks. tt;
+  errs = tt;
+  continues = λ own asks. settled n own asks;
+  worsens = λ v own asks. touch-ordered (settle c itself.path own) itself.path (with_verdict v) (verdict-gentle v) (settled n own asks);
+  removes = λ port own asks. touch-ordered (settle c itself.path own) itself.path (at_queue port without_first) (queue-gentle port without_first) (settled n own asks);
+  delivers = λ port to v own e asks. touch-ordered (settle c itself.path own) e.component (at_queue e.port (λ messages. messages ++ record { value = v; sender = itself } ∷ []))
+      (queue-gentle e.port (λ messages. messages ++ record { value = v; sender = itself } ∷ [])) (settled n own asks);
+  creates = λ new own asks. new-ordered new (settle c itself.path own) (new-fine new asks.1 asks.2) (settled (n + 1) own asks.4);
+  starts = λ path frame own asks. touch-ordered (settle c itself.path own) path (begin frame) (begin-gentle frame asks.0 asks.1) (settled n own asks.2);
+  lacks = λ path frame own asks found. tt;
+  stops = λ path own asks. touch-ordered (settle c itself.path own) path (with_state Terminated) (state-gentle Terminated) (settled n own asks);
+  connects = λ d e own asks. connection-ordered (connection d e) (settle c itself.path own) (settled n own asks);
+}
+  where
+    settled : (m : ℕ) (own : Data) → IsDataInOrder m own → IsGoingInOrder (settle c itself.path own)
+    settled m own also = settle-ordered c itself.path m own also is
 
 -- ---- timers
 
@@ -283,110 +241,56 @@ expire-ordered timers name (Some timer.Inactive) ordered = tt
 expire-ordered timers name (Some timer.Expired) ordered = tt
 expire-ordered timers name None ordered = tt
 
--- a frame with other timers, in which the same remains
-abbrev IsExpiredOf : Frame → Frame → Type 0
-IsExpiredOf frame new = IsFrameInOrder new × (new.remaining ≡ frame.remaining)
-
-expired-map : (frame : Frame) (o : Option (Entries TimerState)) → IsFrameInOrder frame → IfSome o HasNamesInOrder → IfSome (option_map (λ timers. with_timers timers frame) o) (IsExpiredOf frame)
-expired-map frame None is all = tt
-expired-map frame (Some timers) is all = (record { values = is.values; timers = all }, refl)
-
-frame-expired : (name : List ℕ) (frame : Frame) → IsFrameInOrder frame → IfSome (expired_frame name frame) (IsExpiredOf frame)
-frame-expired name frame is =
-    expired-map frame (expire_in frame.timers name (entry frame.timers name)) is (expire-ordered frame.timers name (entry frame.timers name) is.timers)
-
--- frames of which one may have other timers
-abbrev pub AreExpiredOf : List Frame → List Frame → Type 0
-AreExpiredOf calls new = All IsFrameInOrder new × (LastHasNone calls → LastHasNone new)
-
-first-expired : (frame : Frame) (frames : List Frame) (o : Option Frame) → All IsFrameInOrder frames → IfSome o (IsExpiredOf frame) → IfSome (option_map (λ changed. changed ∷ frames) o) (AreExpiredOf (frame ∷ frames))
-first-expired frame frames None all found = tt
-first-expired frame frames (Some changed) all found = (All-cons IsFrameInOrder changed frames found.0 all, λ marks. subst HasNone (sym found.1) marks)
-
-rest-expired : (frame : Frame) (frames : List Frame) (o : Option (List Frame)) → IsFrameInOrder frame → IfSome o (AreExpiredOf frames) → IfSome (option_map (λ changed. frame ∷ changed) o) (AreExpiredOf (frame ∷ frames))
-rest-expired frame frames None is found = tt
-rest-expired frame frames (Some changed) is found = (All-cons IsFrameInOrder frame changed is found.0, λ marks. marks)
-
-call-expired-if : (name : List ℕ) (frame : Frame) (frames : List Frame) (b : Bool) (others : Option (List Frame)) → All IsFrameInOrder (frame ∷ frames) → IfSome others (AreExpiredOf frames)
-    → IfSome (if b then option_map (λ changed. changed ∷ frames) (expired_frame name frame) else option_map (λ changed. frame ∷ changed) others) (AreExpiredOf (frame ∷ frames))
-call-expired-if name frame frames true others all found =
-    first-expired frame frames (expired_frame name frame) (All-tail IsFrameInOrder frame frames all) (frame-expired name frame (All-head IsFrameInOrder frame frames all))
-call-expired-if name frame frames false others all found = rest-expired frame frames others (All-head IsFrameInOrder frame frames all) found
-
-calls-expired : (number : ℕ) (name : List ℕ) (calls : List Frame) → All IsFrameInOrder calls → IfSome (expired_call number name calls) (AreExpiredOf calls)
-calls-expired number name [] all = tt
-calls-expired number name (frame ∷ frames) all =
-    call-expired-if name frame frames (nat_eq number (length frames + 1)) (expired_call number name frames) all (calls-expired number name frames (All-tail IsFrameInOrder frame frames all))
+frame-keeps : KeepsTimers IsFrameInOrder
+frame-keeps name frame timers changed is = record {
+  values = is.values;
+  timers = some-of HasNamesInOrder (expire_in frame.timers name (entry frame.timers name)) timers changed (expire-ordered frame.timers name (entry frame.timers name) is.timers);
+}
 
 -- data of which one frame may have other timers
 pub record AreDataExpired (n : ℕ) (new : Data) : Type 0 where
   pub own : IsDataInOrder n new
   pub marks : LastHasNone new.calls
 
-members-expired : (n : ℕ) (own : Data) (o : Option Frame) → IsDataInOrder n own → LastHasNone own.calls → IfSome o (IsExpiredOf own.members) → IfSome (option_map (λ members. with_members members own) o) (AreDataExpired n)
-members-expired n own None is marks found = tt
-members-expired n own (Some members) is marks found = record { own = record { members = found.0; calls = is.calls; count = is.count }; marks = marks }
-
-with-calls-expired : (n : ℕ) (own : Data) (o : Option (List Frame)) → IsDataInOrder n own → LastHasNone own.calls → IfSome o (AreExpiredOf own.calls) → IfSome (option_map (λ calls. with_calls calls own) o) (AreDataExpired n)
-with-calls-expired n own None is marks found = tt
-with-calls-expired n own (Some calls) is marks found = record { own = record { members = is.members; calls = found.0; count = is.count }; marks = found.1 marks }
-
-expired-if : (n number : ℕ) (name : List ℕ) (own : Data) (b : Bool) → IsDataInOrder n own → LastHasNone own.calls
-    → IfSome (if b then option_map (λ members. with_members members own) (expired_frame name own.members) else option_map (λ calls. with_calls calls own) (expired_call number name own.calls)) (AreDataExpired n)
-expired-if n number name own true is marks = members-expired n own (expired_frame name own.members) is marks (frame-expired name own.members is.members)
-expired-if n number name own false is marks = with-calls-expired n own (expired_call number name own.calls) is marks (calls-expired number name own.calls is.calls)
-
 pub expired-ordered : (n number : ℕ) (name : List ℕ) (own : Data) → IsDataInOrder n own → LastHasNone own.calls → IfSome (expired number name own) (AreDataExpired n)
-expired-ordered n number name own is marks = expired-if n number name own (nat_eq number 0) is marks
-
-exchange-ordered : (c : Going) (component : Component) (o : Option Data) → IsGoingInOrder c → IfSome o (AreDataExpired component.own.children)
-    → LeadsToOrder (option_map (λ own. Yields (Goes (touch c (path_of component) (exchanged own)))) o)
-exchange-ordered c component None is found = tt
-exchange-ordered c component (Some own) is found =
-    touch-ordered c (path_of component) (exchanged own)
-    (exchanged-gentle own (record { members = found.own.members; calls = found.own.calls; count = refl }) found.marks) is
+expired-ordered n number name own is marks =
+    data-expires (AreDataExpired n) number name own
+    (λ members changed. record {
+      own = record { members = some-of IsFrameInOrder (expired_frame name own.members) members changed (frame-expires IsFrameInOrder frame-keeps name own.members is.members); calls = is.calls; count = is.count };
+      marks = marks;
+    })
+    (λ calls changed. record {
+      own = record { members = is.members; calls = some-of (All IsFrameInOrder) (expired_call number name own.calls) calls changed (calls-expire IsFrameInOrder frame-keeps number name own.calls is.calls); count = is.count };
+      marks = last-none own.calls calls (remains-expired number name own.calls calls changed) marks;
+    })
+  where
+    last-none : (calls new : List Frame) → map (λ frame. frame.remaining) new ≡ map (λ frame. frame.remaining) calls → LastHasNone calls → LastHasNone new
+    last-none [] [] same none = none
+    last-none [] (frame ∷ frames) same none = absurd (let e = same in cc)
+    last-none (frame ∷ frames) [] same none = tt
+    last-none (frame ∷ frames) (other ∷ others) same none = subst HasNone (sym (first-same same)) none
+      where
+        first-same : other.remaining ∷ map (λ frame. frame.remaining) others ≡ frame.remaining ∷ map (λ frame. frame.remaining) frames → other.remaining ≡ frame.remaining
+        first-same e = cc
 
 -- ---- steps
 
-running-ordered : (b : Bool) (o : Option (Outcome Configuration)) → LeadsToOrder o → LeadsToOrder (if b then o else None)
-running-ordered true o is = is
-running-ordered false o is = tt
-
-statement-ordered : (test : Test) (c : Going) (component : Component) → IsGoingInOrder c → IsComponentInOrder component → LeadsToOrder (statement_step test c component)
-statement-ordered test c component is fine =
-    running-ordered (is_running_state component.state) (apply test c component.itself (act test (snapshot_of c component) component.own))
-    (apply-ordered test c component.itself component.itself component.own.children (act test (snapshot_of c component) component.own) is
-    (asked-ordered component.own.children test (snapshot_of c component) component.own fine.own))
-
-expiry-ordered : (c : Going) (number : ℕ) (name : List ℕ) (component : Component) → IsGoingInOrder c → IsComponentInOrder component → LeadsToOrder (expiry_step c number name component)
-expiry-ordered c number name component is fine =
-    running-ordered (is_running_state component.state) (option_map (λ own. Yields (Goes (touch c (path_of component) (exchanged own)))) (expired number name component.own))
-    (exchange-ordered c component (expired number name component.own) is (expired-ordered component.own.children number name component.own fine.own fine.marks))
-
-found-first : {A : Type 0} (P : A → Type 0) (x : A) (b : Bool) (o : Option A) → P x → IfSome o P → IfSome (if b then Some x else o) P
-found-first P x true o is others = is
-found-first P x false o is others = others
-
-pub found-each : {A : Type 0} (P : A → Type 0) (p : A → Bool) (xs : List A) → All P xs → IfSome (find p xs) P
-found-each P p [] all = tt
-found-each P p (x ∷ xs) all = found-first P x (p x) (find p xs) (All-head P x xs all) (found-each P p xs (All-tail P x xs all))
-
-then-ordered : (step : Component → Option (Outcome Configuration)) (o : Option Component) → ((component : Component) → IsComponentInOrder component → LeadsToOrder (step component)) → IfSome o IsComponentInOrder
-    → LeadsToOrder (option_and_then step o)
-then-ordered step None fine found = tt
-then-ordered step (Some component) fine found = fine component found
+pub component-ordered : (c : Going) (p : Path) (x : Component) → IsGoingInOrder c → component_at c p ≡ Some x → IsComponentInOrder x
+component-ordered c p x is found = some-of IsComponentInOrder (component_at c p) x found (found-each IsComponentInOrder (λ component. same_path (path_of component) p) c.components is.within)
 
 -- what a component asks for by a snapshot, as its data are in one configuration, is done in another
 pub applied-ordered : (test : Test) (c old : Going) (itself : ComponentId) (p : Path) (x : Component) (snapshot : Snapshot) → IsGoingInOrder c → IsGoingInOrder old → component_at old p ≡ Some x
-    → LeadsToOrder (apply test c itself (act test snapshot x.own))
+    → Leads Anyhow IsConfigurationInOrder (apply test c itself (act test snapshot x.own))
 applied-ordered test c old itself p x snapshot is also there =
-    let fine : IsComponentInOrder x = subst (λ o. IfSome o IsComponentInOrder) there (found-each IsComponentInOrder (λ component. same_path (path_of component) p) old.components also.within) in
-    apply-ordered test c itself snapshot.itself x.own.children (act test snapshot x.own) is (asked-ordered x.own.children test snapshot x.own fine.own)
+    let fine : IsComponentInOrder x = component-ordered old p x also there in
+    applied test Anyhow (IsAskedInOrder snapshot.itself x.own.children) IsGoingInOrder c itself (applies c itself snapshot.itself x.own.children is) (act test snapshot x.own)
+    (asked-ordered x.own.children test snapshot x.own fine.own)
 
-pub step-ordered : (test : Test) (c : Going) (label : Label) → IsGoingInOrder c → LeadsToOrder (step_in test c label)
-step-ordered test c (Statement path) is =
-    then-ordered (statement_step test c) (component_at c path) (λ component fine. statement-ordered test c component is fine)
-    (found-each IsComponentInOrder (λ component. same_path (path_of component) path) c.components is.within)
-step-ordered test c (Expiry path number name) is =
-    then-ordered (expiry_step c number name) (component_at c path) (λ component fine. expiry-ordered c number name component is fine)
-    (found-each IsComponentInOrder (λ component. same_path (path_of component) path) c.components is.within)
+pub steps-ordered : (test : Test) (c : Going) → IsGoingInOrder c → Steps test Anyhow IsGoingInOrder c
+steps-ordered test c is = record {
+  asked = λ p x found runs. applied-ordered test c c x.itself p x (snapshot_of c x) is is found;
+  expires = λ p x number name own found runs changed.
+      let fine : IsComponentInOrder x = component-ordered c p x is found in
+      let new : AreDataExpired x.own.children own = some-of (AreDataExpired x.own.children) (expired number name x.own) own changed (expired-ordered x.own.children number name x.own fine.own fine.marks) in
+      touch-ordered c (path_of x) (exchanged own) (exchanged-gentle own (record { members = new.own.members; calls = new.own.calls; count = refl }) new.marks) is;
+}

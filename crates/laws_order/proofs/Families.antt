@@ -1,73 +1,28 @@
 -- Components of runs are created one by one, each with a path that no other has.
-use Rattle.std.proofs.Common.{◌≡◌, ℕ, ◌+◌, ◌<◌, ◌≤◌, Bool, true, false, ◌||◌, List, [], ◌∷◌, ◌++◌, map, length, Option, Some, None, Result, Ok, Err, IfSome, is_some, option_map, ◌⊎◌, inl, inr, refl, sym, ap, subst, ◌∙◌, arith, if◌then◌else◌}
-use Rattle.std.specs.List.{filter, find}
-use Rattle.std.specs.Option.{option_and_then}
+use Rattle.std.proofs.Common.{◌≡◌, ℕ, ◌+◌, ◌<◌, ◌≤◌, Bool, true, false, List, [], ◌∷◌, ◌++◌, map, length, Option, Some, None, Ok, IfSome, is_some, option_map, ◌⊎◌, inl, inr, refl, sym, ap, subst, ◌∙◌, arith, if◌then◌else◌}
 use Rattle.std.proofs.lemmas.List.{length_push}
 use Rattle.std.proofs.lemmas.List.Elements.{All-cons, All-map, All-nil}
-use Rattle.std.proofs.lemmas.Slice.Eq.{bytes_eq-Decides}
 use Rattle.ttcn_syntax.specs.declared.tree.statement.Statement as tree
 use Rattle.ttcn_syntax.specs.declared.tree.statement.Verdict.TheVariants as verdict
-use Rattle.check_scope.specs.Names.{kind_at}
 use Rattle.laws_order.proofs.Asked.{IsAskedInOrder, asked-ordered}
-use Rattle.laws_order.proofs.Changes.{AreDataExpired, IsComponentInOrder, IsConfigurationInOrder, IsGoingInOrder, expired-ordered, found-each, if-path, insert-each, unless-path}
-use Rattle.laws_order.proofs.Outcomes.{any-yields, map-yields, then-yields}
-use Rattle.laws_order.proofs.Runs.{next-of, starts}
-use Rattle.laws_order.proofs.Stored.{IsDataInOrder}
+use Rattle.laws_order.proofs.Changes.{AreDataExpired, IsComponentInOrder, IsGoingInOrder, component-ordered, expired-ordered, if-path, steps-ordered, unless-path}
+use Rattle.laws_order.proofs.Runs.{first-ordered}
+use Rattle.laws_steps.proofs.Applying.{Anyhow, Applies, IfGoes, applied, both-lead}
+use Rattle.laws_steps.proofs.Finding.{found-map, found-path, insert-found, path-is, path-same, some-is}
+use Rattle.laws_steps.proofs.Found.{found-each, insert-each, some-of}
+use Rattle.laws_steps.proofs.Outcomes.{yields-is}
+use Rattle.laws_steps.proofs.Running.{Steps, next-leads, replay-holds, start-leads}
+use Rattle.laws_order.proofs.Members.{members-ordered}
+use Rattle.laws_order.proofs.Stored.{IsDataInOrder, IsFrameInOrder}
 use Rattle.laws_order.specs.Families.{IsChild, IsFamily, StandsInFamily}
 use Rattle.semantics.proofs.Pairs.{All-more}
-use Rattle.semantics.specs.Configurations.{Component, Configuration, Connection, Created, Data, End, Ended, Frame, Goes, Going, Message, Running, State, Terminated, component_at, is_running_state, is_terminated_state, overall, path_of, same_path}
+use Rattle.semantics.specs.Configurations.{Component, Configuration, Connection, Created, Data, Ended, Frame, Goes, Going, Running, State, Terminated, component_at, is_running_state, is_terminated_state, path_of, same_path}
 use Rattle.semantics.specs.Creating.{child_of, new_members}
-use Rattle.semantics.specs.Runs.{first_snapshot, mtc_with, option_elim, replay, replay_from, start, started, testcase_body}
+use Rattle.semantics.specs.Runs.{first_snapshot, mtc_with, replay, start}
 use Rattle.semantics.specs.Snapshots.{Test, mtc_of, snapshot_of}
-use Rattle.semantics.specs.Statements.{Act, Connects, Continues, Creates, Errs, Removes, Sends, Starts, Stops, Waits, Worsens, act}
-use Rattle.semantics.specs.Steps.{Expiry, Label, Statement, addressed, apply, at_queue, begin, connect, connection, deliver, ending, exchanged, expired, expiry_step, insert, is_before, is_double, is_terminated_at, next, peers, send, settle, settled, start_component, start_created, start_in, statement_step, step, step_in, touch, unless_terminated, with_connection, with_data, with_new, with_state, with_verdict, without_first}
-use Rattle.ttcn_values.specs.Outcomes.{Fails, IfYields, Outcome, Yields, dynamic_error, or_unmet, outcome_and_then}
+use Rattle.semantics.specs.Statements.{Creates, act}
+use Rattle.semantics.specs.Steps.{Label, apply, at_queue, begin, connection, exchanged, expired, insert, settle, touch, unless_terminated, with_connection, with_data, with_new, with_state, with_verdict, without_first}
 use Rattle.ttcn_values.specs.declared.path.Path.{Path}
-
--- ---- finding by path
-
-some-is : {A : Type 0} (a b : A) → Some a ≡ Some b → a ≡ b
-some-is a b e = let found = e in cc
-
-pass-first : {A : Type 0} (p : A → Bool) (x a : A) (b : Bool) (others : Option A) → (others ≡ Some a → p a ≡ true) → p x ≡ b → (if b then Some x else others) ≡ Some a → p a ≡ true
-pass-first p x a true others rest is e = subst (λ y. p y ≡ true) (some-is x a e) is
-pass-first p x a false others rest is e = rest e
-
-find-passes : {A : Type 0} (p : A → Bool) (xs : List A) (a : A) → find p xs ≡ Some a → p a ≡ true
-find-passes p [] a e = absurd (let found = e in cc)
-find-passes p (x ∷ xs) a e = pass-first p x a (p x) (find p xs) (find-passes p xs a) refl e
-
-same-is : (p q : Path) → same_path p q ≡ true → p ≡ q
-same-is p q e = ap (λ n. record { numbers = n }) ((bytes_eq-Decides p.numbers q.numbers).0 e)
-
-same-itself : (p : Path) → same_path p p ≡ true
-same-itself p = (bytes_eq-Decides p.numbers p.numbers).1 refl
-
-found-path : (c : Going) (p : Path) (x : Component) → component_at c p ≡ Some x → path_of x ≡ p
-found-path c p x e = same-is (path_of x) p (find-passes (λ y. same_path (path_of y) p) c.components x e)
-
-map-first : (g : Component → Component) (b : Bool) (x : Component) (r o : Option Component) → r ≡ option_map g o → (if b then Some (g x) else r) ≡ option_map g (if b then Some x else o)
-map-first g true x r o e = refl
-map-first g false x r o e = e
-
--- what is found behind a change that keeps paths is what was found, changed
-found-map : (g : Component → Component) → ((x : Component) → path_of (g x) ≡ path_of x) → (p : Path) (xs : List Component)
-    → find (λ x. same_path (path_of x) p) (map g xs) ≡ option_map g (find (λ x. same_path (path_of x) p) xs)
-found-map g paths p [] = refl
-found-map g paths p (x ∷ xs) =
-    ap (λ q. if same_path q p then Some (g x) else find (λ y. same_path (path_of y) p) (map g xs)) (paths x)
-    ∙ map-first g (same_path (path_of x) p) x (find (λ y. same_path (path_of y) p) (map g xs)) (find (λ y. same_path (path_of y) p) xs) (found-map g paths p xs)
-
-insert-found-first : (p : Path) (new x : Component) (xs : List Component) (b : Bool) → same_path (path_of new) p ≡ false
-    → find (λ y. same_path (path_of y) p) (insert new xs) ≡ find (λ y. same_path (path_of y) p) xs
-    → find (λ y. same_path (path_of y) p) (if b then new ∷ x ∷ xs else x ∷ insert new xs) ≡ find (λ y. same_path (path_of y) p) (x ∷ xs)
-insert-found-first p new x xs true other e = ap (λ b. if b then Some new else find (λ y. same_path (path_of y) p) (x ∷ xs)) other
-insert-found-first p new x xs false other e = ap (λ o. if same_path (path_of x) p then Some x else o) e
-
-insert-found : (p : Path) (new : Component) → same_path (path_of new) p ≡ false → (xs : List Component)
-    → find (λ y. same_path (path_of y) p) (insert new xs) ≡ find (λ y. same_path (path_of y) p) xs
-insert-found p new other [] = ap (λ b. if b then Some new else None) other
-insert-found p new other (x ∷ xs) = insert-found-first p new x xs (is_before new x) other (insert-found p new other xs)
 
 -- ---- changes
 
@@ -117,7 +72,7 @@ family-touched c p change paths grows family =
     family-changed c (λ component. if same_path (path_of component) p then unless_terminated change component else component) (record {
       path = λ x. if-path (same_path (path_of x) p) (unless_terminated change) x (unless-path (is_terminated_state x.state) change x (paths x));
       grows = λ q x found. if-grows (same_path (path_of x) p) (unless_terminated change) x
-          (λ same. unless-grows (is_terminated_state x.state) change x (grows x (ap (component_at c) (sym (same-is (path_of x) p same) ∙ found-path c q x found) ∙ found)));
+          (λ same. unless-grows (is_terminated_state x.state) change x (grows x (ap (component_at c) (sym (path-is (path_of x) p same) ∙ found-path c q x found) ∙ found)));
     }) family
 
 -- a change that leaves the count of children
@@ -143,7 +98,7 @@ going-with c xs = record { components = xs; connections = c.connections; forgott
 other-path : (c : Going) (new x : Component) (p : Path) (b : Bool) → same_path (path_of new) p ≡ b → is_some (component_at c (path_of new)) ≡ false → component_at c p ≡ Some x → same_path (path_of new) p ≡ false
 other-path c new x p false is none found = is
 other-path c new x p true is none found =
-    absurd (let e : true ≡ false = sym (ap is_some found) ∙ ap (λ q. is_some (component_at c q)) (sym (same-is (path_of new) p is)) ∙ none in cc)
+    absurd (let e : true ≡ false = sym (ap is_some found) ∙ ap (λ q. is_some (component_at c q)) (sym (path-is (path_of new) p is)) ∙ none in cc)
 
 child-beside : (c : Going) (new : Component) → is_some (component_at c (path_of new)) ≡ false → (x : Component) → IsChild c x → IsChild (going-with c (insert new c.components)) x
 child-beside c new none x is = record {
@@ -180,7 +135,7 @@ settled-found c component own there runs =
     (λ x. if-path (same_path (path_of x) (path_of component)) (unless_terminated (with_data own)) x (unless-path (is_terminated_state x.state) (with_data own) x refl))
     (path_of component) c.components
     ∙ ap (option_map (λ (x : Component). if same_path (path_of x) (path_of component) then unless_terminated (with_data own) x else x)) there
-    ∙ ap (λ b. Some (if b then unless_terminated (with_data own) component else component)) (same-itself (path_of component))
+    ∙ ap (λ b. Some (if b then unless_terminated (with_data own) component else component)) (path-same (path_of component))
     ∙ ap (λ b. Some (if b then component else with_data own component)) (alive component.state runs)
 
 child-created : (c : Going) (component new : Component) (own : Data) → IsFound c component → is_running_state component.state ≡ true
@@ -195,34 +150,6 @@ child-created c component new own there runs path count = record {
 
 -- ---- what a component asks for
 
-abbrev LeadsToFamily : Option (Outcome Configuration) → Type 0
-LeadsToFamily o = IfSome o (λ out. IfYields out StandsInFamily)
-
-family-ending : (o : Outcome Going) → IfYields o IsFamily → IfYields (ending o) StandsInFamily
-family-ending (Yields c) is = is
-family-ending (Fails why) is = tt
-
-family-queue : (c : Going) (p : Path) (port : List ℕ) (change : List Message → List Message) → IsFamily c → IsFamily (touch c p (at_queue port change))
-family-queue c p port change family = family-steady c p (at_queue port change) (λ x. refl) (λ x. refl) family
-
-family-delivered : (c : Going) (message : Message) (ends : List End) → IsFamily c → IfYields (deliver c message ends) IsFamily
-family-delivered c message [] family = tt
-family-delivered c message (e ∷ []) family = family-queue c e.component e.port (λ messages. messages ++ message ∷ []) family
-family-delivered c message (d ∷ e ∷ ends) family = tt
-
-family-begun : (c : Going) (p : Path) (frame : Frame) (state : State) → IsFamily c → IfYields (start_in c p frame state) IsFamily
-family-begun c p frame Created family = family-steady c p (begin frame) (λ x. refl) (λ x. refl) family
-family-begun c p frame Running family = tt
-family-begun c p frame Terminated family = tt
-
-family-started : (c : Going) (p : Path) (frame : Frame) (found : Option Component) → IsFamily c → IfYields (start_created c p frame found) IsFamily
-family-started c p frame None family = tt
-family-started c p frame (Some component) family = family-begun c p frame component.state family
-
-family-stopped : (b : Bool) (c : Going) (p : Path) → IsFamily c → StandsInFamily (if b then Ended (overall c) else Goes (touch c p (with_state Terminated)))
-family-stopped true c p family = tt
-family-stopped false c p family = family-steady c p (with_state Terminated) (λ x. refl) (λ x. refl) family
-
 -- connections have no part in it
 child-connected : (c : Going) (ks : List Connection) (x : Component) → IsChild c x → IsChild (record { components = c.components; connections = ks; forgotten = c.forgotten }) x
 child-connected c ks x is = record { parent = is.parent; there = is.there; number = is.number; created = is.created; path = is.path }
@@ -231,140 +158,88 @@ origin-connected : (c : Going) (ks : List Connection) (x : Component) → HasOri
 origin-connected c ks x (inl first) = inl first
 origin-connected c ks x (inr child) = inr (child-connected c ks x child)
 
-family-connected : (b : Bool) (c : Going) (d e : End) → IsFamily c → IfYields (if b then dynamic_error else Yields (with_connection (connection d e) c)) IsFamily
-family-connected true c d e family = tt
-family-connected false c d e family =
-    All-more (HasOrigin c) (HasOrigin (with_connection (connection d e) c)) (origin-connected c (with_connection (connection d e) c).connections) c.components family
-
-module _ (test : Test) (c : Going) (component : Component) (there : IsFound c component) (runs : is_running_state component.state ≡ true) (family : IsFamily c) where
+module _ (c : Going) (component : Component) (there : IsFound c component) (runs : is_running_state component.state ≡ true) (family : IsFamily c) where
   same-count : (own : Data) → IsDataInOrder component.own.children own → IsFamily (settle c (path_of component) own)
   same-count own is = family-data c component own there (let e = is.count in omega (arith, e)) family
 
-  family-applied : (asked : Act) → IsAskedInOrder component.itself component.own.children asked → LeadsToFamily (apply test c component.itself asked)
-  family-applied Waits is = tt
-  family-applied (Errs why) is = tt
-  family-applied (Continues own) is = same-count own is
-  family-applied (Worsens v own) is = family-steady (settle c (path_of component) own) (path_of component) (with_verdict v) (λ x. refl) (λ x. refl) (same-count own is)
-  family-applied (Removes port own) is = family-queue (settle c (path_of component) own) (path_of component) port without_first (same-count own is)
-  family-applied (Sends port to v own) is =
-      family-ending (send (settle c (path_of component) own) component.itself port to v)
-      (family-delivered (settle c (path_of component) own) (record { value = v; sender = component.itself }) (filter (addressed to) (peers (settle c (path_of component) own) (record { component = path_of component; port = port })))
-      (same-count own is))
-  family-applied (Creates new own) is =
-      family-new (settle c (path_of component) own) new (child-created c component new own there runs is.0 is.4.count)
-      (family-data c component own there (let e = is.4.count in omega (arith, e)) family)
-  family-applied (Starts path frame own) is =
-      family-ending (start_component (settle c (path_of component) own) path frame)
-      (family-started (settle c (path_of component) own) path frame (component_at (settle c (path_of component) own) path) (same-count own is.2))
-  family-applied (Stops path own) is = family-stopped (same_path path (mtc_of test).path) (settle c (path_of component) own) path (same-count own is)
-  family-applied (Connects d e own) is =
-      family-ending (connect (settle c (path_of component) own) d e)
-      (family-connected (is_terminated_at (settle c (path_of component) own) d.component || is_terminated_at (settle c (path_of component) own) e.component || is_double (settle c (path_of component) own) d e || is_double (settle c (path_of component) own) e d)
-      (settle c (path_of component) own) d e (same-count own is))
+  -- a change that leaves the counts of children, behind the component's own
+  steady : (own : Data) (p : Path) (change : Component → Component) → ((x : Component) → path_of (change x) ≡ path_of x) → ((x : Component) → (change x).own.children ≡ x.own.children)
+      → IsDataInOrder component.own.children own → IsFamily (touch (settle c (path_of component) own) p change)
+  steady own p change paths same is = family-steady (settle c (path_of component) own) p change paths same (same-count own is)
 
-  family-exchanged : (o : Option Data) → IfSome o (AreDataExpired component.own.children) → LeadsToFamily (option_map (λ own. Yields (Goes (touch c (path_of component) (exchanged own)))) o)
-  family-exchanged None found = tt
-  family-exchanged (Some own) found =
+  family-applies : Applies Anyhow (IsAskedInOrder component.itself component.own.children) IsFamily c component.itself
+  family-applies = record {
+    fails = λ why asks. tt;
+    errs = tt;
+    continues = λ own asks. same-count own asks;
+    worsens = λ v own asks. steady own (path_of component) (with_verdict v) (λ x. refl) (λ x. refl) asks;
+    removes = λ port own asks. steady own (path_of component) (at_queue port without_first) (λ x. refl) (λ x. refl) asks;
+    delivers = λ port to v own e asks. steady own e.component (at_queue e.port (λ messages. messages ++ record { value = v; sender = component.itself } ∷ [])) (λ x. refl) (λ x. refl) asks;
+    creates = λ new own asks. family-new (settle c (path_of component) own) new (child-created c component new own there runs asks.0 asks.4.count)
+        (family-data c component own there (let e = asks.4.count in omega (arith, e)) family);
+    starts = λ path frame own asks. steady own path (begin frame) (λ x. refl) (λ x. refl) asks.2;
+    lacks = λ path frame own asks found. tt;
+    stops = λ path own asks. steady own path (with_state Terminated) (λ x. refl) (λ x. refl) asks;
+    connects = λ d e own asks.
+        All-more (HasOrigin (settle c (path_of component) own)) (HasOrigin (with_connection (connection d e) (settle c (path_of component) own)))
+        (origin-connected (settle c (path_of component) own) (with_connection (connection d e) (settle c (path_of component) own)).connections)
+        (settle c (path_of component) own).components (same-count own asks);
+  }
+
+  family-expired : (own : Data) → AreDataExpired component.own.children own → IsFamily (touch c (path_of component) (exchanged own))
+  family-expired own is =
       family-touched c (path_of component) (exchanged own) (λ x. refl)
-      (λ x also. subst (λ (y : Component). y.own.children ≤ own.children) (some-is component x (sym there ∙ also)) (let e = found.own.count in omega (arith, e))) family
+      (λ x also. subst (λ (y : Component). y.own.children ≤ own.children) (some-is component x (sym there ∙ also)) (let e = is.own.count in omega (arith, e))) family
 
--- ---- steps
-
-family-running : (b : Bool) (o : Option (Outcome Configuration)) → (b ≡ true → LeadsToFamily o) → LeadsToFamily (if b then o else None)
-family-running true o is = is refl
-family-running false o is = tt
+-- ---- runs
 
 -- both invariants
-record StandsWell (c : Going) : Type 0 where
-  order : IsGoingInOrder c
-  family : IsFamily c
-
-component-fine : (c : Going) (p : Path) (component : Component) → IsGoingInOrder c → component_at c p ≡ Some component → IsComponentInOrder component
-component-fine c p component order found =
-    subst (λ o. IfSome o IsComponentInOrder) found (found-each IsComponentInOrder (λ x. same_path (path_of x) p) c.components order.within)
+pub record StandsWell (c : Going) : Type 0 where
+  pub order : IsGoingInOrder c
+  pub family : IsFamily c
 
 found-itself : (c : Going) (p : Path) (component : Component) → component_at c p ≡ Some component → IsFound c component
 found-itself c p component found = ap (component_at c) (found-path c p component found) ∙ found
 
-family-statement : (test : Test) (c : Going) → StandsWell c → (p : Path) (o : Option Component) → component_at c p ≡ o → LeadsToFamily (option_and_then (statement_step test c) o)
-family-statement test c is p None found = tt
-family-statement test c is p (Some component) found =
-    family-running (is_running_state component.state) (apply test c component.itself (act test (snapshot_of c component) component.own))
-    (λ runs. family-applied test c component (found-itself c p component found) runs is.family (act test (snapshot_of c component) component.own)
-    (asked-ordered component.own.children test (snapshot_of c component) component.own (component-fine c p component is.order found).own))
-
-family-expiry : (test : Test) (c : Going) → StandsWell c → (p : Path) (number : ℕ) (name : List ℕ) (o : Option Component) → component_at c p ≡ o → LeadsToFamily (option_and_then (expiry_step c number name) o)
-family-expiry test c is p number name None found = tt
-family-expiry test c is p number name (Some component) found =
-    family-running (is_running_state component.state) (option_map (λ own. Yields (Goes (touch c (path_of component) (exchanged own)))) (expired number name component.own))
-    (λ runs. family-exchanged test c component (found-itself c p component found) runs is.family (expired number name component.own)
-    (let fine = component-fine c p component is.order found in expired-ordered component.own.children number name component.own fine.own fine.marks))
-
-family-step : (test : Test) (c : Going) (label : Label) → StandsWell c → LeadsToFamily (step_in test c label)
-family-step test c (Statement p) is = family-statement test c is p (component_at c p) refl
-family-step test c (Expiry p number name) is = family-expiry test c is p number name (component_at c p) refl
-
--- ---- runs
-
-abbrev pub IsWell : Configuration → Type 0
-IsWell c = IsConfigurationInOrder c × StandsInFamily c
-
-family-settled : (o : Outcome Configuration) → IfYields o StandsInFamily → StandsInFamily (settled o)
-family-settled (Yields c) is = is
-family-settled (Fails why) is = tt
-
-family-settled-step : (o : Option (Outcome Configuration)) → LeadsToFamily o → IfSome (option_map settled o) StandsInFamily
-family-settled-step None is = tt
-family-settled-step (Some out) is = family-settled out is
-
-family-of-step : (test : Test) (c : Configuration) (label : Label) → IsWell c → LeadsToFamily (step test c label)
-family-of-step test (Ended v) label is = tt
-family-of-step test (Goes c) label is = family-step test c label (record { order = is.0; family = is.1 })
-
-both-some : {A : Type 0} (P Q : A → Type 0) (o : Option A) → IfSome o P → IfSome o Q → IfSome o (λ a. P a × Q a)
-both-some P Q None one other = tt
-both-some P Q (Some a) one other = (one, other)
-
-next-well : (test : Test) (c : Configuration) (label : Label) → IsWell c → IfSome (next test c label) IsWell
-next-well test c label is =
-    both-some IsConfigurationInOrder StandsInFamily (next test c label) (next-of test c label is.0) (family-settled-step (step test c label) (family-of-step test c label is))
+steps-well : (test : Test) (c : Going) → StandsWell c → Steps test Anyhow StandsWell c
+steps-well test c is = record {
+  asked = λ p x found runs.
+      let fine : IsComponentInOrder x = component-ordered c p x is.order found in
+      both-lead Anyhow IsGoingInOrder IsFamily StandsWell (λ d order family. record { order = order; family = family }) (apply test c x.itself (act test (snapshot_of c x) x.own))
+      ((steps-ordered test c is.order).asked p x found runs)
+      (applied test Anyhow (IsAskedInOrder x.itself x.own.children) IsFamily c x.itself (family-applies c x (found-itself c p x found) runs is.family) (act test (snapshot_of c x) x.own)
+      (asked-ordered x.own.children test (snapshot_of c x) x.own fine.own));
+  expires = λ p x number name own found runs changed.
+      let fine : IsComponentInOrder x = component-ordered c p x is.order found in
+      record {
+        order = (steps-ordered test c is.order).expires p x number name own found runs changed;
+        family = family-expired c x (found-itself c p x found) runs is.family own
+            (some-of (AreDataExpired x.own.children) (expired number name x.own) own changed (expired-ordered x.own.children number name x.own fine.own fine.marks));
+      };
+}
 
 family-first : (test : Test) (body : List tree.Statement) (members : Frame) → IsFamily (record { components = mtc_with test body members ∷ []; connections = []; forgotten = verdict.None })
 family-first test body members =
     All-cons (HasOrigin (record { components = mtc_with test body members ∷ []; connections = []; forgotten = verdict.None })) (mtc_with test body members) [] (inl refl)
     (All-nil (HasOrigin (record { components = mtc_with test body members ∷ []; connections = []; forgotten = verdict.None })))
 
-family-start : (test : Test) (body : List tree.Statement) → IfYields (started test body) StandsInFamily
-family-start test body =
-    map-yields (λ members. Unit {0}) StandsInFamily (λ members. Goes (record { components = mtc_with test body members ∷ []; connections = []; forgotten = verdict.None })) (new_members test (mtc_of test) (first_snapshot test))
-    (λ members any. family-first test body members) (any-yields (new_members test (mtc_of test) (first_snapshot test)))
+start-well : (test : Test) → IfGoes StandsWell (start test)
+start-well test =
+    start-leads test Anyhow StandsWell
+    (λ body members is made. record {
+      order = first-ordered test body members (yields-is IsFrameInOrder (new_members test (mtc_of test) (first_snapshot test)) members made (members-ordered test (mtc_of test) (first_snapshot test)));
+      family = family-first test body members;
+    })
 
-start-well : (test : Test) → IsWell (start test)
-start-well test = (
-  starts test,
-  family-settled (outcome_and_then (started test) (or_unmet (testcase_body (kind_at test.definitions test.testcase))))
-      (then-yields (λ body. Unit {0}) StandsInFamily (started test) (or_unmet (testcase_body (kind_at test.definitions test.testcase))) (λ body any. family-start test body)
-      (any-yields (or_unmet (testcase_body (kind_at test.definitions test.testcase))))),
-)
+replay-well : (test : Test) (run : List Label) (c : Configuration) → replay test run ≡ Ok c → IfGoes StandsWell c
+replay-well test run c e = replay-holds test (IfGoes StandsWell) (start-well test) (next-leads test Anyhow StandsWell (steps-well test)) run c e
 
-abbrev Holds : Result Configuration ℕ → Type 0
-Holds (Ok c) = IsWell c
-Holds (Err number) = Unit {0}
-
-goes-on : (number : ℕ) (more : Configuration → Result Configuration ℕ) (o : Option Configuration) → ((c : Configuration) → IsWell c → Holds (more c)) → IfSome o IsWell → Holds (option_elim (Err number) more o)
-goes-on number more None fine is = tt
-goes-on number more (Some c) fine is = fine c is
-
-replays-from : (test : Test) (run : List Label) (number : ℕ) (c : Configuration) → IsWell c → Holds (replay_from test run number c)
-replays-from test [] number c is = is
-replays-from test (label ∷ others) number c is =
-    goes-on number (replay_from test others (number + 1)) (next test c label) (λ d also. replays-from test others (number + 1) d also) (next-well test c label is)
-
-replay-well : (test : Test) (run : List Label) (c : Configuration) → replay test run ≡ Ok c → IsWell c
-replay-well test run c e = subst Holds e (replays-from test run 1 (start test) (start-well test))
+said-family : (c : Configuration) → IfGoes StandsWell c → StandsInFamily c
+said-family (Ended v) is = tt
+said-family (Goes c) is = is.family
 
 pub replay_family : (test : Test) (run : List Label) (c : Configuration) → replay test run ≡ Ok c → StandsInFamily c
-replay_family test run c e = (replay-well test run c e).1
+replay_family test run c e = said-family c (replay-well test run c e)
 
 -- ---- new paths
 
@@ -397,14 +272,17 @@ new-in c component p (Some d) found family there path =
     absurd (no-such-child c component d there (found-path c p d found ∙ path)
     (subst (λ o. IfSome o (HasOrigin c)) found (found-each (HasOrigin c) (λ x. same_path (path_of x) p) c.components family)))
 
+pub child-new : (c : Going) (component : Component) (p : Path) → IsFamily c → component_at c (path_of component) ≡ Some component → p ≡ child_of component.itself component.own.children → component_at c p ≡ None
+child-new c component p family there path = new-in c component p (component_at c p) refl family there path
+
 pub new_path : (test : Test) (run : List Label) (c : Going) (component new : Component) (own : Data) → replay test run ≡ Ok (Goes c) → component_at c (path_of component) ≡ Some component
     → act test (snapshot_of c component) component.own ≡ Creates new own → component_at c (path_of new) ≡ None
 new_path test run c component new own e there asks =
-    let is : IsWell (Goes c) = replay-well test run (Goes c) e in
-    let fine = component-fine c (path_of component) component is.0 there in
+    let is : StandsWell c = replay-well test run (Goes c) e in
+    let fine = component-ordered c (path_of component) component is.order there in
     let asked : IsAskedInOrder component.itself component.own.children (Creates new own) =
     subst (IsAskedInOrder component.itself component.own.children) asks (asked-ordered component.own.children test (snapshot_of c component) component.own fine.own) in
-    new-in c component (path_of new) (component_at c (path_of new)) refl is.1 there asked.0
+    new-in c component (path_of new) (component_at c (path_of new)) refl is.family there asked.0
 
 -- so it is inserted
 pub new_inserted : (test : Test) (run : List Label) (c : Going) (component new : Component) (own : Data) → replay test run ≡ Ok (Goes c) → component_at c (path_of component) ≡ Some component

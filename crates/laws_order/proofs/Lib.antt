@@ -3,7 +3,6 @@ pub mod Changes
 pub mod Families
 pub mod Members
 pub mod Orders
-pub mod Outcomes
 pub mod Puts
 pub mod Runs
 pub mod Stored

@@ -5,7 +5,7 @@ use Rattle.ttcn_syntax.specs.declared.tree.definition.Member.TheVariants as memb
 use Rattle.ttcn_syntax.specs.declared.tree.value.Value.{Value}
 use Rattle.check_scope.specs.Names.{kind_at, members_of, module_names, resolved}
 use Rattle.check_scope.specs.declared.types.DataType.{DataType}
-use Rattle.laws_order.proofs.Outcomes.{any-yields, map-yields, then-yields}
+use Rattle.laws_steps.proofs.Outcomes.{any-yields, map-yields, then-yields}
 use Rattle.laws_order.proofs.Puts.{none-ordered}
 use Rattle.laws_order.proofs.Stored.{IsFrameInOrder, declare-ordered, declare-timer-ordered, forget-ordered}
 use Rattle.semantics.specs.Configurations.{Frame}

@@ -1,15 +1,17 @@
 -- The configurations of runs stand in their order.
-use Rattle.std.proofs.Common.{◌≡◌, ℕ, ◌+◌, Bool, true, false, List, [], ◌∷◌, Option, Some, None, Result, Ok, Err, IfSome, is_some, option_map, refl, sym, ap, subst, ◌↔◌, if◌then◌else◌}
+use Rattle.std.proofs.Common.{◌≡◌, Bool, true, false, List, [], ◌∷◌, Option, Some, None, Ok, IfSome, is_some, option_map, refl, sym, ap, subst, ◌↔◌, if◌then◌else◌}
 use Rattle.std.specs.List.{AllPairs, Contains}
 use Rattle.std.specs.declared.cmp.Ordering.TheVariants.{Less}
 use Rattle.std.proofs.lemmas.List.Elements.{All-cons, All-nil}
 use Rattle.std.proofs.lemmas.List.Kept.{AllPairs-cons, AllPairs-filter}
 use Rattle.ttcn_syntax.specs.declared.tree.statement.Statement.{Statement}
 use Rattle.ttcn_syntax.specs.declared.tree.statement.Verdict.TheVariants as verdict
-use Rattle.check_scope.specs.Names.{kind_at}
-use Rattle.laws_order.proofs.Changes.{IsComponentInOrder, IsConfigurationInOrder, IsGentle, IsGoingInOrder, LeadsToOrder, Precedes, applied-ordered, each-ordered, step-ordered}
+use Rattle.laws_order.proofs.Changes.{IsComponentInOrder, IsConfigurationInOrder, IsGentle, IsGoingInOrder, Precedes, applied-ordered, each-ordered, steps-ordered}
+use Rattle.laws_steps.proofs.Applying.{Anyhow}
+use Rattle.laws_steps.proofs.Found.{some-of}
+use Rattle.laws_steps.proofs.Outcomes.{yields-is}
+use Rattle.laws_steps.proofs.Running.{end-holds, next-leads, replay-holds, settled-leads, start-leads}
 use Rattle.laws_order.proofs.Members.{members-ordered}
-use Rattle.laws_order.proofs.Outcomes.{any-yields, map-yields, then-yields}
 use Rattle.laws_order.proofs.Puts.{none-ordered}
 use Rattle.laws_order.proofs.Stored.{IsDataInOrder, IsFrameInOrder}
 use Rattle.laws_order.proofs.Unmarked.{LastHasNone, block-none, none-uncovered, uncovered-none}
@@ -24,13 +26,12 @@ use Rattle.semantics.specs.Creating.{new_members}
 use Rattle.semantics.specs.Labels.{label_cmp, labels}
 use Rattle.semantics.specs.LiveParts.{husk, is_live, live_component, live_going, live_part}
 use Rattle.semantics.specs.Order.{HasNamesInOrder, HasTimersInOrder, IsOrderedWithin}
-use Rattle.semantics.specs.Runs.{body_frame, first_snapshot, graph_of, mtc_with, option_elim, replay, replay_from, start, started, testcase_body}
+use Rattle.semantics.specs.Runs.{body_frame, first_snapshot, graph_of, mtc_with, replay, start}
 use Rattle.semantics.specs.Sites.{beginning}
 use Rattle.semantics.specs.Snapshots.{Snapshot, Test, mtc_of}
 use Rattle.semantics.specs.Statements.{act}
 use Rattle.semantics.specs.Steps.{Label, apply, connection_cmp, next, settled, step}
-use Rattle.summary.specs.Run.{Run, Start, Then, end_of}
-use Rattle.ttcn_values.specs.Outcomes.{Fails, IfYields, Outcome, Yields, or_unmet, outcome_and_then}
+use Rattle.summary.specs.Run.{Run, end_of}
 use Rattle.ttcn_values.specs.declared.path.Path.{Path}
 use Rattle.ttcn_values.specs.declared.value.ComponentId.{ComponentId}
 
@@ -84,10 +85,6 @@ said (Goes c) is = said-going c is
 
 -- ---- the start
 
-settled-ordered : (o : Outcome Configuration) → IfYields o IsConfigurationInOrder → IsConfigurationInOrder (settled o)
-settled-ordered (Yields c) is = is
-settled-ordered (Fails why) is = tt
-
 mtc-ordered : (test : Test) (body : List Statement) (members : Frame) → IsFrameInOrder members → IsComponentInOrder (mtc_with test body members)
 mtc-ordered test body members is = record {
   own = record {
@@ -98,7 +95,7 @@ mtc-ordered test body members is = record {
   marks = block-none test.definitions (beginning test.testcase) body;
 }
 
-first-ordered : (test : Test) (body : List Statement) (members : Frame) → IsFrameInOrder members
+pub first-ordered : (test : Test) (body : List Statement) (members : Frame) → IsFrameInOrder members
     → IsGoingInOrder (record { components = mtc_with test body members ∷ []; connections = []; forgotten = verdict.None })
 first-ordered test body members is = record {
   components = AllPairs-cons Precedes (mtc_with test body members) [] (All-nil (Precedes (mtc_with test body members))) (pairs-nil Precedes);
@@ -106,35 +103,18 @@ first-ordered test body members is = record {
   connections = pairs-nil (λ k l. connection_cmp k l ≡ Less);
 }
 
-started-ordered : (test : Test) (body : List Statement) → IfYields (started test body) IsConfigurationInOrder
-started-ordered test body =
-    map-yields IsFrameInOrder IsConfigurationInOrder (λ members. Goes (record { components = mtc_with test body members ∷ []; connections = []; forgotten = verdict.None })) (new_members test (mtc_of test) (first_snapshot test))
-    (first-ordered test body) (members-ordered test (mtc_of test) (first_snapshot test))
-
 pub starts : (test : Test) → IsConfigurationInOrder (start test)
 starts test =
-    settled-ordered (outcome_and_then (started test) (or_unmet (testcase_body (kind_at test.definitions test.testcase))))
-    (then-yields (λ body. Unit {0}) IsConfigurationInOrder (started test) (or_unmet (testcase_body (kind_at test.definitions test.testcase))) (λ body any. started-ordered test body)
-    (any-yields (or_unmet (testcase_body (kind_at test.definitions test.testcase)))))
+    start-leads test Anyhow IsGoingInOrder
+    (λ body members is made. first-ordered test body members (yields-is IsFrameInOrder (new_members test (mtc_of test) (first_snapshot test)) members made (members-ordered test (mtc_of test) (first_snapshot test))))
 
 pub start_ordered : (test : Test) → StandsInOrder (start test)
 start_ordered test = said (start test) (starts test)
 
 -- ---- steps
 
-step-of : (test : Test) (c : Configuration) (label : Label) → IsConfigurationInOrder c → LeadsToOrder (step test c label)
-step-of test (Ended v) label is = tt
-step-of test (Goes c) label is = step-ordered test c label is
-
-settled-step : (o : Option (Outcome Configuration)) → LeadsToOrder o → IfSome (option_map settled o) IsConfigurationInOrder
-settled-step None is = tt
-settled-step (Some out) is = settled-ordered out is
-
 pub next-of : (test : Test) (c : Configuration) (label : Label) → IsConfigurationInOrder c → IfSome (next test c label) IsConfigurationInOrder
-next-of test c label is = settled-step (step test c label) (step-of test c label is)
-
-pub some-of : {A : Type 0} (P : A → Type 0) (o : Option A) (a : A) → o ≡ Some a → IfSome o P → P a
-some-of P o a e is = subst (λ x. IfSome x P) e is
+next-of test c label is = next-leads test Anyhow IsGoingInOrder (steps-ordered test) c label is
 
 pub next_ordered : (test : Test) (c d : Configuration) (label : Label) → StandsInOrder c → next test c label ≡ Some d → StandsInOrder d
 next_ordered test c d label is e = said d (some-of IsConfigurationInOrder (next test c label) d e (next-of test c label (told c is)))
@@ -148,38 +128,15 @@ pub applied_ordered : (test : Test) (c old : Going) (itself : ComponentId) (p : 
     → IfSome (option_map settled (apply test c itself (act test snapshot x.own))) StandsInOrder
 applied_ordered test c old itself p x snapshot is also there =
     said-option (option_map settled (apply test c itself (act test snapshot x.own)))
-    (settled-step (apply test c itself (act test snapshot x.own)) (applied-ordered test c old itself p x snapshot (told-going c is) (told-going old also) there))
+    (settled-leads test Anyhow IsGoingInOrder (apply test c itself (act test snapshot x.own)) (applied-ordered test c old itself p x snapshot (told-going c is) (told-going old also) there))
 
 -- ---- runs
 
-abbrev Holds : Result Configuration ℕ → Type 0
-Holds (Ok c) = IsConfigurationInOrder c
-Holds (Err number) = Unit {0}
-
-goes-on : (number : ℕ) (more : Configuration → Result Configuration ℕ) (o : Option Configuration) → ((c : Configuration) → IsConfigurationInOrder c → Holds (more c)) → IfSome o IsConfigurationInOrder
-    → Holds (option_elim (Err number) more o)
-goes-on number more None fine is = tt
-goes-on number more (Some c) fine is = fine c is
-
-replays-from : (test : Test) (run : List Label) (number : ℕ) (c : Configuration) → IsConfigurationInOrder c → Holds (replay_from test run number c)
-replays-from test [] number c is = is
-replays-from test (label ∷ others) number c is =
-    goes-on number (replay_from test others (number + 1)) (next test c label) (λ d also. replays-from test others (number + 1) d also) (next-of test c label is)
-
 pub replay_ordered : (test : Test) (run : List Label) (c : Configuration) → replay test run ≡ Ok c → StandsInOrder c
-replay_ordered test run c e = said c (subst Holds e (replays-from test run 1 (start test) (starts test)))
-
-after-ordered : (c : Configuration) (o : Option Configuration) → IsConfigurationInOrder c → IfSome o IsConfigurationInOrder → IsConfigurationInOrder (option_elim c (λ d. d) o)
-after-ordered c None is found = is
-after-ordered c (Some d) is found = found
-
-ends : (test : Test) (run : Run Label) → IsConfigurationInOrder (end_of (graph_of test) run)
-ends test Start = starts test
-ends test (Then run label) =
-    after-ordered (end_of (graph_of test) run) (next test (end_of (graph_of test) run) label) (ends test run) (next-of test (end_of (graph_of test) run) label (ends test run))
+replay_ordered test run c e = said c (replay-holds test IsConfigurationInOrder (starts test) (next-of test) run c e)
 
 pub ends_ordered : (test : Test) (run : Run Label) → StandsInOrder (end_of (graph_of test) run)
-ends_ordered test run = said (end_of (graph_of test) run) (ends test run)
+ends_ordered test run = said (end_of (graph_of test) run) (end-holds test IsConfigurationInOrder (starts test) (next-of test) run)
 
 -- ---- what follows from the order
 
@@ -198,7 +155,7 @@ live-component true x is = record {
 }
 live-component false x is = is
 
-live-path : (b : Bool) (x : Component) → path_of (if b then husk (path_of x) else x) ≡ path_of x
+pub live-path : (b : Bool) (x : Component) → path_of (if b then husk (path_of x) else x) ≡ path_of x
 live-path true x = refl
 live-path false x = refl
 

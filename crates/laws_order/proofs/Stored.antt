@@ -7,7 +7,7 @@ use Rattle.ttcn_syntax.specs.declared.tree.definition.Parameter.{Parameter}
 use Rattle.value_assignment.specs.Assignment.{assigned}
 use Rattle.check_expressions.specs.Calls.{parameters_of}
 use Rattle.check_scope.specs.Names.{kind_at}
-use Rattle.laws_order.proofs.Outcomes.{any-yields, map-yields}
+use Rattle.laws_steps.proofs.Outcomes.{any-yields, map-yields}
 use Rattle.laws_order.proofs.Puts.{none-ordered, put-ordered, without-ordered}
 use Rattle.semantics.specs.Branches.{frame_with, with_arguments}
 use Rattle.semantics.specs.Configurations.{Data, Frame}

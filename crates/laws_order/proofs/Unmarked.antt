@@ -61,26 +61,7 @@ action-none : (definitions : List Definition) (site : Site) (s : Statement) (x :
 action-none definitions site s (Action-F.Variables vs) = declarations-none site s 0 (variable_entries (scope_at definitions site) vs)
 action-none definitions site s (Action-F.Constants cs) = declarations-none site s 0 (constant_entries (scope_at definitions site) cs)
 action-none definitions site s (Action-F.Timers timers) = declarations-none site s 0 (timer_entries timers)
-action-none definitions site s (Action-F.Assign a) = tt
-action-none definitions site s (Action-F.«Action::Call» call) = tt
-action-none definitions site s (Action-F.«Action::Event» event) = tt
-action-none definitions site s (Action-F.Alt branches) = tt
-action-none definitions site s Action-F.Repeat = tt
-action-none definitions site s (Action-F.If conditionals last) = tt
-action-none definitions site s (Action-F.While condition block) = tt
-action-none definitions site s (Action-F.DoWhile block condition) = tt
-action-none definitions site s (Action-F.For start condition step block) = tt
-action-none definitions site s (Action-F.Return v) = tt
-action-none definitions site s Action-F.Stop = tt
-action-none definitions site s (Action-F.Log logged) = tt
-action-none definitions site s (Action-F.Setverdict verdict reasons) = tt
-action-none definitions site s (Action-F.Connect one other) = tt
-action-none definitions site s (Action-F.Send send) = tt
-action-none definitions site s (Action-F.StartComponent reference call) = tt
-action-none definitions site s (Action-F.StartTimer name) = tt
-action-none definitions site s (Action-F.StopOf reference) = tt
-action-none definitions site s (Action-F.Activate call) = tt
-action-none definitions site s (Action-F.Deactivate reference) = tt
+action-none definitions site s _ = tt
 
 pub block-none : (definitions : List Definition) (site : Site) (block : List Statement) → HasNone (items definitions site block)
 block-none definitions site [] = tt

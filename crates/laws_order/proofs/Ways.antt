@@ -119,26 +119,7 @@ alt-ordered test snapshot own judge place (Action-F.Alt branches) =
     flat-ways (written_branch (write_altsteps test snapshot own) test snapshot own judge) (branch-ordered (write_altsteps test snapshot own) (writes test snapshot own) test snapshot own judge) branches
 alt-ordered test snapshot own judge place (Action-F.«Action::Event» event) = open-ordered test judge place (Some event) []
 alt-ordered test snapshot own judge place (Action-F.«Action::Call» call) = alt-call-ordered test snapshot own judge call (altstep_meant (module_names test.definitions call.name))
-alt-ordered test snapshot own judge place (Action-F.Variables vs) = tt
-alt-ordered test snapshot own judge place (Action-F.Constants cs) = tt
-alt-ordered test snapshot own judge place (Action-F.Timers timers) = tt
-alt-ordered test snapshot own judge place (Action-F.Assign a) = tt
-alt-ordered test snapshot own judge place Action-F.Repeat = tt
-alt-ordered test snapshot own judge place (Action-F.If conditionals last) = tt
-alt-ordered test snapshot own judge place (Action-F.While condition block) = tt
-alt-ordered test snapshot own judge place (Action-F.DoWhile block condition) = tt
-alt-ordered test snapshot own judge place (Action-F.For start condition step block) = tt
-alt-ordered test snapshot own judge place (Action-F.Return v) = tt
-alt-ordered test snapshot own judge place Action-F.Stop = tt
-alt-ordered test snapshot own judge place (Action-F.Log logged) = tt
-alt-ordered test snapshot own judge place (Action-F.Setverdict verdict reasons) = tt
-alt-ordered test snapshot own judge place (Action-F.Connect one other) = tt
-alt-ordered test snapshot own judge place (Action-F.Send send) = tt
-alt-ordered test snapshot own judge place (Action-F.StartComponent reference call) = tt
-alt-ordered test snapshot own judge place (Action-F.StartTimer name) = tt
-alt-ordered test snapshot own judge place (Action-F.StopOf reference) = tt
-alt-ordered test snapshot own judge place (Action-F.Activate call) = tt
-alt-ordered test snapshot own judge place (Action-F.Deactivate reference) = tt
+alt-ordered test snapshot own judge place _ = tt
 
 pub defaults-ordered : (test : Test) (snapshot : Snapshot) (own : Data) → All IsWayInOrder (written_defaults test snapshot own)
 defaults-ordered test snapshot own =

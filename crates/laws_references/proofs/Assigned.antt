@@ -9,9 +9,10 @@ use Rattle.check_scope.specs.Names.{fields_at}
 use Rattle.check_scope.specs.declared.types.DataType.{DataType}
 use Rattle.check_scope.specs.declared.types.DataType.TheVariants as type
 use Rattle.laws_references.proofs.Expressions.{Gives}
-use Rattle.laws_references.proofs.Values.{LevelRefersTo, StateRefersTo, all-of, get-each, record-refers, refers-out}
+use Rattle.laws_steps.proofs.Found.{get-each}
+use Rattle.laws_references.proofs.Values.{LevelRefersTo, StateRefersTo, all-of, record-refers, refers-out}
 use Rattle.laws_references.specs.References.{RefersTo}
-use Rattle.laws_order.proofs.Outcomes.{map-yields, then-yields, unmet-yields}
+use Rattle.laws_steps.proofs.Outcomes.{map-yields, then-yields, unmet-yields}
 use Rattle.ttcn_values.specs.Outcomes.{Fails, IfYields, Outcome, Yields, or_unmet, outcome_and_then, outcome_map}
 use Rattle.ttcn_values.specs.Values.{is_omit, record_in, record_of}
 use Rattle.ttcn_values.specs.declared.value.ComponentId.{ComponentId}

@@ -12,7 +12,7 @@ use Rattle.laws_references.proofs.Literals.{value-gives}
 use Rattle.laws_references.proofs.Templates.{GivesTemplate, template-gives}
 use Rattle.laws_references.proofs.Values.{get-at}
 use Rattle.laws_references.specs.References.{FactsReferTo, ReadingRefersTo, RefersTo}
-use Rattle.laws_order.proofs.Outcomes.{unmet-yields}
+use Rattle.laws_steps.proofs.Outcomes.{unmet-yields}
 use Rattle.ttcn_values.specs.Chains.{constant_value, given_to, template_value, with_names, within_chains}
 use Rattle.ttcn_values.specs.Outcomes.{Outcome, unmet}
 use Rattle.ttcn_values.specs.Readings.{Reading}

@@ -1,5 +1,5 @@
 -- What is done among the components leaves each component there that is referred to.
-use Rattle.std.proofs.Common.{◌≡◌, ℕ, ◌+◌, Bool, true, false, ◌||◌, List, [], ◌∷◌, ◌++◌, map, Option, Some, None, IfSome, IsSomeAnd, inl, inr, is_some, length, nat_eq, option_map, bytes_eq, refl, sym, ap, subst, ◌∙◌, if◌then◌else◌}
+use Rattle.std.proofs.Common.{◌≡◌, ℕ, Bool, true, false, List, [], ◌∷◌, ◌++◌, map, Option, Some, None, IfSome, IsSomeAnd, inl, inr, is_some, option_map, bytes_eq, refl, sym, ap, subst, ◌∙◌, if◌then◌else◌}
 use Rattle.std.specs.List.{All, filter, find, list_any}
 use Rattle.std.specs.Ordering.{is_lt, match_ordering}
 use Rattle.std.specs.declared.cmp.Ordering.{Ordering}
@@ -8,28 +8,26 @@ use Rattle.std.proofs.lemmas.List.Elements.{All-append, All-cons, All-filter, Al
 use Rattle.ttcn_syntax.specs.declared.tree.definition.Definition.{Definition}
 use Rattle.ttcn_syntax.specs.declared.tree.statement.Verdict.{Verdict}
 use Rattle.laws_references.proofs.Asked.{IsAsked, IsEndOf}
-use Rattle.laws_references.proofs.Families.{child-new}
+use Rattle.laws_order.proofs.Families.{child-new}
 use Rattle.laws_references.proofs.More.{component-more}
 use Rattle.laws_references.proofs.Ports.{names-kept, queue-found}
 use Rattle.laws_references.proofs.Stored.{last-refers}
-use Rattle.laws_references.proofs.There.{StayThere, found-map, found-path, found-there, new-there, stay-beside, stay-touched, there-is, touching, touching-same}
+use Rattle.laws_references.proofs.There.{StayThere, found-map, found-there, new-there, stay-beside, stay-touched, there-is, touching, touching-same}
+use Rattle.laws_steps.proofs.Finding.{found-path}
 use Rattle.laws_references.specs.Acts.{HoldsOrIs}
 use Rattle.laws_references.specs.References.{ComponentRefersTo, DataReferTo, FrameRefersTo, MessageRefersTo, QueueRefersTo}
-use Rattle.laws_references.specs.There.{HasAllReferred, HasItsPorts, IsBetweenPorts, IsPortThere, IsThere, StandsWithAllReferred, port_names}
-use Rattle.laws_order.proofs.Changes.{found-each, insert-each}
+use Rattle.laws_references.specs.There.{HasAllReferred, HasItsPorts, IsBetweenPorts, IsPortThere, IsThere, port_names}
+use Rattle.laws_steps.proofs.Applying.{Anyhow, Applies}
+use Rattle.laws_steps.proofs.Expiring.{KeepsTimers, calls-expire, data-expires, frame-expires}
+use Rattle.laws_steps.proofs.Found.{found-each, insert-each, some-of}
 use Rattle.laws_order.specs.Families.{IsFamily}
 use Rattle.semantics.proofs.Pairs.{All-more}
-use Rattle.semantics.specs.Configurations.{Component, Configuration, Connection, Created, Data, End, Ended, Frame, Goes, Going, Message, Queue, Running, State, Terminated, component_at, end_cmp, is_terminated_state, overall, path_of, same_path}
+use Rattle.semantics.specs.Configurations.{Component, Connection, Data, End, Frame, Going, Message, Queue, State, Terminated, component_at, end_cmp, is_terminated_state, path_of, same_path}
 use Rattle.semantics.specs.Creating.{child_of}
-use Rattle.semantics.specs.Entries.{Entries}
 use Rattle.semantics.specs.Snapshots.{Test, mtc_of}
-use Rattle.semantics.specs.Statements.{Act, Connects, Continues, Creates, Errs, Removes, Sends, Starts, Stops, Waits, Worsens}
-use Rattle.semantics.specs.Steps.{addressed, add_connection, apply, at_queue, begin, change_queue, connect, connection, connection_cmp, deliver, ending, exchanged, expire_in, expired, expired_call, expired_frame, insert, is_double, is_terminated_at, peers, send, settle, start_component, start_created, start_in, touch, unless_terminated, with_connection, with_data, with_new, with_state, with_verdict, without_first}
-use Rattle.semantics.specs.Storing.{with_calls, with_members, with_remaining, with_timers}
+use Rattle.semantics.specs.Steps.{add_connection, at_queue, begin, change_queue, connection, connection_cmp, exchanged, expired, expired_call, expired_frame, insert, settle, touch, unless_terminated, with_connection, with_data, with_new, with_state, with_verdict, without_first}
+use Rattle.semantics.specs.Storing.{with_remaining}
 use Rattle.semantics.specs.Taking.{without_marks}
-use Rattle.ttcn_values.specs.Frames.{entry}
-use Rattle.ttcn_values.specs.Outcomes.{Fails, IfYields, Outcome, Yields, dynamic_error}
-use Rattle.ttcn_values.specs.declared.frame.TimerState.{TimerState}
 use Rattle.ttcn_values.specs.declared.path.Path.{Path}
 use Rattle.ttcn_values.specs.declared.value.ComponentId.{ComponentId}
 
@@ -201,83 +199,24 @@ module _ (P : ComponentId → Type 0) (definitions : List Definition) where
   pub settle-follows : (c : Going) (p : Path) (own : Data) → DataReferTo P own → GoingRefers c → Follows c (settle c p own)
   settle-follows c p own fine is = touch-follows c c p (with_data own) (data-gentle own fine) (itself-follows c is)
 
-  abbrev pub Leads : Going → Configuration → Type 0
-  Leads c (Ended v) = Unit {0}
-  Leads c (Goes d) = Follows c d
-
-  ending-follows : (c : Going) (o : Outcome Going) → IfYields o (Follows c) → IfYields (ending o) (Leads c)
-  ending-follows c (Yields d) is = is
-  ending-follows c (Fails why) is = tt
-
-  deliver-follows : (c d : Going) (message : Message) (ends : List End) → MessageRefersTo P message → Follows c d → IfYields (deliver d message ends) (Follows c)
-  deliver-follows c d message [] fine is = tt
-  deliver-follows c d message (e ∷ []) fine is =
-      touch-follows c d e.component (at_queue e.port (λ messages. messages ++ message ∷ [])) (queue-gentle e.port (λ messages. messages ++ message ∷ []) (behind-kept message fine)) is
-  deliver-follows c d message (e ∷ f ∷ ends) fine is = tt
-
-  start-follows-in : (c d : Going) (p : Path) (frame : Frame) (state : State) → FrameRefersTo P frame → Follows c d → IfYields (start_in d p frame state) (Follows c)
-  start-follows-in c d p frame Created fine is = touch-follows c d p (begin frame) (begin-gentle frame fine) is
-  start-follows-in c d p frame Running fine is = tt
-  start-follows-in c d p frame Terminated fine is = tt
-
-  start-follows : (c d : Going) (p : Path) (frame : Frame) (found : Option Component) → FrameRefersTo P frame → Follows c d → IfYields (start_created d p frame found) (Follows c)
-  start-follows c d p frame None fine is = tt
-  start-follows c d p frame (Some component) fine is = start-follows-in c d p frame component.state fine is
-
-  stop-follows : (b : Bool) (c d : Going) (p : Path) → Follows c d → Leads c (if b then Ended (overall d) else Goes (touch d p (with_state Terminated)))
-  stop-follows true c d p is = tt
-  stop-follows false c d p is = touch-follows c d p (with_state Terminated) (state-gentle Terminated) is
-
-  connect-follows : (b : Bool) (c g : Going) (d e : End) → IsEndOf P definitions d → IsEndOf P definitions e → Follows c g → IfYields (if b then dynamic_error else Yields (with_connection (connection d e) g)) (Follows c)
-  connect-follows true c g d e one other is = tt
-  connect-follows false c g d e one other is = record { refers = connected-refers g d e one other is.refers; stay = λ id there. is.stay id there }
-
   -- ---- timers
 
-  frame-expired : (frame : Frame) (o : Option (Entries TimerState)) → FrameRefersTo P frame → IfSome (option_map (λ timers. with_timers timers frame) o) (FrameRefersTo P)
-  frame-expired frame None is = tt
-  frame-expired frame (Some timers) is = is
-
-  expired-frame : (name : List ℕ) (frame : Frame) → FrameRefersTo P frame → IfSome (expired_frame name frame) (FrameRefersTo P)
-  expired-frame name frame is = frame-expired frame (expire_in frame.timers name (entry frame.timers name)) is
-
-  abbrev Calls : List Frame → Type 0
-  Calls calls = All (FrameRefersTo P) calls
-
-  first-expired : (frames : List Frame) (o : Option Frame) → Calls frames → IfSome o (FrameRefersTo P) → IfSome (option_map (λ changed. changed ∷ frames) o) Calls
-  first-expired frames None all found = tt
-  first-expired frames (Some changed) all found = All-cons (FrameRefersTo P) changed frames found all
-
-  rest-expired : (frame : Frame) (o : Option (List Frame)) → FrameRefersTo P frame → IfSome o Calls → IfSome (option_map (λ changed. frame ∷ changed) o) Calls
-  rest-expired frame None is found = tt
-  rest-expired frame (Some changed) is found = All-cons (FrameRefersTo P) frame changed is found
-
-  call-expired-if : (name : List ℕ) (frame : Frame) (frames : List Frame) (b : Bool) (others : Option (List Frame)) → Calls (frame ∷ frames) → IfSome others Calls
-      → IfSome (if b then option_map (λ changed. changed ∷ frames) (expired_frame name frame) else option_map (λ changed. frame ∷ changed) others) Calls
-  call-expired-if name frame frames true others all found =
-      first-expired frames (expired_frame name frame) (All-tail (FrameRefersTo P) frame frames all) (expired-frame name frame (All-head (FrameRefersTo P) frame frames all))
-  call-expired-if name frame frames false others all found = rest-expired frame others (All-head (FrameRefersTo P) frame frames all) found
-
-  calls-expired : (number : ℕ) (name : List ℕ) (calls : List Frame) → Calls calls → IfSome (expired_call number name calls) Calls
-  calls-expired number name [] all = tt
-  calls-expired number name (frame ∷ frames) all =
-      call-expired-if name frame frames (nat_eq number (length frames + 1)) (expired_call number name frames) all (calls-expired number name frames (All-tail (FrameRefersTo P) frame frames all))
-
-  members-expired : (own : Data) (o : Option Frame) → DataReferTo P own → IfSome o (FrameRefersTo P) → IfSome (option_map (λ members. with_members members own) o) (DataReferTo P)
-  members-expired own None is found = tt
-  members-expired own (Some members) is found = record { members = found; calls = is.calls; defaults = is.defaults }
-
-  with-calls-expired : (own : Data) (o : Option (List Frame)) → DataReferTo P own → IfSome o Calls → IfSome (option_map (λ calls. with_calls calls own) o) (DataReferTo P)
-  with-calls-expired own None is found = tt
-  with-calls-expired own (Some calls) is found = record { members = is.members; calls = found; defaults = is.defaults }
-
-  expired-if : (number : ℕ) (name : List ℕ) (own : Data) (b : Bool) → DataReferTo P own
-      → IfSome (if b then option_map (λ members. with_members members own) (expired_frame name own.members) else option_map (λ calls. with_calls calls own) (expired_call number name own.calls)) (DataReferTo P)
-  expired-if number name own true is = members-expired own (expired_frame name own.members) is (expired-frame name own.members is.members)
-  expired-if number name own false is = with-calls-expired own (expired_call number name own.calls) is (calls-expired number name own.calls is.calls)
-
   pub expired-refers : (number : ℕ) (name : List ℕ) (own : Data) → DataReferTo P own → IfSome (expired number name own) (DataReferTo P)
-  expired-refers number name own is = expired-if number name own (nat_eq number 0) is
+  expired-refers number name own is =
+      data-expires (DataReferTo P) number name own
+      (λ members changed. record {
+        members = some-of (FrameRefersTo P) (expired_frame name own.members) members changed (frame-expires (FrameRefersTo P) frame-keeps name own.members is.members);
+        calls = is.calls;
+        defaults = is.defaults;
+      })
+      (λ calls changed. record {
+        members = is.members;
+        calls = some-of (All (FrameRefersTo P)) (expired_call number name own.calls) calls changed (calls-expire (FrameRefersTo P) frame-keeps number name own.calls is.calls);
+        defaults = is.defaults;
+      })
+    where
+      frame-keeps : KeepsTimers (FrameRefersTo P)
+      frame-keeps timer frame timers new refers = refers
 
 -- more components
 end-more : (P Q : ComponentId → Type 0) (definitions : List Definition) → ((id : ComponentId) → P id → Q id) → (e : End) → IsEndOf P definitions e → IsEndOf Q definitions e
@@ -332,20 +271,9 @@ module _ (test : Test) where
 
   -- ---- what a component asks for
 
-  abbrev pub LeadsToReferred : Option (Outcome Configuration) → Type 0
-  LeadsToReferred o = IfSome o (λ out. IfYields out (StandsWithAllReferred test))
-
   module _ (c : Going) (is : HasAllReferred test c) where
     pub followed : (d : Going) → Follows (IsThere c) test.definitions c d → HasAllReferred test d
     followed d follows = said (IsThere c) d follows.stay is.mtc follows.refers
-
-    led : (d : Configuration) → Leads (IsThere c) test.definitions c d → StandsWithAllReferred test d
-    led (Ended v) leads = tt
-    led (Goes d) leads = followed d leads
-
-    led-yields : (o : Outcome Configuration) → IfYields o (Leads (IsThere c) test.definitions c) → IfYields o (StandsWithAllReferred test)
-    led-yields (Yields d) leads = led d leads
-    led-yields (Fails why) leads = tt
 
     module _ (x : Component) (there : component_at c (path_of x) ≡ Some x) (family : IsFamily c) (here : IsThere c x.itself) where
       settled-follows : (own : Data) → DataReferTo (IsThere c) own → Follows (IsThere c) test.definitions c (settle c (path_of x) own)
@@ -374,31 +302,28 @@ module _ (test : Test) where
 
       -- ---- all of them
 
-      pub applied : (asked : Act) → IsAsked (IsThere c) test.definitions x.itself x.own.children asked → LeadsToReferred (apply test c x.itself asked)
-      applied Waits fine = tt
-      applied (Errs why) fine = tt
-      applied (Continues own) fine = followed (settle c (path_of x) own) (settled-follows own fine)
-      applied (Worsens v own) fine =
-          followed (touch (settle c (path_of x) own) (path_of x) (with_verdict v)) (touch-follows (IsThere c) test.definitions c (settle c (path_of x) own) (path_of x) (with_verdict v) (verdict-gentle (IsThere c) test.definitions v) (settled-follows own fine))
-      applied (Removes port own) fine =
-          followed (touch (settle c (path_of x) own) (path_of x) (at_queue port without_first))
-          (touch-follows (IsThere c) test.definitions c (settle c (path_of x) own) (path_of x) (at_queue port without_first) (queue-gentle (IsThere c) test.definitions port without_first (first-kept (IsThere c) test.definitions)) (settled-follows own fine))
-      applied (Sends port to v own) fine =
-          led-yields (ending (send (settle c (path_of x) own) x.itself port to v))
-          (ending-follows (IsThere c) test.definitions c (send (settle c (path_of x) own) x.itself port to v)
-          (deliver-follows (IsThere c) test.definitions c (settle c (path_of x) own) (record { value = v; sender = x.itself })
-          (filter (addressed to) (peers (settle c (path_of x) own) (record { component = path_of x; port = port }))) (record { value = fine.1; sender = here }) (settled-follows own fine.2)))
-      applied (Creates new own) fine = new-follows new own fine.0 fine.1 fine.2 fine.3
-      applied (Starts path frame own) fine =
-          led-yields (ending (start_component (settle c (path_of x) own) path frame))
-          (ending-follows (IsThere c) test.definitions c (start_component (settle c (path_of x) own) path frame)
-          (start-follows (IsThere c) test.definitions c (settle c (path_of x) own) path frame (component_at (settle c (path_of x) own) path) fine.1 (settled-follows own fine.2)))
-      applied (Stops path own) fine =
-          led (if same_path path (mtc_of test).path then Ended (overall (settle c (path_of x) own)) else Goes (touch (settle c (path_of x) own) path (with_state Terminated)))
-          (stop-follows (IsThere c) test.definitions (same_path path (mtc_of test).path) c (settle c (path_of x) own) path (settled-follows own fine.1))
-      applied (Connects d e own) fine =
-          led-yields (ending (connect (settle c (path_of x) own) d e))
-          (ending-follows (IsThere c) test.definitions c (connect (settle c (path_of x) own) d e)
-          (connect-follows (IsThere c) test.definitions
-          (is_terminated_at (settle c (path_of x) own) d.component || is_terminated_at (settle c (path_of x) own) e.component || is_double (settle c (path_of x) own) d e || is_double (settle c (path_of x) own) e d)
-          c (settle c (path_of x) own) d e fine.0 fine.1 (settled-follows own fine.2)))
+      touched : (own : Data) (p : Path) (change : Component → Component) → IsGentle (IsThere c) test.definitions change → DataReferTo (IsThere c) own → HasAllReferred test (touch (settle c (path_of x) own) p change)
+      touched own p change gentle fine =
+          followed (touch (settle c (path_of x) own) p change) (touch-follows (IsThere c) test.definitions c (settle c (path_of x) own) p change gentle (settled-follows own fine))
+
+      pub applies : Applies Anyhow (IsAsked (IsThere c) test.definitions x.itself x.own.children) (HasAllReferred test) c x.itself
+      applies = record {
+        fails = λ why asks. tt;
+        errs = tt;
+        continues = λ own asks. followed (settle c (path_of x) own) (settled-follows own asks);
+        worsens = λ v own asks. touched own (path_of x) (with_verdict v) (verdict-gentle (IsThere c) test.definitions v) asks;
+        removes = λ port own asks. touched own (path_of x) (at_queue port without_first) (queue-gentle (IsThere c) test.definitions port without_first (first-kept (IsThere c) test.definitions)) asks;
+        delivers = λ port to v own e asks. touched own e.component (at_queue e.port (λ messages. messages ++ record { value = v; sender = x.itself } ∷ []))
+            (queue-gentle (IsThere c) test.definitions e.port (λ messages. messages ++ record { value = v; sender = x.itself } ∷ [])
+            (behind-kept (IsThere c) test.definitions (record { value = v; sender = x.itself }) (record { value = asks.1; sender = here }))) asks.2;
+        creates = λ new own asks. new-follows new own asks.0 asks.1 asks.2 asks.3;
+        starts = λ path frame own asks. touched own path (begin frame) (begin-gentle (IsThere c) test.definitions frame asks.1) asks.2;
+        lacks = λ path frame own asks found. tt;
+        stops = λ path own asks. touched own path (with_state Terminated) (state-gentle (IsThere c) test.definitions Terminated) asks.1;
+        connects = λ d e own asks.
+            let settled : Follows (IsThere c) test.definitions c (settle c (path_of x) own) = settled-follows own asks.2 in
+            followed (with_connection (connection d e) (settle c (path_of x) own)) (record {
+              refers = connected-refers (IsThere c) test.definitions (settle c (path_of x) own) d e asks.0 asks.1 settled.refers;
+              stay = λ id there. settled.stay id there;
+            });
+      }

@@ -16,8 +16,8 @@ use Rattle.check_scope.specs.declared.types.DataType.{DataType}
 use Rattle.check_statements.specs.Messages.{incoming, received_type}
 use Rattle.laws_references.proofs.Values.{component-refers}
 use Rattle.laws_references.specs.References.{MessageRefersTo, RefersTo, SnapshotRefersTo}
-use Rattle.laws_order.proofs.Changes.{found-each}
-use Rattle.laws_order.proofs.Outcomes.{map-yields}
+use Rattle.laws_steps.proofs.Found.{found-each}
+use Rattle.laws_steps.proofs.Outcomes.{map-yields}
 use Rattle.semantics.specs.Branches.{Judge, read_by}
 use Rattle.semantics.specs.Configurations.{Data, Message, same_path}
 use Rattle.semantics.specs.Events.{Effect, Elapses, Faulty, Happened, Passed, Plain, Receives, Redirect, Trial, fits_sender, from_fits, happened_if, happened_or_passed, or_next, redirected_sender, redirected_value, redirects, template_fits, timer_seen, tried, try_all_done, try_chance, try_event, try_front, try_fronts, try_port, try_receive, try_template, try_timeout, try_type, try_typed, type_of}

@@ -20,7 +20,7 @@ use Rattle.check_scope.specs.declared.names.Meaning.{Meaning}
 use Rattle.check_scope.specs.declared.names.Meaning.TheVariants as meaning
 use Rattle.laws_references.proofs.Values.{LevelRefersTo, StateRefersTo, boolean-refers, component-refers, enumerated-refers, get-at, integer-refers, map-any, null-refers, refers-out, then-any}
 use Rattle.laws_references.specs.References.{ReadingRefersTo, RefersTo}
-use Rattle.laws_order.proofs.Outcomes.{then-yields, unmet-yields}
+use Rattle.laws_steps.proofs.Outcomes.{then-yields, unmet-yields}
 use Rattle.ttcn_values.specs.Evaluation.{Evaluation, after, expression_step, joined, link, link_step, value_of}
 use Rattle.ttcn_values.specs.Operations.{applied, both, compared, decides, fitting, logical, negated, ordered, truth, under_sign, with_sign}
 use Rattle.ttcn_values.specs.Outcomes.{IfYields, Outcome, Yields, dynamic_error, or_error, or_unmet, outcome_and_then}

@@ -4,7 +4,6 @@ pub mod Chains
 pub mod Changes
 pub mod Events
 pub mod Expressions
-pub mod Families
 pub mod Forms
 pub mod Found
 pub mod Literals

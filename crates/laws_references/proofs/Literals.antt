@@ -12,8 +12,8 @@ use Rattle.check_scope.specs.declared.types.DataType.{DataType}
 use Rattle.laws_references.proofs.Expressions.{Gives, expression-gives}
 use Rattle.laws_references.proofs.Values.{StateRefersTo, all-of, each-gives, omit-refers, record-refers, zip-last}
 use Rattle.laws_references.specs.References.{ReadingRefersTo, RefersTo}
-use Rattle.laws_order.proofs.Changes.{found-each}
-use Rattle.laws_order.proofs.Outcomes.{map-yields}
+use Rattle.laws_steps.proofs.Found.{found-each}
+use Rattle.laws_steps.proofs.Outcomes.{map-yields}
 use Rattle.semantics.proofs.Pairs.{All-more}
 use Rattle.ttcn_values.specs.Literals.{Wanted, by_name, element, element_named, field_value, field_value_step, given_by_name, in_order, record_at, type_of_field, value_step, value_wanted, wanted_record}
 use Rattle.ttcn_values.specs.Outcomes.{Fails, IfYields, Outcome, Yields, each, unmet}

@@ -4,9 +4,11 @@ use Rattle.std.specs.List.{find}
 use Rattle.std.proofs.lemmas.List.Elements.{All-filter, All-map, All-nil}
 use Rattle.laws_references.proofs.More.{component-more}
 use Rattle.laws_references.proofs.Runs.{ends_stand}
-use Rattle.laws_references.proofs.There.{found-path, there-is}
+use Rattle.laws_references.proofs.There.{there-is}
+use Rattle.laws_steps.proofs.Finding.{found-first, found-path}
 use Rattle.laws_references.specs.References.{ComponentRefersTo, DefaultRefersTo, FrameRefersTo, QueueRefersTo, RefersTo}
 use Rattle.laws_references.specs.There.{HasAllLeft, HasAllReferred, IsBetweenPorts, IsLeft, IsPortLeft, IsPortThere, IsThere, StandsWithAllLeft, StandsWithAllReferred}
+use Rattle.laws_order.proofs.Runs.{live-path}
 use Rattle.semantics.proofs.CanonicalRuns.{ends_live}
 use Rattle.semantics.proofs.Pairs.{All-more}
 use Rattle.semantics.specs.Canonical.{canonical_graph}
@@ -19,20 +21,12 @@ use Rattle.summary.specs.Run.{Run, end_of}
 use Rattle.ttcn_values.specs.declared.path.Path.{Path}
 use Rattle.ttcn_values.specs.declared.value.ComponentId.{ComponentId}
 
-live-path : (b : Bool) (x : Component) → path_of (if b then husk (path_of x) else x) ≡ path_of x
-live-path true x = refl
-live-path false x = refl
-
-map-first : (g : Component → Component) (b : Bool) (x : Component) (r o : Option Component) → r ≡ option_map g o → (if b then Some (g x) else r) ≡ option_map g (if b then Some x else o)
-map-first g true x r o e = refl
-map-first g false x r o e = e
-
 -- what is found in the live part
 live-found : (p : Path) (xs : List Component) → find (λ x. same_path (path_of x) p) (map live_component xs) ≡ option_map live_component (find (λ x. same_path (path_of x) p) xs)
 live-found p [] = refl
 live-found p (x ∷ xs) =
     ap (λ q. if same_path q p then Some (live_component x) else find (λ y. same_path (path_of y) p) (map live_component xs)) (live-path (is_terminated_state x.state) x)
-    ∙ map-first live_component (same_path (path_of x) p) x (find (λ y. same_path (path_of y) p) (map live_component xs)) (find (λ y. same_path (path_of y) p) xs) (live-found p xs)
+    ∙ found-first live_component (same_path (path_of x) p) x (find (λ y. same_path (path_of y) p) (map live_component xs)) (find (λ y. same_path (path_of y) p) xs) (live-found p xs)
 
 -- it is the same component, or nothing but its path is left
 kept-or-left-if : (b : Bool) (x : Component) → (let y : Component = if b then husk (path_of x) else x in (y ≡ x) ⊎ (y ≡ husk (path_of x)))

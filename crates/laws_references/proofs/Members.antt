@@ -11,7 +11,7 @@ use Rattle.laws_references.proofs.Literals.{value-gives}
 use Rattle.laws_references.proofs.Stored.{declare-keeps, declare-timer-keeps, forget-keeps, seen-refers}
 use Rattle.laws_references.proofs.Values.{error-gives}
 use Rattle.laws_references.specs.References.{DataReferTo, EntriesReferTo, FactsReferTo, FrameRefersTo, ReadingRefersTo, RefersTo}
-use Rattle.laws_order.proofs.Outcomes.{map-yields, then-yields}
+use Rattle.laws_steps.proofs.Outcomes.{map-yields, then-yields}
 use Rattle.semantics.specs.Configurations.{Data, Frame}
 use Rattle.semantics.specs.Creating.{declared_in_turn, declared_member, declared_variable, declared_with, empty_frame, new_members, reading_of_members}
 use Rattle.semantics.specs.Sites.{Site, runs_on}

@@ -1,44 +1,48 @@
 -- In the configurations of runs each component that is referred to is there.
-use Rattle.std.proofs.Common.{◌≡◌, ℕ, ◌+◌, Bool, true, false, List, [], ◌∷◌, ◌++◌, Option, Some, None, Result, Ok, Err, IfSome, map, option_map, refl, sym, ap, subst, ◌∙◌, if◌then◌else◌}
+use Rattle.std.proofs.Common.{◌≡◌, ℕ, ◌+◌, List, [], ◌∷◌, ◌++◌, Option, Some, None, Result, Ok, Err, IfSome, map, refl, sym, ap, subst, ◌∙◌, if◌then◌else◌}
 use Rattle.std.specs.List.{All, flat_map}
-use Rattle.std.specs.Option.{option_and_then}
 use Rattle.std.proofs.lemmas.List.Elements.{All-cons, All-head, All-map, All-nil}
 use Rattle.ttcn_syntax.specs.declared.tree.statement.Statement as tree
 use Rattle.ttcn_syntax.specs.declared.tree.statement.Verdict.TheVariants as verdict
 use Rattle.check_scope.specs.Names.{kind_at, members_of}
 use Rattle.laws_references.proofs.Asked.{IsAsked, IsEndOf, asked-refers}
-use Rattle.laws_references.proofs.Changes.{LeadsToReferred, applied, exchanged-gentle, expired-refers, followed, itself-follows, said, told, touch-follows}
+use Rattle.laws_references.proofs.Changes.{applies, exchanged-gentle, expired-refers, followed, itself-follows, said, told, touch-follows}
 use Rattle.laws_references.proofs.Members.{members-refer}
 use Rattle.laws_references.proofs.Ports.{empty-named}
-use Rattle.laws_references.proofs.There.{found-itself, found-there, same-itself, there-by}
-use Rattle.laws_references.proofs.Values.{all-of, then-any}
+use Rattle.laws_references.proofs.There.{found-itself, found-there, there-by}
+use Rattle.laws_steps.proofs.Finding.{path-same}
+use Rattle.laws_references.proofs.Values.{all-of}
 use Rattle.laws_references.specs.References.{ComponentRefersTo, DataReferTo, DefaultRefersTo, FrameRefersTo, MessageRefersTo, QueueRefersTo, RefersTo, SnapshotRefersTo}
 use Rattle.laws_references.specs.There.{HasAllReferred, HasItsPorts, IsThere, StandsWithAllReferred}
-use Rattle.laws_order.proofs.Changes.{found-each}
 use Rattle.laws_order.proofs.Families.{replay_family}
 use Rattle.laws_order.specs.Families.{IsFamily, StandsInFamily}
-use Rattle.laws_order.proofs.Outcomes.{map-yields}
+use Rattle.laws_steps.proofs.Applying.{Anyhow, IfGoes, Leads, applied}
+use Rattle.laws_steps.proofs.Found.{found-each, some-of}
+use Rattle.laws_steps.proofs.Outcomes.{yields-is}
+use Rattle.laws_steps.proofs.Running.{Steps, end-holds, replay-holds, settled-leads, start-leads, step-leads}
 use Rattle.semantics.proofs.Pairs.{All-more}
-use Rattle.semantics.specs.Configurations.{Component, Configuration, Data, Ended, Frame, Goes, Going, Message, component_at, is_running_state, path_of, same_path}
+use Rattle.semantics.specs.Configurations.{Component, Configuration, Data, Ended, Frame, Goes, Going, Message, component_at, path_of, same_path}
 use Rattle.semantics.specs.Creating.{new_members, ports_of}
-use Rattle.semantics.specs.Runs.{body_frame, first_snapshot, graph_of, mtc_with, option_elim, replay, replay_from, start, started, testcase_body}
+use Rattle.semantics.specs.Runs.{body_frame, first_snapshot, graph_of, mtc_with, option_elim, replay, replay_from, start}
 use Rattle.semantics.specs.Snapshots.{Snapshot, Test, front_at, front_of, mtc_of, snapshot_of}
 use Rattle.semantics.specs.Statements.{act}
-use Rattle.semantics.specs.Steps.{Expiry, Label, Statement, apply, exchanged, expired, expiry_step, next, settled, statement_step, step, touch}
-use Rattle.summary.specs.Run.{Run, Start, Then, end_of}
-use Rattle.ttcn_values.specs.Outcomes.{Fails, IfYields, Outcome, Yields, or_unmet, outcome_and_then}
+use Rattle.semantics.specs.Steps.{Label, apply, exchanged, expired, next, settled, step_in, touch}
+use Rattle.summary.specs.Run.{Run, end_of}
+use Rattle.ttcn_values.specs.Outcomes.{Fails, Outcome, Yields}
 use Rattle.ttcn_values.specs.declared.path.Path.{Path}
 use Rattle.ttcn_values.specs.declared.value.ComponentId.{ComponentId}
 
 -- ---- steps
 
-settled-stands : (test : Test) (o : Outcome Configuration) → IfYields o (StandsWithAllReferred test) → StandsWithAllReferred test (settled o)
-settled-stands test (Yields c) is = is
-settled-stands test (Fails why) is = tt
+-- in the words of the law
+told-by : (test : Test) (c : Configuration) → IfGoes (HasAllReferred test) c → StandsWithAllReferred test c
+told-by test (Ended v) is = tt
+told-by test (Goes c) is = is
 
-settled-step : (test : Test) (o : Option (Outcome Configuration)) → LeadsToReferred test o → IfSome o (λ out. StandsWithAllReferred test (settled out))
-settled-step test None is = tt
-settled-step test (Some out) is = settled-stands test out is
+out-stands : (test : Test) (o : Option (Outcome Configuration)) → Leads Anyhow (IfGoes (HasAllReferred test)) o → IfSome o (λ out. StandsWithAllReferred test (settled out))
+out-stands test None is = tt
+out-stands test (Some (Yields c)) is = told-by test c is
+out-stands test (Some (Fails why)) is = tt
 
 -- the component that is found
 pub found-refers : (test : Test) (c : Going) (p : Path) (x : Component) → HasAllReferred test c → component_at c p ≡ Some x → ComponentRefersTo (IsThere c) x
@@ -54,13 +58,14 @@ asked-in test snapshot c p x is found same fronts =
     (asked-refers (IsThere c) test snapshot x.own (subst (IsThere c) (sym same) (found-there c p x found)) is.mtc fronts refers.own)
 
 leads : (test : Test) (snapshot : Snapshot) (c : Going) (p : Path) (x : Component) → IsFamily c → HasAllReferred test c → component_at c p ≡ Some x → snapshot.itself ≡ x.itself → SnapshotRefersTo (IsThere c) snapshot
-    → LeadsToReferred test (apply test c x.itself (act test snapshot x.own))
+    → Leads Anyhow (IfGoes (HasAllReferred test)) (apply test c x.itself (act test snapshot x.own))
 leads test snapshot c p x family is found same fronts =
-    applied test c is x (found-itself c p x found) family (found-there c p x found) (act test snapshot x.own) (asked-in test snapshot c p x is found same fronts)
+    applied test Anyhow (IsAsked (IsThere c) test.definitions x.itself x.own.children) (HasAllReferred test) c x.itself
+    (applies test c is x (found-itself c p x found) family (found-there c p x found)) (act test snapshot x.own) (asked-in test snapshot c p x is found same fronts)
 
 pub apply_stands : (test : Test) (snapshot : Snapshot) (c : Going) (p : Path) (x : Component) → StandsInFamily (Goes c) → StandsWithAllReferred test (Goes c) → component_at c p ≡ Some x → snapshot.itself ≡ x.itself
     → SnapshotRefersTo (IsThere c) snapshot → IfSome (apply test c x.itself (act test snapshot x.own)) (λ out. StandsWithAllReferred test (settled out))
-apply_stands test snapshot c p x family is found same fronts = settled-step test (apply test c x.itself (act test snapshot x.own)) (leads test snapshot c p x family is found same fronts)
+apply_stands test snapshot c p x family is found same fronts = out-stands test (apply test c x.itself (act test snapshot x.own)) (leads test snapshot c p x family is found same fronts)
 
 -- the snapshot of the component as it is
 front-refers : (P : ComponentId → Type 0) (messages : List Message) → All (MessageRefersTo P) messages → IfSome (front_of messages) (MessageRefersTo P)
@@ -81,41 +86,18 @@ expiry_stands test c p x number name own is found expires =
     let fine : DataReferTo (IsThere c) own = subst (λ o. IfSome o (DataReferTo (IsThere c))) expires (expired-refers (IsThere c) test.definitions number name x.own refers.own) in
     followed test c is (touch c (path_of x) (exchanged own)) (touch-follows (IsThere c) test.definitions c c (path_of x) (exchanged own) (exchanged-gentle (IsThere c) test.definitions own fine) (itself-follows (IsThere c) test.definitions c (told test c is)))
 
-running-leads : (test : Test) (b : Bool) (o : Option (Outcome Configuration)) → LeadsToReferred test o → LeadsToReferred test (if b then o else None)
-running-leads test true o is = is
-running-leads test false o is = tt
+steps-stand : (test : Test) (c : Going) → IsFamily c → HasAllReferred test c → Steps test Anyhow (HasAllReferred test) c
+steps-stand test c family is = record {
+  asked = λ p x found runs. leads test (snapshot_of c x) c p x family is found refl (snapshot_refers test c p x is found);
+  expires = λ p x number name own found runs changed. expiry_stands test c p x number name own is found changed;
+}
 
-statement-leads : (test : Test) (c : Going) (p : Path) (o : Option Component) → IsFamily c → HasAllReferred test c → component_at c p ≡ o → LeadsToReferred test (option_and_then (statement_step test c) o)
-statement-leads test c p None family is found = tt
-statement-leads test c p (Some x) family is found =
-    running-leads test (is_running_state x.state) (apply test c x.itself (act test (snapshot_of c x) x.own))
-    (leads test (snapshot_of c x) c p x family is found refl (snapshot_refers test c p x is found))
-
-exchanged-leads : (test : Test) (c : Going) (p : Path) (x : Component) (number : ℕ) (name : List ℕ) (o : Option Data) → HasAllReferred test c → component_at c p ≡ Some x → expired number name x.own ≡ o
-    → LeadsToReferred test (option_map (λ own. Yields (Goes (touch c (path_of x) (exchanged own)))) o)
-exchanged-leads test c p x number name None is found expires = tt
-exchanged-leads test c p x number name (Some own) is found expires = expiry_stands test c p x number name own is found expires
-
-expiry-leads : (test : Test) (c : Going) (p : Path) (number : ℕ) (name : List ℕ) (o : Option Component) → HasAllReferred test c → component_at c p ≡ o → LeadsToReferred test (option_and_then (expiry_step c number name) o)
-expiry-leads test c p number name None is found = tt
-expiry-leads test c p number name (Some x) is found =
-    running-leads test (is_running_state x.state) (option_map (λ own. Yields (Goes (touch c (path_of x) (exchanged own)))) (expired number name x.own))
-    (exchanged-leads test c p x number name (expired number name x.own) is found refl)
-
-step-leads : (test : Test) (c : Configuration) (label : Label) → StandsInFamily c → StandsWithAllReferred test c → LeadsToReferred test (step test c label)
-step-leads test (Ended v) label family is = tt
-step-leads test (Goes c) (Statement p) family is = statement-leads test c p (component_at c p) family is refl
-step-leads test (Goes c) (Expiry p number name) family is = expiry-leads test c p number name (component_at c p) is refl
-
-mapped-stands : (test : Test) (o : Option (Outcome Configuration)) → LeadsToReferred test o → IfSome (option_map settled o) (StandsWithAllReferred test)
-mapped-stands test None is = tt
-mapped-stands test (Some out) is = settled-stands test out is
-
-next-stands : (test : Test) (c : Configuration) (label : Label) → StandsInFamily c → StandsWithAllReferred test c → IfSome (next test c label) (StandsWithAllReferred test)
-next-stands test c label family is = mapped-stands test (step test c label) (step-leads test c label family is)
+next-going : (test : Test) (c : Configuration) (label : Label) → StandsInFamily c → StandsWithAllReferred test c → IfSome (next test c label) (IfGoes (HasAllReferred test))
+next-going test (Ended v) label family is = tt
+next-going test (Goes c) label family is = settled-leads test Anyhow (HasAllReferred test) (step_in test c label) (step-leads test Anyhow (HasAllReferred test) c (steps-stand test c family is) label)
 
 pub next_stands : (test : Test) (c d : Configuration) (label : Label) → StandsInFamily c → StandsWithAllReferred test c → next test c label ≡ Some d → StandsWithAllReferred test d
-next_stands test c d label family is e = subst (λ o. IfSome o (StandsWithAllReferred test)) e (next-stands test c label family is)
+next_stands test c d label family is e = told-by test d (some-of (IfGoes (HasAllReferred test)) (next test c label) d e (next-going test c label family is))
 
 -- ---- the start
 
@@ -133,7 +115,7 @@ first-going test body members = record { components = mtc_with test body members
 mtc-there : (test : Test) (body : List tree.Statement) (members : Frame) → IsThere (first-going test body members) (mtc_of test)
 mtc-there test body members =
     there-by (first-going test body members) (mtc_of test) (Some (mtc_with test body members))
-    (ap (λ b. if b then Some (mtc_with test body members) else None) (same-itself (mtc_of test).path)) refl
+    (ap (λ b. if b then Some (mtc_with test body members) else None) (path-same (mtc_of test).path)) refl
 
 mtc-refers : (test : Test) (body : List tree.Statement) (members : Frame) → FrameRefersTo (IsMtc test) members → ComponentRefersTo (IsMtc test) (mtc_with test body members)
 mtc-refers test body members all = record {
@@ -154,15 +136,11 @@ first-stands test body members all =
       connections = All-nil (λ k. IsEndOf (IsMtc test) test.definitions k.one × IsEndOf (IsMtc test) test.definitions k.other);
     })
 
-started-stands : (test : Test) (body : List tree.Statement) → IfYields (started test body) (StandsWithAllReferred test)
-started-stands test body =
-    map-yields (FrameRefersTo (IsMtc test)) (StandsWithAllReferred test) (λ members. Goes (first-going test body members)) (new_members test (mtc_of test) (first_snapshot test))
-    (first-stands test body) (members-refer (IsMtc test) test (first_snapshot test) refl (mtc_of test) refl)
-
 pub start_stands : (test : Test) → StandsWithAllReferred test (start test)
 start_stands test =
-    settled-stands test (outcome_and_then (started test) (or_unmet (testcase_body (kind_at test.definitions test.testcase))))
-    (then-any (StandsWithAllReferred test) (started test) (or_unmet (testcase_body (kind_at test.definitions test.testcase))) (started-stands test))
+    told-by test (start test) (start-leads test Anyhow (HasAllReferred test)
+    (λ body members is made. first-stands test body members
+    (yields-is (FrameRefersTo (IsMtc test)) (new_members test (mtc_of test) (first_snapshot test)) members made (members-refer (IsMtc test) test (first_snapshot test) refl (mtc_of test) refl))))
 
 -- ---- runs
 
@@ -205,35 +183,8 @@ pub next-both : (test : Test) (c : Configuration) (label : Label) (o : Option Co
 next-both test c label None e is = tt
 next-both test c label (Some d) e is = (reached-next test label c d is.0 e, next_stands test c d label (reached-family test c is.0) is.1 e)
 
-abbrev Holds : Test → Result Configuration ℕ → Type 0
-Holds test (Ok c) = ReachedStands test c
-Holds test (Err number) = Unit {0}
-
-goes-on : (test : Test) (number : ℕ) (more : Configuration → Result Configuration ℕ) (o : Option Configuration) → ((c : Configuration) → ReachedStands test c → Holds test (more c)) → IfSome o (ReachedStands test)
-    → Holds test (option_elim (Err number) more o)
-goes-on test number more None fine is = tt
-goes-on test number more (Some c) fine is = fine c is
-
-replays-from : (test : Test) (run : List Label) (number : ℕ) (c : Configuration) → ReachedStands test c → Holds test (replay_from test run number c)
-replays-from test [] number c is = is
-replays-from test (label ∷ others) number c is =
-    goes-on test number (replay_from test others (number + 1)) (next test c label) (λ d also. replays-from test others (number + 1) d also) (next-both test c label (next test c label) refl is)
-
-replayed : (test : Test) (run : List Label) (c : Configuration) → replay test run ≡ Ok c → ReachedStands test c
-replayed test run c e = subst (Holds test) e (replays-from test run 1 (start test) (start-both test))
-
 pub replay_stands : (test : Test) (run : List Label) (c : Configuration) → replay test run ≡ Ok c → StandsWithAllReferred test c
-replay_stands test run c e = (replayed test run c e).1
-
-after-both : (test : Test) (c : Configuration) (o : Option Configuration) → ReachedStands test c → IfSome o (ReachedStands test) → ReachedStands test (option_elim c (λ d. d) o)
-after-both test c None is found = is
-after-both test c (Some d) is found = found
-
-ends : (test : Test) (run : Run Label) → ReachedStands test (end_of (graph_of test) run)
-ends test Start = start-both test
-ends test (Then run label) =
-    after-both test (end_of (graph_of test) run) (next test (end_of (graph_of test) run) label) (ends test run)
-    (next-both test (end_of (graph_of test) run) label (next test (end_of (graph_of test) run) label) refl (ends test run))
+replay_stands test run c e = (replay-holds test (ReachedStands test) (start-both test) (λ c label is. next-both test c label (next test c label) refl is) run c e).1
 
 pub ends_stand : (test : Test) (run : Run Label) → StandsWithAllReferred test (end_of (graph_of test) run)
-ends_stand test run = (ends test run).1
+ends_stand test run = (end-holds test (ReachedStands test) (start-both test) (λ c label is. next-both test c label (next test c label) refl is) run).1

@@ -9,7 +9,7 @@ use Rattle.laws_references.proofs.Templates.{LevelPattern, PatternRefersTo, refe
 use Rattle.laws_references.proofs.Values.{StateRefersTo, flat-each, map-each, omit-refers, record-refers}
 use Rattle.laws_references.specs.References as references
 use Rattle.laws_references.specs.References.{ReadingRefersTo, RefersTo, TemplateRefersTo, pattern_step, references_in_template}
-use Rattle.laws_order.proofs.Outcomes.{then-yields}
+use Rattle.laws_steps.proofs.Outcomes.{then-yields}
 use Rattle.ttcn_values.specs.Matching.{all_fields, before_fields, record_with, specific_step, specific_template_step, specific_value, specific_value_of_pattern}
 use Rattle.ttcn_values.specs.Outcomes.{Fails, IfYields, Outcome, Yields, dynamic_error, outcome_and_then}
 use Rattle.ttcn_values.specs.Readings.{Reading}

@@ -14,8 +14,8 @@ use Rattle.check_scope.specs.Names.{kind_at}
 use Rattle.laws_references.proofs.Assigned.{assigned-gives}
 use Rattle.laws_references.proofs.Values.{StateRefersTo, zip-last}
 use Rattle.laws_references.specs.References.{DataReferTo, EntriesReferTo, FrameRefersTo, RefersTo}
-use Rattle.laws_order.proofs.Changes.{found-each}
-use Rattle.laws_order.proofs.Outcomes.{map-yields}
+use Rattle.laws_steps.proofs.Found.{found-each}
+use Rattle.laws_steps.proofs.Outcomes.{map-yields}
 use Rattle.semantics.specs.Branches.{frame_with, with_arguments}
 use Rattle.semantics.specs.Configurations.{Data, Frame}
 use Rattle.semantics.specs.Entries.{Entries, name_cmp, put, without}

@@ -20,8 +20,8 @@ use Rattle.laws_references.proofs.Literals.{if-unmet, value-gives}
 use Rattle.laws_references.proofs.Values.{all-of, each-gives, map-any, then-any, zip-last}
 use Rattle.laws_references.specs.References.{ReadingRefersTo, RefersTo, TemplateRefersTo, pattern_step, references_in_template}
 use Rattle.laws_references.specs.References as references
-use Rattle.laws_order.proofs.Changes.{found-each}
-use Rattle.laws_order.proofs.Outcomes.{map-yields, then-yields}
+use Rattle.laws_steps.proofs.Found.{found-each}
+use Rattle.laws_steps.proofs.Outcomes.{map-yields, then-yields}
 use Rattle.semantics.proofs.Pairs.{All-flat, All-more}
 use Rattle.ttcn_values.specs.Evaluation.{value_of}
 use Rattle.ttcn_values.specs.Literals.{type_of_field, wanted_record}

@@ -2,7 +2,8 @@
 use Rattle.std.proofs.Common.{◌≡◌, Bool, true, false, List, [], ◌∷◌, map, Option, Some, None, IsSomeAnd, is_some, option_map, refl, sym, ap, subst, ◌∙◌, if◌then◌else◌}
 use Rattle.std.specs.List.{All, find}
 use Rattle.std.proofs.lemmas.List.Elements.{All-head, All-tail}
-use Rattle.std.proofs.lemmas.Slice.Eq.{bytes_eq-Decides}
+use Rattle.laws_steps.proofs.Finding as finding
+use Rattle.laws_steps.proofs.Finding.{found-path, insert-found, path-is, path-same}
 use Rattle.laws_references.specs.Acts.{IsPathOf}
 use Rattle.laws_references.specs.There.{IsThere}
 use Rattle.laws_order.proofs.Changes.{none-found}
@@ -11,27 +12,7 @@ use Rattle.semantics.specs.Steps.{insert, is_before, touch, unless_terminated, w
 use Rattle.ttcn_values.specs.declared.path.Path.{Path}
 use Rattle.ttcn_values.specs.declared.value.ComponentId.{ComponentId}
 
--- ---- finding by path
-
-pub some-is : {A : Type 0} (a b : A) → Some a ≡ Some b → a ≡ b
-some-is a b e = let found = e in cc
-
-pass-first : {A : Type 0} (p : A → Bool) (x a : A) (b : Bool) (others : Option A) → (others ≡ Some a → p a ≡ true) → p x ≡ b → (if b then Some x else others) ≡ Some a → p a ≡ true
-pass-first p x a true others rest is e = subst (λ y. p y ≡ true) (some-is x a e) is
-pass-first p x a false others rest is e = rest e
-
-find-passes : {A : Type 0} (p : A → Bool) (xs : List A) (a : A) → find p xs ≡ Some a → p a ≡ true
-find-passes p [] a e = absurd (let found = e in cc)
-find-passes p (x ∷ xs) a e = pass-first p x a (p x) (find p xs) (find-passes p xs a) refl e
-
-pub same-is : (p q : Path) → same_path p q ≡ true → p ≡ q
-same-is p q e = ap (λ n. record { numbers = n }) ((bytes_eq-Decides p.numbers q.numbers).0 e)
-
-pub same-itself : (p : Path) → same_path p p ≡ true
-same-itself p = (bytes_eq-Decides p.numbers p.numbers).1 refl
-
-pub found-path : (c : Going) (p : Path) (x : Component) → component_at c p ≡ Some x → path_of x ≡ p
-found-path c p x e = same-is (path_of x) p (find-passes (λ y. same_path (path_of y) p) c.components x e)
+-- ---- finding
 
 -- a component that is found is found at its own path
 pub found-itself : (c : Going) (p : Path) (x : Component) → component_at c p ≡ Some x → component_at c (path_of x) ≡ Some x
@@ -75,17 +56,10 @@ there-path c p is = subst (λ p. is_some (component_at c p) ≡ true) is.2 (ther
 
 -- ---- changes
 
-map-first : (g : Component → Component) (b : Bool) (x : Component) (r o : Option Component) → r ≡ option_map g o → (if b then Some (g x) else r) ≡ option_map g (if b then Some x else o)
-map-first g true x r o e = refl
-map-first g false x r o e = e
-
 -- what is found behind a change that keeps paths is what was found, changed
 pub found-map : (g : Component → Component) → ((x : Component) → (g x).itself ≡ x.itself) → (p : Path) (xs : List Component)
     → find (λ x. same_path (path_of x) p) (map g xs) ≡ option_map g (find (λ x. same_path (path_of x) p) xs)
-found-map g same p [] = refl
-found-map g same p (x ∷ xs) =
-    ap (λ (id : ComponentId). if same_path id.path p then Some (g x) else find (λ y. same_path (path_of y) p) (map g xs)) (same x)
-    ∙ map-first g (same_path (path_of x) p) x (find (λ y. same_path (path_of y) p) (map g xs)) (find (λ y. same_path (path_of y) p) xs) (found-map g same p xs)
+found-map g same p xs = finding.found-map g (λ x. ap (λ (id : ComponentId). id.path) (same x)) p xs
 
 some-mapped : (g : Component → Component) → ((x : Component) → (g x).itself ≡ x.itself) → (id : ComponentId) (o : Option Component) → IsSomeAnd o (λ x. x.itself ≡ id) → IsSomeAnd (option_map g o) (λ x. x.itself ≡ id)
 some-mapped g same id None is = is
@@ -117,27 +91,15 @@ stay-touched c p change same = stay-changed c (touching p change) (touching-same
 
 -- ---- new components
 
-insert-first : (p : Path) (new x : Component) (xs : List Component) (b : Bool) → same_path (path_of new) p ≡ false
-    → find (λ y. same_path (path_of y) p) (insert new xs) ≡ find (λ y. same_path (path_of y) p) xs
-    → find (λ y. same_path (path_of y) p) (if b then new ∷ x ∷ xs else x ∷ insert new xs) ≡ find (λ y. same_path (path_of y) p) (x ∷ xs)
-insert-first p new x xs true other e = ap (λ b. if b then Some new else find (λ y. same_path (path_of y) p) (x ∷ xs)) other
-insert-first p new x xs false other e = ap (λ o. if same_path (path_of x) p then Some x else o) e
-
--- the others are found as before
-others-found : (p : Path) (new : Component) → same_path (path_of new) p ≡ false → (xs : List Component)
-    → find (λ y. same_path (path_of y) p) (insert new xs) ≡ find (λ y. same_path (path_of y) p) xs
-others-found p new other [] = ap (λ b. if b then Some new else None) other
-others-found p new other (x ∷ xs) = insert-first p new x xs (is_before new x) other (others-found p new other xs)
-
 new-first : (new x : Component) (xs : List Component) (b : Bool) → same_path (path_of x) (path_of new) ≡ false
     → find (λ y. same_path (path_of y) (path_of new)) (insert new xs) ≡ Some new
     → find (λ y. same_path (path_of y) (path_of new)) (if b then new ∷ x ∷ xs else x ∷ insert new xs) ≡ Some new
-new-first new x xs true other e = ap (λ b. if b then Some new else find (λ y. same_path (path_of y) (path_of new)) (x ∷ xs)) (same-itself (path_of new))
+new-first new x xs true other e = ap (λ b. if b then Some new else find (λ y. same_path (path_of y) (path_of new)) (x ∷ xs)) (path-same (path_of new))
 new-first new x xs false other e = ap (λ b. if b then Some x else find (λ y. same_path (path_of y) (path_of new)) (insert new xs)) other ∙ e
 
 -- the new one is found at its path, where no other has it
 new-found : (new : Component) (xs : List Component) → All (λ x. same_path (path_of x) (path_of new) ≡ false) xs → find (λ y. same_path (path_of y) (path_of new)) (insert new xs) ≡ Some new
-new-found new [] all = ap (λ b. if b then Some new else None) (same-itself (path_of new))
+new-found new [] all = ap (λ b. if b then Some new else None) (path-same (path_of new))
 new-found new (x ∷ xs) all =
     new-first new x xs (is_before new x) (All-head (λ x. same_path (path_of x) (path_of new) ≡ false) x xs all)
     (new-found new xs (All-tail (λ x. same_path (path_of x) (path_of new) ≡ false) x xs all))
@@ -145,7 +107,7 @@ new-found new (x ∷ xs) all =
 other-path : (c : Going) (new : Component) (id : ComponentId) (b : Bool) → same_path (path_of new) id.path ≡ b → component_at c (path_of new) ≡ None → IsThere c id → same_path (path_of new) id.path ≡ false
 other-path c new id false is none there = is
 other-path c new id true is none there =
-    absurd (let e : true ≡ false = sym (there-found c id there) ∙ ap (λ q. is_some (component_at c q)) (sym (same-is (path_of new) id.path is)) ∙ ap is_some none in cc)
+    absurd (let e : true ≡ false = sym (there-found c id there) ∙ ap (λ q. is_some (component_at c q)) (sym (path-is (path_of new) id.path is)) ∙ ap is_some none in cc)
 
 module _ (new : Component) (c : Going) (none : component_at c (path_of new) ≡ None) where
   inserted : (with_new new c).components ≡ insert new c.components
@@ -154,7 +116,7 @@ module _ (new : Component) (c : Going) (none : component_at c (path_of new) ≡ 
   pub stay-beside : StayThere c (with_new new c)
   stay-beside id is =
       there-by (with_new new c) id (component_at c id.path)
-      (ap (find (λ y. same_path (path_of y) id.path)) inserted ∙ others-found id.path new (other-path c new id (same_path (path_of new) id.path) refl none is) c.components) is
+      (ap (find (λ y. same_path (path_of y) id.path)) inserted ∙ insert-found id.path new (other-path c new id (same_path (path_of new) id.path) refl none is) c.components) is
 
   pub new-there : IsThere (with_new new c) new.itself
   new-there =

@@ -1,10 +1,11 @@
 -- What values refer to, level by level.
-use Rattle.std.proofs.Common.{ℕ, zero, suc, ℤ, Bool, List, [], ◌∷◌, ◌++◌, map, get_or, Option, Some, None, IfSome, sym, subst}
+use Rattle.std.proofs.Common.{ℕ, ℤ, Bool, List, [], ◌∷◌, ◌++◌, map, get_or, Option, Some, None, IfSome, sym, subst}
 use Rattle.std.specs.List.{All, flat_map, slice_get, zip}
 use Rattle.std.specs.Option.{option_and_then}
 use Rattle.std.proofs.lemmas.List.Elements.{All-cons, All-head, All-map, All-nil, All-tail}
 use Rattle.laws_references.specs.References.{RefersTo, references, references_in_field, references_step}
-use Rattle.laws_order.proofs.Outcomes.{map-yields}
+use Rattle.laws_steps.proofs.Outcomes.{map-yields}
+use Rattle.laws_steps.proofs.Found.{get-each}
 use Rattle.semantics.proofs.Pairs.{All-flat, All-more}
 use Rattle.ttcn_values.specs.Outcomes.{Fails, IfYields, Outcome, Yields, each, or_error, outcome_and_then, outcome_map}
 use Rattle.ttcn_values.specs.declared.value.ComponentId.{ComponentId}
@@ -35,11 +36,6 @@ map-each P f [] all = All-nil (λ x. P (f x))
 map-each P f (x ∷ xs) all = All-cons (λ x. P (f x)) x xs (All-head P (f x) (map f xs) all) (map-each P f xs (All-tail P (f x) (map f xs) all))
 
 -- what stands at a place, or is found
-pub get-each : {A : Type 0} (P : A → Type 0) (xs : List A) (k : ℕ) → All P xs → IfSome (slice_get xs k) P
-get-each P [] k all = tt
-get-each P (x ∷ xs) zero all = All-head P x xs all
-get-each P (x ∷ xs) (suc k) all = get-each P xs k (All-tail P x xs all)
-
 pub get-at : {A : Type 0} (P : A → Type 0) (xs : List A) (k : Option ℕ) → All P xs → IfSome (option_and_then (slice_get xs) k) P
 get-at P xs None all = tt
 get-at P xs (Some k) all = get-each P xs k all

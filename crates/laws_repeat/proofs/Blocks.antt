@@ -1,7 +1,7 @@
 -- What remains of blocks stands at their site or further in, and is closed where they break no rule outside of branches.
-use Rattle.std.proofs.Common.{◌≡◌, ℕ, zero, suc, ◌+◌, false, List, [], ◌∷◌, ◌++◌, Option, Some, None, IfSome, slice_get, subst}
+use Rattle.std.proofs.Common.{◌≡◌, ℕ, ◌+◌, false, List, [], ◌∷◌, ◌++◌, Option, Some, None, IfSome, slice_get, subst}
 use Rattle.std.specs.List.{All}
-use Rattle.std.proofs.lemmas.List.Elements.{All-append, All-cons, All-head, All-nil, All-tail}
+use Rattle.std.proofs.lemmas.List.Elements.{All-append, All-cons, All-nil}
 use Rattle.ttcn_syntax.specs.declared.tree.definition.Definition.{Definition}
 use Rattle.ttcn_syntax.specs.declared.tree.expression.Expr.{Expr}
 use Rattle.ttcn_syntax.specs.declared.tree.statement.Action.TheOpen.{Action-F}
@@ -19,6 +19,7 @@ use Rattle.laws_repeat.proofs.Outside.{outside-behind, outside-both, outside-its
 use Rattle.laws_repeat.specs.Following.{IsClosed, IsClosedItem, IsInside, IsMade, IsOutside}
 use Rattle.laws_statements.proofs.Descent.{statement_fine}
 use Rattle.laws_statements.specs.Parts.{HasFineParts, IsFineConditional, IsFineIfAny}
+use Rattle.laws_steps.proofs.Found.{get-each}
 use Rattle.semantics.proofs.Pairs.{All-more}
 use Rattle.semantics.specs.Items.{Does, Doing, Item, Loop, Mark, Name, Part, Start, Target, Waiting, Whole, action_of, declarations, items, items_if_any, items_of_action, items_of_statement, site_after, site_in_for, start_items}
 use Rattle.semantics.specs.Sites.{Site, constant_entries, entries_of, entries_of_start, scope_at, site_with, timer_entries, variable_entries}
@@ -126,11 +127,6 @@ module _ (definitions : List Definition) where
     made-block-if (Some block) closes = made-block block closes
 
     -- ---- conditionals
-
-    get-each : {A : Type 0} (P : A → Type 0) (xs : List A) (k : ℕ) → All P xs → IfSome (slice_get xs k) P
-    get-each P [] k all = tt
-    get-each P (x ∷ xs) zero all = All-head P x xs all
-    get-each P (x ∷ xs) (suc k) all = get-each P xs k (All-tail P x xs all)
 
     closed-conditional : (place : Place) → IsWhole place.scope → place.in_branch ≡ false → (c : Option Conditional) → IfSome c (IsFineConditional place) → IfSome c (λ c. IsClosedBlock (out-Conditional c).block)
     closed-conditional place whole lone None fine = tt

@@ -3,8 +3,7 @@ use Rattle.std.proofs.Common.{◌≡◌, List, Some, Ok, is_some, true}
 use Rattle.laws_repeat.proofs.Repeats.{repeat-found, replay_marked}
 use Rattle.laws_repeat.specs.Following.{lists_of}
 use Rattle.laws_repeat.specs.Marks.{AllAreMarked, StandsAtRepeat}
-use Rattle.laws_order.proofs.Changes.{found-each}
-use Rattle.laws_order.proofs.Runs.{some-of}
+use Rattle.laws_steps.proofs.Found.{found-each, some-of}
 use Rattle.semantics.specs.Configurations.{Component, Goes, Going, component_at, path_of, same_path}
 use Rattle.semantics.specs.Runs.{replay}
 use Rattle.semantics.specs.Snapshots.{Test}

@@ -21,6 +21,7 @@ use Rattle.laws_repeat.proofs.Ways.{inside-unmarked}
 use Rattle.laws_repeat.specs.Following.{Branched, Called, Follows, GaveBack, IsBody, IsClosedItem, IsInside, IsMade, IsOutside, IsUnmarked, Left, Repeated, Replaced, repeated_from, repeated_lists}
 use Rattle.laws_repeat.specs.Marks.{AllAreMarked, AreMarked, IsMarkOutside, has_mark, some_marked}
 use Rattle.laws_repeat.specs.internal.Lasting.{IsLasting}
+use Rattle.laws_steps.proofs.Found.{some-of}
 use Rattle.semantics.proofs.Pairs.{All-more}
 use Rattle.semantics.specs.Items.{Doing, Item, Mark, Part, Waiting, items}
 use Rattle.semantics.specs.Runs.{testcase_body}
@@ -140,9 +141,6 @@ repeated-marked (xs ∷ lists) all =
 same-body : (one other : List Statement) → Some one ≡ Some other → one ≡ other
 same-body one other e = let is = e in cc
 
-if-some : {A : Type 0} (P : A → Type 0) (o : Option A) (a : A) → o ≡ Some a → IfSome o P → P a
-if-some P o a is holds = subst (λ o. IfSome o P) is holds
-
 module _ (definitions : List Definition) (well : AreWellTyped definitions) where
   -- ---- bodies break no rule outside of branches
 
@@ -234,7 +232,7 @@ module _ (definitions : List Definition) (well : AreWellTyped definitions) where
   marked-behind before after (GaveBack xs target rest lists was e) all =
       let both : AllAreMarked (xs ∷ (Waiting target ∷ rest) ∷ lists) = subst AllAreMarked was all in
       subst AllAreMarked (sym e) (both.1.0, both.1.1)
-  marked-behind before after (Repeated is) all = if-some AllAreMarked (repeated_lists before) after is (repeated-marked before all)
+  marked-behind before after (Repeated is) all = some-of AllAreMarked (repeated_lists before) after is (repeated-marked before all)
 
   pub marks-last : IsLasting definitions AllAreMarked
   marks-last = record {

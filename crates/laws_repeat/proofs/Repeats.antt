@@ -9,6 +9,7 @@ use Rattle.laws_repeat.specs.Following.{IsClosed, lists_of, repeated_from, repea
 use Rattle.laws_repeat.specs.Marks.{AllAreMarked, AreMarked, IsAtRepeat, StandsAtRepeat, StandsMarked, has_mark, some_marked}
 use Rattle.laws_statements.proofs.Descent.{statement_fine}
 use Rattle.laws_statements.specs.Parts.{HasFineParts}
+use Rattle.laws_steps.proofs.Found.{some-of}
 use Rattle.semantics.specs.Configurations.{Configuration, Ended, Frame, Goes}
 use Rattle.semantics.specs.Items.{Doing, Item, Mark, Waiting, action_of}
 use Rattle.semantics.specs.Runs.{graph_of, replay, start}
@@ -74,12 +75,9 @@ module _ (test : Test) (well : AreWellTyped test.definitions) where
   if-told None is = tt
   if-told (Some c) is = told c is
 
-  if-some : {A : Type 0} (P : A → Type 0) (o : Option A) (a : A) → o ≡ Some a → IfSome o P → P a
-  if-some P o a is holds = subst (λ o. IfSome o P) is holds
-
   pub next_marked : (c d : Configuration) (label : Label) → StandsMarked test c → next test c label ≡ Some d → StandsMarked test d
   next_marked c d label is e =
-      if-some (StandsMarked test) (next test c label) d e (if-told (next test c label) (next-stands test AllAreMarked (marks-last test.definitions well) c label (said c is)))
+      some-of (StandsMarked test) (next test c label) d e (if-told (next test c label) (next-stands test AllAreMarked (marks-last test.definitions well) c label (said c is)))
 
   pub replay_marked : (run : List Label) (c : Configuration) → replay test run ≡ Ok c → StandsMarked test c
   replay_marked run c e = told c (replay-stands test AllAreMarked (marks-last test.definitions well) run c e)

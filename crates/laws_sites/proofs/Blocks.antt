@@ -70,7 +70,7 @@ module _ (definitions : List Definition) (at : ℕ) where
   scope-of site (Action-F.Timers timers) = behind-scope definitions (λ (t : Timer). t.name) meaning.Timer site timers
   scope-of site _ = refl
 
-  scope-after : (site : Site) (s : Statement) → scope_at definitions (site_after definitions site s) ≡ (statement s).scope_behind (scope_at definitions site)
+  pub scope-after : (site : Site) (s : Statement) → scope_at definitions (site_after definitions site s) ≡ (statement s).scope_behind (scope_at definitions site)
   scope-after site s = scope-of site (action_of s) ∙ ap (λ (said : StatementRules). said.scope_behind (scope_at definitions site)) (sym (told-is s))
 
   -- ---- statements and blocks

@@ -18,7 +18,7 @@ use Rattle.laws_sites.proofs.Ports.{queues-found}
 use Rattle.laws_sites.proofs.Sites.{own-free}
 use Rattle.laws_sites.specs.Standing.{HasQueuesByName, IsFineComponent, IsFineFrame, IsFineItem, IsFineSite, IsFrameOf, IsFree, PlaceIn, StandsByRules, place_at}
 use Rattle.laws_statements.specs.Parts.{HasFineParts}
-use Rattle.laws_order.proofs.Runs.{some-of}
+use Rattle.laws_steps.proofs.Found.{some-of}
 use Rattle.semantics.specs.Configurations.{Component, Frame, Goes, Going, component_at}
 use Rattle.semantics.specs.Items.{Doing, Item, Part, Whole, action_of}
 use Rattle.semantics.specs.Sites.{Site, behaviour_scope, is_own, runs_on, scope_at, scope_with}

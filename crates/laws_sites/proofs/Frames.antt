@@ -10,7 +10,7 @@ use Rattle.laws_sites.proofs.Sites.{own-free}
 use Rattle.laws_sites.proofs.Ways.{IsLastSite}
 use Rattle.laws_sites.specs.Standing.{IsFineFrame, IsFineItem, IsFineSite, IsFrameOf, IsFree}
 use Rattle.laws_statements.proofs.Naming.{same-name}
-use Rattle.laws_order.proofs.Outcomes.{any-yields, map-yields, then-yields}
+use Rattle.laws_steps.proofs.Outcomes.{any-yields, map-yields, then-yields}
 use Rattle.semantics.specs.Configurations.{Data, Frame}
 use Rattle.semantics.specs.Entries.{Entries, name_cmp, put, without}
 use Rattle.semantics.specs.Events.{Effect, Elapses, Plain, Receives, Redirect}

@@ -65,7 +65,7 @@ module _ (definitions : List Definition) (well : AreWellTyped definitions) where
   abbrev scope-of : Option DefinitionKind → Scope
   scope-of k = scope_on definitions (component_named definitions (component_name k))
 
-  altstep-parameters : (named parameters body : List Rule) → named ++ parameters ++ body ≡ [] → parameters ≡ []
+  pub altstep-parameters : (named parameters body : List Rule) → named ++ parameters ++ body ≡ [] → parameters ≡ []
   altstep-parameters named parameters body nothing = nothing-rest named parameters (nothing-first (named ++ parameters) body nothing)
 
   parameters-of : (at : ℕ) (k : Option DefinitionKind) → kind_at definitions at ≡ k → check_parameters (scope-of k) (parameters_of k) ≡ []

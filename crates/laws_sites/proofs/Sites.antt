@@ -22,13 +22,12 @@ use Rattle.laws_checker.proofs.Nothing.{nothing-first, nothing-rest}
 use Rattle.laws_checker.specs.Laws.{IsKnown}
 use Rattle.laws_sites.proofs.Outside.{parameters-free, unseen-before, unseen-in-front}
 use Rattle.laws_sites.specs.Standing.{IsFineItem, IsFineName, IsFineSite, IsFineVariable, IsFree}
-use Rattle.laws_statements.proofs.Growing.{new_name_within, within_both, within_itself}
+use Rattle.laws_statements.proofs.Growing.{constant-new, new-unseen, new_name_within, variable-new, within_both, within_itself}
 use Rattle.laws_statements.proofs.Members.{name_leaves_whole}
 use Rattle.laws_statements.proofs.Naming.{same-name}
 use Rattle.laws_statements.proofs.Typing.{type_known}
 use Rattle.laws_statements.proofs.Within.{type_stays}
 use Rattle.laws_statements.specs.Within.{IsWithin}
-use Rattle.laws_statements.proofs.Growing.{constant-new, new-unseen, variable-new}
 use Rattle.semantics.specs.Items.{Doing, Name, action_of, declarations}
 use Rattle.semantics.specs.Sites.{Site, behaviour_scope, constant_entries, is_own, runs_on, scope_at, site_behind, site_with, timer_entries, variable_entries}
 use Rattle.check_statements.specs.Definitions.{parameter_entry}

@@ -1,5 +1,5 @@
 -- What a component asks for fits, where its data does and what it stands at breaks no rule.
-use Rattle.std.proofs.Common.{◌≡◌, ℕ, zero, suc, ◌+◌, Bool, true, false, List, [], ◌∷◌, ◌++◌, length, nat_lt, slice_get, Option, Some, None, IfSome, option_map, append_assoc, inl, refl, sym, ap, subst, ◌∙◌, if◌then◌else◌}
+use Rattle.std.proofs.Common.{◌≡◌, ℕ, ◌+◌, Bool, true, false, List, [], ◌∷◌, ◌++◌, length, nat_lt, slice_get, Option, Some, None, IfSome, option_map, append_assoc, inl, refl, sym, ap, subst, ◌∙◌, if◌then◌else◌}
 use Rattle.std.specs.List.{All, flat_map}
 use Rattle.std.proofs.lemmas.List.Elements.{All-append, All-head, All-nil, All-tail}
 use Rattle.ttcn_syntax.specs.declared.tree.definition.Definition.{Definition}
@@ -25,6 +25,7 @@ use Rattle.laws_statements.proofs.Resolving.{activation_resolves}
 use Rattle.laws_statements.proofs.Within.{activation_stays, call_stays}
 use Rattle.laws_statements.specs.Named.{IsDefinedAs}
 use Rattle.laws_statements.specs.Parts.{HasFineParts, IsCondition, IsFineBranch, IsFineConditional, IsFineIfAny}
+use Rattle.laws_steps.proofs.Found.{get-each}
 use Rattle.semantics.specs.Branches.{Written, open_branch, write_altsteps, written_alt, written_branch, written_call}
 use Rattle.semantics.specs.Configurations.{Data, Frame}
 use Rattle.semantics.specs.Items.{Does, Doing, From, Item, Last, Loop, Mark, Name, Part, Start, Waiting, Whole, action_of, items, items_if_any, site_in_for, start_items}
@@ -47,11 +48,6 @@ use Rattle.laws_repeat.specs.Marks.{IsAtRepeat}
 use Rattle.laws_types.specs.Steps.{FitFronts, Sees}
 use Rattle.laws_types.specs.internal.Asked.{FitsAct, IsMeant}
 use Rattle.laws_types.specs.Typed.{FitBelow, FitCalls, FitsData, FitsFrame, FitsOwn, Leaves, Nest, StandsIn, result_of}
-
-get-each : {A : Type 0} (P : A → Type 0) (xs : List A) (k : ℕ) → All P xs → IfSome (slice_get xs k) P
-get-each P [] k all = tt
-get-each P (x ∷ xs) zero all = All-head P x xs all
-get-each P (x ∷ xs) (suc k) all = get-each P xs k (All-tail P x xs all)
 
 some-is : (n m : ℕ) → Some n ≡ Some m → n ≡ m
 some-is n m h = cc

@@ -1,21 +1,22 @@
 -- What is done among the components keeps all values of their types.
-use Rattle.std.proofs.Common.{◌≡◌, ℕ, Bool, true, false, ◌||◌, List, [], ◌∷◌, ◌++◌, map, find, bytes_eq, Option, Some, None, IfSome, is_some, ◌⊎◌, inl, inr, refl, sym, ap, subst, ◌∙◌, if◌then◌else◌}
-use Rattle.std.specs.List.{All, filter}
+use Rattle.std.proofs.Common.{◌≡◌, ℕ, Bool, true, false, List, [], ◌∷◌, ◌++◌, map, find, bytes_eq, Option, Some, None, IfSome, is_some, ◌⊎◌, inl, inr, refl, sym, ap, subst, ◌∙◌, if◌then◌else◌}
+use Rattle.std.specs.List.{All}
 use Rattle.std.proofs.lemmas.List.Elements.{All-append, All-cons, All-head, All-nil, All-tail}
 use Rattle.ttcn_syntax.specs.declared.tree.definition.Definition.{Definition}
 use Rattle.ttcn_syntax.specs.declared.tree.statement.Verdict.{Verdict}
 use Rattle.check_scope.specs.Names.{Entry}
 use Rattle.laws_evaluation.specs.Uses.{GivesOnly}
-use Rattle.laws_order.proofs.Changes.{insert-each}
+use Rattle.laws_steps.proofs.Applying.{Applies, IfGoes, Leads, applied}
+use Rattle.laws_steps.proofs.Found.{new-each}
 use Rattle.semantics.proofs.Pairs.{All-more}
-use Rattle.semantics.specs.Configurations.{Component, Configuration, Created, Data, End, Ended, Frame, Goes, Going, Message, Queue, Running, State, Terminated, component_at, is_terminated_state, overall, path_of, same_path}
+use Rattle.semantics.specs.Configurations.{Component, Configuration, Data, Ended, Frame, Goes, Going, Message, Queue, Terminated, component_at, is_terminated_state, path_of, same_path}
 use Rattle.semantics.specs.Items.{Doing, Item, Mark, Waiting}
-use Rattle.semantics.specs.Snapshots.{Test, mtc_of}
-use Rattle.semantics.specs.Statements.{Act, Connects, Continues, Creates, Errs, Removes, Sends, Starts, Stops, Waits, Worsens}
-use Rattle.semantics.specs.Steps.{addressed, apply, at_queue, begin, change_queue, connect, connection, deliver, ending, insert, is_double, is_terminated_at, peers, send, settle, start_component, start_created, start_in, stop, touch, unless_terminated, with_connection, with_data, with_state, with_verdict, without_first}
+use Rattle.semantics.specs.Snapshots.{Test}
+use Rattle.semantics.specs.Statements.{Act, Errs}
+use Rattle.semantics.specs.Steps.{apply, at_queue, begin, change_queue, settle, touch, unless_terminated, with_data, with_state, with_verdict, without_first}
 use Rattle.semantics.specs.Storing.{in_last, with_remaining}
 use Rattle.semantics.specs.Taking.{uncovered, without_marks}
-use Rattle.ttcn_values.specs.Outcomes.{DynamicError, Fails, Outcome, Unmet, Yields, dynamic_error}
+use Rattle.ttcn_values.specs.Outcomes.{Failure, DynamicError, Fails, Outcome, Unmet, Yields}
 use Rattle.ttcn_values.specs.declared.path.Path.{Path}
 use Rattle.ttcn_values.specs.declared.value.ComponentId.{ComponentId}
 use Rattle.laws_types.proofs.Nested.{nest-wider}
@@ -211,20 +212,8 @@ module _ (definitions : List Definition) where
 
   -- ---- what a component asks for
 
-  abbrev Leads : Test → Outcome Configuration → Type 0
-  Leads test out = GivesOnly out (FitsTypes test)
-
-  ending-fits : (test : Test) → test.definitions ≡ definitions → (o : Outcome Going) → GivesOnly o AllFit → Leads test (ending o)
-  ending-fits test same (Yields c) is = subst (λ ds. All (FitsComponent ds) c.components) (sym same) is
-  ending-fits test same (Fails DynamicError) is = tt
-  ending-fits test same (Fails Unmet) is = is
-
-  delivered : (c : Going) (message : Message) (ends : List End) → FitsMessage definitions message → AllFit c → GivesOnly (deliver c message ends) AllFit
-  delivered c message [] fits all = tt
-  delivered c message (e ∷ []) fits all =
-      touched-any c e.component (at_queue e.port (λ messages. messages ++ message ∷ []))
-      (queue-keeps e.port (λ messages. messages ++ message ∷ []) (λ ms each. All-append (FitsMessage definitions) ms (message ∷ []) each (All-cons (FitsMessage definitions) message [] fits (All-nil (FitsMessage definitions))))) all
-  delivered c message (d ∷ e ∷ ends) fits all = tt
+  behind-fit : (message : Message) → FitsMessage definitions message → (ms : List Message) → All (FitsMessage definitions) ms → All (FitsMessage definitions) (ms ++ message ∷ [])
+  behind-fit message fits ms each = All-append (FitsMessage definitions) ms (message ∷ []) each (All-cons (FitsMessage definitions) message [] fits (All-nil (FitsMessage definitions)))
 
   begun : (frame : Frame) (component_type : ℕ) (x : Component) → FitCalls definitions component_type (frame ∷ []) → x.itself.component_type ≡ component_type → Fits x → Fits (begin frame x)
   begun frame component_type x frames same fits =
@@ -235,25 +224,17 @@ module _ (definitions : List Definition) where
         queues = fits.queues;
       }
 
-  started-in : (c : Going) (path : Path) (frame : Frame) (component_type : ℕ) (state : State) → AreOfType path component_type c → FitCalls definitions component_type (frame ∷ []) → AllFit c → GivesOnly (start_in c path frame state) AllFit
-  started-in c path frame component_type Created types frames all =
-      touched c path (begin frame)
-      (All-more (λ x. same_path (path_of x) path ≡ true → x.itself.component_type ≡ component_type) (KeepsAt path (begin frame)) (λ x of same fits. begun frame component_type x frames (of same) fits) c.components types) all
-  started-in c path frame component_type Running types frames all = tt
-  started-in c path frame component_type Terminated types frames all = tt
+-- a step may fail with a dynamic error alone
+abbrev MayFail : Failure → Type 0
+MayFail DynamicError = Unit {0}
+MayFail Unmet = ⊥
 
-  started : (c : Going) (path : Path) (frame : Frame) (component_type : ℕ) (found : Option Component) → is_some found ≡ true → AreOfType path component_type c → FitCalls definitions component_type (frame ∷ []) → AllFit c
-      → GivesOnly (start_created c path frame found) AllFit
-  started c path frame component_type (Some x) there types frames all = started-in c path frame component_type x.state types frames all
-  started c path frame component_type None there types frames all = absurd (let e = there in cc)
-
-  connected : (b : Bool) (c : Going) (d e : End) → AllFit c → GivesOnly (if b then dynamic_error else Yields (with_connection (connection d e) c)) AllFit
-  connected true c d e all = tt
-  connected false c d e all = all
-
-  new-if : (b : Bool) (new : Component) (c : Going) → Fits new → AllFit c → All Fits (if b then c.components else insert new c.components)
-  new-if true new c fits all = all
-  new-if false new c fits all = insert-each Fits new fits c.components all
+gives-only : (test : Test) (o : Option (Outcome Configuration)) → Leads MayFail (IfGoes (λ d. All (FitsComponent test.definitions) d.components)) o → IfSome o (λ out. GivesOnly out (FitsTypes test))
+gives-only test None leads = tt
+gives-only test (Some (Yields (Ended v))) leads = tt
+gives-only test (Some (Yields (Goes d))) leads = leads
+gives-only test (Some (Fails DynamicError)) leads = tt
+gives-only test (Some (Fails Unmet)) leads = leads
 
 module _ (test : Test) (c : Going) (itself : ComponentId) (all : All (FitsComponent test.definitions) c.components) (types : AreOfType itself.path itself.component_type c)
     (M : ComponentId → Type 0) (meant : (id : ComponentId) → M id → IsFound c id) where
@@ -263,41 +244,48 @@ module _ (test : Test) (c : Going) (itself : ComponentId) (all : All (FitsCompon
   after : (own : Data) → FitsData ds itself.component_type own → All (FitsComponent ds) (settle c itself.path own).components
   after own fits = settled-fits ds c itself.path itself.component_type own types fits all
 
-  ended-or : (b : Bool) (d : Going) (path : Path) → All (FitsComponent ds) (touch d path (with_state Terminated)).components → FitsTypes test (if b then Ended (overall d) else Goes (touch d path (with_state Terminated)))
-  ended-or true d path fits = tt
-  ended-or false d path fits = fits
-
-  stopped : (path : Path) (own : Data) → FitsOwn ds itself.component_type own → (path ≡ itself.path) ⊎ HasFrames own.calls → FitsTypes test (stop test (settle c itself.path own) path)
+  stopped : (path : Path) (own : Data) → FitsOwn ds itself.component_type own → (path ≡ itself.path) ⊎ HasFrames own.calls → All (FitsComponent ds) (touch (settle c itself.path own) path (with_state Terminated)).components
   stopped path own fits (inl same) =
-      ended-or (same_path path (mtc_of test).path) (settle c itself.path own) path
-      (subst (λ p. All (FitsComponent ds) (touch (settle c itself.path own) p (with_state Terminated)).components) (sym same) (stopped-each ds itself.path itself.component_type own fits c.components types all))
+      subst (λ p. All (FitsComponent ds) (touch (settle c itself.path own) p (with_state Terminated)).components) (sym same) (stopped-each ds itself.path itself.component_type own fits c.components types all)
   stopped path own fits (inr has) =
-      ended-or (same_path path (mtc_of test).path) (settle c itself.path own) path
-      (touched-any ds (settle c itself.path own) path (with_state Terminated) (terminated ds)
-      (after own (record { members = fits.members; calls = fits.calls; defaults = fits.defaults; frames = has })))
+      touched-any ds (settle c itself.path own) path (with_state Terminated) (terminated ds)
+      (after own (record { members = fits.members; calls = fits.calls; defaults = fits.defaults; frames = has }))
 
-  pub apply-fits : (asked : Act) → FitsAct test itself.component_type itself.path M asked → IfSome (apply test c itself asked) (λ out. GivesOnly out (FitsTypes test))
-  apply-fits Waits fits = tt
-  apply-fits (Errs DynamicError) fits = tt
-  apply-fits (Errs Unmet) fits = fits
-  apply-fits (Continues own) fits = after own fits
-  apply-fits (Worsens v own) fits = touched-any ds (settle c itself.path own) itself.path (with_verdict v) (verdict-keeps ds v) (after own fits)
-  apply-fits (Removes port own) fits =
-      touched-any ds (settle c itself.path own) itself.path (at_queue port without_first) (queue-keeps ds port without_first (without-first ds)) (after own fits)
-  apply-fits (Sends port to v own) fits =
-      ending-fits ds test refl (send (settle c itself.path own) itself port to v)
-      (delivered ds (settle c itself.path own) (record { value = v; sender = itself }) (filter (addressed to) (peers (settle c itself.path own) (record { component = itself.path; port = port }))) (fits.0 itself) (after own fits.1))
-  apply-fits (Creates new own) fits = new-if ds (is_some (component_at (settle c itself.path own) (path_of new))) new (settle c itself.path own) fits.0 (after own fits.1)
-  apply-fits (Starts path frame own) fits =
-      ending-fits ds test refl (start_component (settle c itself.path own) path frame)
-      (let start : FitsStart test M path frame = fits.0 in
+  -- a component that starts is there, with its type
+  started-at : (path : Path) (frame : Frame) → FitsStart test M path frame → (component_type : ℕ) × (is_some (component_at c path) ≡ true) × AreOfType path component_type c × FitCalls ds component_type (frame ∷ [])
+  started-at path frame start =
       let found : IsFound c start.reference = meant start.reference start.is_meant in
       let at-path : (is_some (component_at c path) ≡ true) × AreOfType path start.reference.component_type c =
       subst (λ p. (is_some (component_at c p) ≡ true) × AreOfType p start.reference.component_type c) (sym start.is) found in
-      started ds (settle c itself.path own) path frame start.reference.component_type (component_at (settle c itself.path own) path)
-      (found-map ds path itself.path (with_data own) (λ x. refl) c.components at-path.0) (types-map ds path itself.path start.reference.component_type (with_data own) (λ x. refl) c.components at-path.1) start.fits (after own fits.1))
-  apply-fits (Stops path own) fits = stopped path own fits.0 fits.1
-  apply-fits (Connects d e own) fits =
-      ending-fits ds test refl (connect (settle c itself.path own) d e)
-      (connected ds (is_terminated_at (settle c itself.path own) d.component || is_terminated_at (settle c itself.path own) e.component || is_double (settle c itself.path own) d e || is_double (settle c itself.path own) e d)
-      (settle c itself.path own) d e (after own fits))
+      (start.reference.component_type, at-path.0, at-path.1, start.fits)
+
+  fails : (why : Failure) → FitsAct test itself.component_type itself.path M (Errs why) → MayFail why
+  fails DynamicError fits = tt
+  fails Unmet fits = fits
+
+  applies : Applies MayFail (FitsAct test itself.component_type itself.path M) (λ d. All (FitsComponent ds) d.components) c itself
+  applies = record {
+    fails = fails;
+    errs = tt;
+    continues = λ own fits. after own fits;
+    worsens = λ v own fits. touched-any ds (settle c itself.path own) itself.path (with_verdict v) (verdict-keeps ds v) (after own fits);
+    removes = λ port own fits. touched-any ds (settle c itself.path own) itself.path (at_queue port without_first) (queue-keeps ds port without_first (without-first ds)) (after own fits);
+    delivers = λ port to v own e fits.
+        touched-any ds (settle c itself.path own) e.component (at_queue e.port (λ messages. messages ++ record { value = v; sender = itself } ∷ []))
+        (queue-keeps ds e.port (λ messages. messages ++ record { value = v; sender = itself } ∷ []) (behind-fit ds (record { value = v; sender = itself }) (fits.0 itself))) (after own fits.1);
+    creates = λ new own fits. new-each (FitsComponent ds) new (settle c itself.path own) (is_some (component_at (settle c itself.path own) (path_of new))) fits.0 (after own fits.1);
+    starts = λ path frame own fits.
+        let at-path = started-at path frame fits.0 in
+        touched ds (settle c itself.path own) path (begin frame)
+        (All-more (λ x. same_path (path_of x) path ≡ true → x.itself.component_type ≡ at-path.0) (KeepsAt ds path (begin frame)) (λ x of same is. begun ds frame at-path.0 x at-path.3 (of same) is)
+        (settle c itself.path own).components (types-map ds path itself.path at-path.0 (with_data own) (λ x. refl) c.components at-path.2)) (after own fits.1);
+    lacks = λ path frame own fits none.
+        let at-path = started-at path frame fits.0 in
+        absurd (let e : false ≡ true = sym (ap is_some none) ∙ found-map ds path itself.path (with_data own) (λ x. refl) c.components at-path.1 in cc);
+    stops = λ path own fits. stopped path own fits.0 fits.1;
+    connects = λ d e own fits. after own fits;
+  }
+
+  pub apply-fits : (asked : Act) → FitsAct test itself.component_type itself.path M asked → IfSome (apply test c itself asked) (λ out. GivesOnly out (FitsTypes test))
+  apply-fits asked fits =
+      gives-only test (apply test c itself asked) (applied test MayFail (FitsAct test itself.component_type itself.path M) (λ d. All (FitsComponent ds) d.components) c itself applies asked fits)

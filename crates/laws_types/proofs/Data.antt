@@ -34,7 +34,7 @@ use Rattle.ttcn_values.specs.Outcomes.{Fails, Outcome, Yields, outcome_map}
 use Rattle.ttcn_values.specs.declared.frame.TimerState.{TimerState}
 use Rattle.ttcn_values.specs.declared.value.Value.{Value}
 use Rattle.laws_types.proofs.Declared.{by-name, declared-fine, outside-declared, seen-outside, seen-set, seen-stored}
-use Rattle.laws_types.proofs.Entries.{put-other, put-own}
+use Rattle.laws_steps.proofs.Entries.{put-other, put-own}
 use Rattle.laws_types.proofs.Readings.{seen_whole}
 use Rattle.laws_types.specs.Fitting.{FitsMembers, FitsNames, IsMemberValue, IsValueOf, RunsOn, or_timer, scope_seen, view_of}
 use Rattle.laws_repeat.specs.Following.{IsOutside}

@@ -1,15 +1,12 @@
 -- Names that are declared in a frame, and what is seen of the frame where some or all of them are.
-use Rattle.std.proofs.Common.{◌≡◌, ℕ, Bool, true, false, List, [], ◌∷◌, ◌++◌, bytes_eq, Option, Some, None, IfSome, is_none, is_some, refl, sym, ap, subst, ◌∙◌, if◌then◌else◌}
+use Rattle.std.proofs.Common.{◌≡◌, ℕ, Bool, true, false, List, [], ◌∷◌, ◌++◌, bytes_eq, Option, Some, None, IfSome, is_some, refl, sym, ap, subst, ◌∙◌, if◌then◌else◌}
 use Rattle.std.specs.Option.{option_or}
 use Rattle.std.proofs.lemmas.List.Elements.{All-cons, All-nil}
 use Rattle.std.proofs.lemmas.Slice.Eq.{bytes_eq-Decides}
 use Rattle.ttcn_syntax.specs.declared.tree.definition.Definition.{Definition}
-use Rattle.check_expressions.specs.Targets.{check_new_name}
-use Rattle.check_scope.specs.Names.{Entry, Names, Scope, declaring}
+use Rattle.check_scope.specs.Names.{Entry, Scope, declaring}
 use Rattle.check_scope.specs.declared.names.Meaning.{Meaning}
 use Rattle.check_scope.specs.declared.names.Meaning.TheVariants as meaning
-use Rattle.check_scope.specs.declared.rule.Rule.TheVariants as rule
-use Rattle.laws_checker.proofs.Nothing.{kept}
 use Rattle.laws_checker.specs.Laws.{IsKnown}
 use Rattle.laws_evaluation.specs.Types.{names_timer}
 use Rattle.laws_sites.proofs.Outside.{beginning-fine}
@@ -28,7 +25,7 @@ use Rattle.ttcn_values.specs.Frames.{entry}
 use Rattle.ttcn_values.specs.declared.frame.TimerState.{TimerState}
 use Rattle.ttcn_values.specs.declared.frame.TimerState.TheVariants as timer
 use Rattle.ttcn_values.specs.declared.value.Value.{Value}
-use Rattle.laws_types.proofs.Entries.{put-other, put-own, without-other, without-own}
+use Rattle.laws_steps.proofs.Entries.{put-other, put-own, without-other, without-own}
 use Rattle.laws_types.proofs.Visible.{site-definitions}
 use Rattle.laws_types.specs.Fitting.{DeclaresLocals, FitsSite, IsLocal, IsValueOf, view_of}
 use Rattle.laws_repeat.specs.Following.{IsOutside}
@@ -43,14 +40,6 @@ by-name-if P name x false is own other = other is
 -- what holds of a name, and of all others, holds of each
 pub by-name : (P : List ℕ → Type 0) (name x : List ℕ) → P name → (bytes_eq name x ≡ false → P x) → P x
 by-name P name x own other = by-name-if P name x (bytes_eq name x) refl own other
-
-none-is : (o : Option Meaning) → is_none o ≡ true → o ≡ None
-none-is None is = refl
-none-is (Some m) is = absurd (let e = is in cc)
-
--- a name that may be declared isn't visible
-pub new-unseen : (names : Names) (name : List ℕ) → check_new_name names name ≡ [] → names name ≡ None
-new-unseen names name nothing = none-is (names name) (kept (is_none (names name)) rule.DuplicateName nothing)
 
 -- what a name stands for behind its declaration
 pub own-behind : (scope : Scope) (e : Entry) → (declaring scope (e ∷ [])).names e.0 ≡ Some e.1

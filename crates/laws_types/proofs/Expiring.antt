@@ -17,7 +17,7 @@ use Rattle.ttcn_values.specs.declared.frame.TimerState.TheVariants as timer
 use Rattle.ttcn_values.specs.declared.path.Path.{Path}
 use Rattle.laws_types.proofs.Changes.{KeepsAt, touched}
 use Rattle.laws_types.proofs.Declared.{by-name}
-use Rattle.laws_types.proofs.Entries.{put-other, put-own}
+use Rattle.laws_steps.proofs.Entries.{put-other, put-own}
 use Rattle.laws_types.specs.internal.Asked.{AreOfType}
 use Rattle.laws_types.specs.Fitting.{FitsNames, FitsSite, IsMemberValue, IsValueOf, view_of}
 use Rattle.laws_types.specs.Typed.{Awaits, FitBelow, FitCalls, FitsComponent, FitsDefault, FitsFrame, FitsOwn, HasFrames, Nest, result_of, site_of}

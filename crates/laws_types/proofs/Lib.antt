@@ -4,7 +4,6 @@ pub mod Changes
 pub mod Choices
 pub mod Data
 pub mod Declared
-pub mod Entries
 pub mod Events
 pub mod Expiring
 pub mod Facts

@@ -1,8 +1,8 @@
 -- What remains of a block, of declarations and of loops: each item stands where no names are declared but those of the items before it.
-use Rattle.std.proofs.Common.{◌≡◌, ℕ, ◌+◌, suc, true, false, List, [], ◌∷◌, ◌++◌, map, slice_get, Option, Some, None, IsSomeAnd, append_assoc, refl, sym, ap, subst, ◌∙◌, arith}
+use Rattle.std.proofs.Common.{◌≡◌, ℕ, ◌+◌, suc, true, false, List, [], ◌∷◌, ◌++◌, map, slice_get, Option, Some, None, IsSomeAnd, append_assoc, refl, sym, ap, subst, arith}
 use Rattle.ttcn_syntax.specs.declared.tree.definition.Definition.{Definition}
 use Rattle.ttcn_syntax.specs.declared.tree.expression.Expr.{Expr}
-use Rattle.ttcn_syntax.specs.declared.tree.statement.Action.{Action, fold_out-Action}
+use Rattle.ttcn_syntax.specs.declared.tree.statement.Action.{Action}
 use Rattle.ttcn_syntax.specs.declared.tree.statement.Action.TheFolds.{map-Action}
 use Rattle.ttcn_syntax.specs.declared.tree.statement.Action.TheOpen.{Action-F}
 use Rattle.ttcn_syntax.specs.declared.tree.statement.Alternative.{Alternative}
@@ -13,35 +13,30 @@ use Rattle.ttcn_syntax.specs.declared.tree.statement.Constant.{Constant}
 use Rattle.ttcn_syntax.specs.declared.tree.statement.Constants.{Constants}
 use Rattle.ttcn_syntax.specs.declared.tree.statement.ForStart.{ForStart}
 use Rattle.ttcn_syntax.specs.declared.tree.statement.ForStart.TheVariants as for_start
-use Rattle.ttcn_syntax.specs.declared.tree.statement.Statement.{Statement, out-Statement}
+use Rattle.ttcn_syntax.specs.declared.tree.statement.Statement.{Statement}
 use Rattle.ttcn_syntax.specs.declared.tree.statement.Timer.{Timer}
 use Rattle.ttcn_syntax.specs.declared.tree.statement.Variable.{Variable}
 use Rattle.ttcn_syntax.specs.declared.tree.statement.Variables.{Variables}
 use Rattle.check_expressions.specs.Declarations.{one_by_one}
-use Rattle.check_expressions.specs.Targets.{check_constant, check_constants, check_initial, check_new_name, check_timer_name, check_timers, check_type, check_variable, check_variables, constant_entry, variable_entry}
-use Rattle.check_expressions.specs.Values.{value}
+use Rattle.check_expressions.specs.Targets.{check_constant, check_constants, check_timer_name, check_timers, check_type, check_variable, check_variables, constant_entry, variable_entry}
 use Rattle.check_scope.specs.Names.{Entry, Scope, resolved}
-use Rattle.check_scope.specs.Typings.{target_of}
 use Rattle.check_scope.specs.declared.names.Meaning.{Meaning}
 use Rattle.check_scope.specs.declared.names.Meaning.TheVariants as meaning
 use Rattle.check_scope.specs.declared.rule.Rule.{Rule}
-use Rattle.check_scope.specs.declared.types.DataType.{DataType}
-use Rattle.check_statements.proofs.StatementForms.{statement_out}
-use Rattle.check_statements.specs.Statements.{Check, StatementRules, action, action_step, alternative, alternative_step, branch, branch_step, conditional, conditional_step, statement, statement_step, statements}
+use Rattle.check_statements.specs.Statements.{Check, StatementRules, action, action_step, alternative, branch, conditional, statement, statements}
 use Rattle.laws_checker.proofs.Descent.{first_fine, others_fine}
 use Rattle.laws_checker.proofs.Nothing.{nothing-first, nothing-rest}
 use Rattle.laws_checker.specs.Laws.{IsKnown}
-use Rattle.laws_sites.proofs.Blocks.{parts-of, place}
-use Rattle.laws_sites.proofs.Sites.{behind-constants-fine, behind-scope, behind-timers-fine, behind-variables-fine}
+use Rattle.laws_sites.proofs.Blocks.{parts-of, place, scope-after}
+use Rattle.laws_sites.proofs.Sites.{behind-constants-fine, behind-timers-fine, behind-variables-fine}
 use Rattle.laws_sites.specs.Standing.{IsFineSite, PlaceIn, place_at}
-use Rattle.laws_statements.proofs.Growing.{new_name_within, within_both, within_itself}
+use Rattle.laws_statements.proofs.Growing.{constant-new, new-unseen, new_name_within, variable-new, within_both, within_itself}
 use Rattle.laws_statements.proofs.Typing.{type_known}
 use Rattle.laws_statements.proofs.Within.{type_stays}
 use Rattle.laws_statements.specs.Parts.{HasFineParts, IsFineIfAny}
 use Rattle.laws_statements.specs.Within.{IsWithin}
 use Rattle.semantics.specs.Items.{Does, Doing, Item, Loop, Mark, Part, Start, Waiting, Whole, action_of, declarations, items, items_if_any, items_of_action, items_of_statement, site_after, site_in_for, start_items}
 use Rattle.semantics.specs.Sites.{Site, constant_entries, entries_of, scope_at, site_behind, site_with, timer_entries, variable_entries}
-use Rattle.laws_types.proofs.Declared.{new-unseen}
 use Rattle.laws_repeat.proofs.Outside.{outside-behind, outside-both, outside-itself}
 use Rattle.laws_repeat.specs.Following.{IsOutside}
 use Rattle.laws_types.specs.Typed.{Declares, DeclaresVariable, Leaves, Nest, StandsIn}
@@ -50,9 +45,6 @@ use Rattle.laws_types.specs.Typed.{Declares, DeclaresVariable, Leaves, Nest, Sta
 
 abbrev told : Does → StatementRules
 told x = action_step (map-Action Action Alternative Branch Conditional Statement StatementRules Check Check Check StatementRules action alternative branch conditional statement x)
-
-told-is : (s : Statement) → statement s ≡ told (action_of s)
-told-is s = statement_out s ∙ fold_out-Action StatementRules Check Check Check StatementRules action_step alternative_step branch_step conditional_step statement_step (out-Statement s).action
 
 module _ (definitions : List Definition) (at : ℕ) where
   abbrev NestAt : List Entry → List Item → Type 0
@@ -100,12 +92,6 @@ module _ (definitions : List Definition) (at : ℕ) where
 
   there : {A : Type 0} (P : A → Type 0) (o : Option A) (x : A) → o ≡ Some x → P x → IsSomeAnd o P
   there P o x is holds = subst (λ o. IsSomeAnd o P) (sym is) holds
-
-  variable-new : (of : Option DataType) (s : Scope) (v : Variable) → check_variable of s v ≡ [] → s.names v.name ≡ None
-  variable-new of s v fine = new-unseen s.names v.name (nothing-first (check_new_name s.names v.name) (check_initial s (target_of of) v.value) fine)
-
-  constant-new : (of : Option DataType) (s : Scope) (c : Constant) → check_constant of s c ≡ [] → s.names c.name ≡ None
-  constant-new of s c fine = new-unseen s.names c.name (nothing-first (check_new_name s.names c.name) (value c.value s (target_of of)) fine)
 
   module _ (site : Site) (within : site.behaviour ≡ at) (rest : List Item) where
     abbrev here : Scope
@@ -169,15 +155,6 @@ module _ (definitions : List Definition) (at : ℕ) where
   after-fine : (site : Site) (s : Statement) (inside : PlaceIn definitions at) → FineAt site → (statement s).broken (place definitions at site inside) ≡ [] → FineAt (site_after definitions site s)
   after-fine site s inside fine nothing = after-of site inside (action_of s) fine (parts-of definitions at site s inside fine nothing)
 
-  scope-of : (site : Site) (x : Does) → scope_at definitions (site_behind site (entries_of (scope_at definitions site) x)) ≡ (told x).scope_behind (scope_at definitions site)
-  scope-of site (Action-F.Variables vs) = behind-scope definitions (λ (v : Variable). v.name) (meaning.Variable (resolved (scope_at definitions site).names vs.type_name)) site vs.variables
-  scope-of site (Action-F.Constants cs) = behind-scope definitions (λ (c : Constant). c.name) (meaning.Constant (resolved (scope_at definitions site).names cs.type_name)) site cs.constants
-  scope-of site (Action-F.Timers timers) = behind-scope definitions (λ (t : Timer). t.name) meaning.Timer site timers
-  scope-of site _ = refl
-
-  scope-after : (site : Site) (s : Statement) → scope_at definitions (site_after definitions site s) ≡ (statement s).scope_behind (scope_at definitions site)
-  scope-after site s = scope-of site (action_of s) ∙ ap (λ (said : StatementRules). said.scope_behind (scope_at definitions site)) (sym (told-is s))
-
   -- ---- blocks
 
   pub nest-block : (block : List Statement) (site : Site) (inside : PlaceIn definitions at) (rest : List Item) → FineAt site → statements block (place definitions at site inside) ≡ [] → NestAt site.declared rest
@@ -188,7 +165,7 @@ module _ (definitions : List Definition) (at : ℕ) where
       let next : Site = site_after definitions site s in
       let others : NestAt next.declared (items definitions next block ++ rest) =
       nest-block block next inside rest (after-fine site s inside fine here)
-      (subst (λ scope. statements block (place_at definitions at scope inside) ≡ []) (sym (scope-after site s)) (others_fine s block (place definitions at site inside) nothing))
+      (subst (λ scope. statements block (place_at definitions at scope inside) ≡ []) (sym (scope-after definitions at site s)) (others_fine s block (place definitions at site inside) nothing))
       (nest-wider site.declared next.declared rest (outside-behind site (entries_of (scope_at definitions site) (action_of s))) is) in
       subst (NestAt site.declared) (sym (append_assoc (items_of_statement definitions site s) (items definitions next block) rest))
       (nest-action site s inside (action_of s) (items definitions next block ++ rest) refl fine (parts-of definitions at site s inside fine here) others)

@@ -34,7 +34,7 @@ use Rattle.laws_evaluation.proofs.Parameters.{all_parameters_known}
 use Rattle.laws_evaluation.specs.Types.{AreGiven, HasParameterType, IsOfTyping, names_timer}
 use Rattle.laws_sites.proofs.Outside.{Begins, beginning-fine}
 use Rattle.laws_sites.specs.Standing.{IsFineSite}
-use Rattle.laws_statements.proofs.Growing.{new_name_within, parameters_within}
+use Rattle.laws_statements.proofs.Growing.{new-unseen, new_name_within, parameters_within}
 use Rattle.semantics.specs.Branches.{argument_values, frame_with, with_arguments}
 use Rattle.semantics.specs.Entries.{put}
 use Rattle.semantics.specs.Items.{Item, items}
@@ -44,8 +44,8 @@ use Rattle.ttcn_types.proofs.Meanings.{EachMeans, IfMeans, means-listed}
 use Rattle.ttcn_types.specs.Rules.{AreWellTyped}
 use Rattle.ttcn_values.specs.Frames.{entry}
 use Rattle.ttcn_values.specs.declared.value.Value.{Value}
-use Rattle.laws_types.proofs.Declared.{by-name, new-unseen, own-behind}
-use Rattle.laws_types.proofs.Entries.{put-other, put-own}
+use Rattle.laws_types.proofs.Declared.{by-name, own-behind}
+use Rattle.laws_steps.proofs.Entries.{put-other, put-own}
 use Rattle.laws_types.proofs.Nested.{nest-block}
 use Rattle.laws_types.proofs.Visible.{Says, module-outside, site-says}
 use Rattle.laws_types.specs.Fitting.{DeclaresLocals, FitsSite, IsLocal, IsValueOf, RunsOn, or_timer, scope_seen}

@@ -1,5 +1,5 @@
 -- Frame 0 of a new component: its members are declared without what no checked module meets, and their values are of their types.
-use Rattle.std.proofs.Common.{◌≡◌, ℕ, Bool, true, false, List, [], ◌∷◌, ◌++◌, map, bytes_eq, Option, Some, None, IfSome, is_none, is_some, append_assoc, refl, sym, ap, subst, ◌∙◌, if◌then◌else◌}
+use Rattle.std.proofs.Common.{◌≡◌, ℕ, true, false, List, [], ◌∷◌, ◌++◌, map, bytes_eq, Option, Some, None, IfSome, is_none, is_some, append_assoc, refl, sym, ap, subst, ◌∙◌, if◌then◌else◌}
 use mathlib.Core.Path.{fun_ext}
 use Rattle.std.specs.Option.{option_or}
 use Rattle.std.proofs.lemmas.Slice.Eq.{bytes_eq-Decides}
@@ -31,10 +31,11 @@ use Rattle.laws_evaluation.specs.Types.{FitsIn, HasAll, is_of, names_timer}
 use Rattle.laws_evaluation.specs.Uses.{GivesOnly}
 use Rattle.laws_statements.proofs.Growing.{new_name_within, within_both, within_itself}
 use Rattle.laws_statements.proofs.Members.{member_is, name_leaves_whole, types_of_module}
-use Rattle.laws_statements.proofs.Naming.{same-name}
 use Rattle.laws_statements.specs.Members.{AreMemberVariables, AreNew, DeclaresMemberVariables, DeclaresPorts, IsInitialValue, IsMember, scope_behind}
 use Rattle.laws_statements.specs.Targets.{AreConstants, DeclaresConstants}
 use Rattle.laws_statements.specs.Within.{IsWithin}
+use Rattle.laws_types.proofs.Declared.{by-name}
+use Rattle.laws_types.proofs.Stands.{only-mapped}
 use Rattle.semantics.specs.Configurations.{Frame}
 use Rattle.semantics.specs.Creating.{declared_in_turn, declared_member, declared_variable, declared_with, empty_frame, new_members, reading_of_members}
 use Rattle.semantics.specs.Snapshots.{Snapshot, Test, View}
@@ -43,20 +44,15 @@ use Rattle.ttcn_types.specs.Limits.{longest_chain}
 use Rattle.ttcn_types.specs.Rules.{AreWellTyped}
 use Rattle.ttcn_values.specs.Frames.{entry}
 use Rattle.ttcn_values.specs.Literals.{value_wanted}
-use Rattle.ttcn_values.specs.Outcomes.{DynamicError, Fails, Outcome, Unmet, Yields, outcome_map}
+use Rattle.ttcn_values.specs.Outcomes.{DynamicError, Fails, Outcome, Unmet, Yields}
 use Rattle.ttcn_values.specs.declared.frame.TimerState.TheVariants as timer
 use Rattle.ttcn_values.specs.declared.value.ComponentId.{ComponentId}
 use Rattle.ttcn_values.specs.declared.value.Value.{Value}
-use Rattle.laws_types.proofs.Entries.{put-other, put-own, without-other, without-own}
+use Rattle.laws_steps.proofs.Entries.{put-other, put-own, without-other, without-own}
 use Rattle.laws_types.proofs.Facts.{Knows, reading-fits, reading-has}
 use Rattle.laws_types.proofs.Readings.{either-seen, if-some, le-itself, member-value}
 use Rattle.laws_types.proofs.Visible.{module-timers}
 use Rattle.laws_types.specs.Fitting.{FitsMembers, FitsNames, IsMemberValue, IsValueOf, view_of}
-
-only-mapped : {A B : Type 0} (Q : A → Type 0) (P : B → Type 0) (f : A → B) (o : Outcome A) → GivesOnly o Q → ((a : A) → Q a → P (f a)) → GivesOnly (outcome_map f o) P
-only-mapped Q P f (Yields a) is more = more a is
-only-mapped Q P f (Fails DynamicError) is more = tt
-only-mapped Q P f (Fails Unmet) is more = is
 
 none-is : (o : Option Meaning) → is_none o ≡ true → o ≡ None
 none-is None is = refl
@@ -76,13 +72,6 @@ own-means names name m = ap (λ b. option_or (if b then Some m else None) (names
 
 other-means : (names : Names) (name : List ℕ) (m : Meaning) (x : List ℕ) → bytes_eq name x ≡ false → with-name names (name, m) x ≡ names x
 other-means names name m x differs = ap (λ b. option_or (if b then Some m else None) (names x)) differs
-
-by-name-if : (P : List ℕ → Type 0) (name x : List ℕ) (b : Bool) → bytes_eq name x ≡ b → P name → (bytes_eq name x ≡ false → P x) → P x
-by-name-if P name x true is own other = subst P (same-name name x is) own
-by-name-if P name x false is own other = other is
-
-by-name : (P : List ℕ → Type 0) (name x : List ℕ) → P name → (bytes_eq name x ≡ false → P x) → P x
-by-name P name x own other = by-name-if P name x (bytes_eq name x) refl own other
 
 -- several names, one behind the other
 abbrev after : {A : Type 0} → (A → Entry) → Names → List A → Names

@@ -48,6 +48,7 @@ use Rattle.laws_statements.proofs.Within.{assignment_stays, rhs_stays, target_at
 use Rattle.laws_statements.specs.Resolved.{Activates}
 use Rattle.laws_statements.specs.Targets as fine
 use Rattle.laws_statements.specs.Targets.{GivesResult, IsAssignment, IsRightSide, IsVariable}
+use Rattle.laws_statements.proofs.Growing.{new-unseen}
 use Rattle.semantics.specs.Configurations.{Data, Frame, Queue}
 use Rattle.semantics.specs.Creating.{new_component, new_members, ports_of}
 use Rattle.semantics.specs.Items.{Does, Item, Target, Waiting}
@@ -66,7 +67,7 @@ use Rattle.ttcn_values.specs.declared.value.Value.{Value}
 use Rattle.ttcn_values.specs.declared.value.Value.TheOpen.{Value-F}
 use Rattle.ttcn_values.specs.declared.value.Value.TheVariants as value
 use Rattle.laws_types.proofs.Data.{Any, data-changed, data-going, stored, stored-of}
-use Rattle.laws_types.proofs.Declared.{new-unseen, own-behind, seen-declared, seen-forgotten, seen-timer}
+use Rattle.laws_types.proofs.Declared.{own-behind, seen-declared, seen-forgotten, seen-timer}
 use Rattle.laws_repeat.proofs.Outside.{outside-itself}
 use Rattle.laws_types.proofs.NewFrames.{IsPart, module-meant}
 use Rattle.laws_types.proofs.NewMembers.{new_members_fit}

@@ -9,7 +9,8 @@ use Rattle.laws_repeat.proofs.Repeats.{next_marked, start_marked}
 use Rattle.laws_repeat.specs.Marks.{StandsMarked}
 use Rattle.laws_sites.proofs.Runs.{next_stands, start_stands}
 use Rattle.laws_sites.specs.Standing.{StandsByRules}
-use Rattle.laws_order.proofs.Runs.{next_ordered, some-of, start_ordered}
+use Rattle.laws_order.proofs.Runs.{next_ordered, start_ordered}
+use Rattle.laws_steps.proofs.Found.{some-of}
 use Rattle.laws_order.specs.Order.{StandsInOrder}
 use Rattle.semantics.specs.Configurations.{Configuration, Ended}
 use Rattle.semantics.specs.Runs.{graph_of, option_elim, replay, replay_from, start, started, testcase_body}

@@ -15,8 +15,7 @@ use Rattle.laws_references.specs.References.{ComponentRefersTo, FrameRefersTo}
 use Rattle.laws_references.specs.There.{IsThere, StandsWithAllReferred}
 use Rattle.laws_sites.proofs.Firsts.{last_frame}
 use Rattle.laws_sites.specs.Standing.{IsFineFrame, StandsByRules}
-use Rattle.laws_order.proofs.Changes.{found-each}
-use Rattle.laws_order.proofs.Runs.{some-of}
+use Rattle.laws_steps.proofs.Found.{found-each, some-of}
 use Rattle.laws_order.specs.Order.{HasNoMarkFirst, StandsInOrder}
 use Rattle.semantics.proofs.Pairs.{All-more, pairs-head, pairs-tail}
 use Rattle.semantics.specs.Configurations.{Component, Configuration, Data, Ended, Frame, Goes, Going, Message, Queue, component_at, is_running_state, path_cmp, path_of, same_path}

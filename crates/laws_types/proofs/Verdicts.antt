@@ -21,9 +21,8 @@ use Rattle.laws_repeat.specs.Following.{IsFollowed, SetsVerdict, lists_of}
 use Rattle.laws_sites.proofs.Blocks.{parts-of, place}
 use Rattle.laws_sites.specs.Standing.{IsFineComponent, IsFineFrame, IsFineItem, IsFrameOf, StandsByRules}
 use Rattle.laws_statements.specs.Parts.{HasFineParts}
-use Rattle.laws_order.proofs.Changes.{found-each, insert-each}
-use Rattle.laws_order.proofs.Outcomes.{any-yields, map-yields}
-use Rattle.laws_order.proofs.Runs.{some-of}
+use Rattle.laws_steps.proofs.Found.{found-each, insert-each, some-of}
+use Rattle.laws_steps.proofs.Outcomes.{any-yields, map-yields}
 use Rattle.semantics.proofs.Pairs.{All-more}
 use Rattle.semantics.specs.Configurations.{Component, Configuration, Created, Data, End, Ended, Frame, Goes, Going, Message, Running, State, Terminated, badness, component_at, is_running_state, is_terminated_state, overall, path_of, same_path, worse}
 use Rattle.semantics.specs.Creating.{new_members}

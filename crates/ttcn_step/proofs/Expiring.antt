@@ -5,7 +5,7 @@ use Rattle.std.specs.Option.{option_and_then}
 use Rattle.std.proofs.lemmas.List.Elements.{All-head, All-map, All-tail}
 use Rattle.std.proofs.lemmas.Option.{get_or_from_slice_get}
 use Rattle.std.proofs.lemmas.Slice.Eq.{bytes_eq-Decides}
-use Rattle.laws_order.proofs.Changes.{found-each}
+use Rattle.laws_steps.proofs.Found.{found-each}
 use Rattle.semantics.proofs.Pairs.{All-more}
 use Rattle.semantics.specs.Configurations as rules
 use Rattle.semantics.specs.Configurations.{component_at, is_running_state, path_of, same_path}

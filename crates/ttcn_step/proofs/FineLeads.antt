@@ -7,7 +7,7 @@ use Rattle.laws_fine.specs.Fates.{Lapses, fate_of}
 use Rattle.laws_fine.specs.Fine.{Choose, Plain, Snap, is_of_alt, stands_at_alt}
 use Rattle.laws_fine.specs.Holding.{Held, Holding, act_then, follow, held_at, hold_behind, hold_choose, hold_chosen, hold_fate, hold_next, hold_snap, noted, still_held, without_held}
 use Rattle.step_labels.specs.Labels.{label_by}
-use Rattle.laws_order.proofs.Changes.{found-each}
+use Rattle.laws_steps.proofs.Found.{found-each}
 use Rattle.semantics.specs.Configurations as rules
 use Rattle.semantics.specs.Configurations.{component_at}
 use Rattle.semantics.specs.Runs.{option_elim}

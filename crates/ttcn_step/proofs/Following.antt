@@ -1,5 +1,5 @@
 -- Configurations behind steps fit.
-use Rattle.std.proofs.Common.{◌≡◌, Option, Some, None, IfSome, option_map, sym}
+use Rattle.std.proofs.Common.{IfSome, None, Option, option_map, Some, subst, sym, ◌≡◌}
 use Rattle.laws_order.proofs.Runs.{next_ordered, start_ordered}
 use Rattle.laws_order.specs.Order.{StandsInOrder}
 use Rattle.semantics.specs.Runs.{start}
@@ -9,7 +9,6 @@ use Rattle.config_parts.specs.declared.config.Config.{Config}
 use Rattle.ttcn_step.proofs.FramesKept.{limit_behind, start-within}
 use Rattle.ttcn_step.specs.FrameLimit.{AllKeepFrameLimit}
 use Rattle.ttcn_step.specs.Machines.{Fits, Machine, extent, said}
-use Rattle.std.proofs.Common.{subst}
 
 -- the configuration to which a label leads fits where each of its slots has a name
 pub fits-after : (machine : Machine) (config after : Config) (label : Label) → Fits machine config → next machine.test (said machine config) label ≡ Some (said machine after) → IsConfigWithin (extent machine) after

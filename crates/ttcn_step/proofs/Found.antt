@@ -1,12 +1,12 @@
 -- Components by their paths.
-use Rattle.std.proofs.Common.{◌≡◌, ℕ, Bool, true, false, Bor, List, [], ◌∷◌, Option, Some, None, IfSome, option_map, bytes_eq, refl, sym, ap, subst, ◌∙◌, if◌then◌else◌}
+use Rattle.std.proofs.Common.{◌≡◌, ℕ, Bor, List, Option, Some, None, option_map, bytes_eq, sym, ap, ◌∙◌}
 use Rattle.std.specs.List.{find}
 use Rattle.std.specs.Option.{option_and_then}
-use Rattle.std.proofs.lemmas.Option.{none-some, same_Some}
 use Rattle.std.proofs.lemmas.Slice.Eq.{bytes_eq-Decides}
 use Rattle.step_labels.specs.Labels.{label_with}
 use Rattle.step_labels.specs.declared.label.Expiry.{Expiry as AnExpiry}
-use Rattle.laws_order.proofs.Changes.{found-each}
+use Rattle.laws_steps.proofs.Finding.{find-passes}
+use Rattle.laws_steps.proofs.Found.{some-of, found-each}
 use Rattle.semantics.specs.Configurations as rules
 use Rattle.semantics.specs.Configurations.{component_at}
 use Rattle.semantics.specs.Snapshots.{Test}
@@ -26,25 +26,14 @@ pub searched : (numbers : List ℕ) (all components : List Component) (result fo
     → Searched numbers components ≡ option_map (λ x. x.now) found
 searched numbers all components result found e same is = ap (Searched numbers) (sym same) ∙ sym e ∙ ap (option_map (λ x. x.now)) is
 
-passes-first : {A : Type 0} (p : A → Bool) (x a : A) (b : Bool) (others : Option A) → (others ≡ Some a → p a ≡ true) → p x ≡ b → (if b then Some x else others) ≡ Some a → p a ≡ true
-passes-first p x a true others rest is e = subst (λ y. p y ≡ true) (same_Some x a e) is
-passes-first p x a false others rest is e = rest e
-
-find-passes : {A : Type 0} (p : A → Bool) (xs : List A) (a : A) → find p xs ≡ Some a → p a ≡ true
-find-passes p [] a e = absurd (none-some a e)
-find-passes p (x ∷ xs) a e = passes-first p x a (p x) (find p xs) (find-passes p xs a) refl e
-
 -- the component that is found has the path
 pub found-path : (numbers : List ℕ) (components : List Component) (x : Component) → Searched numbers components ≡ Some x → x.itself.path ≡ record { numbers = numbers }
 found-path numbers components x e =
     ap (λ n. record { numbers = n }) ((bytes_eq-Decides x.itself.path.numbers numbers).0 (find-passes (λ (c : Component). bytes_eq c.itself.path.numbers numbers) components x e))
 
-some-each : {A : Type 0} (P : A → Type 0) (o : Option A) (a : A) → o ≡ Some a → IfSome o P → P a
-some-each P o a e is = subst (λ x. IfSome x P) e is
-
 pub found-within : (size : Extent) (numbers : List ℕ) (components : List Component) (x : Component) → AreAllWithin size components → Searched numbers components ≡ Some x → IsWithin size x.own
 found-within size numbers components x all e =
-    some-each (λ (c : Component). IsWithin size c.own) (Searched numbers components) x e
+    some-of (λ (c : Component). IsWithin size c.own) (Searched numbers components) x e
     (found-each (λ (c : Component). IsWithin size c.own) (λ (c : Component). bytes_eq c.itself.path.numbers numbers) components all)
 
 -- what is found among components of the code is found among those of the rules

@@ -1,7 +1,8 @@
--- Finding components by their paths, and what is found behind a change.
+-- Finding components by their paths, and what is found behind a change and beside a new component.
 use Rattle.std.proofs.Common.{◌≡◌, Bool, true, false, List, [], ◌∷◌, map, Option, Some, None, option_map, refl, ap, subst, ◌∙◌, if◌then◌else◌}
 use Rattle.std.specs.List.{find}
 use Rattle.std.proofs.lemmas.Slice.Eq.{bytes_eq-Decides}
+use Rattle.semantics.specs.Steps.{insert, is_before}
 use Rattle.semantics.specs.Configurations.{Component, Created, Going, Running, State, Terminated, component_at, is_running_state, is_terminated_state, path_of, same_path}
 use Rattle.ttcn_values.specs.declared.path.Path.{Path}
 
@@ -35,7 +36,7 @@ found-path c p x e = path-is (path_of x) p (find-passes (λ y. same_path (path_o
 
 -- ---- what is found behind a change that keeps paths is what was found, changed
 
-found-first : (g : Component → Component) (b : Bool) (x : Component) (r o : Option Component) → r ≡ option_map g o → (if b then Some (g x) else r) ≡ option_map g (if b then Some x else o)
+pub found-first : (g : Component → Component) (b : Bool) (x : Component) (r o : Option Component) → r ≡ option_map g o → (if b then Some (g x) else r) ≡ option_map g (if b then Some x else o)
 found-first g true x r o e = refl
 found-first g false x r o e = e
 
@@ -45,6 +46,19 @@ found-map g paths p [] = refl
 found-map g paths p (x ∷ xs) =
     ap (λ q. if same_path q p then Some (g x) else find (λ y. same_path (path_of y) p) (map g xs)) (paths x)
     ∙ found-first g (same_path (path_of x) p) x (find (λ y. same_path (path_of y) p) (map g xs)) (find (λ y. same_path (path_of y) p) xs) (found-map g paths p xs)
+
+-- ---- a new component
+
+insert-found-first : (p : Path) (new x : Component) (xs : List Component) (b : Bool) → same_path (path_of new) p ≡ false
+    → find (λ y. same_path (path_of y) p) (insert new xs) ≡ find (λ y. same_path (path_of y) p) xs
+    → find (λ y. same_path (path_of y) p) (if b then new ∷ x ∷ xs else x ∷ insert new xs) ≡ find (λ y. same_path (path_of y) p) (x ∷ xs)
+insert-found-first p new x xs true other e = ap (λ b. if b then Some new else find (λ y. same_path (path_of y) p) (x ∷ xs)) other
+insert-found-first p new x xs false other e = ap (λ o. if same_path (path_of x) p then Some x else o) e
+
+pub insert-found : (p : Path) (new : Component) → same_path (path_of new) p ≡ false → (xs : List Component)
+    → find (λ y. same_path (path_of y) p) (insert new xs) ≡ find (λ y. same_path (path_of y) p) xs
+insert-found p new other [] = ap (λ b. if b then Some new else None) other
+insert-found p new other (x ∷ xs) = insert-found-first p new x xs (is_before new x) other (insert-found p new other xs)
 
 -- ---- components that run
 

@@ -10,7 +10,7 @@ use Rattle.std.proofs.lemmas.Slice.Eq.{bytes_eq-Decides}
 use Rattle.semantics.specs.Entries.{Entries, name_cmp, put, without}
 use Rattle.ttcn_values.specs.Frames.{entry}
 
-turned : (name other : List ℕ) (o : Ordering) → name_cmp name other ≡ o → name_cmp other name ≡ ordering_reverse o
+pub turned : (name other : List ℕ) (o : Ordering) → name_cmp name other ≡ o → name_cmp other name ≡ ordering_reverse o
 turned name other o is = nat_list_cmp_total.antisymm other name ∙ ap ordering_reverse is
 
 skipped : {A : Type 0} (name : List ℕ) (d : List ℕ × A) (o : Option (List ℕ × A)) → bytes_eq d.0 name ≡ false → option_map (λ e. e.1) (if bytes_eq d.0 name then Some d else o) ≡ option_map (λ e. e.1) o
