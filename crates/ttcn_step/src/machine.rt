@@ -80,7 +80,7 @@ impl<'a> Machine<'a> {
     }
 
     /// No list has two positions, and slots are in the order of their names.
-    pub fn is_apart(&self)
+    pub fn lists_and_names_differ(&self)
         ensures lists { AreDifferent self.now.lists }
         ensures names { AreInOrder self.now.names }
     {

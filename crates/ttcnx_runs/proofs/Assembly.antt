@@ -40,16 +40,16 @@ pub record IsMadeOf (found : Exploration) (answer : Searched) : Type 0 where
   pub configurations : found.configurations ≡ answer.count
   pub complete : found.complete ≡ answer.complete
   pub best : map labels_by found.best.items ≡ map labels_in answer.best.items
-  pub branches : from_list found.branches.items ≡ answer.summary.first.places
+  pub branches : from_list found.branches.items ≡ answer.summary.second.first.places
   pub ascending : Ascends place_cmp found.branches.items
-  pub blocked : from_list (map standing_by found.blocked.items) ≡ answer.summary.second.components
+  pub blocked : from_list (map standing_by found.blocked.items) ≡ answer.summary.second.second.components
   pub in_order : Ascends standing_cmp (map standing_by found.blocked.items)
 
 -- the answer is that of the runs of at most n steps
 pub record AreSummed (test : Test) (n : ℕ) (answer : Searched) : Type 0 where
   pub counts : Counts (canonical_graph test) n answer.count
-  pub branches : answer.summary.first.places ≡ branches_of (canonical_graph test) (branch_of test) n
-  pub blocked : answer.summary.second.components ≡ blocked_of (canonical_graph test) (blocked test) n
+  pub branches : answer.summary.second.first.places ≡ branches_of (canonical_graph test) (branch_of test) n
+  pub blocked : answer.summary.second.second.components ≡ blocked_of (canonical_graph test) (blocked test) n
 
 module _ (test : Test) where
   pub too_many_parts : (n limit : ℕ) → ((count : ℕ) × Counts (canonical_graph test) n count × (limit < count)) → (count : ℕ) × CountsParts test n count × (limit < count)
@@ -68,8 +68,8 @@ module _ (test : Test) where
       configurations = counted n summed.counts;
       eight = sym (length-map found.best.items labels_by) ∙ ap length made.best ∙ length-map answer.best.items labels_in ∙ best.eight;
       best = λ v. best_run test n v found.best.items answer.best.items made.best best;
-      branches = branches_found test n answer.summary.first.places summed.branches found.branches.items made.branches made.ascending;
-      blocked = blocked_found test n answer.summary.second.components summed.blocked (map standing_by found.blocked.items) made.blocked made.in_order;
+      branches = branches_found test n answer.summary.second.first.places summed.branches found.branches.items made.branches made.ascending;
+      blocked = blocked_found test n answer.summary.second.second.components summed.blocked (map standing_by found.blocked.items) made.blocked made.in_order;
     }
 
     pub found_later : (n bound : ℕ) → n ≤ bound → AreFound test n found → AreSummed test bound answer → AreFound test bound found
@@ -77,16 +77,16 @@ module _ (test : Test) where
       configurations = counted bound summed.counts;
       eight = is.eight;
       best = λ v. best_later test n bound le found.configurations is.configurations (counted bound summed.counts) v (run_kept found v) (is.best v);
-      branches = branches_found test bound answer.summary.first.places summed.branches found.branches.items made.branches made.ascending;
-      blocked = blocked_found test bound answer.summary.second.components summed.blocked (map standing_by found.blocked.items) made.blocked made.in_order;
+      branches = branches_found test bound answer.summary.second.first.places summed.branches found.branches.items made.branches made.ascending;
+      blocked = blocked_found test bound answer.summary.second.second.components summed.blocked (map standing_by found.blocked.items) made.blocked made.in_order;
     }
 
     -- what was found, as the answer of an exploration
     pub found_explored : (plan : Plan) → IsWithinLimits plan → Counts (canonical_graph test) plan.steps answer.count × (answer.count ≤ plan.limit)
-        → answer.summary.first.places ≡ branches_of (canonical_graph test) (branch_of test) plan.steps → answer.summary.second.components ≡ blocked_of (canonical_graph test) (blocked test) plan.steps
+        → answer.summary.second.first.places ≡ branches_of (canonical_graph test) (branch_of test) plan.steps → answer.summary.second.second.components ≡ blocked_of (canonical_graph test) (blocked test) plan.steps
         → (IsTrue answer.complete ↔ IsComplete (canonical_graph test) plan.steps) → AreBest (canonical_graph test) label_cmp plan.steps answer.best.items
         → (IsTrue answer.complete → (bound : ℕ) → plan.steps ≤ bound → Counts (canonical_graph test) bound answer.count
-        × (answer.summary.first.places ≡ branches_of (canonical_graph test) (branch_of test) bound) × (answer.summary.second.components ≡ blocked_of (canonical_graph test) (blocked test) bound))
+        × (answer.summary.second.first.places ≡ branches_of (canonical_graph test) (branch_of test) bound) × (answer.summary.second.second.components ≡ blocked_of (canonical_graph test) (blocked test) bound))
         → IsExplored test plan (Ok found)
     found_explored plan fine count taken stands complete best later =
         let is = are_found plan.steps (record { counts = count.0; branches = taken; blocked = stands }) best in

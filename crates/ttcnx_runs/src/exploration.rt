@@ -17,12 +17,13 @@ use std::alloc::{AllocError, Global};
 use std::marker::Brand;
 use std::thread::Threads;
 use step_labels::Label;
-use summary::{Blocked, Both, Branches, OrderedSet};
+use summary::{Blocked, Both, Branches, OrderedSet, Verdicts};
 use ttcn_step::{Machine, Standing};
 use ttcn_syntax::Span;
 
-/// What is summed up over all runs: the branches that are taken, and the components that are blocked.
-type Shown = Both<Branches<BranchPlace>, Blocked<BlockedComponent>>;
+/// What is summed up over all runs: the verdicts with which they end, the branches that are taken, and the components that
+/// are blocked.
+type Shown = Both<Verdicts, Both<Branches<BranchPlace>, Blocked<BlockedComponent>>>;
 
 /// What was found.
 #[derive(Drop)]
@@ -86,9 +87,9 @@ fn found_by(alloc: Global, answer: Answer<Shown, StepLabel>) -> Result<Explorati
     ensures configurations { IfOk result (λ found. found.configurations ≡ answer.count) }
     ensures complete { IfOk result (λ found. found.complete ≡ answer.complete) }
     ensures best { IfOk result (λ found. map labels_by found.best.items ≡ map labels_in answer.best.items) }
-    ensures branches { IfOk result (λ found. from_list found.branches.items ≡ answer.summary.first.places) }
+    ensures branches { IfOk result (λ found. from_list found.branches.items ≡ answer.summary.second.first.places) }
     ensures ascending { IfOk result (λ found. Ascends place_cmp found.branches.items) }
-    ensures blocked { IfOk result (λ found. from_list (map standing_by found.blocked.items) ≡ answer.summary.second.components) }
+    ensures blocked { IfOk result (λ found. from_list (map standing_by found.blocked.items) ≡ answer.summary.second.second.components) }
     ensures in_order { IfOk result (λ found. Ascends standing_cmp (map standing_by found.blocked.items)) }
 {
     let Answer {
@@ -98,8 +99,8 @@ fn found_by(alloc: Global, answer: Answer<Shown, StepLabel>) -> Result<Explorati
         best,
     } = answer;
     let best = runs_of(alloc, best)?;
-    let branches = places_of(alloc, &summary.first.places)?;
-    let blocked = standings_of(alloc, &summary.second.components)?;
+    let branches = places_of(alloc, &summary.second.first.places)?;
+    let blocked = standings_of(alloc, &summary.second.second.components)?;
     Ok(Exploration {
         configurations: count,
         complete,

@@ -66,7 +66,7 @@ fn state_of<K: Scheme>(
     requires fits { Fits machine.now config }
     ensures { IfOk result (λ state. state ≡ live_part (config_by (legend K.machine) config)) }
 {
-    machine.is_apart();
+    machine.lists_and_names_differ();
     let goes_on = !machine.is_stuck(alloc, &config)?;
     let config = canon_owned(alloc, config)?;
     Ok(State {

@@ -8,7 +8,7 @@ use Rattle.ttcn_step.specs.Machines.{Machine, extent, legend, said}
 pub invariant_of-result : goal.invariant_of-result
 invariant_of-result g c =
     let machine = g.K.Scheme.machine in (
-      subst IsMachine c.requires.is (record { lists = c.is_apart.ensures.lists; names = c.is_apart.ensures.names }),
+      subst IsMachine c.requires.is (record { lists = c.lists_and_names_differ.ensures.lists; names = c.lists_and_names_differ.ensures.names }),
       subst (IsConfigWithin (extent machine)) (sym c.in_ok-pack.ensures)
           (c.in_ok-config.ensures.within (extent machine) (subst (λ (m : Machine). IsConfigWithin (extent m) c.args.config) c.requires.is (c.requires.fits).within)),
       goes-on c.args.machine.now machine c.requires.is c.args.config c.in_ok-pack.field-0 c.in_ok-goes_on.field-0 c.in_ok-goes_on.ensures
