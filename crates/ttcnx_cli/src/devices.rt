@@ -1,9 +1,11 @@
 //! Readers and writers that fail, that move few bytes at a time, or that have no end.
-ghost use Rattle.std.specs.Prelude.{◌≡◌};
+ghost use Rattle.std.specs.Prelude.{◌≡◌, ◌<◌, ◌^◌, ◌-◌};
 
 use explore::{NoGate, Plan};
+use std::alloc::AllocGlobal;
 use std::io::{self, Error, ErrorKind, Read, Write};
 use std::test::Fail;
+use std::thread::Threads;
 use ttcnx::{Counted, Fault, Refusal, StreamFault, run_stream};
 
 const TEXT: &str = "module M {
@@ -110,6 +112,33 @@ fn sound<T>(inner: T, step: usize) -> Counted<Faulty<T>>
     Counted::new(Faulty::new(inner, step, 0, Trouble::Fails))
 }
 
+/// Writes the report on a test case of the text that the reader gives, as text.
+fn stream<R, D, E>(
+    rt: &R,
+    reader: &mut Counted<D>,
+    writer: &mut Counted<E>,
+    testcase: &str,
+    plan: &Plan,
+) -> Result<(), StreamFault>
+where
+    R: AllocGlobal + Threads + Sync,
+    D: Read,
+    E: Write,
+    requires reads { reader.old.failed < 2 ^ 64 - 1 }
+    requires writes { writer.old.failed < 2 ^ 64 - 1 }
+{
+    run_stream(
+        rt,
+        rt.alloc(),
+        reader,
+        writer,
+        testcase,
+        plan,
+        false,
+        &NoGate,
+    )
+}
+
 #[test]
 fn reports_go_through(rt: HostRuntime) -> Result<(), Fail> {
     let alloc = rt.alloc();
@@ -145,16 +174,7 @@ fn reads_that_fail_end_the_call(rt: HostRuntime) -> Result<(), Fail> {
         for at in 1..=4 {
             let mut reader = Counted::new(Faulty::new(TEXT.as_bytes(), 30, at, trouble));
             let mut writer = sound(Vec::new(alloc), 30);
-            let done = run_stream(
-                &rt,
-                alloc,
-                &mut reader,
-                &mut writer,
-                "T",
-                &PLAN,
-                false,
-                &NoGate,
-            );
+            let done = stream(&rt, &mut reader, &mut writer, "T", &PLAN);
             assert!(rt; matches!(done, Err(StreamFault::Read)), "{trouble:?} {at}");
             assert!(rt;
                 reader.failed() == 1 && writer.failed() == 0,
@@ -173,16 +193,7 @@ fn a_read_of_nothing_is_the_end(rt: HostRuntime) -> Result<(), Fail> {
     let alloc = rt.alloc();
     let mut reader = Counted::new(Faulty::new(TEXT.as_bytes(), 30, 3, Trouble::MovesNothing));
     let mut writer = sound(Vec::new(alloc), 30);
-    let done = run_stream(
-        &rt,
-        alloc,
-        &mut reader,
-        &mut writer,
-        "T",
-        &PLAN,
-        false,
-        &NoGate,
-    );
+    let done = stream(&rt, &mut reader, &mut writer, "T", &PLAN);
     let is_refused = matches!(
         done,
         Err(StreamFault::Refused(Fault::Refused(Refusal::Unexpected, _)))
@@ -209,16 +220,7 @@ fn writes_that_fail_leave_a_beginning(rt: HostRuntime) -> Result<(), Fail> {
             let at = (before as u64).saturating_add(1);
             let mut reader = sound(TEXT.as_bytes(), 30);
             let mut writer = Counted::new(Faulty::new(Vec::new(alloc), 1, at, trouble));
-            let done = run_stream(
-                &rt,
-                alloc,
-                &mut reader,
-                &mut writer,
-                "T",
-                &PLAN,
-                false,
-                &NoGate,
-            );
+            let done = stream(&rt, &mut reader, &mut writer, "T", &PLAN);
             assert!(rt; matches!(done, Err(StreamFault::Write)), "{trouble:?} {at}");
             assert!(rt;
                 reader.failed() == 0 && writer.failed() == 1,
@@ -252,16 +254,7 @@ fn a_failed_flush_is_a_failed_write(rt: HostRuntime) -> Result<(), Fail> {
     let alloc = rt.alloc();
     let mut reader = sound(TEXT.as_bytes(), 30);
     let mut writer = Counted::new(Unflushed(Vec::new(alloc)));
-    let done = run_stream(
-        &rt,
-        alloc,
-        &mut reader,
-        &mut writer,
-        "T",
-        &PLAN,
-        false,
-        &NoGate,
-    );
+    let done = stream(&rt, &mut reader, &mut writer, "T", &PLAN);
     assert!(rt;
         matches!(done, Err(StreamFault::Write)) && writer.failed() == 1,
         "the flush"
@@ -278,16 +271,7 @@ fn no_more_is_read_than_is_needed(rt: HostRuntime) -> Result<(), Fail> {
     let alloc = rt.alloc();
     let mut reader = sound(io::repeat(b'('), 1_000_000);
     let mut writer = sound(Vec::new(alloc), 1);
-    let done = run_stream(
-        &rt,
-        alloc,
-        &mut reader,
-        &mut writer,
-        "T",
-        &PLAN,
-        false,
-        &NoGate,
-    );
+    let done = stream(&rt, &mut reader, &mut writer, "T", &PLAN);
     let is_refused = matches!(
         done,
         Err(StreamFault::Refused(Fault::Refused(Refusal::TextTooLong, _)))
@@ -307,16 +291,7 @@ fn refusals_write_nothing(rt: HostRuntime) -> Result<(), Fail> {
     let beyond = Plan { limit: 0, ..PLAN };
     let mut reader = sound(TEXT.as_bytes(), 30);
     let mut writer = sound(Vec::new(alloc), 30);
-    let done = run_stream(
-        &rt,
-        alloc,
-        &mut reader,
-        &mut writer,
-        "T",
-        &beyond,
-        false,
-        &NoGate,
-    );
+    let done = stream(&rt, &mut reader, &mut writer, "T", &beyond);
     assert!(rt;
         matches!(done, Err(StreamFault::Refused(Fault::BadPlan))),
         "the plan"
@@ -328,16 +303,7 @@ fn refusals_write_nothing(rt: HostRuntime) -> Result<(), Fail> {
     assert!(rt; writer.into_inner().calls == 0, "nothing is written");
     let mut reader = sound(TEXT.as_bytes(), 30);
     let mut writer = sound(Vec::new(alloc), 30);
-    let done = run_stream(
-        &rt,
-        alloc,
-        &mut reader,
-        &mut writer,
-        "t",
-        &PLAN,
-        false,
-        &NoGate,
-    );
+    let done = stream(&rt, &mut reader, &mut writer, "t", &PLAN);
     assert!(rt;
         matches!(done, Err(StreamFault::Refused(Fault::NoSuchTestCase))),
         "the name"
