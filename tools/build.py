@@ -16,7 +16,7 @@ import toolchain
 
 # Minutes that all libraries take from nothing, by docs/figures.md: the work of all processors, and the longest chain of
 # libraries that wait for each other, where each has one processor.
-WORK, CHAIN = 125, 80
+WORK, CHAIN = 125, 65
 # The estimate begins as if so many minutes of this build had gone by these figures.
 KNOWN = 10
 

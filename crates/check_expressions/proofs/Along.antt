@@ -3,13 +3,13 @@ use Rattle.std.proofs.Common.{◌≡◌, ◌≤◌, ℕ, ◌+◌, ◌<◌, Bool,
 use Rattle.std.proofs.lemmas.List.{drop_all}
 use Rattle.ttcn_syntax.specs.declared.tree.definition.Definition.{Definition}
 use Rattle.check_scope.specs.internal.Checking.{least}
-use Rattle.check_expressions.specs.internal.Findings.{finding, with_before}
-use Rattle.check_expressions.specs.Expressions.{along, within}
-use Rattle.check_expressions.specs.Targets.{last_optional, optional_in}
-use Rattle.check_expressions.specs.declared.finding.Finding.{Finding}
+use Rattle.check_rules.specs.internal.Findings.{finding, with_before}
+use Rattle.check_rules.specs.Expressions.{along, within}
+use Rattle.check_rules.specs.Targets.{last_optional, optional_in}
+use Rattle.check_rules.specs.declared.finding.Finding.{Finding}
 use Rattle.check_scope.specs.declared.types.Typing.{Typing}
 use Rattle.check_scope.proofs.Leasts.{both_assoc, both_nothing}
-use Rattle.check_expressions.proofs.Findings.{finding_after}
+use Rattle.check_rules.proofs.Findings.{finding_after}
 use Rattle.check_scope.proofs.Lookups.{drop-next}
 
 -- what was found of the fields so far, with those that are left

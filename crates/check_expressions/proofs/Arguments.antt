@@ -5,10 +5,10 @@ use Rattle.ttcn_syntax.specs.declared.tree.definition.Parameter.{Parameter}
 use Rattle.ttcn_syntax.specs.declared.tree.value.Value.{Value}
 use Rattle.check_scope.proofs.Leasts.{both_assoc, both_nothing, least_append}
 use Rattle.check_scope.proofs.Lookups.{drop-next}
-use Rattle.check_expressions.specs.Calls.{arguments, next_parameters, parameter_target}
+use Rattle.check_rules.specs.Calls.{arguments, next_parameters, parameter_target}
 use Rattle.check_scope.specs.internal.Checking.{both, least}
 use Rattle.check_scope.specs.Names.{Scope}
-use Rattle.check_expressions.specs.Values.{value}
+use Rattle.check_rules.specs.Values.{value}
 use Rattle.check_scope.specs.declared.broken.Broken.{Broken}
 
 -- what was found so far, with what the arguments that are left break

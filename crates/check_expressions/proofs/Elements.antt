@@ -11,7 +11,7 @@ use Rattle.check_scope.specs.internal.Checking.{both, least}
 use Rattle.check_scope.specs.Names.{Scope}
 use Rattle.check_scope.specs.internal.Tables.{has}
 use Rattle.check_scope.specs.Typings.{unless}
-use Rattle.check_expressions.specs.Values.{AtTarget, by_name, first_target, in_order, is_field, next_fields, target_named}
+use Rattle.check_rules.specs.Values.{AtTarget, by_name, first_target, in_order, is_field, next_fields, target_named}
 use Rattle.check_scope.specs.declared.broken.Broken.{Broken}
 use Rattle.check_scope.specs.declared.name_set.NameSet.{NameSet}
 use Rattle.check_scope.specs.declared.rule.Rule.TheVariants as rule

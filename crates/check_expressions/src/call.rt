@@ -1,66 +1,18 @@
 //! The rules that calls and their arguments break (ES 201 873-1, 16 and 20).
 ghost use Rattle.std.specs.Prelude.{◌≡◌, IfOk};
 ghost use Rattle.std.specs.Option.{option_map};
-ghost use Rattle.check_expressions.specs.Calls as spec;
+ghost use Rattle.check_rules.specs.Calls as spec;
 ghost use Rattle.check_scope.specs.internal.Checking.{least, view};
-ghost use Rattle.check_scope.specs.Names.{component_meant};
 
 use crate::value::value;
+use check_rules::{CallPlace, behaviour_meant, component_named, parameters_of, runs_on_of};
 use check_scope::broken::Broken;
 use check_scope::names::Meaning;
 use check_scope::rule::Rule;
 use check_scope::scope::Scope;
 use check_scope::types::{DataType, Target, Typing};
 use std::alloc::{AllocError, Global};
-use ttcn_syntax::{Call, DefinitionKind, Name, Parameter, TypeName, Value};
-
-/// Where a call stands, which says what may be called.
-#[derive(Clone, Copy, Debug, PartialEq, Eq)]
-pub enum CallPlace {
-    /// As a statement: functions and altsteps.
-    Alone,
-    /// As a branch: altsteps.
-    Branch,
-    /// Where a value is wanted: functions with a result.
-    Value,
-}
-
-impl CallPlace {
-    fn may_call(self, kind: Option<&DefinitionKind>) -> bool
-        ensures { result ≡ spec.callable self (option_map (λ kind. kind.now) kind.entry) }
-    {
-        match (self, kind) {
-            (CallPlace::Alone, Some(DefinitionKind::Function(_)))
-            | (CallPlace::Alone | CallPlace::Branch, Some(DefinitionKind::Altstep(_))) => true,
-            (CallPlace::Value, Some(DefinitionKind::Function(function))) => {
-                function.returns.is_some()
-            }
-            _ => false,
-        }
-    }
-}
-
-pub fn parameters_of<'a>(kind: Option<&'a DefinitionKind>) -> &'a [Parameter]
-    ensures { result.now ≡ spec.parameters_of (option_map (λ kind. kind.now) kind.entry) }
-{
-    match kind {
-        Some(DefinitionKind::Template(template)) => template.parameters.as_slice(),
-        Some(DefinitionKind::Function(function)) => function.parameters.as_slice(),
-        Some(DefinitionKind::Altstep(altstep)) => altstep.parameters.as_slice(),
-        _ => &[],
-    }
-}
-
-/// The component type that a function or an altstep says it runs on. No test case is called, wherever it runs.
-pub fn runs_on_of<'a>(kind: Option<&'a DefinitionKind>) -> Option<&'a Name>
-    ensures { option_map (λ name. name.now) result ≡ spec.runs_on_of (option_map (λ kind. kind.now) kind.entry) }
-{
-    match kind {
-        Some(DefinitionKind::Function(function)) => function.runs_on.as_ref(),
-        Some(DefinitionKind::Altstep(altstep)) => altstep.runs_on.as_ref(),
-        _ => None,
-    }
-}
+use ttcn_syntax::{Call, DefinitionKind, Parameter, TypeName, Value};
 
 /// The type of a function's result, where it has one.
 pub(crate) fn result_type_of<'a>(kind: Option<&'a DefinitionKind>) -> Option<&'a TypeName>
@@ -124,7 +76,7 @@ fn arguments(
 }
 
 /// The least rule that the arguments of a call break: they are as many as the parameters, each of its parameter's type.
-#[tactic(auto, using(crate::proofs::Findings::least_append))]
+#[tactic(auto, using(check_rules::proofs::Findings::least_append))]
 pub fn check_arguments(
     alloc: Global,
     scope: &Scope<'_>,
@@ -160,36 +112,9 @@ fn runs_here(at: Option<usize>, caller: Option<usize>) -> bool
     }
 }
 
-/// The position of the component type that a name in the module's text stands for.
-pub fn component_named(scope: &Scope<'_>, name: Option<&Name>) -> Option<usize>
-    ensures { result ≡ spec.component_named (view scope.now).definitions (option_map (λ name. name.now) name.entry) }
-{
-    component_meant(scope.in_module(name?.as_bytes()))
-}
-
-/// The position of the component type that a name stands for.
-pub(crate) fn component_meant(meaning: Option<Meaning>) -> Option<usize>
-    ensures { result ≡ component_meant meaning }
-{
-    match meaning {
-        Some(Meaning::Component(at)) => Some(at),
-        _ => None,
-    }
-}
-
-/// The position of the behaviour that a name stands for.
-pub fn behaviour_meant(meaning: Option<Meaning>) -> Option<usize>
-    ensures { result ≡ spec.behaviour_meant meaning }
-{
-    match meaning {
-        Some(Meaning::Function(at) | Meaning::Altstep(at) | Meaning::Testcase(at)) => Some(at),
-        _ => None,
-    }
-}
-
 /// The call of a behaviour: with arguments for its parameters, running on what its caller runs on, and of a kind that may
 /// be called here.
-#[tactic(auto, using(crate::proofs::Findings::least_append))]
+#[tactic(auto, using(check_rules::proofs::Findings::least_append))]
 fn check_behaviour(
     alloc: Global,
     scope: &Scope<'_>,

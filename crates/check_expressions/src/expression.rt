@@ -1,11 +1,11 @@
 //! The types of expressions, and the rules that are broken in them (ES 201 873-1, 7).
 ghost use Rattle.std.specs.Prelude.{◌≡◌, map, Some};
 ghost use Rattle.std.specs.Option.{option_map};
-ghost use Rattle.check_expressions.specs.internal.Findings.{free_before, finding, with_before};
+ghost use Rattle.check_rules.specs.internal.Findings.{free_before, finding, with_before};
 ghost use Rattle.check_scope.specs.internal.Checking.{view};
-ghost use Rattle.check_expressions.specs.Expressions as spec;
+ghost use Rattle.check_rules.specs.Expressions as spec;
 
-use crate::finding::Finding;
+use check_rules::{Finding, within};
 use check_scope::broken::Broken;
 use check_scope::names::Meaning;
 use check_scope::rule::Rule;
@@ -29,20 +29,6 @@ pub(crate) fn check_meaning(scope: &Scope<'_>, meaning: Option<Meaning>) -> Find
     }
 }
 
-/// What a field of something is.
-pub fn within(scope: &Scope<'_>, typing: Typing, name: &Name) -> Finding
-    ensures { result ≡ finding (spec.within (view scope.now).definitions typing name.now) }
-{
-    match typing {
-        Typing::Known(DataType::Record(at)) => match scope.field(at, name) {
-            Some(field) => Finding::fine(Typing::of(scope.resolved_in_module(&field.type_name))),
-            None => Finding::wrong(Rule::Fields),
-        },
-        Typing::Unknown => Finding::fine(Typing::Unknown),
-        _ => Finding::wrong(Rule::Fields),
-    }
-}
-
 /// What fields of fields are.
 pub(crate) fn along(scope: &Scope<'_>, typing: Typing, names: &[Name]) -> Finding
     ensures { result ≡ finding (spec.along (view scope.now).definitions typing names.now) }
@@ -54,7 +40,7 @@ pub(crate) fn along(scope: &Scope<'_>, typing: Typing, names: &[Name]) -> Findin
     found
 }
 
-#[tactic(auto, using(crate::proofs::Findings::least_append, crate::proofs::Findings::finding_after))]
+#[tactic(auto, using(check_rules::proofs::Findings::least_append, check_rules::proofs::Findings::finding_after))]
 pub fn check_reference(scope: &Scope<'_>, reference: &Reference) -> Finding
     ensures { result ≡ finding (spec.check_reference (view scope.now) reference.now) }
 {
@@ -86,7 +72,7 @@ pub fn check_component(scope: &Scope<'_>, component: &ComponentRef, free: bool) 
 }
 
 /// A place where a component is wanted, `mtc` among them.
-#[tactic(auto, using(crate::proofs::Findings::least_append, crate::proofs::Findings::finding_after))]
+#[tactic(auto, using(check_rules::proofs::Findings::least_append, check_rules::proofs::Findings::finding_after))]
 pub fn check_wanted_component(scope: &Scope<'_>, component: &ComponentRef) -> Finding
     ensures { result ≡ finding (spec.check_wanted_component (view scope.now) component.now) }
 {
@@ -114,7 +100,7 @@ pub fn names_timer(scope: &Scope<'_>, component: &ComponentRef) -> bool
 }
 
 /// `.running`, of a timer or a component.
-#[tactic(auto, using(crate::proofs::Findings::least_append, crate::proofs::Findings::finding_after))]
+#[tactic(auto, using(check_rules::proofs::Findings::least_append, check_rules::proofs::Findings::finding_after))]
 fn check_running(scope: &Scope<'_>, component: &ComponentRef) -> Finding
     ensures { result ≡ finding (spec.check_running (view scope.now) component.now) }
 {
@@ -137,7 +123,7 @@ fn runs(typing: Typing) -> Finding
 }
 
 /// `ispresent`, of a field.
-#[tactic(auto, using(crate::proofs::Findings::least_append, crate::proofs::Findings::finding_after))]
+#[tactic(auto, using(check_rules::proofs::Findings::least_append, check_rules::proofs::Findings::finding_after))]
 fn check_ispresent(scope: &Scope<'_>, reference: &Reference) -> Finding
     ensures { result ≡ finding (spec.check_ispresent (view scope.now) reference.now) }
 {

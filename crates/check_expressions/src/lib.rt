@@ -3,7 +3,6 @@
 
 pub mod call;
 pub mod expression;
-pub mod finding;
 pub mod target;
 pub mod template;
 pub mod value;

@@ -2,16 +2,13 @@
 ghost use Rattle.std.specs.Prelude.{◌≡◌, IfOk};
 ghost use Rattle.std.specs.Option.{option_map};
 ghost use Rattle.check_scope.specs.internal.Checking.{least, view};
-ghost use Rattle.check_expressions.specs.internal.Findings.{finding};
-ghost use Rattle.check_expressions.specs.Targets as spec;
+ghost use Rattle.check_rules.specs.internal.Findings.{finding};
+ghost use Rattle.check_rules.specs.Targets as spec;
 
-use crate::call::{
-    CallPlace, behaviour_meant, check_activation, check_call, component_meant, result_type_of,
-    result_typing,
-};
-use crate::expression::{along, check_meaning, within};
-use crate::finding::Finding;
+use crate::call::{check_activation, check_call, result_type_of, result_typing};
+use crate::expression::{along, check_meaning};
 use crate::value::value;
+use check_rules::{CallPlace, Finding, behaviour_meant, component_meant, within};
 use check_scope::broken::Broken;
 use check_scope::names::Meaning;
 use check_scope::rule::Rule;
@@ -68,7 +65,7 @@ fn check_created(wanted: Option<DataType>, at: Option<usize>) -> Broken
     }
 }
 
-#[tactic(auto, using(crate::proofs::Findings::least_append))]
+#[tactic(auto, using(check_rules::proofs::Findings::least_append))]
 pub(crate) fn check_rhs(
     alloc: Global,
     scope: &Scope<'_>,
@@ -135,7 +132,7 @@ fn as_target(scope: &Scope<'_>, meaning: Option<Meaning>) -> Finding
 }
 
 /// What is said of a target with its fields.
-#[tactic(auto, using(crate::proofs::Findings::least_append, crate::proofs::Findings::finding_after))]
+#[tactic(auto, using(check_rules::proofs::Findings::least_append, check_rules::proofs::Findings::finding_after))]
 pub fn check_target(scope: &Scope<'_>, reference: &Reference) -> Finding
     ensures { result ≡ finding (spec.check_target (view scope.now) reference.now) }
 {
@@ -170,7 +167,7 @@ fn last_optional(scope: &Scope<'_>, typing: Typing, optional: bool, names: &[Nam
 }
 
 /// What goes to a reference.
-#[tactic(auto, using(crate::proofs::Findings::least_append, crate::proofs::Findings::finding_after))]
+#[tactic(auto, using(check_rules::proofs::Findings::least_append, check_rules::proofs::Findings::finding_after))]
 fn target_at(scope: &Scope<'_>, reference: &Reference) -> Target
     ensures { result ≡ spec.target_at (view scope.now) reference.now }
 {
@@ -181,7 +178,7 @@ fn target_at(scope: &Scope<'_>, reference: &Reference) -> Target
     }
 }
 
-#[tactic(auto, using(crate::proofs::Findings::least_append))]
+#[tactic(auto, using(check_rules::proofs::Findings::least_append))]
 pub fn check_assignment(
     alloc: Global,
     scope: &Scope<'_>,

@@ -6,18 +6,18 @@ ghost use Rattle.ttcn_syntax.specs.declared.tree.expression.Expr.{out-Expr};
 ghost use Rattle.ttcn_syntax.specs.declared.tree.template.FieldTemplate.{out-FieldTemplate};
 ghost use Rattle.check_scope.specs.internal.Checking.{least, view};
 ghost use Rattle.check_scope.specs.internal.Tables.{has};
-ghost use Rattle.check_expressions.specs.Templates as spec;
-ghost use Rattle.check_expressions.specs.Values.{by_name, in_order, wanted_fields};
+ghost use Rattle.check_rules.specs.Templates as spec;
+ghost use Rattle.check_rules.specs.Values.{by_name, in_order, wanted_fields};
 
-use crate::call::{check_arguments, lone_arguments, parameters_of, template_type};
+use crate::call::{check_arguments, lone_arguments, template_type};
 use crate::expression::expression;
 use crate::value::{
     check_braces, check_expression, check_field_name, check_number, first_target, next_fields,
     target_named, wanted_fields,
 };
+use check_rules::{parameters_of, template_meant};
 use check_scope::broken::Broken;
 use check_scope::name_set::NameSet;
-use check_scope::names::Meaning;
 use check_scope::rule::Rule;
 use check_scope::scope::Scope;
 use check_scope::types::{DataType, Target, Typing};
@@ -27,16 +27,6 @@ use ttcn_syntax::{
 };
 
 // ---- named templates
-
-/// The position of the template that a name stands for.
-pub fn template_meant(meaning: Option<Meaning>) -> Option<usize>
-    ensures { result ≡ spec.template_meant meaning }
-{
-    match meaning {
-        Some(Meaning::Template(at)) => Some(at),
-        _ => None,
-    }
-}
 
 /// The name that an expression is and nothing more.
 fn bare_name(expr: &Expr) -> Option<&Name>
@@ -71,7 +61,7 @@ fn type_of_template(scope: &Scope<'_>, at: usize) -> Option<DataType>
 }
 
 /// A template with arguments, where a template of a type is wanted.
-#[tactic(auto, using(crate::proofs::Findings::least_append))]
+#[tactic(auto, using(check_rules::proofs::Findings::least_append))]
 fn check_template(
     alloc: Global,
     scope: &Scope<'_>,
@@ -119,7 +109,7 @@ fn check_bound(scope: &Scope<'_>, bound: &Bound) -> Broken
 }
 
 /// A range, where integers are wanted.
-#[tactic(auto, using(crate::proofs::Findings::least_append))]
+#[tactic(auto, using(check_rules::proofs::Findings::least_append))]
 fn check_range(scope: &Scope<'_>, target: Target, low: &Bound, high: &Bound) -> Broken
     ensures { result ≡ least (spec.check_range (view scope.now) target low.now high.now) }
 {
@@ -205,7 +195,7 @@ fn has_all(
 
 /// The least rule that a template breaks.
 #[cycle(template)]
-#[tactic(auto, using(crate::proofs::TemplateForms::template_forms))]
+#[tactic(auto, using(check_rules::proofs::TemplateForms::template_forms))]
 pub fn template(
     alloc: Global,
     scope: &Scope<'_>,
@@ -221,7 +211,7 @@ pub fn template(
 
 /// The least rule that the body of a template breaks, `ifpresent` left aside.
 #[cycle(template)]
-#[tactic(auto, using(crate::proofs::TemplateForms::template_forms))]
+#[tactic(auto, using(check_rules::proofs::TemplateForms::template_forms))]
 fn check_body(
     alloc: Global,
     scope: &Scope<'_>,

@@ -3,7 +3,7 @@ ghost use Rattle.std.specs.Prelude.{◌≡◌, ◌&&◌, [], map, IfOk};
 ghost use Rattle.std.specs.Option.{option_map};
 ghost use Rattle.check_scope.specs.internal.Checking.{least, view};
 ghost use Rattle.check_scope.specs.Typings.{unless};
-ghost use Rattle.check_expressions.specs.Values as spec;
+ghost use Rattle.check_rules.specs.Values as spec;
 ghost use Rattle.check_scope.specs.declared.rule.Rule.TheVariants as rule;
 
 use crate::expression::expression;
@@ -122,7 +122,7 @@ pub(crate) fn next_fields(fields: Option<&[Field]>) -> Option<&[Field]>
 }
 
 /// An expression where a value of a type is wanted.
-#[tactic(auto, using(crate::proofs::Findings::least_append))]
+#[tactic(auto, using(check_rules::proofs::Findings::least_append))]
 pub(crate) fn check_expression(scope: &Scope<'_>, wanted: Option<DataType>, expr: &Expr) -> Broken
     ensures { result ≡ least (spec.check_expression (view scope.now) wanted expr.now) }
 {
@@ -133,7 +133,7 @@ pub(crate) fn check_expression(scope: &Scope<'_>, wanted: Option<DataType>, expr
 
 /// The least rule that a value breaks.
 #[cycle(value)]
-#[tactic(auto, using(crate::proofs::ValueForms::value_forms))]
+#[tactic(auto, using(check_rules::proofs::ValueForms::value_forms))]
 pub fn value(
     alloc: Global,
     scope: &Scope<'_>,

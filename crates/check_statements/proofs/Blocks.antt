@@ -17,12 +17,12 @@ use Rattle.ttcn_syntax.specs.declared.tree.value.Call.{Call}
 use Rattle.check_statements.proofs.Insides.{parts-next, rest_of_parts}
 use Rattle.check_scope.proofs.Leasts.{both_assoc, both_nothing, least_append}
 use Rattle.check_scope.proofs.Lookups.{drop-next}
-use Rattle.check_statements.proofs.StatementForms.{behind_for, branch_out, conditional_least, of_alt, of_call_block, of_do_while, of_else, of_event_block, of_for, of_if, of_if_else, of_while, statement_out}
+use Rattle.check_rules.proofs.StatementForms.{behind_for, branch_out, conditional_least, of_alt, of_call_block, of_do_while, of_else, of_event_block, of_for, of_if, of_if_else, of_while, statement_out}
 use Rattle.check_scope.specs.internal.Checking.{around, both, least, view, view_in}
 use Rattle.check_statements.specs.internal.Places.{place_with}
 use Rattle.check_scope.specs.Names.{Scope}
-use Rattle.check_statements.specs.Statements as spec
-use Rattle.check_statements.specs.Statements.{Check, StatementRules, action, alternative, check_condition, check_for_head, check_guarded_call, check_guarded_event, behind_for_start, branch, conditional, inside_branch, statement, statements, with_scope}
+use Rattle.check_rules.specs.Statements as spec
+use Rattle.check_rules.specs.Statements.{Check, StatementRules, action, alternative, check_condition, check_for_head, check_guarded_call, check_guarded_event, behind_for_start, branch, conditional, inside_branch, statement, statements, with_scope}
 use Rattle.check_scope.specs.declared.broken.Broken.{Broken}
 use Rattle.check_statements.specs.declared.place.Place.{Place}
 use Rattle.check_scope.specs.declared.scope.Scope as code

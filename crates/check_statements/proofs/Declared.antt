@@ -2,7 +2,7 @@
 use Rattle.std.proofs.Common.{◌≡◌, ◌≤◌, ℕ, ◌+◌, ◌<◌, List, [], ◌∷◌, ◌++◌, length, get_or, drop, refl, sym, ap, ◌∙◌}
 use Rattle.std.proofs.lemmas.List.{drop_all}
 use Rattle.check_scope.specs.internal.Checking.{both, least}
-use Rattle.check_expressions.specs.Declarations.{behind_all, one_by_one}
+use Rattle.check_rules.specs.Declarations.{behind_all, one_by_one}
 use Rattle.check_scope.specs.Names.{Entry, Scope, declaring}
 use Rattle.check_scope.specs.declared.broken.Broken.{Broken}
 use Rattle.check_scope.specs.declared.rule.Rule.{Rule}

@@ -3,7 +3,7 @@ use Rattle.std.proofs.Common.{◌≡◌, ◌≤◌, ℕ, ◌+◌, ◌<◌, List,
 use Rattle.std.proofs.lemmas.List.{drop_all}
 use Rattle.ttcn_syntax.specs.declared.tree.definition.Definition.{Definition}
 use Rattle.check_scope.specs.internal.Checking.{both, least}
-use Rattle.check_statements.specs.Definitions.{check_definition, check_definitions}
+use Rattle.check_rules.specs.Definitions.{check_definition, check_definitions}
 use Rattle.check_scope.specs.declared.broken.Broken.{Broken}
 use Rattle.check_scope.specs.declared.rule.Rule.{Rule}
 use Rattle.check_scope.proofs.Leasts.{both_assoc, both_nothing, least_append}

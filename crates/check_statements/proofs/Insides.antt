@@ -12,7 +12,7 @@ use Rattle.check_expressions.proofs.Elements.{one-more, regroup}
 use Rattle.check_scope.proofs.Leasts.{both_assoc, both_nothing, least_append}
 use Rattle.check_scope.proofs.Lookups.{drop-next}
 use Rattle.check_scope.specs.internal.Checking.{both, least}
-use Rattle.check_statements.specs.Definitions.{and_number, check_number, check_part, check_fields, check_numbers, same_number, same_sign}
+use Rattle.check_rules.specs.Definitions.{and_number, check_number, check_part, check_fields, check_numbers, same_number, same_sign}
 use Rattle.check_scope.specs.Names.{Names}
 use Rattle.check_statements.specs.internal.Places.{AreGiven, given, is_negative}
 use Rattle.check_scope.specs.internal.Tables.{has}

@@ -4,4 +4,3 @@ pub mod DefinitionForms
 pub mod Insides
 pub mod Leasts
 pub mod MemberForms
-pub mod StatementForms

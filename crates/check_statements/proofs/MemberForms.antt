@@ -8,10 +8,10 @@ use Rattle.ttcn_syntax.specs.declared.tree.statement.Constant.{Constant}
 use Rattle.ttcn_syntax.specs.declared.tree.statement.Constants.{Constants}
 use Rattle.ttcn_syntax.specs.declared.tree.statement.Timer.{Timer}
 use Rattle.check_scope.specs.internal.Checking.{both, least}
-use Rattle.check_expressions.specs.Declarations.{behind_all}
-use Rattle.check_statements.specs.Definitions.{check_member, check_members, member_variable_entry, port_entry}
+use Rattle.check_rules.specs.Declarations.{behind_all}
+use Rattle.check_rules.specs.Definitions.{check_member, check_members, member_variable_entry, port_entry}
 use Rattle.check_scope.specs.Names.{Entry, Names, Scope, declaring, member_entries, resolved}
-use Rattle.check_expressions.specs.Targets.{behind_constants, behind_timers}
+use Rattle.check_rules.specs.Targets.{behind_constants, behind_timers}
 use Rattle.check_scope.specs.declared.broken.Broken.{Broken}
 use Rattle.check_scope.specs.declared.names.Meaning.TheVariants as meaning
 use Rattle.check_scope.specs.declared.types.DataType.{DataType}

@@ -1,4 +1,1 @@
-pub mod Definitions
-pub mod Messages
-pub mod Statements
 pub mod internal

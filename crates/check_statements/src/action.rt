@@ -4,20 +4,20 @@ ghost use Rattle.std.specs.Option.{option_map};
 ghost use Rattle.ttcn_syntax.specs.declared.tree.statement.Action.{out-Action};
 ghost use Rattle.check_scope.specs.internal.Checking.{around, least, view};
 ghost use Rattle.check_statements.specs.internal.Places.{place_with};
-ghost use Rattle.check_statements.specs.Statements as spec;
+ghost use Rattle.check_rules.specs.Statements as spec;
 
 use crate::declaration::{constants, timers, variables};
 use crate::message::{check_event, check_send, check_timer};
-use crate::place::{Place, Returns};
-use check_expressions::call::{
-    CallPlace, behaviour_meant, check_activation, check_arguments, check_call, component_named,
-    lone_arguments, parameters_of, runs_on_of,
-};
+use crate::place::Place;
+use check_expressions::call::{check_activation, check_arguments, check_call, lone_arguments};
 use check_expressions::expression::{
     check_component, check_reference, check_wanted_component, expression, names_timer,
 };
 use check_expressions::target::check_assignment;
 use check_expressions::value::value;
+use check_rules::{
+    CallPlace, Returns, behaviour_meant, component_named, parameters_of, runs_on_of,
+};
 use check_scope::broken::Broken;
 use check_scope::rule::Rule;
 use check_scope::scope::Scope;

@@ -4,8 +4,8 @@ ghost use Rattle.check_scope.specs.internal.Checking.{around, least, view};
 ghost use Rattle.check_scope.specs.Names.{Entry, declaring};
 ghost use Rattle.check_scope.specs.Names as visible;
 ghost use Rattle.check_scope.specs.declared.rule.Rule as broken_rule;
-ghost use Rattle.check_expressions.specs.Declarations.{behind_all, one_by_one};
-ghost use Rattle.check_expressions.specs.Targets as spec;
+ghost use Rattle.check_rules.specs.Declarations.{behind_all, one_by_one};
+ghost use Rattle.check_rules.specs.Targets as spec;
 
 use check_expressions::target::{check_initial, check_new_name, check_type};
 use check_expressions::value::value;

@@ -2,10 +2,10 @@
 ghost use Rattle.std.specs.Prelude.{◌≡◌, ◌++◌, IfOk, OnOk};
 ghost use Rattle.std.specs.Option.{option_map};
 ghost use Rattle.ttcn_syntax.specs.declared.tree.definition.DefinitionKind.TheVariants as kind;
-ghost use Rattle.check_expressions.specs.Calls.{component_named};
+ghost use Rattle.check_rules.specs.Calls.{component_named};
 ghost use Rattle.check_scope.specs.internal.Checking.{around, both, least, least_in, view};
 ghost use Rattle.check_scope.specs.Scopes.{scope_on};
-ghost use Rattle.check_statements.specs.Definitions as spec;
+ghost use Rattle.check_rules.specs.Definitions as spec;
 
 use crate::kinds::{
     check_component_name, check_constants, check_fields, check_numbers, check_port, check_result,
@@ -13,11 +13,11 @@ use crate::kinds::{
 };
 use crate::member::check_members;
 use crate::parameter::check_parameters;
-use crate::place::{Place, Returns};
+use crate::place::Place;
 use crate::statement::{block, branches};
-use check_expressions::call::component_named;
 use check_expressions::target::check_type;
 use check_expressions::template::template;
+use check_rules::{Returns, component_named};
 use check_scope::broken::Broken;
 use check_scope::least::Least;
 use check_scope::scope::Scope;

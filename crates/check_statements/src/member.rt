@@ -3,7 +3,7 @@ ghost use Rattle.std.specs.Prelude.{◌≡◌, [], ◌∷◌, IfOk, OnOk};
 ghost use Rattle.std.specs.Option.{option_map};
 ghost use Rattle.ttcn_syntax.specs.declared.tree.definition.Member.TheVariants as member;
 ghost use Rattle.check_scope.specs.internal.Checking.{around, least, view};
-ghost use Rattle.check_statements.specs.Definitions as spec;
+ghost use Rattle.check_rules.specs.Definitions as spec;
 ghost use Rattle.check_scope.specs.Names.{declaring, member_entries};
 
 use crate::declaration::{constants, declare, declare_each, timers};

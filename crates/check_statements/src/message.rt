@@ -3,15 +3,15 @@ ghost use Rattle.std.specs.Prelude.{◌≡◌, is_some, IfOk};
 ghost use Rattle.std.specs.List.{list_any};
 ghost use Rattle.std.specs.Option.{option_map};
 ghost use Rattle.check_scope.specs.internal.Checking.{least, view};
-ghost use Rattle.check_expressions.specs.internal.Findings.{finding};
-ghost use Rattle.check_statements.specs.Messages as spec;
+ghost use Rattle.check_rules.specs.internal.Findings.{finding};
+ghost use Rattle.check_rules.specs.Messages as spec;
 ghost use Rattle.check_statements.specs.internal.Ports.{known, otherwise, passing};
 ghost use Rattle.check_scope.specs.declared.types.Typing.TheVariants as typing;
 
 use check_expressions::expression::check_wanted_component;
-use check_expressions::finding::Finding;
 use check_expressions::target::{check_target, check_type};
 use check_expressions::template::{template, typing_of_template};
+use check_rules::Finding;
 use check_scope::broken::Broken;
 use check_scope::names::Meaning;
 use check_scope::rule::Rule;

@@ -1,7 +1,7 @@
 //! Numbers of an enumeration that were given.
 ghost use Rattle.std.specs.Prelude.{◌≡◌, IfOk, OnOk, false, true, not, if◌then◌else◌};
 ghost use Rattle.ttcn_syntax.specs.declared.tree.definition.EnumNumber.{EnumNumber};
-ghost use Rattle.check_statements.specs.Definitions.{same_number};
+ghost use Rattle.check_rules.specs.Definitions.{same_number};
 ghost use Rattle.check_statements.specs.internal.Places.{given, is_negative};
 
 use std::alloc::{AllocError, Global};

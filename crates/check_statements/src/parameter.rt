@@ -1,7 +1,7 @@
 //! Formal parameters (ES 201 873-1, 5.4.1).
 ghost use Rattle.std.specs.Prelude.{◌≡◌, [], ◌∷◌, IfOk, OnOk};
 ghost use Rattle.check_scope.specs.internal.Checking.{around, least, view};
-ghost use Rattle.check_statements.specs.Definitions as spec;
+ghost use Rattle.check_rules.specs.Definitions as spec;
 ghost use Rattle.check_scope.specs.Names.{declaring};
 
 use crate::declaration::{declare, declare_each};

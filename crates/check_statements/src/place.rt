@@ -2,20 +2,9 @@
 ghost use Rattle.std.specs.Prelude.{◌≡◌, false};
 ghost use Rattle.check_statements.specs.internal.Places.{place_with};
 ghost use Rattle.check_scope.specs.Names.{Scope};
-ghost use Rattle.check_statements.specs.Statements.{inside_branch};
+ghost use Rattle.check_rules.specs.Statements.{inside_branch};
 
-use check_scope::types::DataType;
-
-/// Whether `return` may stand in a behaviour, and with what.
-#[derive(Clone, Copy, Debug, PartialEq, Eq)]
-pub(crate) enum Returns {
-    /// An altstep or a test case.
-    Nowhere,
-    /// A function without a result.
-    WithoutValue,
-    /// A function with a result; its type is unknown where its declaration breaks a rule.
-    WithValue(Option<DataType>),
-}
+use check_rules::Returns;
 
 /// What a behaviour lets its statements return, and whether they are inside the block of a branch.
 #[derive(Clone, Copy, Debug, PartialEq, Eq)]

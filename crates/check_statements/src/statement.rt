@@ -4,14 +4,15 @@ ghost use Rattle.std.specs.List.{flat_map};
 ghost use Rattle.std.specs.Option.{option_map};
 ghost use Rattle.check_scope.specs.internal.Checking.{around, both, least, least_in, view};
 ghost use Rattle.check_statements.specs.internal.Places.{place_with};
-ghost use Rattle.check_statements.specs.Statements as spec;
+ghost use Rattle.check_rules.specs.Statements as spec;
 
 use crate::action::{check_condition, check_guard, check_leaf};
 use crate::declaration::variables;
 use crate::message::check_event;
 use crate::place::Place;
-use check_expressions::call::{CallPlace, check_call};
+use check_expressions::call::check_call;
 use check_expressions::target::check_assignment;
+use check_rules::CallPlace;
 use check_scope::broken::Broken;
 use check_scope::least::Least;
 use check_scope::scope::Scope;
@@ -134,7 +135,7 @@ fn conditionals<'a>(
 
 /// What a branch waits for, and the block behind it.
 #[cycle(statement)]
-#[tactic(auto, using(crate::proofs::StatementForms::branch_forms))]
+#[tactic(auto, using(check_rules::proofs::StatementForms::branch_forms))]
 fn branch<'a>(
     alloc: Global,
     scope: &mut Scope<'a>,
@@ -188,7 +189,7 @@ pub(crate) fn branches<'a>(
 }
 
 #[cycle(statement)]
-#[tactic(auto, using(crate::proofs::StatementForms::statement_forms))]
+#[tactic(auto, using(check_rules::proofs::StatementForms::statement_forms))]
 fn statement<'a>(
     alloc: Global,
     scope: &mut Scope<'a>,

@@ -17,7 +17,7 @@ use Rattle.config_parts.specs.declared.config.Config.{Config}
 use Rattle.config_parts.specs.declared.config.Config.TheVariants as config
 use Rattle.config_parts.specs.declared.config.Going.{Going}
 use Rattle.config_parts.specs.declared.connection.Connection.{Connection}
-use Rattle.ttcn_values.specs.declared.path.Path.{Path}
+use Rattle.value_types.specs.declared.path.Path.{Path}
 
 state-over : (s : State) → rules.is_terminated_state (state_by s) ≡ is_terminated s
 state-over state.Created = refl

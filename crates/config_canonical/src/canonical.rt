@@ -11,7 +11,7 @@ ghost use Rattle.config_parts.specs.Views.{Extent, IsConfigWithin};
 use config_parts::{Cells, Component, Config, Connection, Data, Going, Shared, State, TryClone};
 use std::alloc::{AllocError, Global};
 use ttcn_syntax::{Seq, Verdict};
-use ttcn_values::{ComponentId, Path};
+use value_types::{ComponentId, Path};
 
 fn is_terminated(state: State) -> bool
     ensures { result ≡ spec.is_terminated state }

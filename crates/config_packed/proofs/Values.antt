@@ -5,12 +5,12 @@ use Rattle.std.specs.Bool.{if◌then◌else◌}
 use Rattle.std.specs.List.{flat_map}
 use Rattle.std.specs.Option.{option_map}
 use Rattle.config_packed.specs.Spelling.{spell_field, spell_identity, spell_integer, spell_level, spell_list, spell_long, spell_number, spell_value}
-use Rattle.ttcn_values.specs.declared.value.ComponentId.{ComponentId}
-use Rattle.ttcn_values.specs.declared.value.Value.{Value, fold-Value}
-use Rattle.ttcn_values.specs.declared.value.Value.TheFolds.{fold-roll-Value}
-use Rattle.ttcn_values.specs.declared.value.Value.TheOpen.{Value-F}
-use Rattle.ttcn_values.specs.declared.value.Value.TheShapes.{former-Value-Record-1-at-1}
-use Rattle.ttcn_values.specs.declared.value.Value.TheVariants as value
+use Rattle.value_types.specs.declared.value.ComponentId.{ComponentId}
+use Rattle.value_types.specs.declared.value.Value.{Value, fold-Value}
+use Rattle.value_types.specs.declared.value.Value.TheFolds.{fold-roll-Value}
+use Rattle.value_types.specs.declared.value.Value.TheOpen.{Value-F}
+use Rattle.value_types.specs.declared.value.Value.TheShapes.{former-Value-Record-1-at-1}
+use Rattle.value_types.specs.declared.value.Value.TheVariants as value
 
 abbrev pub spell_of_field : Option Value → List ℕ
 spell_of_field field = spell_field (option_map spell_value field)

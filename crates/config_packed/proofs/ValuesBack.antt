@@ -5,13 +5,13 @@ use Rattle.config_packed.specs.Reading.{integer_of, read_byte, read_enumerated, 
 use Rattle.config_packed.specs.Spelling.{number_of, spell_identity, spell_integer, spell_long, spell_number, spell_path, spell_value}
 use Rattle.config_packed.proofs.NumbersBack.{item_back, list_from_items, read_list_back, read_long_back, read_number_back}
 use Rattle.config_packed.proofs.Values.{spell_of_boolean, spell_of_component, spell_of_default, spell_of_enumerated, spell_of_field, spell_of_integer, spell_of_null, spell_of_omit, spell_of_record}
-use Rattle.ttcn_values.specs.declared.path.Path.{Path}
-use Rattle.ttcn_values.specs.declared.value.ComponentId.{ComponentId}
-use Rattle.ttcn_values.specs.declared.value.Value.{Value, roll-Value}
-use Rattle.ttcn_values.specs.declared.value.Value.TheFolds.{ind-Value, map-Value}
-use Rattle.ttcn_values.specs.declared.value.Value.TheOpen.{Value-F}
-use Rattle.ttcn_values.specs.declared.value.Value.TheShapes.{former-Value-Record-1-at-1}
-use Rattle.ttcn_values.specs.declared.value.Value.TheVariants as value
+use Rattle.value_types.specs.declared.path.Path.{Path}
+use Rattle.value_types.specs.declared.value.ComponentId.{ComponentId}
+use Rattle.value_types.specs.declared.value.Value.{Value, roll-Value}
+use Rattle.value_types.specs.declared.value.Value.TheFolds.{ind-Value, map-Value}
+use Rattle.value_types.specs.declared.value.Value.TheOpen.{Value-F}
+use Rattle.value_types.specs.declared.value.Value.TheShapes.{former-Value-Record-1-at-1}
+use Rattle.value_types.specs.declared.value.Value.TheVariants as value
 
 -- ---- integers and the names of components
 

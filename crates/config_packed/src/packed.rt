@@ -25,7 +25,7 @@ pub struct Packed {
 impl Model for Packed {
     ghost use Rattle.std.specs.Coded.{codes};
     ghost use Rattle.std.specs.Prelude.{◌≡◌};
-    ghost use Rattle.ttcn_values.specs.contracts.value.Value as value;
+    ghost use Rattle.value_types.specs.contracts.value.Value as value;
     ghost use Rattle.config_parts.specs.declared.config.Config.{Config};
     ghost use Rattle.config_packed.specs.Reading.{config_in};
     ghost use Rattle.config_packed.specs.Spelling.{spell_config};

@@ -11,7 +11,7 @@ use config_parts::{
 };
 use std::alloc::{AllocError, Global};
 use ttcn_syntax::{Seq, Verdict};
-use ttcn_values::{ComponentId, Path, TimerState, Value};
+use value_types::{ComponentId, Path, TimerState, Value};
 
 // ---- what components have of their own
 

@@ -10,7 +10,7 @@ use crate::spelled::Spelled;
 use config_parts::{ActiveDefault, Cells, Frame, Queue, State};
 use std::alloc::{AllocError, Global};
 use ttcn_syntax::{Seq, Verdict};
-use ttcn_values::ComponentId;
+use value_types::ComponentId;
 
 /// The position of the first of several frames, behind which the reader stands.
 #[tactic(auto, unfolding(crate::specs::Reading::read_list, crate::specs::Reading::read_items, crate::specs::Reading::read_frame))]

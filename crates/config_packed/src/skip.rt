@@ -7,7 +7,7 @@ use crate::number::{take_long, take_number};
 use crate::spelled::Spelled;
 use config_parts::{ActiveDefault, Cells, Frame, Message, Queue, State};
 use ttcn_syntax::{Seq, Verdict};
-use ttcn_values::{ComponentId, Path, Slot, TimerState, Value};
+use value_types::{ComponentId, Path, Slot, TimerState, Value};
 
 /// What can be gone past, without memory for it.
 pub trait Skip: Spelled {

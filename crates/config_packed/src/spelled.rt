@@ -5,7 +5,7 @@ use crate::byte_reader::ByteReader;
 use crate::number::{put_long, put_number, take_long, take_number};
 use std::alloc::{AllocError, Global};
 use ttcn_syntax::Seq;
-use ttcn_values::Slot;
+use value_types::Slot;
 
 /// What can be spelled as bytes, and read again.
 pub trait Spelled: Drop {

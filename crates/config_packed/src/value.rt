@@ -8,7 +8,7 @@ use crate::number::{put_long, put_number, take_long, take_number};
 use crate::spelled::Spelled;
 use std::alloc::{AllocError, Global};
 use ttcn_syntax::Seq;
-use ttcn_values::{ComponentId, Path, Value};
+use value_types::{ComponentId, Path, Value};
 
 // ---- integers
 

@@ -13,13 +13,14 @@ use Rattle.semantics.specs.Configurations.{path_cmp, same_path, worse}
 use Rattle.semantics.specs.Snapshots.{Test}
 use Rattle.semantics.specs.Steps as steps
 use Rattle.semantics.specs.Taking.{uncovered}
-use Rattle.config_parts.specs.Acts.{HasPathsInOrder, IsFailing, IsUncovered, Leads, act_by}
+use Rattle.config_parts.specs.Acts.{HasPathsInOrder, IsFailing, IsUncovered, Leads, act_by, request_by}
 use Rattle.config_parts.specs.Legend.{IsLegend, Legend, component_by, config_by, connection_by, data_by, end_by, frame_by, going_by, message_by, queue_by, state_by}
 use Rattle.config_parts.specs.internal.Changes as kept
 use Rattle.config_parts.specs.internal.Done as done
 use Rattle.config_parts.specs.internal.Ends as ends
 use Rattle.config_parts.specs.declared.act.Act.{Act}
-use Rattle.config_parts.specs.declared.act.Act.TheVariants as act
+use Rattle.config_parts.specs.declared.act.Request.{Request}
+use Rattle.config_parts.specs.declared.act.Request.TheVariants as request
 use Rattle.config_parts.specs.declared.component.Component.{Component}
 use Rattle.config_parts.specs.declared.component.Message.{Message}
 use Rattle.config_parts.specs.declared.component.State.{State}
@@ -33,12 +34,12 @@ use Rattle.config_parts.specs.declared.frame.Data.{Data}
 use Rattle.config_parts.specs.declared.frame.Frame.{Frame}
 use Rattle.config_parts.proofs.Named.{connection-by, connection-cmp-by, opposite-by, option-list, peers-by, queues-by, same-name}
 use Rattle.config_parts.proofs.Touching.{Ascend, ascends-still, changes-by}
-use Rattle.ttcn_values.specs.Outcomes.{Outcome, Yields, dynamic_error}
-use Rattle.ttcn_values.specs.declared.fault.Fault.{Fault}
-use Rattle.ttcn_values.specs.declared.fault.Fault.TheVariants.{Dynamic, Memory}
-use Rattle.ttcn_values.specs.declared.path.Path.{Path}
-use Rattle.ttcn_values.specs.declared.value.ComponentId.{ComponentId}
-use Rattle.ttcn_values.specs.declared.value.Value.{Value}
+use Rattle.value_types.specs.Outcomes.{Outcome, Yields, dynamic_error}
+use Rattle.value_types.specs.declared.fault.Fault.{Fault}
+use Rattle.value_types.specs.declared.fault.Fault.TheVariants.{Dynamic, Memory}
+use Rattle.value_types.specs.declared.path.Path.{Path}
+use Rattle.value_types.specs.declared.value.ComponentId.{ComponentId}
+use Rattle.value_types.specs.declared.value.Value.{Value}
 
 -- ---- single components
 
@@ -328,47 +329,25 @@ behind-step : (legend : Legend) (going : Going) (p : Path) (own : Data) → unco
     → Says legend (step (steps.settle (going_by legend going) p (data_by legend own))) wanted
 behind-step legend going p own gone ascend step wanted says = subst (λ c. Says legend (step c) wanted) (settled-by legend going p own gone ascend) says
 
+perform-by : (legend : Legend) → IsLegend legend → (test : Test) (going : Going) → Ascend going.components → (itself : ComponentId) (asked : Request)
+    → Says legend (Some (steps.perform test (going_by legend going) itself (request_by legend asked))) (done.perform going.components going.connections going.forgotten itself asked)
+perform-by legend is test going ascend itself request.Continues = refl
+perform-by legend is test going ascend itself (request.Worsens v) = changed-by legend (kept.with_verdict v) (steps.with_verdict v) (λ x. refl) going itself.path ascend
+perform-by legend is test going ascend itself (request.Removes port) =
+    changed-by legend (kept.with_queues (kept.without_message port)) (steps.at_queue (legend.names port) steps.without_first)
+    (queues-alike legend is port kept.without_first steps.without_first map-less) going itself.path ascend
+perform-by legend is test going ascend itself (request.Sends port to v) = send-by legend is going ascend itself port to v
+perform-by legend is test going ascend itself (request.Creates new) = create-by legend going new
+perform-by legend is test going ascend itself (request.Starts path frame) = start-by legend going ascend path frame
+perform-by legend is test going ascend itself (request.Stops path) = stop-by legend test going ascend path
+perform-by legend is test going ascend itself (request.Connects d e) = connect-by legend is going d e
+
 apply-by : (legend : Legend) → IsLegend legend → (test : Test) (going : Going) → Ascend going.components → (itself : ComponentId) (asked : Act) → IsUncovered (act_by legend asked)
     → Says legend (steps.apply test (going_by legend going) itself (act_by legend asked)) (done.apply going itself asked)
-apply-by legend is test going ascend itself (act.Continues own) gone =
-    behind-step legend going itself.path own (some-is (uncovered (data_by legend own)) (data_by legend own) gone) ascend
-    (λ c. Some (Yields (rules.Goes c))) (Some (done.going_with (done.settled going itself.path own) going)) refl
-apply-by legend is test going ascend itself (act.Worsens v own) gone =
-    behind-step legend going itself.path own (some-is (uncovered (data_by legend own)) (data_by legend own) gone) ascend
-    (λ c. Some (Yields (rules.Goes (steps.touch c itself.path (steps.with_verdict v)))))
-    (Some (done.going_with (kept.touch (done.settled going itself.path own) itself.path (kept.with_verdict v)) going))
-    (changed-by legend (kept.with_verdict v) (steps.with_verdict v) (λ x. refl) (settled going itself.path own) itself.path (settled-ascends going itself.path own ascend))
-apply-by legend is test going ascend itself (act.Removes port own) gone =
-    behind-step legend going itself.path own (some-is (uncovered (data_by legend own)) (data_by legend own) gone) ascend
-    (λ c. Some (Yields (rules.Goes (steps.touch c itself.path (steps.at_queue (legend.names port) steps.without_first)))))
-    (Some (done.going_with (kept.touch (done.settled going itself.path own) itself.path (kept.with_queues (kept.without_message port))) going))
-    (changed-by legend (kept.with_queues (kept.without_message port)) (steps.at_queue (legend.names port) steps.without_first)
-    (queues-alike legend is port kept.without_first steps.without_first map-less) (settled going itself.path own) itself.path (settled-ascends going itself.path own ascend))
-apply-by legend is test going ascend itself (act.Sends port to v own) gone =
-    behind-step legend going itself.path own (some-is (uncovered (data_by legend own)) (data_by legend own) gone) ascend
-    (λ c. Some (steps.ending (steps.send c itself (legend.names port) to v)))
-    (done.apply going itself (act.Sends port to v own))
-    (send-by legend is (settled going itself.path own) (settled-ascends going itself.path own ascend) itself port to v)
-apply-by legend is test going ascend itself (act.Creates new own) gone =
-    behind-step legend going itself.path own (some-is (uncovered (data_by legend own)) (data_by legend own) gone) ascend
-    (λ c. Some (Yields (rules.Goes (steps.with_new (component_by legend new) c))))
-    (done.apply going itself (act.Creates new own))
-    (create-by legend (settled going itself.path own) new)
-apply-by legend is test going ascend itself (act.Starts path frame own) gone =
-    behind-step legend going itself.path own (some-is (uncovered (data_by legend own)) (data_by legend own) gone) ascend
-    (λ c. Some (steps.ending (steps.start_component c path (frame_by legend frame))))
-    (done.apply going itself (act.Starts path frame own))
-    (start-by legend (settled going itself.path own) (settled-ascends going itself.path own ascend) path frame)
-apply-by legend is test going ascend itself (act.Stops path own) gone =
-    behind-step legend going itself.path own (some-is (uncovered (data_by legend own)) (data_by legend own) gone) ascend
-    (λ c. Some (Yields (steps.stop test c path)))
-    (done.apply going itself (act.Stops path own))
-    (stop-by legend test (settled going itself.path own) (settled-ascends going itself.path own ascend) path)
-apply-by legend is test going ascend itself (act.Connects d e own) gone =
-    behind-step legend going itself.path own (some-is (uncovered (data_by legend own)) (data_by legend own) gone) ascend
-    (λ c. Some (steps.ending (steps.connect c (end_by legend d) (end_by legend e))))
-    (done.apply going itself (act.Connects d e own))
-    (connect-by legend is (settled going itself.path own) d e)
+apply-by legend is test going ascend itself asked gone =
+    behind-step legend going itself.path asked.own (some-is (uncovered (data_by legend asked.own)) (data_by legend asked.own) gone) ascend
+    (λ c. Some (steps.perform test c itself (request_by legend asked.request))) (done.apply going itself asked)
+    (perform-by legend is test (settled going itself.path asked.own) (settled-ascends going itself.path asked.own ascend) itself asked.request)
 
 pub applied : (legend : Legend) → IsLegend legend → (test : Test) (going : Going) → HasPathsInOrder going → (itself : ComponentId) (asked : Act) → IsUncovered (act_by legend asked)
     → (result : Result Config Fault) → done.Answers (done.apply going itself asked) result → Leads legend (steps.apply test (going_by legend going) itself (act_by legend asked)) result

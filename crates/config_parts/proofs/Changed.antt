@@ -4,7 +4,7 @@ use lib.ListN.{get_or}
 use Rattle.std.specs.Option.{option_map}
 use Rattle.config_parts.specs.internal.Changes.{changed_at, is_of, is_terminated, live_place, touch, unless_terminated}
 use Rattle.config_parts.specs.declared.component.Component.{Component}
-use Rattle.ttcn_values.specs.declared.path.Path.{Path}
+use Rattle.value_types.specs.declared.path.Path.{Path}
 
 pub overwritten : {A : Type 0} (xs : List A) (at : ℕ) (x : A) (change : A → A) → x ≡ get_or xs at x → slice_set xs at (change x) ≡ changed_at xs at change
 overwritten [] at x change is = refl

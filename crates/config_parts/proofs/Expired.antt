@@ -25,11 +25,11 @@ use Rattle.config_parts.proofs.Applied.{find-by, touch-by}
 use Rattle.config_parts.proofs.Named.{same-name}
 use Rattle.config_parts.proofs.Stored.{put-by, timer-alike}
 use Rattle.config_parts.proofs.Touching.{path-is}
-use Rattle.ttcn_values.specs.Frames.{entry, is_running}
-use Rattle.ttcn_values.specs.Outcomes.{Outcome, Yields}
-use Rattle.ttcn_values.specs.declared.frame.TimerState.{TimerState}
-use Rattle.ttcn_values.specs.declared.frame.TimerState.TheVariants as timer
-use Rattle.ttcn_values.specs.declared.path.Path.{Path}
+use Rattle.value_types.specs.Frames.{entry, is_running}
+use Rattle.value_types.specs.Outcomes.{Outcome, Yields}
+use Rattle.value_types.specs.declared.frame.TimerState.{TimerState}
+use Rattle.value_types.specs.declared.frame.TimerState.TheVariants as timer
+use Rattle.value_types.specs.declared.path.Path.{Path}
 
 -- ---- places of frames
 

@@ -17,7 +17,7 @@ use Rattle.config_parts.specs.declared.component.Message.{Message}
 use Rattle.config_parts.specs.declared.component.Queue.{Queue}
 use Rattle.config_parts.specs.declared.connection.Connection.{Connection}
 use Rattle.config_parts.specs.declared.connection.End.{End}
-use Rattle.ttcn_values.specs.declared.path.Path.{Path}
+use Rattle.value_types.specs.declared.path.Path.{Path}
 
 equal-then : (o : Ordering) → is_eq (ordering_then o Equal) ≡ is_eq o
 equal-then Less = refl

@@ -8,7 +8,7 @@ use Rattle.config_parts.specs.internal.Done.{is_created}
 use Rattle.config_parts.specs.declared.component.Component.{Component}
 use Rattle.config_parts.specs.declared.component.State.{State}
 use Rattle.config_parts.specs.declared.component.State.TheVariants as state
-use Rattle.ttcn_values.specs.declared.path.Path.{Path}
+use Rattle.value_types.specs.declared.path.Path.{Path}
 
 -- ---- `position`
 

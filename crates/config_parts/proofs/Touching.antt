@@ -11,7 +11,7 @@ use Rattle.semantics.specs.Configurations.{path_cmp, path_of, same_path}
 use Rattle.config_parts.specs.Legend.{Legend, component_by}
 use Rattle.config_parts.specs.internal.Changes.{change_first, is_of, is_terminated, touch, unless_terminated}
 use Rattle.config_parts.specs.declared.component.Component.{Component}
-use Rattle.ttcn_values.specs.declared.path.Path.{Path}
+use Rattle.value_types.specs.declared.path.Path.{Path}
 
 abbrev pub paths : List Component → List Path
 paths components = map (λ component. component.itself.path) components

@@ -17,12 +17,12 @@ use Rattle.config_parts.specs.declared.config.Going.{Going}
 use Rattle.config_parts.specs.declared.frame.Cells.{Cells}
 use Rattle.config_parts.proofs.Expired.{running-first}
 use Rattle.config_parts.proofs.Touching.{Ascend, other-than, path-is, paths}
-use Rattle.ttcn_values.specs.Chains.{within_chains}
-use Rattle.ttcn_values.specs.Frames.{is_running, longest_chain, named_entries, reading, seen_entry}
-use Rattle.ttcn_values.specs.Outcomes.{or_error, unmet}
-use Rattle.ttcn_values.specs.contracts.path.PathPartialEq.TheImpl as equality
-use Rattle.ttcn_values.specs.declared.frame.Frame.{Frame}
-use Rattle.ttcn_values.specs.declared.path.Path.{Path}
+use Rattle.value_types.specs.Chains.{within_chains}
+use Rattle.value_types.specs.Frames.{is_running, longest_chain, named_entries, reading, seen_entry}
+use Rattle.value_types.specs.Outcomes.{or_error, unmet}
+use Rattle.value_types.specs.contracts.path.PathPartialEq.TheImpl as equality
+use Rattle.value_types.specs.declared.frame.Frame.{Frame}
+use Rattle.value_types.specs.declared.path.Path.{Path}
 
 -- ---- entries
 

@@ -6,14 +6,15 @@ use Rattle.std.specs.Ordering.{match_ordering, nat_cmp}
 use Rattle.std.specs.declared.cmp.Ordering.{Ordering}
 use Rattle.std.specs.declared.cmp.Ordering.TheVariants.{Less, Equal, Greater}
 use Rattle.std.proofs.lemmas.List.Elements.{All-cons, All-head, All-nil, All-tail}
-use Rattle.config_parts.specs.Views.{AreAllWithin, AreWithin, Extent, HasSlotsWithin, IsActWithin, IsConfigWithin, IsFrameWithin, IsWithin}
+use Rattle.config_parts.specs.Views.{AreAllWithin, AreWithin, Extent, HasSlotsWithin, IsActWithin, IsConfigWithin, IsFrameWithin, IsRequestWithin, IsWithin}
 use Rattle.config_parts.specs.internal.Changes as kept
 use Rattle.config_parts.specs.internal.Done as done
 use Rattle.config_parts.specs.internal.Ends as ends
 use Rattle.config_parts.specs.internal.Expiries.{expired_above, expired_at, expired_found, expired_of, may_expire, with_expired}
 use Rattle.config_parts.specs.internal.Stored.{cells_in, changed_in, declare, declare_timer, forget, in_last, last_cells, no_cells, put, with_cells, with_cells_in, with_members, with_position, with_timer, with_value, without}
 use Rattle.config_parts.specs.declared.act.Act.{Act}
-use Rattle.config_parts.specs.declared.act.Act.TheVariants as act
+use Rattle.config_parts.specs.declared.act.Request.{Request}
+use Rattle.config_parts.specs.declared.act.Request.TheVariants as request
 use Rattle.config_parts.specs.declared.component.Component.{Component}
 use Rattle.config_parts.specs.declared.component.Message.{Message}
 use Rattle.config_parts.specs.declared.config.Config.{Config}
@@ -25,13 +26,13 @@ use Rattle.config_parts.specs.declared.frame.Cells.{Cells}
 use Rattle.config_parts.specs.declared.frame.Data.{Data}
 use Rattle.config_parts.specs.declared.frame.Frame.{Frame}
 use Rattle.config_parts.proofs.Stored.{put-twice}
-use Rattle.ttcn_values.specs.declared.fault.Fault.{Fault}
-use Rattle.ttcn_values.specs.declared.fault.Fault.TheVariants.{Dynamic, Memory}
-use Rattle.ttcn_values.specs.declared.frame.TimerState.{TimerState}
-use Rattle.ttcn_values.specs.declared.frame.TimerState.TheVariants as timer
-use Rattle.ttcn_values.specs.declared.path.Path.{Path}
-use Rattle.ttcn_values.specs.declared.value.ComponentId.{ComponentId}
-use Rattle.ttcn_values.specs.declared.value.Value.{Value}
+use Rattle.value_types.specs.declared.fault.Fault.{Fault}
+use Rattle.value_types.specs.declared.fault.Fault.TheVariants.{Dynamic, Memory}
+use Rattle.value_types.specs.declared.frame.TimerState.{TimerState}
+use Rattle.value_types.specs.declared.frame.TimerState.TheVariants as timer
+use Rattle.value_types.specs.declared.path.Path.{Path}
+use Rattle.value_types.specs.declared.value.ComponentId.{ComponentId}
+use Rattle.value_types.specs.declared.value.Value.{Value}
 
 -- ---- entries
 
@@ -240,28 +241,24 @@ connect-first : (size : Extent) (going : Going) (cs : List Component) (b : Bool)
 connect-first size going cs true ks all = tt
 connect-first size going cs false ks all = all
 
+perform-within : (size : Extent) (going : Going) (cs : List Component) (itself : ComponentId) (asked : Request) → AreAllWithin size cs → IsRequestWithin size asked
+    → IfConfig size (done.perform cs going.connections going.forgotten itself asked)
+perform-within size going cs itself request.Continues all within = all
+perform-within size going cs itself (request.Worsens v) all within = touch-within size (kept.with_verdict v) (λ c before. before) itself.path cs all
+perform-within size going cs itself (request.Removes port) all within = touch-within size (kept.with_queues (kept.without_message port)) (λ c before. before) itself.path cs all
+perform-within size going cs itself (request.Sends port to v) all within =
+    sent-within size going cs (ends.peer going.connections (record { component = itself.path; port = port }) to) (record { value = v; sender = itself }) all
+perform-within size going cs itself (request.Creates new) all within = create-first size (is_some (find (kept.is_of new.itself.path) cs)) new cs within all
+perform-within size going cs itself (request.Starts path frame) all within = start-within size going cs path frame (find (kept.is_of path) cs) within all
+perform-within size going cs itself (request.Stops path) all within = stop-within size going cs path (done.is_main path) all
+perform-within size going cs itself (request.Connects d e) all within =
+    connect-first size going cs
+    (kept.is_terminated_at cs d.component || kept.is_terminated_at cs e.component || ends.is_double going.connections d e || ends.is_double going.connections e d)
+    (ends.add_connection (ends.connection d e) going.connections) all
+
 apply-within : (size : Extent) (going : Going) (itself : ComponentId) (asked : Act) → AreAllWithin size going.components → IsActWithin size asked → IfConfig size (done.apply going itself asked)
-apply-within size going itself (act.Continues own) all within = settled-within size going itself.path own all within
-apply-within size going itself (act.Worsens v own) all within =
-    touch-within size (kept.with_verdict v) (λ c before. before) itself.path (done.settled going itself.path own) (settled-within size going itself.path own all within)
-apply-within size going itself (act.Removes port own) all within =
-    touch-within size (kept.with_queues (kept.without_message port)) (λ c before. before) itself.path (done.settled going itself.path own) (settled-within size going itself.path own all within)
-apply-within size going itself (act.Sends port to v own) all within =
-    sent-within size going (done.settled going itself.path own) (ends.peer going.connections (record { component = itself.path; port = port }) to)
-    (record { value = v; sender = itself }) (settled-within size going itself.path own all within)
-apply-within size going itself (act.Creates new own) all within =
-    create-first size (is_some (find (kept.is_of new.itself.path) (done.settled going itself.path own))) new (done.settled going itself.path own) within.0
-    (settled-within size going itself.path own all within.1)
-apply-within size going itself (act.Starts path frame own) all within =
-    start-within size going (done.settled going itself.path own) path frame (find (kept.is_of path) (done.settled going itself.path own)) within.0
-    (settled-within size going itself.path own all within.1)
-apply-within size going itself (act.Stops path own) all within =
-    stop-within size going (done.settled going itself.path own) path (done.is_main path) (settled-within size going itself.path own all within)
-apply-within size going itself (act.Connects d e own) all within =
-    connect-first size going (done.settled going itself.path own)
-    (kept.is_terminated_at (done.settled going itself.path own) d.component || kept.is_terminated_at (done.settled going itself.path own) e.component
-    || ends.is_double going.connections d e || ends.is_double going.connections e d)
-    (ends.add_connection (ends.connection d e) going.connections) (settled-within size going itself.path own all within)
+apply-within size going itself asked all within =
+    perform-within size going (done.settled going itself.path asked.own) itself asked.request (settled-within size going itself.path asked.own all within.1) within.0
 
 answered-within : (size : Extent) (wanted : Option Config) (result : Result Config Fault) → IfConfig size wanted → done.Answers wanted result → IfOk result (IsConfigWithin size)
 answered-within size wanted (Ok c) within answers = subst (IfConfig size) answers within

@@ -7,36 +7,34 @@ use Rattle.semantics.specs.Statements as said
 use Rattle.semantics.specs.Taking.{uncovered}
 use Rattle.config_parts.specs.Legend.{Legend, component_by, config_by, data_by, end_by, frame_by, going_by}
 use Rattle.config_parts.specs.declared.act.Act.{Act}
-use Rattle.config_parts.specs.declared.act.Act.TheVariants as act
+use Rattle.config_parts.specs.declared.act.Request.{Request}
+use Rattle.config_parts.specs.declared.act.Request.TheVariants as request
 use Rattle.config_parts.specs.declared.config.Config.{Config}
 use Rattle.config_parts.specs.declared.config.Going.{Going}
-use Rattle.ttcn_values.specs.Outcomes.{Fails, Outcome, Yields}
-use Rattle.ttcn_values.specs.declared.fault.Fault.{Fault}
-use Rattle.ttcn_values.specs.declared.fault.Fault.TheVariants.{Dynamic, Memory}
+use Rattle.value_types.specs.Outcomes.{Fails, Outcome, Yields}
+use Rattle.value_types.specs.declared.fault.Fault.{Fault}
+use Rattle.value_types.specs.declared.fault.Fault.TheVariants.{Dynamic, Memory}
 
--- what the code's form of that which a component asks for stands for among those of the rules
+-- what a request of code stands for among those of the rules
+abbrev pub request_by : Legend → Request → said.Request
+request_by legend request.Continues = said.Continues
+request_by legend (request.Worsens v) = said.Worsens v
+request_by legend (request.Removes port) = said.Removes (legend.names port)
+request_by legend (request.Sends port to v) = said.Sends (legend.names port) to v
+request_by legend (request.Creates new) = said.Creates (component_by legend new)
+request_by legend (request.Starts path frame) = said.Starts path (frame_by legend frame)
+request_by legend (request.Stops path) = said.Stops path
+request_by legend (request.Connects one other) = said.Connects (end_by legend one) (end_by legend other)
+
+-- what the code's form of what a component does stands for among those of the rules
 abbrev pub act_by : Legend → Act → said.Act
-act_by legend (act.Continues own) = said.Continues (data_by legend own)
-act_by legend (act.Worsens v own) = said.Worsens v (data_by legend own)
-act_by legend (act.Removes port own) = said.Removes (legend.names port) (data_by legend own)
-act_by legend (act.Sends port to v own) = said.Sends (legend.names port) to v (data_by legend own)
-act_by legend (act.Creates new own) = said.Creates (component_by legend new) (data_by legend own)
-act_by legend (act.Starts path frame own) = said.Starts path (frame_by legend frame) (data_by legend own)
-act_by legend (act.Stops path own) = said.Stops path (data_by legend own)
-act_by legend (act.Connects one other own) = said.Connects (end_by legend one) (end_by legend other) (data_by legend own)
+act_by legend act = said.Requests (request_by legend act.request) (data_by legend act.own)
 
 -- the data behind a step, where it has any
 abbrev pub data_behind : said.Act → Option rules.Data
 data_behind said.Waits = None
 data_behind (said.Errs why) = None
-data_behind (said.Continues own) = Some own
-data_behind (said.Worsens v own) = Some own
-data_behind (said.Removes port own) = Some own
-data_behind (said.Sends port to v own) = Some own
-data_behind (said.Creates new own) = Some own
-data_behind (said.Starts path frame own) = Some own
-data_behind (said.Stops path own) = Some own
-data_behind (said.Connects d e own) = Some own
+data_behind (said.Requests request own) = Some own
 
 -- the marks that come first are gone from the data behind a step
 abbrev pub IsUncovered : said.Act → Type 0

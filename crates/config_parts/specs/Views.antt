@@ -4,7 +4,8 @@ use Rattle.std.specs.List.{All, filter, list_any}
 use Rattle.semantics.specs.Snapshots.{View}
 use Rattle.config_parts.specs.Legend.{Legend, entries_by}
 use Rattle.config_parts.specs.declared.act.Act.{Act}
-use Rattle.config_parts.specs.declared.act.Act.TheVariants as act
+use Rattle.config_parts.specs.declared.act.Request.{Request}
+use Rattle.config_parts.specs.declared.act.Request.TheVariants as request
 use Rattle.config_parts.specs.declared.component.Component.{Component}
 use Rattle.config_parts.specs.declared.config.Config.{Config}
 use Rattle.config_parts.specs.declared.config.Config.TheVariants as config
@@ -12,7 +13,7 @@ use Rattle.config_parts.specs.declared.frame.Cells.{Cells}
 use Rattle.config_parts.specs.declared.frame.Data.{Data}
 use Rattle.config_parts.specs.declared.frame.Frame.{Frame}
 use Rattle.config_parts.specs.internal.Expiries.{is_running_state}
-use Rattle.ttcn_values.specs.declared.path.Path.{Path}
+use Rattle.value_types.specs.declared.path.Path.{Path}
 
 -- each slot with a name has that which a legend gives it
 abbrev pub AreNames : Legend → List (List ℕ) → Type 0
@@ -51,16 +52,15 @@ abbrev pub IsConfigWithin : Extent → Config → Type 0
 IsConfigWithin size (config.Ended v) = Unit {0}
 IsConfigWithin size (config.Going going) = AreAllWithin size going.components
 
--- in all frames of what is asked for what remains has a position, and each slot a name
+-- in all frames that a request brings what remains has a position, and each slot a name
+abbrev pub IsRequestWithin : Extent → Request → Type 0
+IsRequestWithin size (request.Creates new) = IsWithin size new.own
+IsRequestWithin size (request.Starts path frame) = IsFrameWithin size frame
+IsRequestWithin size _ = Unit {0}
+
+-- so it is in these, and in all frames of the component behind its step
 abbrev pub IsActWithin : Extent → Act → Type 0
-IsActWithin size (act.Continues own) = IsWithin size own
-IsActWithin size (act.Worsens v own) = IsWithin size own
-IsActWithin size (act.Removes port own) = IsWithin size own
-IsActWithin size (act.Sends port to v own) = IsWithin size own
-IsActWithin size (act.Creates new own) = IsWithin size new.own × IsWithin size own
-IsActWithin size (act.Starts path frame own) = IsFrameWithin size frame × IsWithin size own
-IsActWithin size (act.Stops path own) = IsWithin size own
-IsActWithin size (act.Connects one other own) = IsWithin size own
+IsActWithin size act = IsRequestWithin size act.request × IsWithin size act.own
 
 -- what is seen of the names of a frame
 abbrev pub view_by : Legend → Cells → View

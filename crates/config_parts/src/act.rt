@@ -11,7 +11,7 @@ use crate::change::{remove_first, settle, worsen};
 use crate::component::Component;
 use crate::config::{Config, Going};
 use crate::connect::connect;
-use crate::connection::End;
+use crate::connection::{Connection, End};
 use crate::copy::TryClone;
 use crate::create::create;
 use crate::frame::{Data, Frame};
@@ -19,56 +19,60 @@ use crate::going::{going_on, send, start, stop};
 use crate::shared::Shared;
 use std::alloc::Global;
 use ttcn_syntax::{Seq, Verdict};
-use ttcn_values::{ComponentId, Fault, Path, Slot, Value};
+use value_types::{ComponentId, Fault, Path, Slot, Value};
 
-/// What a component asks for in its step, with its own data behind the step.
+/// What a component asks for among all components, beside the change of its own data.
 #[derive(Debug, Drop)]
-pub enum Act {
-    /// Nothing beside a change of its own data.
-    Continues(Data),
+pub enum Request {
+    /// Nothing more.
+    Continues,
     /// The component's verdict gets no better than this.
-    Worsens(Verdict, Data),
+    Worsens(Verdict),
     /// The first message of a port is removed.
-    Removes(Slot, Data),
+    Removes(Slot),
     /// A message is sent from a port, to a component where one is named.
-    Sends(Slot, Option<Path>, Value, Data),
+    Sends(Slot, Option<Path>, Value),
     /// A new component.
-    Creates(Component, Data),
+    Creates(Component),
     /// A created component starts with a frame.
-    Starts(Path, Frame, Data),
+    Starts(Path, Frame),
     /// A component stops.
-    Stops(Path, Data),
+    Stops(Path),
     /// Two ports are connected.
-    Connects(End, End, Data),
+    Connects(End, End),
 }
 
-/// What a component asks for is done.
-fn done(going: Going, alloc: Global, itself: &ComponentId, act: Act) -> Result<Config, Fault>
-    ensures { done.Answers (done.apply going itself.now act) result }
+/// What a component does in its step.
+#[derive(Debug, Drop)]
+pub struct Act {
+    pub request: Request,
+    /// The component's own data behind the step.
+    pub own: Data,
+}
+
+/// What a component asks for is done, where its own data are in place.
+fn performed(
+    alloc: Global,
+    components: Vec<Component>,
+    connections: Shared<Seq<Connection>>,
+    forgotten: Verdict,
+    itself: &ComponentId,
+    request: Request,
+) -> Result<Config, Fault>
+    ensures { done.Answers (done.perform components.items connections forgotten itself.now request) result }
 {
-    let Going {
-        components,
-        connections,
-        forgotten,
-    } = going;
-    let mut components = components.into_vec();
-    match act {
-        Act::Continues(own) => {
-            settle(alloc, &mut components, &itself.path, own)?;
-            Ok(going_on(components, connections, forgotten))
-        }
-        Act::Worsens(verdict, own) => {
-            settle(alloc, &mut components, &itself.path, own)?;
+    let mut components = components;
+    match request {
+        Request::Continues => Ok(going_on(components, connections, forgotten)),
+        Request::Worsens(verdict) => {
             worsen(&mut components, &itself.path, verdict);
             Ok(going_on(components, connections, forgotten))
         }
-        Act::Removes(port, own) => {
-            settle(alloc, &mut components, &itself.path, own)?;
+        Request::Removes(port) => {
             remove_first(alloc, &mut components, &itself.path, port)?;
             Ok(going_on(components, connections, forgotten))
         }
-        Act::Sends(port, to, value, own) => {
-            settle(alloc, &mut components, &itself.path, own)?;
+        Request::Sends(port, to, value) => {
             send(
                 alloc,
                 &mut components,
@@ -80,28 +84,37 @@ fn done(going: Going, alloc: Global, itself: &ComponentId, act: Act) -> Result<C
             )?;
             Ok(going_on(components, connections, forgotten))
         }
-        Act::Creates(new, own) => {
-            settle(alloc, &mut components, &itself.path, own)?;
+        Request::Creates(new) => {
             create(&mut components, new)?;
             Ok(going_on(components, connections, forgotten))
         }
-        Act::Starts(path, frame, own) => {
-            settle(alloc, &mut components, &itself.path, own)?;
+        Request::Starts(path, frame) => {
             start(alloc, &mut components, &path, frame)?;
             Ok(going_on(components, connections, forgotten))
         }
-        Act::Stops(path, own) => {
-            settle(alloc, &mut components, &itself.path, own)?;
-            Ok(stop(components, connections, forgotten, &path))
-        }
-        Act::Connects(one, other, own) => {
-            settle(alloc, &mut components, &itself.path, own)?;
+        Request::Stops(path) => Ok(stop(components, connections, forgotten, &path)),
+        Request::Connects(one, other) => {
             let connections = connections.try_clone(alloc)?;
             let connections = connect(alloc, &components, connections, one, other)?;
             let connections = Shared::new(alloc, connections)?;
             Ok(going_on(components, connections, forgotten))
         }
     }
+}
+
+/// What a component does in its step: its own data change first, and then what it asks for is done among all components.
+fn done(going: Going, alloc: Global, itself: &ComponentId, act: Act) -> Result<Config, Fault>
+    ensures { done.Answers (done.apply going itself.now act) result }
+{
+    let Going {
+        components,
+        connections,
+        forgotten,
+    } = going;
+    let Act { request, own } = act;
+    let mut components = components.into_vec();
+    settle(alloc, &mut components, &itself.path, own)?;
+    performed(alloc, components, connections, forgotten, itself, request)
 }
 
 impl Going {

@@ -7,7 +7,7 @@ use crate::frame::Cells;
 use std::alloc::{AllocError, Global};
 use std::mem;
 use ttcn_syntax::Seq;
-use ttcn_values::{Slot, TimerState, Value};
+use value_types::{Slot, TimerState, Value};
 
 // ---- entries
 

@@ -11,7 +11,7 @@ use crate::verdict::worse;
 use std::alloc::{AllocError, Global};
 use std::mem;
 use ttcn_syntax::{Seq, Verdict};
-use ttcn_values::{Path, Slot};
+use value_types::{Path, Slot};
 
 /// The place of the component with a path.
 pub(crate) fn place_of(components: &[Component], path: &Path) -> Option<usize>

@@ -6,7 +6,7 @@ ghost use Rattle.config_parts.specs.internal.Done.{is_created};
 use crate::frame::Data;
 use crate::shared::Shared;
 use ttcn_syntax::{Seq, Verdict};
-use ttcn_values::{ComponentId, Slot, Value};
+use value_types::{ComponentId, Slot, Value};
 
 /// How far a component has come (ES 201 873-1, 21.3).
 #[derive(Clone, Copy, Debug, PartialEq, Eq, Hash)]

@@ -10,7 +10,7 @@ use crate::connection::{Connection, End};
 use std::alloc::{AllocError, Global};
 use std::cmp::Ordering;
 use ttcn_syntax::Seq;
-use ttcn_values::{Fault, Path};
+use value_types::{Fault, Path};
 
 impl End {
     /// The order of ends: by their components, then by the names of their ports.

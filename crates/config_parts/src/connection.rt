@@ -1,5 +1,5 @@
 //! Connections between ports (ES 201 873-1, 21.1).
-use ttcn_values::{Path, Slot};
+use value_types::{Path, Slot};
 
 /// A component's port.
 #[derive(Debug, Drop, PartialEq, Eq, Hash)]

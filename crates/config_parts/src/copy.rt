@@ -7,7 +7,7 @@ use crate::connection::{Connection, End};
 use crate::frame::{ActiveDefault, Cells, Data, Frame};
 use std::alloc::{AllocError, Global};
 use ttcn_syntax::Seq;
-use ttcn_values::{ComponentId, Path, Slot, TimerState, Value};
+use value_types::{ComponentId, Path, Slot, TimerState, Value};
 
 /// What can be copied into memory of its own.
 pub trait TryClone {

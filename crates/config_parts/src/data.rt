@@ -10,7 +10,7 @@ use crate::frame::{Cells, Data, Frame};
 use std::alloc::{AllocError, Global};
 use std::mem;
 use ttcn_syntax::Seq;
-use ttcn_values::{Slot, TimerState, Value};
+use value_types::{Slot, TimerState, Value};
 
 /// What remains in the last frame is at this position.
 fn with_position(calls: Seq<Frame>, position: usize) -> Seq<Frame>

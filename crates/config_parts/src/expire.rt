@@ -8,8 +8,8 @@ ghost use Rattle.config_parts.specs.Legend.{IsLegend, Legend, going_by};
 ghost use Rattle.config_parts.specs.Views.{AreAllWithin, Extent};
 ghost use Rattle.config_parts.specs.internal.Expiries as spec;
 ghost use Rattle.config_parts.specs.internal.Stored.{with_timer};
-ghost use Rattle.ttcn_values.specs.Frames.{is_running};
-ghost use Rattle.ttcn_values.specs.declared.frame.TimerState.TheVariants.{Expired};
+ghost use Rattle.value_types.specs.Frames.{is_running};
+ghost use Rattle.value_types.specs.declared.frame.TimerState.TheVariants.{Expired};
 
 use crate::change::place_of;
 use crate::component::{Component, State};
@@ -20,7 +20,7 @@ use crate::shared::Shared;
 use std::alloc::{AllocError, Global};
 use std::mem;
 use ttcn_syntax::Seq;
-use ttcn_values::{Path, Slot, TimerState};
+use value_types::{Path, Slot, TimerState};
 
 impl State {
     pub(crate) fn is_running(self) -> bool

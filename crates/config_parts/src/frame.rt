@@ -1,6 +1,6 @@
 //! What a component has of its own.
 use ttcn_syntax::Seq;
-use ttcn_values::{Slot, TimerState, Value};
+use value_types::{Slot, TimerState, Value};
 
 /// The values of names and the states of timers, each in the order of the slots. A name without value has no entry among
 /// the values.

@@ -13,7 +13,7 @@ use crate::shared::Shared;
 use crate::verdict::worse;
 use std::alloc::Global;
 use ttcn_syntax::{Seq, Verdict};
-use ttcn_values::{ComponentId, Fault, Path, Slot, Value};
+use value_types::{ComponentId, Fault, Path, Slot, Value};
 
 /// A component sends a value from a port: it must have one peer to which it may go.
 pub(crate) fn send(

@@ -19,7 +19,7 @@ mod shared;
 mod verdict;
 mod view;
 
-pub use act::Act;
+pub use act::{Act, Request};
 pub use component::{Component, Message, Queue, State};
 pub use config::{Config, Going};
 pub use connection::{Connection, End};

@@ -6,18 +6,18 @@ ghost use Rattle.semantics.specs.Snapshots.{Snapshot, Test, facts_of, mtc_of, ru
 ghost use Rattle.config_parts.specs.Acts.{HasPathsInOrder};
 ghost use Rattle.config_parts.specs.Legend.{Legend, going_by};
 ghost use Rattle.config_parts.specs.Views.{AreNames, HasSlotsWithin, running_paths, view_by};
-ghost use Rattle.ttcn_values.specs.Chains.{within_chains};
-ghost use Rattle.ttcn_values.specs.Frames.{longest_chain, reading};
-ghost use Rattle.ttcn_values.specs.contracts.path.PathPartialEq.TheImpl as equality;
-ghost use Rattle.ttcn_values.specs.declared.path.Path.{Path as APath};
+ghost use Rattle.value_types.specs.Chains.{within_chains};
+ghost use Rattle.value_types.specs.Frames.{longest_chain, reading};
+ghost use Rattle.value_types.specs.contracts.path.PathPartialEq.TheImpl as equality;
+ghost use Rattle.value_types.specs.declared.path.Path.{Path as APath};
 
 use crate::component::Component;
 use crate::config::Going;
 use crate::frame::Cells;
+use check_rules::Definitions;
 use std::alloc::{AllocError, Global};
 use ttcn_syntax::Name;
-use ttcn_types::Definitions;
-use ttcn_values::{ComponentId, Frame, Path};
+use value_types::{ComponentId, Frame, Path};
 
 /// The paths of the components that run, in their order.
 fn running_paths(alloc: Global, components: &[Component]) -> Result<Vec<&Path>, AllocError>

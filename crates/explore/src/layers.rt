@@ -46,7 +46,7 @@ fn place_layer<Y: System, U: Summary<Y>, G: Gate, R: Threads + Sync>(
         (with_steps U.joins (U.observation system.now) (Y.graph system.now) visited.states.keys summary candidates.items)) candidates.items).states }
     ensures planned { result ≢ Err ExploreError.BadPlan }
 {
-    let (firsts, stepped) = find_first::<Y, U, G, R>(
+    let firsts = find_first::<Y, U, G, R>(
         rt,
         alloc,
         system,
@@ -56,7 +56,7 @@ fn place_layer<Y: System, U: Summary<Y>, G: Gate, R: Threads + Sync>(
         &visited.states,
         candidates.as_slice(),
     )?;
-    let summary = summary.join(alloc, stepped)?;
+    let summary = summary.join(alloc, firsts.shown)?;
     let from = visited.states.len();
     let (visited, leftovers) = enter_layer(
         rt,
@@ -64,7 +64,7 @@ fn place_layer<Y: System, U: Summary<Y>, G: Gate, R: Threads + Sync>(
         plan,
         visited,
         candidates,
-        firsts.as_slice(),
+        firsts.positions.as_slice(),
     )?;
     let shown = show_states::<Y, U, R>(rt, alloc, system, plan.workers, &visited.states, from)?;
     let summary = summary.join(alloc, shown)?;

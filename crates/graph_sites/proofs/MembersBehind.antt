@@ -8,7 +8,7 @@ use Rattle.ttcn_syntax.specs.declared.tree.definition.Member.TheVariants as memb
 use Rattle.check_scope.specs.Names.{Names, behind, behind_members, listed, member_entries, port_type_meant}
 use Rattle.check_scope.specs.declared.names.Meaning.{Meaning}
 use Rattle.check_scope.specs.declared.names.Meaning.TheVariants as meaning
-use Rattle.check_statements.specs.Messages.{port_meant}
+use Rattle.check_rules.specs.Messages.{port_meant}
 use Rattle.graph_sites.specs.internal.MemberNames.{declares, member_meaning}
 
 -- ---- one declaration

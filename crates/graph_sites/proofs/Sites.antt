@@ -6,14 +6,14 @@ use Rattle.std.specs.List.{list_any}
 use Rattle.std.specs.Option.{option_or}
 use Rattle.ttcn_syntax.specs.declared.tree.definition.Definition.{Definition}
 use Rattle.ttcn_syntax.specs.declared.tree.definition.Parameter.{Parameter}
-use Rattle.check_expressions.specs.Calls.{component_named, parameters_of}
+use Rattle.check_rules.specs.Calls.{component_named, parameters_of}
 use Rattle.check_scope.specs.Names.{Entry, Scope, declaring, kind_at, listed}
 use Rattle.check_scope.specs.Scopes.{scope_on}
 use Rattle.ttcn_syntax.specs.declared.tree.definition.DefinitionKind.{DefinitionKind}
 use Rattle.check_scope.specs.Typings.{type_known, typed}
 use Rattle.check_scope.specs.declared.names.Meaning.{Meaning}
 use Rattle.check_scope.specs.declared.types.DataType.{DataType}
-use Rattle.check_statements.specs.Definitions.{parameter_entry, with_parameters}
+use Rattle.check_rules.specs.Definitions.{parameter_entry, with_parameters}
 use Rattle.semantics.specs.Sites.{Site, behaviour_scope, component_name, runs_on, scope_at, scope_with}
 use Rattle.graph_sites.specs.internal.OwnNames.{is_one_of, own_names}
 

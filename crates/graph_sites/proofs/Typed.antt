@@ -12,9 +12,9 @@ use Rattle.ttcn_syntax.specs.declared.tree.expression.Reference.{Reference}
 use Rattle.ttcn_syntax.specs.declared.tree.template.MessageTemplate.{MessageTemplate}
 use Rattle.ttcn_syntax.specs.declared.tree.template.Template.{Template}
 use Rattle.ttcn_syntax.specs.declared.tree.value.TypeName.{TypeName}
-use Rattle.check_expressions.proofs.Judgements.{expression-Bool, expression-Chain, expression-Int, expression-Ispresent, expression-Not, expression-Null, expression-Reference, expression-Running, expression-Signed, link-out}
-use Rattle.check_expressions.specs.Expressions.{Judge, Judgement, after, along, check_component, check_running, expression, fine, join_link, join_links, link, names_timer, runs, within}
-use Rattle.check_expressions.specs.Templates.{typing_of_template}
+use Rattle.check_rules.proofs.Judgements.{expression-Bool, expression-Chain, expression-Int, expression-Ispresent, expression-Not, expression-Null, expression-Reference, expression-Running, expression-Signed, link-out}
+use Rattle.check_rules.specs.Expressions.{Judge, Judgement, after, along, check_component, check_running, expression, fine, join_link, join_links, link, names_timer, runs, within}
+use Rattle.check_rules.specs.Templates.{typing_of_template}
 use Rattle.check_scope.proofs.Lookups.{drop-next}
 use Rattle.check_scope.specs.Names.{Scope, resolved}
 use Rattle.check_scope.specs.Typings.{result_of, type_known, typed}
@@ -22,7 +22,7 @@ use Rattle.check_scope.specs.declared.types.DataType.{DataType}
 use Rattle.check_scope.specs.declared.types.DataType.TheVariants as type
 use Rattle.check_scope.specs.declared.types.Typing.{Typing}
 use Rattle.check_scope.specs.declared.types.Typing.TheVariants as typing
-use Rattle.check_statements.specs.Messages.{Passing, by_template, by_type_name, of_only, passing_at, type_by_itself, type_by_port, type_of_message}
+use Rattle.check_rules.specs.Messages.{Passing, by_template, by_type_name, of_only, passing_at, type_by_itself, type_by_port, type_of_message}
 
 -- ---- fields
 

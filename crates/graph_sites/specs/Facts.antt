@@ -16,10 +16,10 @@ use Rattle.ttcn_syntax.specs.declared.tree.statement.Event.TheVariants as event
 use Rattle.ttcn_syntax.specs.declared.tree.statement.ForStart.{ForStart}
 use Rattle.ttcn_syntax.specs.declared.tree.statement.ForStart.TheVariants as for_start
 use Rattle.ttcn_syntax.specs.declared.tree.statement.Statement.{Statement}
-use Rattle.check_expressions.specs.Targets.{target_at}
+use Rattle.check_rules.specs.Targets.{target_at}
 use Rattle.check_scope.specs.Names.{Scope, kind_at, resolved}
 use Rattle.check_scope.specs.declared.types.DataType.{DataType}
-use Rattle.check_statements.specs.Messages.{incoming, received_type}
+use Rattle.check_rules.specs.Messages.{incoming, received_type}
 use Rattle.semantics.specs.Branches.{branches_of}
 use Rattle.semantics.specs.Items.{Does, Doing, From, Item, Last, Loop, Mark, Name, Part, Start, Target, Waiting, Whole, action_of}
 use Rattle.semantics.specs.Sites.{Site, beginning, is_own, scope_at}

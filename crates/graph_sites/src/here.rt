@@ -1,13 +1,13 @@
 //! What names mean where a statement stands.
 ghost use Rattle.std.specs.Prelude.{◌≡◌, is_some, IfOk, OnOk, OnErr};
 ghost use Rattle.std.specs.Option.{option_map};
-ghost use Rattle.check_expressions.specs.Calls.{altstep_meant, template_type};
-ghost use Rattle.check_expressions.specs.Expressions as expressions;
+ghost use Rattle.check_rules.specs.Calls.{altstep_meant, template_type};
+ghost use Rattle.check_rules.specs.Expressions as expressions;
 ghost use Rattle.check_scope.specs.internal.Checking.{view};
 ghost use Rattle.check_scope.specs.Names.{constants_type, kind_at, module_names, resolved};
 ghost use Rattle.check_scope.specs.PortTypes as ports;
 ghost use Rattle.check_scope.specs.internal.Tables.{has};
-ghost use Rattle.check_statements.specs.Definitions.{with_parameters};
+ghost use Rattle.check_rules.specs.Definitions.{with_parameters};
 ghost use Rattle.semantics.specs.Sites as sites;
 ghost use Rattle.semantics.specs.Storing.{type_of_name};
 ghost use Rattle.graph_items.specs.Standing.{target_of};
@@ -15,8 +15,7 @@ ghost use Rattle.graph_sites.specs.Facts.{target_in};
 ghost use Rattle.graph_sites.specs.internal.OwnNames.{is_one_of, retracted};
 
 use crate::own::Own;
-use check_expressions::call::{component_named, parameters_of, runs_on_of};
-use check_expressions::expression::within;
+use check_rules::{component_named, parameters_of, runs_on_of, within};
 use check_scope::least::Least;
 use check_scope::name_set::NameSet;
 use check_scope::names::Meaning;

@@ -3,7 +3,7 @@ ghost use Rattle.std.specs.Prelude.{◌≡◌, Some, bytes_eq};
 ghost use Rattle.std.specs.List.{list_any};
 ghost use Rattle.std.specs.Option.{option_map};
 ghost use Rattle.check_scope.specs.Names.{behind_members, members_of, module_names, names_on, port_type_meant};
-ghost use Rattle.check_statements.specs.Messages.{port_meant};
+ghost use Rattle.check_rules.specs.Messages.{port_meant};
 ghost use Rattle.graph_sites.specs.internal.MemberNames.{declares, member_meaning};
 
 use crate::here::Here;

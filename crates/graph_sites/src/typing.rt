@@ -1,16 +1,16 @@
 //! The types of what stands at a site: of expressions, messages and targets (ES 201 873-1, 7, 15, 19.1 and 22.2).
 ghost use Rattle.std.specs.Prelude.{◌≡◌, Bool};
-ghost use Rattle.check_expressions.specs.Expressions as expressions;
-ghost use Rattle.check_expressions.specs.Expressions.{Judgement};
-ghost use Rattle.check_expressions.specs.Targets.{as_target, target_at};
-ghost use Rattle.check_expressions.specs.Templates as templates;
+ghost use Rattle.check_rules.specs.Expressions as expressions;
+ghost use Rattle.check_rules.specs.Expressions.{Judgement};
+ghost use Rattle.check_rules.specs.Targets.{as_target, target_at};
+ghost use Rattle.check_rules.specs.Templates as templates;
 ghost use Rattle.check_scope.specs.Typings.{type_known};
-ghost use Rattle.check_statements.specs.Messages as messages;
+ghost use Rattle.check_rules.specs.Messages as messages;
 ghost use Rattle.semantics.specs.Sites.{scope_at};
 ghost use Rattle.semantics.specs.Statements as statements;
 
 use crate::here::Here;
-use check_expressions::template::template_meant;
+use check_rules::template_meant;
 use check_scope::names::Meaning;
 use check_scope::types::{DataType, Typing};
 use check_scope::typing::result_of;

@@ -12,17 +12,17 @@ use Rattle.ttcn_syntax.specs.declared.tree.statement.Statement.{Statement, out-S
 use Rattle.ttcn_syntax.specs.declared.tree.value.Value.{Value}
 use Rattle.laws_checker.proofs.Fitting.{arguments_fit, same-number}
 use Rattle.laws_checker.proofs.Nothing.{kept, nothing-first, nothing-rest}
-use Rattle.check_statements.proofs.StatementForms.{statement_out}
+use Rattle.check_rules.proofs.StatementForms.{statement_out}
 use Rattle.laws_checker.proofs.Typed.{expression_typed}
 use Rattle.laws_checker.proofs.Whole.{constants_whole, timers_whole, variables_whole}
-use Rattle.check_expressions.specs.Calls.{check_arguments, parameters_of}
-use Rattle.check_expressions.specs.Expressions.{along, check_meaning, check_reference, expression}
+use Rattle.check_rules.specs.Calls.{check_arguments, parameters_of}
+use Rattle.check_rules.specs.Expressions.{along, check_meaning, check_reference, expression}
 use Rattle.laws_checker.specs.Laws.{AreArguments, IsKnown, IsWhole}
 use Rattle.check_scope.specs.Names.{Scope, kind_at}
-use Rattle.check_statements.specs.Statements.{Check, Place, StatementRules, action, action_step, alternative, alternative_step, branch, branch_step, conditional, conditional_step, statement, statement_step, statements, with_scope}
-use Rattle.check_expressions.specs.Templates.{check_named_template, type_of_template}
+use Rattle.check_rules.specs.Statements.{Check, Place, StatementRules, action, action_step, alternative, alternative_step, branch, branch_step, conditional, conditional_step, statement, statement_step, statements, with_scope}
+use Rattle.check_rules.specs.Templates.{check_named_template, type_of_template}
 use Rattle.check_scope.specs.Typings.{fits, goes_to, same_type, typed, unless}
-use Rattle.check_expressions.specs.Values.{check_expression}
+use Rattle.check_rules.specs.Values.{check_expression}
 use Rattle.check_scope.specs.declared.names.Meaning.{Meaning}
 use Rattle.check_scope.specs.declared.names.Meaning.TheVariants as meaning
 use Rattle.check_scope.specs.declared.rule.Rule.{Rule}

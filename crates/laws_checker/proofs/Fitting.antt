@@ -13,14 +13,14 @@ use Rattle.ttcn_syntax.specs.declared.tree.value.FieldValue.{FieldValue}
 use Rattle.ttcn_syntax.specs.declared.tree.value.Value.{Value}
 use Rattle.ttcn_syntax.specs.declared.tree.value.Value.TheVariants as value_form
 use Rattle.laws_checker.proofs.Nothing.{kept, nothing-first, nothing-rest}
-use Rattle.check_expressions.proofs.TemplateForms.{body_of_assigned, body_of_listed}
-use Rattle.check_expressions.proofs.ValueForms.{value_of_assigned, value_of_listed}
-use Rattle.check_expressions.specs.Calls.{arguments, check_arguments, check_behaviour, check_call, behaviour_meant, component_named, parameters_of, runs_here, runs_on_of}
+use Rattle.check_rules.proofs.TemplateForms.{body_of_assigned, body_of_listed}
+use Rattle.check_rules.proofs.ValueForms.{value_of_assigned, value_of_listed}
+use Rattle.check_rules.specs.Calls.{arguments, check_arguments, check_behaviour, check_call, behaviour_meant, component_named, parameters_of, runs_here, runs_on_of}
 use Rattle.laws_checker.specs.Laws.{AreArguments, AreElements, AreNamedElements, GoesToField, Resolves}
 use Rattle.check_scope.specs.Names.{Scope, field_named, fields_at, kind_at}
-use Rattle.check_expressions.specs.Templates.{body, field_template, has_all, template}
+use Rattle.check_rules.specs.Templates.{body, field_template, has_all, template}
 use Rattle.check_scope.specs.Typings.{unless}
-use Rattle.check_expressions.specs.Values.{AtTarget, by_name, field_value, in_order, is_full, named_target, takes_braces, target_named, value, wanted_fields}
+use Rattle.check_rules.specs.Values.{AtTarget, by_name, field_value, in_order, is_full, named_target, takes_braces, target_named, value, wanted_fields}
 use Rattle.check_scope.specs.declared.rule.Rule.{Rule}
 use Rattle.check_scope.specs.declared.rule.Rule.TheVariants as rule
 use Rattle.check_scope.specs.declared.types.DataType.{DataType}

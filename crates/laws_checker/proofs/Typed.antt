@@ -13,9 +13,9 @@ use Rattle.ttcn_syntax.specs.declared.tree.expression.Expr.TheFolds.{fold-roll-E
 use Rattle.ttcn_syntax.specs.declared.tree.expression.Expr.TheOpen.{Expr-F}
 use Rattle.ttcn_syntax.specs.declared.tree.expression.Link.{Link, out-Link}
 use Rattle.ttcn_syntax.specs.declared.tree.expression.Reference.{Reference}
-use Rattle.check_expressions.proofs.Judgements.{expression-Chain, expression-Ispresent, expression-Not, expression-Running, expression-Signed, link-out}
+use Rattle.check_rules.proofs.Judgements.{expression-Chain, expression-Ispresent, expression-Not, expression-Running, expression-Signed, link-out}
 use Rattle.laws_checker.proofs.Nothing.{nothing-first, nothing-rest}
-use Rattle.check_expressions.specs.Expressions.{Judgement, Judge, after, along, any_component, check_component, check_field, check_meaning, check_reference, check_running, check_self, join_links, demand, expression, expression_step, fine, join_link, link, link_step, names_field, names_timer, runs, within, wrong}
+use Rattle.check_rules.specs.Expressions.{Judgement, Judge, after, along, any_component, check_component, check_field, check_meaning, check_reference, check_running, check_self, join_links, demand, expression, expression_step, fine, join_link, link, link_step, names_field, names_timer, runs, within, wrong}
 use Rattle.laws_checker.specs.Laws.{HasFieldType, IsKnown, IsTyped, IsWhole}
 use Rattle.check_scope.specs.Names.{Scope, constants_type, fields_at, kind_at, module_names, resolved}
 use Rattle.check_scope.specs.Typings.{is_of, refers_to_component, result_of, typed}

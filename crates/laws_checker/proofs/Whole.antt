@@ -20,19 +20,19 @@ use Rattle.ttcn_syntax.specs.declared.tree.statement.Timer.{Timer}
 use Rattle.ttcn_syntax.specs.declared.tree.statement.Variables.{Variables}
 use Rattle.ttcn_syntax.specs.declared.tree.value.TypeName.{TypeName}
 use Rattle.ttcn_syntax.specs.declared.tree.value.TypeName.TheVariants as type_name
-use Rattle.ttcn_types.proofs.Meanings.{EachMeans, means-append}
+use Rattle.check_rules.proofs.Meanings.{EachMeans, means-append}
 use Rattle.laws_checker.proofs.Nothing.{kept, nothing-first, nothing-rest}
-use Rattle.check_expressions.specs.Declarations.{behind_all, one_by_one}
-use Rattle.check_statements.specs.Definitions.{as_part, check_component_name, check_result, place_in, returns_of, check_member_variable, check_parameter, check_part, check_port_name, check_sites, check_definition, check_definitions, check_fields, check_member, check_members, check_module_constants, check_parameters, member_variable_entry, parameter_entry, port_entry, with_parameters}
+use Rattle.check_rules.specs.Declarations.{behind_all, one_by_one}
+use Rattle.check_rules.specs.Definitions.{as_part, check_component_name, check_result, place_in, returns_of, check_member_variable, check_parameter, check_part, check_port_name, check_sites, check_definition, check_definitions, check_fields, check_member, check_members, check_module_constants, check_parameters, member_variable_entry, parameter_entry, port_entry, with_parameters}
 use Rattle.check_scope.specs.Scopes.{check_module_names, component_scope, module_scope, scope_on}
-use Rattle.check_expressions.specs.Calls.{component_named, result_type_of, template_type}
+use Rattle.check_rules.specs.Calls.{component_named, result_type_of, template_type}
 use Rattle.laws_checker.specs.Laws.{HasFieldType, IsKnown, IsWhole}
 use Rattle.check_scope.specs.Names.{Entry, Names, Scope, behind_members, fields_of, constant_entries, constants_type, declaring, entries_at, entries_from, kind_at, listed, member_entries, members_of, module_names, port_type_meant, resolved, type_meant}
-use Rattle.ttcn_types.specs.Rules.{AreWellTyped}
-use Rattle.ttcn_types.specs.Rules.Breaks.{site}
-use Rattle.check_statements.specs.Statements.{statements}
-use Rattle.check_expressions.specs.Targets.{check_constant, check_constants, check_new_name, check_timer_name, check_timers, check_type, check_variable, check_variables, behind_constants, behind_timers, behind_variables, constant_entry, timer_entry, variable_entry}
-use Rattle.check_expressions.specs.Templates.{template}
+use Rattle.check_rules.specs.Rules.{AreWellTyped}
+use Rattle.check_rules.specs.Rules.Breaks.{site}
+use Rattle.check_rules.specs.Statements.{statements}
+use Rattle.check_rules.specs.Targets.{check_constant, check_constants, check_new_name, check_timer_name, check_timers, check_type, check_variable, check_variables, behind_constants, behind_timers, behind_variables, constant_entry, timer_entry, variable_entry}
+use Rattle.check_rules.specs.Templates.{template}
 use Rattle.check_scope.specs.Typings.{target_of, unless}
 use Rattle.check_scope.specs.declared.names.Meaning.{Meaning}
 use Rattle.check_scope.specs.declared.names.Meaning.TheVariants as meaning

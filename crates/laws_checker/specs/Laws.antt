@@ -7,10 +7,10 @@ use Rattle.ttcn_syntax.specs.declared.tree.definition.DefinitionKind.{Definition
 use Rattle.ttcn_syntax.specs.declared.tree.definition.Parameter.{Parameter}
 use Rattle.ttcn_syntax.specs.declared.tree.value.Call.{Call}
 use Rattle.ttcn_syntax.specs.declared.tree.value.Value.{Value}
-use Rattle.check_expressions.specs.Calls.{behaviour_meant, component_named, parameters_of, result_type_of, runs_here, runs_on_of, template_type}
-use Rattle.check_expressions.specs.Expressions.{Judgement}
+use Rattle.check_rules.specs.Calls.{behaviour_meant, component_named, parameters_of, result_type_of, runs_here, runs_on_of, template_type}
+use Rattle.check_rules.specs.Expressions.{Judgement}
 use Rattle.check_scope.specs.Names.{Scope, constants_type, field_named, fields_at, kind_at, module_names, resolved}
-use Rattle.check_expressions.specs.Values.{AtTarget, field_target, value}
+use Rattle.check_rules.specs.Values.{AtTarget, field_target, value}
 use Rattle.check_scope.specs.Typings.{target_of}
 use Rattle.check_scope.specs.declared.names.Meaning.{Meaning}
 use Rattle.check_scope.specs.declared.names.Meaning.TheVariants as meaning

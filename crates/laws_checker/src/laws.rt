@@ -16,23 +16,23 @@ ghost use Rattle.ttcn_syntax.specs.declared.tree.value.Call.{Call};
 ghost use Rattle.ttcn_syntax.specs.declared.tree.value.FieldValue.{FieldValue};
 ghost use Rattle.ttcn_syntax.specs.declared.tree.value.Value.{Value};
 ghost use Rattle.ttcn_syntax.specs.declared.tree.value.Value.TheVariants as form;
-ghost use Rattle.check_expressions.specs.Calls.{check_call, parameters_of};
+ghost use Rattle.check_rules.specs.Calls.{check_call, parameters_of};
 ghost use Rattle.check_scope.specs.Scopes.{component_scope, module_scope, scope_on};
-ghost use Rattle.check_statements.specs.Definitions.{check_definition, check_parameters, with_parameters};
-ghost use Rattle.check_expressions.specs.Expressions.{check_reference, expression};
+ghost use Rattle.check_rules.specs.Definitions.{check_definition, check_parameters, with_parameters};
+ghost use Rattle.check_rules.specs.Expressions.{check_reference, expression};
 ghost use Rattle.laws_checker.specs.Laws.{AreArguments, AreElements, AreNamedElements, IsTyped, IsWhole, Resolves};
 ghost use Rattle.check_scope.specs.Names.{Scope, fields_at, kind_at};
-ghost use Rattle.check_statements.specs.Statements.{Place, statement, statements, with_scope};
-ghost use Rattle.check_expressions.specs.Templates.{check_named_template, body, field_template, has_all, template, type_of_template};
+ghost use Rattle.check_rules.specs.Statements.{Place, statement, statements, with_scope};
+ghost use Rattle.check_rules.specs.Templates.{check_named_template, body, field_template, has_all, template, type_of_template};
 ghost use Rattle.check_scope.specs.Typings.{goes_to, result_of};
-ghost use Rattle.check_expressions.specs.Values.{check_expression, field_value, value};
+ghost use Rattle.check_rules.specs.Values.{check_expression, field_value, value};
 ghost use Rattle.check_scope.specs.declared.names.Meaning.TheVariants as meaning;
 ghost use Rattle.check_scope.specs.declared.types.DataType.{DataType};
 ghost use Rattle.check_scope.specs.declared.types.DataType.TheVariants as type;
 ghost use Rattle.check_scope.specs.declared.types.Typing.TheVariants as typing;
 ghost use Rattle.check_scope.specs.declared.types.Target.{Target};
 
-use ttcn_types::Program;
+use check_rules::Program;
 
 /// Each definition breaks no rule inside.
 #[tactic(auto, using(crate::proofs::Whole::definition_is_fine))]

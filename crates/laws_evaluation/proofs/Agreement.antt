@@ -18,19 +18,19 @@ use Rattle.ttcn_syntax.specs.declared.tree.value.Value as tree
 use Rattle.ttcn_syntax.specs.declared.tree.value.Value.TheFolds.{fold-roll-FieldValue, fold-roll-Value, ind-Value, map-FieldValue, map-Value}
 use Rattle.ttcn_syntax.specs.declared.tree.value.Value.TheOpen.{FieldValue-F, Value-F}
 use Rattle.check_scope.specs.Names.{Scope, fields_at, module_names}
-use Rattle.ttcn_types.specs.Parts.{all_of, braced, expression_parts, expression_parts_step, field_value_parts, field_value_parts_step, link_parts, link_parts_step, number_at, of_component, of_meaning, value_parts, value_parts_step}
-use Rattle.check_expressions.specs.Templates.{template_meant}
+use Rattle.check_rules.specs.Parts.{all_of, braced, expression_parts, expression_parts_step, field_value_parts, field_value_parts_step, link_parts, link_parts_step, number_at, of_component, of_meaning, value_parts, value_parts_step}
+use Rattle.check_rules.specs.Templates.{template_meant}
 use Rattle.check_scope.specs.declared.names.Meaning.{Meaning}
 use Rattle.check_scope.specs.declared.names.Meaning.TheVariants as meaning
 use Rattle.check_scope.specs.declared.types.DataType.{DataType}
-use Rattle.ttcn_values.specs.Chains.{Outcomes, with_outcomes}
-use Rattle.ttcn_values.specs.Evaluation.{Evaluation, after, expression_step, joined, link, link_step, value_of}
-use Rattle.ttcn_values.specs.Literals.{Wanted, by_name, element, element_named, field_value, field_value_step, given_by_name, in_order, record_at, type_of_field, value_step, value_wanted, wanted_record}
-use Rattle.ttcn_values.specs.Operations.{applied, decides, negated, under_sign}
-use Rattle.ttcn_values.specs.Outcomes.{Fails, Outcome, Yields, each, outcome_and_then, outcome_map, unmet}
-use Rattle.ttcn_values.specs.Readings.{Reading, along, by_meaning, component_at, component_runs, named, presence, runs, runs_at, timer_of}
-use Rattle.ttcn_values.specs.declared.value.Value.{Value}
-use Rattle.ttcn_values.specs.declared.value.Value.TheVariants as value
+use Rattle.value_types.specs.Chains.{Outcomes, with_outcomes}
+use Rattle.value_types.specs.Evaluation.{Evaluation, after, expression_step, joined, link, link_step, value_of}
+use Rattle.value_types.specs.Literals.{Wanted, by_name, element, element_named, field_value, field_value_step, given_by_name, in_order, record_at, type_of_field, value_step, value_wanted, wanted_record}
+use Rattle.value_types.specs.Operations.{applied, decides, negated, under_sign}
+use Rattle.value_types.specs.Outcomes.{Fails, Outcome, Yields, each, outcome_and_then, outcome_map, unmet}
+use Rattle.value_types.specs.Readings.{Reading, along, by_meaning, component_at, component_runs, named, presence, runs, runs_at, timer_of}
+use Rattle.value_types.specs.declared.value.Value.{Value}
+use Rattle.value_types.specs.declared.value.Value.TheVariants as value
 
 -- what stands at a number gives the same
 abbrev pub AgreeAt : List Definition → Outcomes → Outcomes → ℕ → Type 0

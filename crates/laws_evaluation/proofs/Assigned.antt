@@ -9,11 +9,11 @@ use Rattle.ttcn_syntax.specs.declared.tree.definition.Field.{Field}
 use Rattle.ttcn_syntax.specs.declared.tree.expression.Reference.{Reference}
 use Rattle.ttcn_syntax.specs.declared.tree.value.Value as tree
 use Rattle.value_assignment.specs.Assignment.{Record, assigned, blank, filled, gap_at_field, gap_at_place, gap_for, gap_in, record_for}
-use Rattle.check_expressions.specs.Expressions as said
-use Rattle.check_expressions.specs.Expressions.{check_field, within}
-use Rattle.check_expressions.specs.Targets.{as_target, check_target, is_optional, last_optional, target_at}
-use Rattle.check_expressions.specs.Values.{field_target}
-use Rattle.check_expressions.specs.Values as checked
+use Rattle.check_rules.specs.Expressions as said
+use Rattle.check_rules.specs.Expressions.{check_field, within}
+use Rattle.check_rules.specs.Targets.{as_target, check_target, is_optional, last_optional, target_at}
+use Rattle.check_rules.specs.Values.{field_target}
+use Rattle.check_rules.specs.Values as checked
 use Rattle.check_scope.specs.Names.{Scope, fields_at, module_names, resolved}
 use Rattle.check_scope.specs.Typings.{type_known, typed}
 use Rattle.check_scope.specs.declared.names.Meaning.TheVariants as meaning
@@ -30,13 +30,13 @@ use Rattle.laws_evaluation.proofs.TypedRecords.{true-both, values_met, values_ty
 use Rattle.laws_evaluation.proofs.TypedValues.{goes_out, goes_rolled, level_goes, nat_eq-refl, with_goes}
 use Rattle.laws_evaluation.specs.Types.{FieldsDiffer, FitsIn, HasAll, go_to_fields, goes_to_field, is_of, value_goes}
 use Rattle.laws_evaluation.specs.Uses.{GivesAlways, GivesOnly, HoldsAssigned}
-use Rattle.ttcn_values.specs.Literals.{value_wanted}
-use Rattle.ttcn_values.specs.Outcomes.{Outcome, Yields, dynamic_error, or_unmet, outcome_and_then, outcome_map}
-use Rattle.ttcn_values.specs.Readings.{Reading, along, read, state_in, state_of_field}
-use Rattle.ttcn_values.specs.Values.{is_omit, is_omit_in, record_in, record_of}
-use Rattle.ttcn_values.specs.declared.value.Value.{Value, out-Value, out-roll-Value}
-use Rattle.ttcn_values.specs.declared.value.Value.TheOpen.{Value-F}
-use Rattle.ttcn_values.specs.declared.value.Value.TheVariants as value
+use Rattle.value_types.specs.Literals.{value_wanted}
+use Rattle.value_types.specs.Outcomes.{Outcome, Yields, dynamic_error, or_unmet, outcome_and_then, outcome_map}
+use Rattle.value_types.specs.Readings.{Reading, along, read, state_in, state_of_field}
+use Rattle.value_types.specs.Values.{is_omit, is_omit_in, record_in, record_of}
+use Rattle.value_types.specs.declared.value.Value.{Value, out-Value, out-roll-Value}
+use Rattle.value_types.specs.declared.value.Value.TheOpen.{Value-F}
+use Rattle.value_types.specs.declared.value.Value.TheVariants as value
 
 -- a target of a known type
 abbrev to : DataType → Bool → Target

@@ -3,8 +3,8 @@ use Rattle.std.proofs.Common.{◌≡◌, Bool, true, false, List, [], ◌∷◌,
 use Rattle.ttcn_syntax.specs.declared.tree.expression.Expr.{Expr}
 use Rattle.laws_checker.proofs.Nothing.{kept, nothing-first, nothing-rest}
 use Rattle.laws_checker.specs.Laws.{IsWhole}
-use Rattle.check_expressions.specs.Expressions.{Judgement, expression}
-use Rattle.check_expressions.specs.Values.{check_expression}
+use Rattle.check_rules.specs.Expressions.{Judgement, expression}
+use Rattle.check_rules.specs.Values.{check_expression}
 use Rattle.check_scope.specs.Names.{Scope}
 use Rattle.check_scope.specs.Typings.{goes_to, unless}
 use Rattle.check_scope.specs.declared.rule.Rule.{Rule}
@@ -15,9 +15,9 @@ use Rattle.check_scope.specs.declared.types.Typing.TheVariants as typing
 use Rattle.laws_evaluation.proofs.MetExpressions.{expressions_met}
 use Rattle.laws_evaluation.proofs.TypedLiterals.{wanted_goes}
 use Rattle.laws_evaluation.specs.Types.{FitsIn, HasAll, ParametersKnown, is_valued, value_goes}
-use Rattle.ttcn_values.specs.Evaluation.{value_of}
-use Rattle.ttcn_values.specs.Outcomes.{DynamicError, Fails, IfYields, IsMet, Outcome, Unmet, Yields, each, outcome_and_then, outcome_map, unmet}
-use Rattle.ttcn_values.specs.Readings.{Reading}
+use Rattle.value_types.specs.Evaluation.{value_of}
+use Rattle.value_types.specs.Outcomes.{DynamicError, Fails, IfYields, IsMet, Outcome, Unmet, Yields, each, outcome_and_then, outcome_map, unmet}
+use Rattle.value_types.specs.Readings.{Reading}
 
 -- something may be unmet, unless the contrary is demanded
 abbrev pub MayBeUnmet : Bool → Type 0

@@ -2,7 +2,7 @@
 use Rattle.std.proofs.Common.{◌≡◌, ℕ, zero, suc, ◌+◌, List, [], ◌∷◌, ◌++◌, length, Some, refl, ap, ◌∙◌, arith}
 use Rattle.std.specs.List.{Contains, slice_get}
 use Rattle.check_survey.proofs.Chains.{Contains-first}
-use Rattle.ttcn_values.specs.Outcomes.{Fails, Outcome, Yields, outcome_and_then}
+use Rattle.value_types.specs.Outcomes.{Fails, Outcome, Yields, outcome_and_then}
 
 -- what follows on two functions that give the same
 pub then-same : {A B : Type 0} (f g : A → Outcome B) → ((a : A) → f a ≡ g a) → (o : Outcome A) → outcome_and_then f o ≡ outcome_and_then g o

@@ -21,8 +21,8 @@ use Rattle.ttcn_syntax.specs.declared.tree.expression.Reference.{Reference}
 use Rattle.laws_checker.proofs.Nothing.{nothing-first, nothing-rest}
 use Rattle.laws_checker.proofs.Typed.{component-typed, expression_typed as expression_known, reference-typed}
 use Rattle.laws_checker.specs.Laws.{HasFieldType, IsWhole}
-use Rattle.check_expressions.specs.Expressions as said
-use Rattle.check_expressions.specs.Expressions.{Judgement, Judge, check_component, check_field, check_meaning, check_running, between, join_links, demand, expression, is_timer, names_timer, of_type, within}
+use Rattle.check_rules.specs.Expressions as said
+use Rattle.check_rules.specs.Expressions.{Judgement, Judge, check_component, check_field, check_meaning, check_running, between, join_links, demand, expression, is_timer, names_timer, of_type, within}
 use Rattle.check_scope.specs.Names.{Scope, field_named, fields_at, module_names, resolved}
 use Rattle.check_scope.specs.Typings.{comparable, compares, operands_of, refers_to_component, result_of, target_of, typed}
 use Rattle.check_scope.specs.Typings as typings
@@ -40,14 +40,14 @@ use Rattle.laws_evaluation.proofs.TypedLiterals.{same-type}
 use Rattle.laws_evaluation.proofs.TypedValues.{component-goes, expression_typed, field-goes, goes_out, if-any, if-then-of, joined-goes, level_goes, same-operator, with_goes}
 use Rattle.laws_evaluation.specs.Types as types
 use Rattle.laws_evaluation.specs.Types.{FitsIn, HasAll, IsOfTyping, go_to_fields, goes_to_field, is_of, is_valued, names_value}
-use Rattle.ttcn_values.specs.Evaluation.{Evaluation, after, expression_step, joined, link, link_step, value_of}
-use Rattle.ttcn_values.specs.Operations.{applied, both, compared, decides, fitting, logical, negated, ordered, truth, under_sign, with_sign}
-use Rattle.ttcn_values.specs.Outcomes.{DynamicError, Fails, IfYields, IsMet, Outcome, Unmet, Yields, dynamic_error, or_unmet, outcome_and_then, outcome_map}
-use Rattle.ttcn_values.specs.Readings.{Reading, along, component_at, component_runs, field, last_presence, named, presence, read, referred, runs, runs_at, state_in, state_of_field, timer_at, timer_of}
-use Rattle.ttcn_values.specs.Values as values
-use Rattle.ttcn_values.specs.Values.{boolean, boolean_in, equal, integer, integer_in, is_complete, is_omit, record_in, record_of}
-use Rattle.ttcn_values.specs.declared.value.Value.{Value, out-Value}
-use Rattle.ttcn_values.specs.declared.value.Value.TheOpen.{Value-F}
+use Rattle.value_types.specs.Evaluation.{Evaluation, after, expression_step, joined, link, link_step, value_of}
+use Rattle.value_types.specs.Operations.{applied, both, compared, decides, fitting, logical, negated, ordered, truth, under_sign, with_sign}
+use Rattle.value_types.specs.Outcomes.{DynamicError, Fails, IfYields, IsMet, Outcome, Unmet, Yields, dynamic_error, or_unmet, outcome_and_then, outcome_map}
+use Rattle.value_types.specs.Readings.{Reading, along, component_at, component_runs, field, last_presence, named, presence, read, referred, runs, runs_at, state_in, state_of_field, timer_at, timer_of}
+use Rattle.value_types.specs.Values as values
+use Rattle.value_types.specs.Values.{boolean, boolean_in, equal, integer, integer_in, is_complete, is_omit, record_in, record_of}
+use Rattle.value_types.specs.declared.value.Value.{Value, out-Value}
+use Rattle.value_types.specs.declared.value.Value.TheOpen.{Value-F}
 
 -- ---- outcomes
 

@@ -16,16 +16,16 @@ use Rattle.ttcn_syntax.specs.declared.tree.definition.TemplateDefinition.{Templa
 use Rattle.ttcn_syntax.specs.declared.tree.statement.Constant.{Constant}
 use Rattle.ttcn_syntax.specs.declared.tree.value.TypeName.{TypeName}
 use Rattle.ttcn_syntax.specs.declared.tree.value.TypeName.TheVariants as type_name
-use Rattle.ttcn_types.specs.Parts.{constant_parts, number_at, template_parts, constants_and_templates}
-use Rattle.ttcn_types.specs.Rules.{AreWellTyped}
+use Rattle.check_rules.specs.Parts.{constant_parts, number_at, template_parts, constants_and_templates}
+use Rattle.check_rules.specs.Rules.{AreWellTyped}
 use Rattle.laws_checker.proofs.Nothing.{kept, nothing-first, nothing-rest}
 use Rattle.laws_checker.proofs.Whole.{definition_is_fine, module_whole, parameters_whole}
 use Rattle.laws_checker.specs.Laws.{IsWhole}
-use Rattle.check_expressions.specs.Calls.{parameters_of, template_type}
-use Rattle.check_expressions.specs.Targets.{check_new_name, check_type}
-use Rattle.check_expressions.specs.Templates.{template}
-use Rattle.check_expressions.specs.Values.{value as checked}
-use Rattle.check_statements.specs.Definitions.{check_parameter, check_module_constants, check_parameters, parameter_entry, with_parameters}
+use Rattle.check_rules.specs.Calls.{parameters_of, template_type}
+use Rattle.check_rules.specs.Targets.{check_new_name, check_type}
+use Rattle.check_rules.specs.Templates.{template}
+use Rattle.check_rules.specs.Values.{value as checked}
+use Rattle.check_rules.specs.Definitions.{check_parameter, check_module_constants, check_parameters, parameter_entry, with_parameters}
 use Rattle.check_scope.specs.Names.{Entry, Names, Scope, constant_at, constant_entries, constant_of, constants_type, declaring, entries_at, entries_from, kind_at, listed, module_names, resolved, template_at, template_of, type_meant}
 use Rattle.check_scope.specs.Scopes.{module_scope}
 use Rattle.check_scope.specs.Typings.{target_of, typed}
@@ -42,13 +42,13 @@ use Rattle.laws_evaluation.proofs.TypedChains.{constants-fine, deep-fits, fields
 use Rattle.laws_evaluation.proofs.TypedRecords.{true-both, values_met}
 use Rattle.laws_evaluation.proofs.TypedTemplates.{templates_met}
 use Rattle.laws_evaluation.specs.Types.{AreGiven, FieldsDiffer, FitsIn, HasAll, HasParameterType, IsOfTyping, ParametersKnown, is_of, names_timer, names_value}
-use Rattle.ttcn_values.specs.Chains.{Outcomes, constant_value, given_to, outcomes_within, template_value, with_names, with_outcomes, within_chains}
-use Rattle.ttcn_values.specs.Literals.{value_wanted}
-use Rattle.ttcn_values.specs.Outcomes.{DynamicError, Fails, IfYields, IsMet, Outcome, Unmet, Yields, dynamic_error, or_unmet, unmet}
-use Rattle.ttcn_values.specs.Readings.{Reading, by_meaning, enumerated, enumerators_of}
-use Rattle.ttcn_values.specs.Templates.{template_wanted}
-use Rattle.ttcn_values.specs.declared.value.Value.{Value}
-use Rattle.ttcn_values.specs.declared.value.Value.TheVariants as value
+use Rattle.value_types.specs.Chains.{Outcomes, constant_value, given_to, outcomes_within, template_value, with_names, with_outcomes, within_chains}
+use Rattle.value_types.specs.Literals.{value_wanted}
+use Rattle.value_types.specs.Outcomes.{DynamicError, Fails, IfYields, IsMet, Outcome, Unmet, Yields, dynamic_error, or_unmet, unmet}
+use Rattle.value_types.specs.Readings.{Reading, by_meaning, enumerated, enumerators_of}
+use Rattle.value_types.specs.Templates.{template_wanted}
+use Rattle.value_types.specs.declared.value.Value.{Value}
+use Rattle.value_types.specs.declared.value.Value.TheVariants as value
 
 -- ---- parameters have their types
 

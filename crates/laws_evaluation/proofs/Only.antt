@@ -1,6 +1,6 @@
 -- Outcomes that are values of which something holds, or dynamic errors.
 use Rattle.std.proofs.Common.{◌≡◌, sym, subst}
-use Rattle.ttcn_values.specs.Outcomes.{DynamicError, Fails, IfYields, IsMet, Outcome, Unmet, Yields, outcome_and_then, outcome_map}
+use Rattle.value_types.specs.Outcomes.{DynamicError, Fails, IfYields, IsMet, Outcome, Unmet, Yields, outcome_and_then, outcome_map}
 use Rattle.laws_evaluation.specs.Uses.{GivesAlways, GivesOnly}
 
 pub only_of : {A : Type 0} (P : A → Type 0) (o : Outcome A) → IsMet o → IfYields o P → GivesOnly o P

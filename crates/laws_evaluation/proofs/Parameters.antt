@@ -12,10 +12,10 @@ use Rattle.ttcn_syntax.specs.declared.tree.definition.Member.TheVariants as memb
 use Rattle.ttcn_syntax.specs.declared.tree.definition.MemberVariable.{MemberVariable}
 use Rattle.ttcn_syntax.specs.declared.tree.statement.Constant.{Constant}
 use Rattle.ttcn_syntax.specs.declared.tree.statement.Timer.{Timer}
-use Rattle.check_expressions.specs.Calls.{component_named, parameters_of}
-use Rattle.check_expressions.specs.Declarations.{one_by_one}
-use Rattle.check_expressions.specs.Targets.{check_constant, check_new_name, check_timer_name, check_type, constant_entry, timer_entry}
-use Rattle.check_expressions.specs.Values.{value}
+use Rattle.check_rules.specs.Calls.{component_named, parameters_of}
+use Rattle.check_rules.specs.Declarations.{one_by_one}
+use Rattle.check_rules.specs.Targets.{check_constant, check_new_name, check_timer_name, check_type, constant_entry, timer_entry}
+use Rattle.check_rules.specs.Values.{value}
 use Rattle.check_scope.specs.Names.{Entry, Names, Scope, behind, behind_members, declaring, kind_at, listed, member_entries, members_of, module_names, port_type_meant, resolved, type_meant}
 use Rattle.check_scope.specs.Scopes.{component_scope, module_scope, scope_on}
 use Rattle.check_scope.specs.Typings.{target_of, unless}
@@ -23,14 +23,14 @@ use Rattle.check_scope.specs.declared.names.Meaning.{Meaning}
 use Rattle.check_scope.specs.declared.names.Meaning.TheVariants as meaning
 use Rattle.check_scope.specs.declared.rule.Rule.{Rule}
 use Rattle.check_scope.specs.declared.rule.Rule.TheVariants as rule
-use Rattle.check_statements.specs.Definitions.{check_component_name, check_initial_value, check_member, check_member_variable, check_members, check_parameters, check_port_name, check_result, member_variable_entry, place_in, port_entry, returns_of}
-use Rattle.check_statements.specs.Statements.{statements}
+use Rattle.check_rules.specs.Definitions.{check_component_name, check_initial_value, check_member, check_member_variable, check_members, check_parameters, check_port_name, check_result, member_variable_entry, place_in, port_entry, returns_of}
+use Rattle.check_rules.specs.Statements.{statements}
 use Rattle.laws_checker.proofs.Nothing.{kept, nothing-first, nothing-rest}
 use Rattle.laws_checker.proofs.Whole.{definition_is_fine}
 use Rattle.laws_evaluation.proofs.ModuleReadings.{Types, each-known, parameters-fine}
 use Rattle.laws_evaluation.proofs.Steps.{none-is}
 use Rattle.laws_evaluation.specs.Types.{HasParameterType}
-use Rattle.ttcn_types.specs.Rules.{AreWellTyped}
+use Rattle.check_rules.specs.Rules.{AreWellTyped}
 
 -- ---- new names
 

@@ -12,9 +12,9 @@ use Rattle.ttcn_syntax.specs.declared.tree.definition.DefinitionKind.TheVariants
 use Rattle.ttcn_syntax.specs.declared.tree.definition.TemplateDefinition.{TemplateDefinition}
 use Rattle.ttcn_syntax.specs.declared.tree.statement.Constant.{Constant}
 use Rattle.check_scope.specs.Scopes.{module_scope}
-use Rattle.check_statements.specs.Definitions.{with_parameters}
+use Rattle.check_rules.specs.Definitions.{with_parameters}
 use Rattle.check_scope.specs.Names.{constant_at, constant_of, kind_at, template_at, template_of}
-use Rattle.ttcn_types.specs.Parts.{constant_parts, how_many, how_many_in, number_at, template_parts, things_at, things_from, constants_and_templates}
+use Rattle.check_rules.specs.Parts.{constant_parts, how_many, how_many_in, number_at, template_parts, things_at, things_from, constants_and_templates}
 
 module _ (definitions : List Definition) where
   length-written : (k : DefinitionKind) → length (things_at definitions k) ≡ how_many k

@@ -5,9 +5,9 @@ use Rattle.std.specs.List.{list_all}
 use Rattle.ttcn_syntax.specs.declared.tree.definition.Definition.{Definition}
 use Rattle.ttcn_syntax.specs.declared.tree.definition.Field.{Field}
 use Rattle.ttcn_syntax.specs.declared.tree.template.MessageTemplate.{MessageTemplate}
-use Rattle.check_expressions.specs.Expressions.{Judgement}
-use Rattle.check_expressions.specs.Templates.{template}
-use Rattle.check_expressions.specs.Values.{field_target}
+use Rattle.check_rules.specs.Expressions.{Judgement}
+use Rattle.check_rules.specs.Templates.{template}
+use Rattle.check_rules.specs.Values.{field_target}
 use Rattle.check_scope.specs.Names.{Scope, fields_at}
 use Rattle.check_scope.specs.Typings.{target_of, type_known}
 use Rattle.check_scope.specs.declared.rule.Rule.{Rule}
@@ -15,7 +15,7 @@ use Rattle.check_scope.specs.declared.types.DataType.{DataType}
 use Rattle.check_scope.specs.declared.types.DataType.TheVariants as type
 use Rattle.check_scope.specs.declared.types.Target.{Target}
 use Rattle.check_scope.specs.declared.types.Typing.TheVariants as typing
-use Rattle.check_statements.specs.Messages.{Passing, check_message, check_type_name, type_of_message}
+use Rattle.check_rules.specs.Messages.{Passing, check_message, check_type_name, type_of_message}
 use Rattle.laws_checker.proofs.Nothing.{nothing-rest}
 use Rattle.laws_checker.specs.Laws.{IsWhole}
 use Rattle.laws_evaluation.proofs.Only.{only_of, only_then}
@@ -24,20 +24,20 @@ use Rattle.laws_evaluation.proofs.TypedTemplates.{goes_of_pattern, goes_of_templ
 use Rattle.laws_evaluation.proofs.TypedValues.{goes_rolled, weaker_goes, with_goes}
 use Rattle.laws_evaluation.specs.Types.{FieldsDiffer, FitsIn, HasAll, ParametersKnown, go_to_each, go_to_fields, template_goes, value_goes, wants}
 use Rattle.laws_evaluation.specs.Uses.{GivesOnly, IsSpecific}
-use Rattle.ttcn_values.specs.Matching.{all_fields, before_fields, record_with, specific_step, specific_template_step, specific_value, specific_value_of_pattern}
-use Rattle.ttcn_values.specs.Outcomes.{DynamicError, Fails, Outcome, Unmet, Yields, dynamic_error, outcome_and_then}
-use Rattle.ttcn_values.specs.Readings.{Reading}
-use Rattle.ttcn_values.specs.Templates.{template_wanted}
-use Rattle.ttcn_values.specs.Values.{complete_step, has_value, is_complete}
-use Rattle.ttcn_values.specs.declared.template.Pattern.{Pattern, roll-Pattern}
-use Rattle.ttcn_values.specs.declared.template.Pattern.TheFolds as fold
-use Rattle.ttcn_values.specs.declared.template.Pattern.TheOpen as level
-use Rattle.ttcn_values.specs.declared.template.Template.{Template, roll-Template}
-use Rattle.ttcn_values.specs.declared.value.Value.{Value}
-use Rattle.ttcn_values.specs.declared.value.Value.TheFolds as values
-use Rattle.ttcn_values.specs.declared.value.Value.TheOpen.{Value-F}
-use Rattle.ttcn_values.specs.declared.value.Value.TheShapes.{former-Value-Record-1-at-1}
-use Rattle.ttcn_values.specs.declared.value.Value.TheVariants as value
+use Rattle.value_types.specs.Matching.{all_fields, before_fields, record_with, specific_step, specific_template_step, specific_value, specific_value_of_pattern}
+use Rattle.value_types.specs.Outcomes.{DynamicError, Fails, Outcome, Unmet, Yields, dynamic_error, outcome_and_then}
+use Rattle.value_types.specs.Readings.{Reading}
+use Rattle.value_types.specs.Templates.{template_wanted}
+use Rattle.value_types.specs.Values.{complete_step, has_value, is_complete}
+use Rattle.value_types.specs.declared.template.Pattern.{Pattern, roll-Pattern}
+use Rattle.value_types.specs.declared.template.Pattern.TheFolds as fold
+use Rattle.value_types.specs.declared.template.Pattern.TheOpen as level
+use Rattle.value_types.specs.declared.template.Template.{Template, roll-Template}
+use Rattle.value_types.specs.declared.value.Value.{Value}
+use Rattle.value_types.specs.declared.value.Value.TheFolds as values
+use Rattle.value_types.specs.declared.value.Value.TheOpen.{Value-F}
+use Rattle.value_types.specs.declared.value.Value.TheShapes.{former-Value-Record-1-at-1}
+use Rattle.value_types.specs.declared.value.Value.TheVariants as value
 
 -- a field, by whether it lacks something
 abbrev with_whole : Option Value → Option Bool

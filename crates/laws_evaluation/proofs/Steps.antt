@@ -19,27 +19,27 @@ use Rattle.ttcn_syntax.specs.declared.tree.definition.TemplateDefinition.{Templa
 use Rattle.ttcn_syntax.specs.declared.tree.statement.Constant.{Constant}
 use Rattle.laws_checker.proofs.Nothing.{kept, nothing-first, nothing-rest}
 use Rattle.laws_checker.proofs.Whole.{definition_is_fine}
-use Rattle.check_statements.specs.Definitions.{check_parameter, check_parameters, parameter_entry, with_parameters}
+use Rattle.check_rules.specs.Definitions.{check_parameter, check_parameters, parameter_entry, with_parameters}
 use Rattle.check_scope.specs.Scopes.{module_scope}
 use Rattle.check_scope.specs.Names.{Scope, constant_at, constants_type, declaring, kind_at, module_names, resolved, template_at, template_of}
-use Rattle.ttcn_types.specs.Parts.{constant_parts, number_at, template_parts, constants_and_templates}
-use Rattle.ttcn_types.specs.Rules.{AreWellTyped}
-use Rattle.ttcn_types.specs.Rules.Breaks.{size}
-use Rattle.check_expressions.specs.Targets.{check_new_name, check_type}
-use Rattle.check_expressions.specs.Templates.{template, template_meant}
+use Rattle.check_rules.specs.Parts.{constant_parts, number_at, template_parts, constants_and_templates}
+use Rattle.check_rules.specs.Rules.{AreWellTyped}
+use Rattle.check_rules.specs.Rules.Breaks.{size}
+use Rattle.check_rules.specs.Targets.{check_new_name, check_type}
+use Rattle.check_rules.specs.Templates.{template, template_meant}
 use Rattle.check_scope.specs.Typings.{target_of}
 use Rattle.check_scope.specs.declared.names.Meaning.{Meaning}
 use Rattle.check_scope.specs.declared.names.Meaning.TheVariants as meaning
 use Rattle.check_scope.specs.declared.rule.Rule.{Rule}
 use Rattle.check_scope.specs.declared.rule.Rule.TheVariants as rule
 use Rattle.check_scope.specs.declared.types.DataType.{DataType}
-use Rattle.ttcn_values.specs.Chains.{Outcomes, constant_value, given_to, outcomes_within, template_value, with_names, with_outcomes, within_chains}
-use Rattle.ttcn_values.specs.Frames.{facts, reading as reading_of}
-use Rattle.ttcn_values.specs.Outcomes.{Outcome, unmet}
-use Rattle.ttcn_values.specs.Readings.{Reading}
-use Rattle.ttcn_values.specs.declared.frame.Frame.{Frame}
-use Rattle.ttcn_values.specs.declared.template.Template.{Template}
-use Rattle.ttcn_values.specs.declared.value.Value.{Value}
+use Rattle.value_types.specs.Chains.{Outcomes, constant_value, given_to, outcomes_within, template_value, with_names, with_outcomes, within_chains}
+use Rattle.value_types.specs.Frames.{facts, reading as reading_of}
+use Rattle.value_types.specs.Outcomes.{Outcome, unmet}
+use Rattle.value_types.specs.Readings.{Reading}
+use Rattle.value_types.specs.declared.frame.Frame.{Frame}
+use Rattle.value_types.specs.declared.template.Template.{Template}
+use Rattle.value_types.specs.declared.value.Value.{Value}
 
 -- ---- parameters hide no name of the module
 

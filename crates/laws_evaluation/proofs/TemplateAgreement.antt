@@ -16,19 +16,19 @@ use Rattle.ttcn_syntax.specs.declared.tree.template.TemplateBody.{TemplateBody, 
 use Rattle.ttcn_syntax.specs.declared.tree.template.TemplateBody.TheFolds.{fold-roll-FieldTemplate, fold-roll-Template, fold-roll-TemplateBody, ind-Template, map-FieldTemplate, map-Template, map-TemplateBody}
 use Rattle.ttcn_syntax.specs.declared.tree.template.TemplateBody.TheOpen.{FieldTemplate-F, Template-F, TemplateBody-F}
 use Rattle.ttcn_syntax.specs.declared.tree.value.Value as written
-use Rattle.check_expressions.specs.Calls.{parameters_of}
+use Rattle.check_rules.specs.Calls.{parameters_of}
 use Rattle.check_scope.specs.Names.{Scope, fields_at, kind_at, module_names, resolved}
-use Rattle.ttcn_types.specs.Parts.{all_of, body_parts_step, field_template_parts, field_template_parts_step, of_bound, of_name, of_template, template_parts, template_parts_step, value_parts}
-use Rattle.check_expressions.specs.Templates.{bare_name, template_by_name, template_meant}
+use Rattle.check_rules.specs.Parts.{all_of, body_parts_step, field_template_parts, field_template_parts_step, of_bound, of_name, of_template, template_parts, template_parts_step, value_parts}
+use Rattle.check_rules.specs.Templates.{bare_name, template_by_name, template_meant}
 use Rattle.check_scope.specs.declared.types.DataType.{DataType}
-use Rattle.ttcn_values.specs.Chains.{Outcomes, with_outcomes}
-use Rattle.ttcn_values.specs.Literals.{type_of_field, wanted_record}
-use Rattle.ttcn_values.specs.Outcomes.{Fails, Outcome, Yields, each, or_unmet, outcome_and_then, outcome_map, unmet}
-use Rattle.ttcn_values.specs.Readings.{Reading}
-use Rattle.ttcn_values.specs.Templates.{Wanted, argument, arguments, as_pattern, value_of_bound, template_of_expression, template_of_range, body_step, body_wanted, by_name, element, element_named, field_template, field_template_step, in_order, parts_of, plain, record_at, template_called, template_of_name, template_step, template_wanted, with_ifpresent}
-use Rattle.ttcn_values.specs.Values.{integer}
-use Rattle.ttcn_values.specs.declared.template.Pattern.TheVariants as pattern
-use Rattle.ttcn_values.specs.declared.template.Template.{Template}
+use Rattle.value_types.specs.Chains.{Outcomes, with_outcomes}
+use Rattle.value_types.specs.Literals.{type_of_field, wanted_record}
+use Rattle.value_types.specs.Outcomes.{Fails, Outcome, Yields, each, or_unmet, outcome_and_then, outcome_map, unmet}
+use Rattle.value_types.specs.Readings.{Reading}
+use Rattle.value_types.specs.Templates.{Wanted, argument, arguments, as_pattern, value_of_bound, template_of_expression, template_of_range, body_step, body_wanted, by_name, element, element_named, field_template, field_template_step, in_order, parts_of, plain, record_at, template_called, template_of_name, template_step, template_wanted, with_ifpresent}
+use Rattle.value_types.specs.Values.{integer}
+use Rattle.value_types.specs.declared.template.Pattern.TheVariants as pattern
+use Rattle.value_types.specs.declared.template.Template.{Template}
 
 -- the parts of a template's body
 abbrev body_parts : Scope → TemplateBody → Thing

@@ -18,20 +18,20 @@ use Rattle.ttcn_syntax.specs.declared.tree.statement.Constant.{Constant}
 use Rattle.ttcn_syntax.specs.declared.tree.statement.Constants.{Constants}
 use Rattle.ttcn_syntax.specs.declared.tree.value.TypeName.{TypeName}
 use Rattle.ttcn_syntax.specs.declared.tree.value.TypeName.TheVariants as type_name
-use Rattle.ttcn_types.proofs.Meanings.{EachMeans, IfMeans, means-append, means-listed}
+use Rattle.check_rules.proofs.Meanings.{EachMeans, IfMeans, means-append, means-listed}
 use Rattle.laws_checker.proofs.Nothing.{kept, nothing-first, nothing-rest}
 use Rattle.laws_checker.proofs.Whole.{definition_is_fine, module_whole, parameters_whole}
-use Rattle.check_expressions.specs.Calls.{parameters_of, template_type}
-use Rattle.check_statements.specs.Definitions.{check_parameter, check_part, check_fields, check_module_constants, check_parameters, parameter_entry, with_parameters}
+use Rattle.check_rules.specs.Calls.{parameters_of, template_type}
+use Rattle.check_rules.specs.Definitions.{check_parameter, check_part, check_fields, check_module_constants, check_parameters, parameter_entry, with_parameters}
 use Rattle.check_scope.specs.Scopes.{module_scope}
-use Rattle.check_expressions.specs.Expressions.{check_meaning}
+use Rattle.check_rules.specs.Expressions.{check_meaning}
 use Rattle.laws_checker.specs.Laws.{IsWhole}
 use Rattle.check_scope.specs.Names.{Entry, Names, Scope, constant_entries, constant_of, constants_type, declaring, entries_at, entries_from, field_named, fields_of, kind_at, module_names, resolved, template_of, type_meant}
-use Rattle.ttcn_types.specs.Rules.{AreWellTyped}
-use Rattle.check_expressions.specs.Targets.{check_new_name, check_type}
-use Rattle.check_expressions.specs.Templates.{template, template_meant}
+use Rattle.check_rules.specs.Rules.{AreWellTyped}
+use Rattle.check_rules.specs.Targets.{check_new_name, check_type}
+use Rattle.check_rules.specs.Templates.{template, template_meant}
 use Rattle.check_scope.specs.Typings.{target_of, typed, unless}
-use Rattle.check_expressions.specs.Values.{value as checked}
+use Rattle.check_rules.specs.Values.{value as checked}
 use Rattle.check_scope.specs.declared.names.Meaning.{Meaning}
 use Rattle.check_scope.specs.declared.names.Meaning.TheVariants as meaning
 use Rattle.check_scope.specs.declared.rule.Rule.{Rule}
@@ -41,15 +41,15 @@ use Rattle.check_scope.specs.declared.types.DataType.TheVariants as type
 use Rattle.laws_evaluation.proofs.TypedRecords.{true-both, values_typed}
 use Rattle.laws_evaluation.proofs.TypedTemplates.{templates_typed}
 use Rattle.laws_evaluation.proofs.TypedValues.{goes_rolled, if-any, nat_eq-refl}
-use Rattle.ttcn_values.specs.Chains.{constant_value, given_to, template_value, with_names, within_chains}
-use Rattle.ttcn_values.specs.Literals.{value_wanted}
-use Rattle.ttcn_values.specs.Outcomes.{IfYields, IsMet, Outcome, Yields, or_unmet, outcome_map, unmet}
-use Rattle.ttcn_values.specs.Readings.{Reading, by_meaning, enumerated, enumerators_of, named}
-use Rattle.ttcn_values.specs.Templates.{template_wanted}
+use Rattle.value_types.specs.Chains.{constant_value, given_to, template_value, with_names, within_chains}
+use Rattle.value_types.specs.Literals.{value_wanted}
+use Rattle.value_types.specs.Outcomes.{IfYields, IsMet, Outcome, Yields, or_unmet, outcome_map, unmet}
+use Rattle.value_types.specs.Readings.{Reading, by_meaning, enumerated, enumerators_of, named}
+use Rattle.value_types.specs.Templates.{template_wanted}
 use Rattle.laws_evaluation.specs.Types.{AreGiven, FieldsDiffer, FitsIn, HasAll, IsOfTyping, is_of, names_timer, names_value, template_goes}
-use Rattle.ttcn_values.specs.declared.value.Value.{Value}
-use Rattle.ttcn_values.specs.declared.value.Value.TheOpen as level
-use Rattle.ttcn_values.specs.declared.value.Value.TheVariants as value
+use Rattle.value_types.specs.declared.value.Value.{Value}
+use Rattle.value_types.specs.declared.value.Value.TheOpen as level
+use Rattle.value_types.specs.declared.value.Value.TheVariants as value
 
 -- ---- fields differ
 

@@ -12,13 +12,13 @@ use Rattle.ttcn_syntax.specs.declared.tree.expression.Expr.TheOpen.{Expr-F}
 use Rattle.ttcn_syntax.specs.declared.tree.expression.Link.{Link}
 use Rattle.laws_checker.proofs.Nothing.{kept, nothing-first, nothing-rest}
 use Rattle.laws_checker.proofs.Typed.{expression_typed as expression_known}
-use Rattle.check_expressions.specs.Expressions as said
-use Rattle.check_expressions.specs.Expressions.{Judgement, Judge, any_component, check_component, check_field, check_meaning, check_running, check_self, between, join_links, demand, expression, names_timer, of_type, within}
+use Rattle.check_rules.specs.Expressions as said
+use Rattle.check_rules.specs.Expressions.{Judgement, Judge, any_component, check_component, check_field, check_meaning, check_running, check_self, between, join_links, demand, expression, names_timer, of_type, within}
 use Rattle.laws_checker.specs.Laws.{IsWhole}
 use Rattle.check_scope.specs.Names.{Scope, constants_type, field_named, fields_at, kind_at, module_names, resolved}
 use Rattle.check_scope.specs.Typings.{comparable, compares, fits, goes_to, operands_of, refers_to_component, result_of, same_type, typed, unless}
 use Rattle.check_scope.specs.Typings as typings
-use Rattle.check_expressions.specs.Values.{check_expression}
+use Rattle.check_rules.specs.Values.{check_expression}
 use Rattle.check_scope.specs.declared.names.Meaning.{Meaning}
 use Rattle.check_scope.specs.declared.names.Meaning.TheVariants as meaning
 use Rattle.check_scope.specs.declared.rule.Rule.{Rule}
@@ -28,13 +28,13 @@ use Rattle.check_scope.specs.declared.types.DataType.TheVariants as type
 use Rattle.check_scope.specs.declared.types.Typing.{Typing}
 use Rattle.check_scope.specs.declared.types.Typing.TheVariants as typing
 use Rattle.laws_evaluation.proofs.TypedValues.{expression_typed, goes_rolled, if-more, weaker_goes}
-use Rattle.ttcn_values.specs.Evaluation.{value_of}
-use Rattle.ttcn_values.specs.Outcomes.{IfYields}
-use Rattle.ttcn_values.specs.Readings.{Reading}
+use Rattle.value_types.specs.Evaluation.{value_of}
+use Rattle.value_types.specs.Outcomes.{IfYields}
+use Rattle.value_types.specs.Readings.{Reading}
 use Rattle.laws_evaluation.specs.Types.{FitsIn, IsOfTyping, is_of, value_goes}
-use Rattle.ttcn_values.specs.declared.value.Value.{Value}
-use Rattle.ttcn_values.specs.declared.value.Value.TheOpen.{Value-F}
-use Rattle.ttcn_values.specs.declared.value.Value.TheVariants as value
+use Rattle.value_types.specs.declared.value.Value.{Value}
+use Rattle.value_types.specs.declared.value.Value.TheOpen.{Value-F}
+use Rattle.value_types.specs.declared.value.Value.TheVariants as value
 
 -- ---- a component of no known type stands free alone
 

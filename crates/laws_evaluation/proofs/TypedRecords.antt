@@ -14,21 +14,21 @@ use Rattle.laws_checker.proofs.Nothing.{kept, nothing-first, nothing-rest}
 use Rattle.laws_checker.specs.Laws.{AreElements, AreNamedElements, HasFieldType, IsWhole}
 use Rattle.check_scope.specs.Names.{Scope, field_named, fields_at, module_names, resolved}
 use Rattle.check_scope.specs.Typings.{unless}
-use Rattle.check_expressions.specs.Values as said
-use Rattle.check_expressions.specs.Values.{AtTarget, field_target}
+use Rattle.check_rules.specs.Values as said
+use Rattle.check_rules.specs.Values.{AtTarget, field_target}
 use Rattle.check_scope.specs.declared.rule.Rule.{Rule}
 use Rattle.check_scope.specs.declared.rule.Rule.TheVariants as rule
 use Rattle.check_scope.specs.declared.types.DataType.{DataType}
 use Rattle.check_scope.specs.declared.types.DataType.TheVariants as type
 use Rattle.laws_evaluation.proofs.Demands.{AllIf, Meets, meets_chosen, meets_each, meets_mapped, met_of, wanted_meets, yields_of}
 use Rattle.laws_evaluation.proofs.TypedValues.{goes_rolled, nat_eq-refl, with_goes}
-use Rattle.ttcn_values.specs.Literals.{Wanted, by_name, element, element_named, field_value, field_value_step, in_order, value_step, value_wanted}
-use Rattle.ttcn_values.specs.Outcomes.{IfYields, IsMet, each, outcome_map}
-use Rattle.ttcn_values.specs.Readings.{Reading}
+use Rattle.value_types.specs.Literals.{Wanted, by_name, element, element_named, field_value, field_value_step, in_order, value_step, value_wanted}
+use Rattle.value_types.specs.Outcomes.{IfYields, IsMet, each, outcome_map}
+use Rattle.value_types.specs.Readings.{Reading}
 use Rattle.laws_evaluation.specs.Types.{FieldsDiffer, FitsIn, HasAll, go_to_fields, goes_to_field, value_goes}
-use Rattle.ttcn_values.specs.declared.value.Value.{Value}
-use Rattle.ttcn_values.specs.declared.value.Value.TheOpen as level
-use Rattle.ttcn_values.specs.declared.value.Value.TheVariants as value
+use Rattle.value_types.specs.declared.value.Value.{Value}
+use Rattle.value_types.specs.declared.value.Value.TheOpen as level
+use Rattle.value_types.specs.declared.value.Value.TheVariants as value
 
 pub true-both : (a b : Bool) → a ≡ true → b ≡ true → (a && b) ≡ true
 true-both a b is other = ap (λ c. c && b) is ∙ other

@@ -18,14 +18,14 @@ use Rattle.ttcn_syntax.specs.declared.tree.template.TemplateBody.TheOpen.{FieldT
 use Rattle.ttcn_syntax.specs.declared.tree.value.Value as written
 use Rattle.laws_checker.proofs.Fitting.{are-elements, are-named, arguments_fit, same-number}
 use Rattle.laws_checker.proofs.Nothing.{kept, nothing-first, nothing-rest}
-use Rattle.check_expressions.specs.Calls.{check_arguments, parameters_of, template_type}
+use Rattle.check_rules.specs.Calls.{check_arguments, parameters_of, template_type}
 use Rattle.laws_checker.specs.Laws.{AreArguments, AreElements, AreNamedElements, HasFieldType, IsKnown, IsWhole}
 use Rattle.check_scope.specs.Names.{Scope, field_named, fields_at, kind_at, module_names, resolved}
-use Rattle.check_expressions.specs.Templates as said
-use Rattle.check_expressions.specs.Templates.{check_name, check_named_template, bare_name, template_by_name, template_meant, type_of_template}
+use Rattle.check_rules.specs.Templates as said
+use Rattle.check_rules.specs.Templates.{check_name, check_named_template, bare_name, template_by_name, template_meant, type_of_template}
 use Rattle.check_scope.specs.Typings.{fits, goes_to, target_of, typed, unless}
-use Rattle.check_expressions.specs.Values as checked
-use Rattle.check_expressions.specs.Values.{AtTarget, check_expression, field_target}
+use Rattle.check_rules.specs.Values as checked
+use Rattle.check_rules.specs.Values.{AtTarget, check_expression, field_target}
 use Rattle.check_scope.specs.declared.names.Meaning.{Meaning}
 use Rattle.check_scope.specs.declared.names.Meaning.TheVariants as meaning
 use Rattle.check_scope.specs.declared.rule.Rule.{Rule}
@@ -39,21 +39,21 @@ use Rattle.laws_evaluation.proofs.MetExpressions.{Any, integer-there}
 use Rattle.laws_evaluation.proofs.TypedLiterals.{same-type}
 use Rattle.laws_evaluation.proofs.TypedRecords.{true-both, value_typed}
 use Rattle.laws_evaluation.proofs.TypedValues.{if-any, nat_eq-refl}
-use Rattle.ttcn_values.specs.Evaluation.{value_of}
-use Rattle.ttcn_values.specs.Literals.{value_wanted}
-use Rattle.ttcn_values.specs.Outcomes.{IfYields, IsMet, Yields, dynamic_error, each, or_unmet, outcome_and_then, outcome_map}
-use Rattle.ttcn_values.specs.Readings.{Reading}
-use Rattle.ttcn_values.specs.Templates as given
-use Rattle.ttcn_values.specs.Templates.{Wanted, argument, arguments, as_pattern, value_of_bound, template_of_range, body_step, body_wanted, by_name, element, element_named, field_template, field_template_step, in_order, parts_of, plain, template_called, template_of_name, template_step, template_wanted, with_ifpresent}
+use Rattle.value_types.specs.Evaluation.{value_of}
+use Rattle.value_types.specs.Literals.{value_wanted}
+use Rattle.value_types.specs.Outcomes.{IfYields, IsMet, Yields, dynamic_error, each, or_unmet, outcome_and_then, outcome_map}
+use Rattle.value_types.specs.Readings.{Reading}
+use Rattle.value_types.specs.Templates as given
+use Rattle.value_types.specs.Templates.{Wanted, argument, arguments, as_pattern, value_of_bound, template_of_range, body_step, body_wanted, by_name, element, element_named, field_template, field_template_step, in_order, parts_of, plain, template_called, template_of_name, template_step, template_wanted, with_ifpresent}
 use Rattle.laws_evaluation.specs.Types as types
 use Rattle.laws_evaluation.specs.Types.{AreGiven, FieldsDiffer, FitsIn, Goes, HasAll, HasParameterType, IsOfTyping, ParametersKnown, go_to_each, is_of, pattern_step, template_goes, value_goes, wants}
-use Rattle.ttcn_values.specs.Values.{integer, is_complete}
-use Rattle.ttcn_values.specs.declared.template.Pattern.{Pattern, fold-Pattern, roll-Pattern}
-use Rattle.ttcn_values.specs.declared.template.Pattern.TheFolds as fold
-use Rattle.ttcn_values.specs.declared.template.Pattern.TheOpen as level
-use Rattle.ttcn_values.specs.declared.template.Pattern.TheVariants as pattern
-use Rattle.ttcn_values.specs.declared.template.Template.{Template, roll-Template}
-use Rattle.ttcn_values.specs.declared.value.Value.{Value}
+use Rattle.value_types.specs.Values.{integer, is_complete}
+use Rattle.value_types.specs.declared.template.Pattern.{Pattern, fold-Pattern, roll-Pattern}
+use Rattle.value_types.specs.declared.template.Pattern.TheFolds as fold
+use Rattle.value_types.specs.declared.template.Pattern.TheOpen as level
+use Rattle.value_types.specs.declared.template.Pattern.TheVariants as pattern
+use Rattle.value_types.specs.declared.template.Template.{Template, roll-Template}
+use Rattle.value_types.specs.declared.value.Value.{Value}
 
 -- ---- templates of types
 

@@ -17,31 +17,31 @@ use Rattle.ttcn_syntax.specs.declared.tree.expression.Expr.TheFolds.{fold-roll-E
 use Rattle.ttcn_syntax.specs.declared.tree.expression.Expr.TheOpen.{Expr-F}
 use Rattle.ttcn_syntax.specs.declared.tree.expression.Link.{Link, fold_out-Link}
 use Rattle.ttcn_syntax.specs.declared.tree.expression.Reference.{Reference}
-use Rattle.check_expressions.specs.Expressions as said
-use Rattle.check_expressions.specs.Expressions.{Judgement, Judge, check_component, check_field, check_meaning, check_running, check_self, between, join_links, demand, expression, names_timer, of_type, within}
+use Rattle.check_rules.specs.Expressions as said
+use Rattle.check_rules.specs.Expressions.{Judgement, Judge, check_component, check_field, check_meaning, check_running, check_self, between, join_links, demand, expression, names_timer, of_type, within}
 use Rattle.check_scope.specs.Names.{Scope, fields_at, module_names, resolved}
 use Rattle.check_scope.specs.Typings.{result_of, target_of, typed}
-use Rattle.check_expressions.specs.Values.{field_target}
+use Rattle.check_rules.specs.Values.{field_target}
 use Rattle.check_scope.specs.declared.types.DataType.{DataType}
 use Rattle.check_scope.specs.declared.types.DataType.TheVariants as type
 use Rattle.check_scope.specs.declared.types.Target.{Target}
 use Rattle.check_scope.specs.declared.types.Typing.{Typing}
 use Rattle.check_scope.specs.declared.types.Typing.TheVariants as typing
-use Rattle.ttcn_values.specs.Evaluation.{Evaluation, after, expression_step, joined, link, link_step, value_of}
+use Rattle.value_types.specs.Evaluation.{Evaluation, after, expression_step, joined, link, link_step, value_of}
 use Rattle.value_arithmetic.specs.Integers as integers
 use Rattle.value_arithmetic.specs.Integers.{calculated}
-use Rattle.ttcn_values.specs.Operations.{applied, both, compared, decides, fitting, is_truth, logical, negated, ordered, truth, under_sign, with_sign}
-use Rattle.ttcn_values.specs.Outcomes.{Fails, IfYields, Outcome, Yields, dynamic_error, or_error, or_unmet, outcome_and_then, outcome_map}
-use Rattle.ttcn_values.specs.Readings.{Reading, along, component_at, component_runs, field, is_there, last_presence, named, presence, read, referred, runs, runs_at, state_in, state_of_field, timer_at}
+use Rattle.value_types.specs.Operations.{applied, both, compared, decides, fitting, is_truth, logical, negated, ordered, truth, under_sign, with_sign}
+use Rattle.value_types.specs.Outcomes.{Fails, IfYields, Outcome, Yields, dynamic_error, or_error, or_unmet, outcome_and_then, outcome_map}
+use Rattle.value_types.specs.Readings.{Reading, along, component_at, component_runs, field, is_there, last_presence, named, presence, read, referred, runs, runs_at, state_in, state_of_field, timer_at}
 use Rattle.laws_evaluation.specs.Types.{FitsIn, Goes, IsOfTyping, go_to_fields, goes_to_field, is_of, value_goes, value_step}
-use Rattle.ttcn_values.specs.Values as values
-use Rattle.ttcn_values.specs.Values.{boolean, boolean_in, equal, integer, is_complete, is_omit, is_omit_in, record_in, record_of}
-use Rattle.ttcn_values.specs.declared.value.ComponentId.{ComponentId}
-use Rattle.ttcn_values.specs.declared.value.Value.{Value, fold_out-Value, out-Value, roll-Value}
-use Rattle.ttcn_values.specs.declared.value.Value.TheFolds.{fold-roll-Value, map-Value}
-use Rattle.ttcn_values.specs.declared.value.Value.TheOpen.{Value-F}
-use Rattle.ttcn_values.specs.declared.value.Value.TheShapes.{former-Value-Record-1-at-1}
-use Rattle.ttcn_values.specs.declared.value.Value.TheVariants as value
+use Rattle.value_types.specs.Values as values
+use Rattle.value_types.specs.Values.{boolean, boolean_in, equal, integer, is_complete, is_omit, is_omit_in, record_in, record_of}
+use Rattle.value_types.specs.declared.value.ComponentId.{ComponentId}
+use Rattle.value_types.specs.declared.value.Value.{Value, fold_out-Value, out-Value, roll-Value}
+use Rattle.value_types.specs.declared.value.Value.TheFolds.{fold-roll-Value, map-Value}
+use Rattle.value_types.specs.declared.value.Value.TheOpen.{Value-F}
+use Rattle.value_types.specs.declared.value.Value.TheShapes.{former-Value-Record-1-at-1}
+use Rattle.value_types.specs.declared.value.Value.TheVariants as value
 
 -- ---- what may be there
 

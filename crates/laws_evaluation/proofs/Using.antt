@@ -5,7 +5,7 @@ use Rattle.ttcn_syntax.specs.declared.tree.expression.ComponentRef.{ComponentRef
 use Rattle.ttcn_syntax.specs.declared.tree.expression.ComponentRef.TheVariants as component
 use Rattle.ttcn_syntax.specs.declared.tree.expression.Expr.{Expr}
 use Rattle.ttcn_syntax.specs.declared.tree.expression.Reference.{Reference}
-use Rattle.check_expressions.specs.Expressions.{Judgement, check_component, check_reference, check_wanted_component, expression}
+use Rattle.check_rules.specs.Expressions.{Judgement, check_component, check_reference, check_wanted_component, expression}
 use Rattle.check_scope.specs.Names.{Scope}
 use Rattle.check_scope.specs.Typings.{refers_to_component, same_type, target_of, unless}
 use Rattle.check_scope.specs.declared.rule.Rule.{Rule}
@@ -13,7 +13,7 @@ use Rattle.check_scope.specs.declared.rule.Rule.TheVariants as rule
 use Rattle.check_scope.specs.declared.types.DataType.TheVariants as type
 use Rattle.check_scope.specs.declared.types.Typing.{Typing}
 use Rattle.check_scope.specs.declared.types.Typing.TheVariants as typing
-use Rattle.check_statements.specs.Statements.{check_boolean, check_condition, check_deactivate, refers_to_default}
+use Rattle.check_rules.specs.Statements.{check_boolean, check_condition, check_deactivate, refers_to_default}
 use Rattle.laws_checker.proofs.Nothing.{kept, nothing-first, nothing-rest}
 use Rattle.laws_checker.proofs.Typed.{component-typed, expression_typed as expression_known, reference-typed}
 use Rattle.laws_checker.specs.Laws.{IsWhole}
@@ -23,15 +23,15 @@ use Rattle.laws_evaluation.proofs.TypedLiterals.{same-type}
 use Rattle.laws_evaluation.proofs.TypedValues.{component-goes, expression_typed, goes_out, goes_rolled, level_goes}
 use Rattle.laws_evaluation.specs.Types.{FitsIn, HasAll, IsOfTyping, is_of, is_valued, value_goes}
 use Rattle.laws_evaluation.specs.Uses.{GivesOnly, IsReference}
-use Rattle.ttcn_values.specs.Evaluation.{condition_of, value_of}
-use Rattle.ttcn_values.specs.Outcomes.{IfYields, IsMet, or_unmet}
-use Rattle.ttcn_values.specs.Readings.{Reading, component_at, component_referred, referred}
-use Rattle.ttcn_values.specs.Values as values
-use Rattle.ttcn_values.specs.Values.{boolean}
-use Rattle.ttcn_values.specs.declared.value.ComponentId.{ComponentId}
-use Rattle.ttcn_values.specs.declared.value.Value.{Value, out-Value}
-use Rattle.ttcn_values.specs.declared.value.Value.TheOpen.{Value-F}
-use Rattle.ttcn_values.specs.declared.value.Value.TheVariants as value
+use Rattle.value_types.specs.Evaluation.{condition_of, value_of}
+use Rattle.value_types.specs.Outcomes.{IfYields, IsMet, or_unmet}
+use Rattle.value_types.specs.Readings.{Reading, component_at, component_referred, referred}
+use Rattle.value_types.specs.Values as values
+use Rattle.value_types.specs.Values.{boolean}
+use Rattle.value_types.specs.declared.value.ComponentId.{ComponentId}
+use Rattle.value_types.specs.declared.value.Value.{Value, out-Value}
+use Rattle.value_types.specs.declared.value.Value.TheOpen.{Value-F}
+use Rattle.value_types.specs.declared.value.Value.TheVariants as value
 
 -- ---- conditions
 

@@ -1,10 +1,10 @@
 -- What constants and templates stand for, with no word on how deep they refer to each other.
 use Rattle.std.specs.Prelude.{◌≡◌, ℕ, List}
 use Rattle.check_scope.specs.Names.{constant_at, constants_type, kind_at, module_names, template_at}
-use Rattle.ttcn_values.specs.Chains.{constant_value, template_value, with_names}
-use Rattle.ttcn_values.specs.Outcomes.{unmet}
-use Rattle.ttcn_values.specs.Readings.{Reading}
-use Rattle.ttcn_values.specs.declared.value.Value.{Value}
+use Rattle.value_types.specs.Chains.{constant_value, template_value, with_names}
+use Rattle.value_types.specs.Outcomes.{unmet}
+use Rattle.value_types.specs.Readings.{Reading}
+use Rattle.value_types.specs.declared.value.Value.{Value}
 
 -- in a reading each constant of the module gives what its written value gives in this same reading, without local names
 abbrev pub ConstantsStandForTheirValues : Reading → Type 0

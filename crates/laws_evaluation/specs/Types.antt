@@ -4,28 +4,28 @@ use Rattle.std.specs.List.{All, list_all}
 use Rattle.ttcn_syntax.specs.declared.tree.definition.Definition.{Definition}
 use Rattle.ttcn_syntax.specs.declared.tree.definition.Field.{Field}
 use Rattle.ttcn_syntax.specs.declared.tree.definition.Parameter.{Parameter}
-use Rattle.check_expressions.specs.Calls.{parameters_of, template_type}
-use Rattle.check_expressions.specs.Expressions.{check_meaning}
+use Rattle.check_rules.specs.Calls.{parameters_of, template_type}
+use Rattle.check_rules.specs.Expressions.{check_meaning}
 use Rattle.check_scope.specs.Names.{Scope, field_named, fields_at, kind_at, module_names, resolved}
-use Rattle.check_expressions.specs.Templates.{template_meant}
+use Rattle.check_rules.specs.Templates.{template_meant}
 use Rattle.check_scope.specs.declared.names.Meaning.{Meaning}
 use Rattle.check_scope.specs.declared.names.Meaning.TheVariants as meaning
 use Rattle.check_scope.specs.Typings.{is_component, is_default, same_type, typed}
-use Rattle.check_expressions.specs.Values.{field_target}
+use Rattle.check_rules.specs.Values.{field_target}
 use Rattle.check_scope.specs.Typings.{target_of}
 use Rattle.check_scope.specs.declared.types.DataType.{DataType}
 use Rattle.check_scope.specs.declared.types.DataType.TheVariants as type
 use Rattle.check_scope.specs.declared.types.Target.{Target}
 use Rattle.check_scope.specs.declared.types.Typing.{Typing}
 use Rattle.check_scope.specs.declared.types.Typing.TheVariants as typing
-use Rattle.ttcn_values.specs.Outcomes.{IfYields, IsMet}
-use Rattle.ttcn_values.specs.Readings.{Reading, enumerators_of, named}
-use Rattle.ttcn_values.specs.Values.{is_complete}
-use Rattle.ttcn_values.specs.declared.template.Pattern.TheOpen.{Pattern-F, Template-F}
-use Rattle.ttcn_values.specs.declared.template.Template.{Template, fold-Template}
-use Rattle.ttcn_values.specs.declared.value.Value.{Value, fold-Value}
-use Rattle.ttcn_values.specs.declared.value.Value.TheOpen.{Value-F}
-use Rattle.ttcn_values.specs.declared.value.Value.TheVariants as value
+use Rattle.value_types.specs.Outcomes.{IfYields, IsMet}
+use Rattle.value_types.specs.Readings.{Reading, enumerators_of, named}
+use Rattle.value_types.specs.Values.{is_complete}
+use Rattle.value_types.specs.declared.template.Pattern.TheOpen.{Pattern-F, Template-F}
+use Rattle.value_types.specs.declared.template.Template.{Template, fold-Template}
+use Rattle.value_types.specs.declared.value.Value.{Value, fold-Value}
+use Rattle.value_types.specs.declared.value.Value.TheOpen.{Value-F}
+use Rattle.value_types.specs.declared.value.Value.TheVariants as value
 
 -- ---- values
 

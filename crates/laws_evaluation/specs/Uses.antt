@@ -6,10 +6,10 @@ use Rattle.check_scope.specs.declared.types.DataType.TheVariants as type
 use Rattle.check_scope.specs.declared.types.Target.{Target}
 use Rattle.check_scope.specs.declared.types.Typing.{Typing}
 use Rattle.laws_evaluation.specs.Types.{IsOfTyping, is_of, value_goes}
-use Rattle.ttcn_values.specs.Outcomes.{DynamicError, Fails, Outcome, Unmet, Yields}
-use Rattle.ttcn_values.specs.Readings.{along}
-use Rattle.ttcn_values.specs.Values.{is_complete, is_omit}
-use Rattle.ttcn_values.specs.declared.value.Value.{Value}
+use Rattle.value_types.specs.Outcomes.{DynamicError, Fails, Outcome, Unmet, Yields}
+use Rattle.value_types.specs.Readings.{along}
+use Rattle.value_types.specs.Values.{is_complete, is_omit}
+use Rattle.value_types.specs.declared.value.Value.{Value}
 
 -- an outcome is a value of which something holds, or a dynamic error
 abbrev pub GivesOnly : {A : Type 0} → Outcome A → (A → Type 0) → Type 0

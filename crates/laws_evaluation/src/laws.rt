@@ -2,12 +2,12 @@
 //! refer to each other in chains of at most 200, so as many links are enough.
 ghost use Rattle.std.specs.Prelude.{◌≡◌, ◌≤◌, ℕ};
 ghost use Rattle.laws_evaluation.specs.Standing.{ConstantsStandForTheirValues, GiveTheSame, TemplatesStandForTheirBodies};
-ghost use Rattle.ttcn_values.specs.Chains.{Outcomes, with_outcomes, within_chains};
-ghost use Rattle.ttcn_values.specs.Frames.{longest_chain, reading};
-ghost use Rattle.ttcn_values.specs.Readings.{Reading};
-ghost use Rattle.ttcn_values.specs.declared.frame.Frame.{Frame};
+ghost use Rattle.value_types.specs.Chains.{Outcomes, with_outcomes, within_chains};
+ghost use Rattle.value_types.specs.Frames.{longest_chain, reading};
+ghost use Rattle.value_types.specs.Readings.{Reading};
+ghost use Rattle.value_types.specs.declared.frame.Frame.{Frame};
 
-use ttcn_types::Program;
+use check_rules::Program;
 
 /// A constant gives what its written value gives, wherever it is named.
 #[tactic(auto, using(crate::proofs::Steps::constants_stand))]

@@ -6,22 +6,22 @@ ghost use Rattle.ttcn_syntax.specs.declared.tree.expression.Expr.{Expr};
 ghost use Rattle.ttcn_syntax.specs.declared.tree.template.Template.{Template};
 ghost use Rattle.ttcn_syntax.specs.declared.tree.value.Value as tree;
 ghost use Rattle.check_scope.specs.Scopes.{module_scope};
-ghost use Rattle.check_expressions.specs.Expressions.{expression};
+ghost use Rattle.check_rules.specs.Expressions.{expression};
 ghost use Rattle.laws_checker.specs.Laws.{AreArguments, IsWhole};
 ghost use Rattle.check_scope.specs.Names.{Scope};
-ghost use Rattle.ttcn_types.specs.Rules.{AreWellTyped};
-ghost use Rattle.check_expressions.specs.Templates.{template};
-ghost use Rattle.check_expressions.specs.Values.{check_expression, value};
+ghost use Rattle.check_rules.specs.Rules.{AreWellTyped};
+ghost use Rattle.check_rules.specs.Templates.{template};
+ghost use Rattle.check_rules.specs.Values.{check_expression, value};
 ghost use Rattle.check_scope.specs.declared.types.DataType.{DataType};
-ghost use Rattle.ttcn_values.specs.Chains.{with_names, within_chains};
-ghost use Rattle.ttcn_values.specs.Evaluation.{value_of};
-ghost use Rattle.ttcn_values.specs.Frames.{longest_chain};
-ghost use Rattle.ttcn_values.specs.Literals.{value_wanted};
-ghost use Rattle.ttcn_values.specs.Outcomes.{IfYields, IsMet, Outcome};
-ghost use Rattle.ttcn_values.specs.Readings.{Reading};
-ghost use Rattle.ttcn_values.specs.Templates.{arguments, template_wanted};
+ghost use Rattle.value_types.specs.Chains.{with_names, within_chains};
+ghost use Rattle.value_types.specs.Evaluation.{value_of};
+ghost use Rattle.value_types.specs.Frames.{longest_chain};
+ghost use Rattle.value_types.specs.Literals.{value_wanted};
+ghost use Rattle.value_types.specs.Outcomes.{IfYields, IsMet, Outcome};
+ghost use Rattle.value_types.specs.Readings.{Reading};
+ghost use Rattle.value_types.specs.Templates.{arguments, template_wanted};
 ghost use Rattle.laws_evaluation.specs.Types.{AreGiven, FieldsDiffer, FitsIn, HasAll, IsOfTyping, ParametersKnown, is_valued, template_goes, value_goes};
-ghost use Rattle.ttcn_values.specs.declared.value.Value.{Value};
+ghost use Rattle.value_types.specs.declared.value.Value.{Value};
 
 /// The value of an expression is of the expression's type.
 #[tactic(auto, using(crate::proofs::TypedValues::expression_typed))]

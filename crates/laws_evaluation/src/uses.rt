@@ -9,10 +9,10 @@ ghost use Rattle.ttcn_syntax.specs.declared.tree.expression.Reference.{Reference
 ghost use Rattle.ttcn_syntax.specs.declared.tree.template.MessageTemplate.{MessageTemplate};
 ghost use Rattle.ttcn_syntax.specs.declared.tree.value.Value as tree;
 ghost use Rattle.value_assignment.specs.Assignment.{assigned};
-ghost use Rattle.check_expressions.specs.Calls.{parameters_of};
-ghost use Rattle.check_expressions.specs.Expressions.{Judgement, check_component, check_reference, check_wanted_component};
-ghost use Rattle.check_expressions.specs.Targets.{check_target, target_at};
-ghost use Rattle.check_expressions.specs.Values.{value};
+ghost use Rattle.check_rules.specs.Calls.{parameters_of};
+ghost use Rattle.check_rules.specs.Expressions.{Judgement, check_component, check_reference, check_wanted_component};
+ghost use Rattle.check_rules.specs.Targets.{check_target, target_at};
+ghost use Rattle.check_rules.specs.Values.{value};
 ghost use Rattle.check_scope.specs.Names.{Scope, kind_at};
 ghost use Rattle.check_scope.specs.Typings.{refers_to_component, target_of};
 ghost use Rattle.check_scope.specs.declared.names.Meaning.TheVariants as meaning;
@@ -20,21 +20,21 @@ ghost use Rattle.check_scope.specs.declared.types.DataType.{DataType};
 ghost use Rattle.check_scope.specs.declared.types.DataType.TheVariants as type;
 ghost use Rattle.check_scope.specs.declared.types.Target.{Target};
 ghost use Rattle.check_scope.specs.declared.types.Typing.TheVariants as typing;
-ghost use Rattle.check_statements.specs.Messages.{Passing, check_message, type_of_message};
-ghost use Rattle.check_statements.specs.Statements.{check_condition, check_deactivate};
+ghost use Rattle.check_rules.specs.Messages.{Passing, check_message, type_of_message};
+ghost use Rattle.check_rules.specs.Statements.{check_condition, check_deactivate};
 ghost use Rattle.laws_checker.specs.Laws.{AreArguments, IsWhole};
 ghost use Rattle.laws_evaluation.specs.Types.{FieldsDiffer, FitsIn, HasAll, HasParameterType, IsOfTyping, ParametersKnown, is_of, is_valued, template_goes, value_goes};
 ghost use Rattle.laws_evaluation.specs.Uses.{GivesAlways, GivesOnly, HoldsAssigned, IsReference, IsSpecific};
-ghost use Rattle.ttcn_types.specs.Rules.{AreWellTyped};
-ghost use Rattle.ttcn_values.specs.Evaluation.{condition_of};
-ghost use Rattle.ttcn_values.specs.Literals.{value_wanted};
-ghost use Rattle.ttcn_values.specs.Matching.{specific_value};
-ghost use Rattle.ttcn_values.specs.Outcomes.{IsMet, outcome_and_then};
-ghost use Rattle.ttcn_values.specs.Readings.{Reading, component_at, component_referred, referred};
-ghost use Rattle.ttcn_values.specs.Templates.{arguments, template_wanted};
-ghost use Rattle.ttcn_values.specs.declared.template.Template.{Template};
-ghost use Rattle.ttcn_values.specs.declared.value.Value.{Value};
-ghost use Rattle.ttcn_values.specs.declared.value.Value.TheVariants as value_form;
+ghost use Rattle.check_rules.specs.Rules.{AreWellTyped};
+ghost use Rattle.value_types.specs.Evaluation.{condition_of};
+ghost use Rattle.value_types.specs.Literals.{value_wanted};
+ghost use Rattle.value_types.specs.Matching.{specific_value};
+ghost use Rattle.value_types.specs.Outcomes.{IsMet, outcome_and_then};
+ghost use Rattle.value_types.specs.Readings.{Reading, component_at, component_referred, referred};
+ghost use Rattle.value_types.specs.Templates.{arguments, template_wanted};
+ghost use Rattle.value_types.specs.declared.template.Template.{Template};
+ghost use Rattle.value_types.specs.declared.value.Value.{Value};
+ghost use Rattle.value_types.specs.declared.value.Value.TheVariants as value_form;
 
 /// A condition that breaks no rule gives a boolean or a dynamic error.
 #[tactic(auto, using(crate::proofs::Using::conditions_met))]

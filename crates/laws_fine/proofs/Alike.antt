@@ -11,19 +11,19 @@ use Rattle.ttcn_syntax.specs.declared.tree.statement.Event.{Event}
 use Rattle.ttcn_syntax.specs.declared.tree.statement.Event.TheVariants as event
 use Rattle.ttcn_syntax.specs.declared.tree.statement.Statement.{Statement}
 use Rattle.ttcn_syntax.specs.declared.tree.value.Call.{Call}
-use Rattle.check_expressions.specs.Calls.{altstep_meant, parameters_of}
+use Rattle.check_rules.specs.Calls.{altstep_meant, parameters_of}
 use Rattle.check_scope.specs.Names.{kind_at, module_names}
 use Rattle.semantics.specs.Branches.{Fault, Judge, Open, Writing, Written, behind_guard, branches_of, guard_holds, judge_in, open_branch, read_by, through, write_altsteps, written_alt, written_alternative, written_branch, written_call, written_default, written_defaults, written_with, written_within}
 use Rattle.semantics.specs.Configurations.{Data}
 use Rattle.semantics.specs.Events.{chosen_by, first_choice, try_all_done, try_chance, try_done, try_event, try_receive, try_timeout}
 use Rattle.semantics.specs.Items.{Does, Item, items_if_any}
 use Rattle.semantics.specs.Snapshots.{Snapshot, Test, facts_of, seen_members}
-use Rattle.ttcn_types.specs.Limits.{longest_chain}
-use Rattle.ttcn_values.specs.Chains.{within_chains}
-use Rattle.ttcn_values.specs.Frames.{seen_entry}
-use Rattle.ttcn_values.specs.Outcomes.{Fails, Outcome, Yields}
-use Rattle.ttcn_values.specs.Templates.{arguments}
-use Rattle.ttcn_values.specs.declared.value.Value.{Value}
+use Rattle.check_rules.specs.Limits.{longest_chain}
+use Rattle.value_types.specs.Chains.{within_chains}
+use Rattle.value_types.specs.Frames.{seen_entry}
+use Rattle.value_types.specs.Outcomes.{Fails, Outcome, Yields}
+use Rattle.value_types.specs.Templates.{arguments}
+use Rattle.value_types.specs.declared.value.Value.{Value}
 
 -- two components' data of which a choice by one snapshot reads the same
 pub record AreAlike (own other : Data) : Type 0 where

@@ -3,7 +3,7 @@ use Rattle.std.proofs.Common.{◌≡◌, ℕ, ◌+◌, Bool, true, false, List, 
 use Rattle.ttcn_syntax.specs.declared.place.Span.{Span}
 use Rattle.ttcn_syntax.specs.declared.tree.statement.Action.TheOpen.{Action-F}
 use Rattle.ttcn_syntax.specs.declared.tree.statement.Statement.{Statement, out-Statement}
-use Rattle.check_expressions.specs.Calls.{altstep_meant}
+use Rattle.check_rules.specs.Calls.{altstep_meant}
 use Rattle.check_scope.specs.Names.{module_names}
 use Rattle.laws_fine.proofs.Alike.{AreAlike, choice_alike}
 use Rattle.laws_fine.proofs.Lapses.{IsSafe, at_call, lapse, lapsed, members-values, taken_same, timer_in, with_way}
@@ -15,11 +15,11 @@ use Rattle.semantics.specs.Events.{Choice, Nothing, Refused, Taken, first_choice
 use Rattle.semantics.specs.Items.{Does, Doing, From, Item, Last, Loop, Mark, Name, Start, Waiting, Whole, action_of}
 use Rattle.semantics.specs.Sites.{Site}
 use Rattle.semantics.specs.Snapshots.{Snapshot, Test}
-use Rattle.semantics.specs.Statements.{Act, Continues, Errs, Removes, Stand, Waits, act, act_alt_or, act_first, act_in, act_port, act_whole, acting, call_function, choice_at, with_frames}
+use Rattle.semantics.specs.Statements.{Act, Continues, Errs, Removes, Requests, Stand, Waits, act, act_alt_or, act_first, act_in, act_port, act_whole, acting, call_function, choice_at, with_frames}
 use Rattle.semantics.specs.Taking.{port_taken, taken}
-use Rattle.ttcn_values.specs.Outcomes.{Fails, IfYields, Outcome, Unmet, Yields, outcome_and_then, outcome_map}
-use Rattle.ttcn_values.specs.declared.frame.TimerState.TheVariants as timer
-use Rattle.ttcn_values.specs.declared.value.Value.{Value}
+use Rattle.value_types.specs.Outcomes.{Fails, IfYields, Outcome, Unmet, Yields, outcome_and_then, outcome_map}
+use Rattle.value_types.specs.declared.frame.TimerState.TheVariants as timer
+use Rattle.value_types.specs.declared.value.Value.{Value}
 
 -- ---- what is chosen
 
@@ -88,22 +88,22 @@ alt-is test snapshot own frame below site s rest is =
 
 -- what is asked for, with other data of the component that asks
 abbrev pub asked : (Data → Data) → Act → Act
-asked f (Continues own) = Continues (f own)
-asked f (Removes port own) = Removes port (f own)
+asked f (Requests Continues own) = Requests Continues (f own)
+asked f (Requests (Removes port) own) = Requests (Removes port) (f own)
 asked f other = other
 
 -- of the data that a component at an `alt` asks for
 abbrev pub IfData : Act → (Data → Type 0) → Type 0
-IfData (Continues own) P = P own
-IfData (Removes port own) P = P own
+IfData (Requests Continues own) P = P own
+IfData (Requests (Removes port) own) P = P own
 IfData other P = Unit {0}
 
 -- what a component at an `alt` may ask for
 abbrev pub IsOfAlt : Act → Type 0
 IsOfAlt Waits = Unit {0}
 IsOfAlt (Errs why) = Unit {0}
-IsOfAlt (Continues own) = Unit {0}
-IsOfAlt (Removes port own) = Unit {0}
+IsOfAlt (Requests Continues own) = Unit {0}
+IsOfAlt (Requests (Removes port) own) = Unit {0}
 IsOfAlt other = ⊥
 
 -- the choice makes no timer inactive that runs

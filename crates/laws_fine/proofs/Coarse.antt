@@ -15,50 +15,36 @@ use Rattle.laws_steps.proofs.Finding.{found-path, path-is, path-same, some-is}
 use Rattle.laws_fine.proofs.Leading.{ended-run, fine_of, fine_run, leads}
 use Rattle.semantics.specs.Configurations.{Component, Configuration, Ended, Goes, Going, component_at, is_running_state, path_of, same_path}
 use Rattle.semantics.specs.Snapshots.{Snapshot, Test, snapshot_of}
-use Rattle.semantics.specs.Statements.{Act, Connects, Continues, Creates, Errs, Removes, Sends, Starts, Stops, Waits, Worsens, act}
+use Rattle.semantics.specs.Statements.{Act, Connects, Continues, Creates, Errs, Removes, Requests, Sends, Starts, Stops, Waits, Worsens, act}
 use Rattle.semantics.specs.Steps as steps
 use Rattle.semantics.specs.Steps.{Expiry, Label, Statement, apply, next, settled, statement_step}
-use Rattle.ttcn_values.specs.Outcomes.{Outcome, Yields}
-use Rattle.ttcn_values.specs.declared.path.Path.{Path}
-use Rattle.ttcn_values.specs.declared.value.ComponentId.{ComponentId}
+use Rattle.value_types.specs.Outcomes.{Outcome, Yields}
+use Rattle.value_types.specs.declared.path.Path.{Path}
+use Rattle.value_types.specs.declared.value.ComponentId.{ComponentId}
 
 -- ---- what is asked for, by its fate
 
 pub lapsing : (test : Test) (c : Going) (itself : ComponentId) (a : Act) → fate_of a ≡ Lapses → apply test c itself a ≡ None
 lapsing test c itself Waits is = refl
 lapsing test c itself (Errs why) is = absurd (let no = is in cc)
-lapsing test c itself (Continues own) is = absurd (let no = is in cc)
-lapsing test c itself (Worsens v own) is = absurd (let no = is in cc)
-lapsing test c itself (Removes port own) is = absurd (let no = is in cc)
-lapsing test c itself (Sends port to v own) is = absurd (let no = is in cc)
-lapsing test c itself (Creates new own) is = absurd (let no = is in cc)
-lapsing test c itself (Starts path frame own) is = absurd (let no = is in cc)
-lapsing test c itself (Stops path own) is = absurd (let no = is in cc)
-lapsing test c itself (Connects d e own) is = absurd (let no = is in cc)
+lapsing test c itself (Requests request own) is = absurd (let no = is in cc)
 
 pub faulting : (test : Test) (c : Going) (itself : ComponentId) (a : Act) → fate_of a ≡ Faults → option_map settled (apply test c itself a) ≡ Some (Ended verdict.Error)
 faulting test c itself Waits is = absurd (let no = is in cc)
 faulting test c itself (Errs why) is = refl
-faulting test c itself (Continues own) is = absurd (let no = is in cc)
-faulting test c itself (Worsens v own) is = absurd (let no = is in cc)
-faulting test c itself (Removes port own) is = absurd (let no = is in cc)
-faulting test c itself (Sends port to v own) is = absurd (let no = is in cc)
-faulting test c itself (Creates new own) is = absurd (let no = is in cc)
-faulting test c itself (Starts path frame own) is = absurd (let no = is in cc)
-faulting test c itself (Stops path own) is = absurd (let no = is in cc)
-faulting test c itself (Connects d e own) is = absurd (let no = is in cc)
+faulting test c itself (Requests request own) is = absurd (let no = is in cc)
 
 taking : (test : Test) (c : Going) (x : Component) (a : Act) → fate_of a ≡ Takes → IsOfAlt a → OutcomeIs test c x a → apply test c x.itself a ≡ Some (Yields (Goes (made_at a (path_of x) c)))
 taking test c x Waits is alt outcome = absurd (let no = is in cc)
 taking test c x (Errs why) is alt outcome = absurd (let no = is in cc)
-taking test c x (Continues own) is alt outcome = outcome
-taking test c x (Worsens v own) is alt outcome = absurd alt
-taking test c x (Removes port own) is alt outcome = outcome
-taking test c x (Sends port to v own) is alt outcome = absurd alt
-taking test c x (Creates new own) is alt outcome = absurd alt
-taking test c x (Starts path frame own) is alt outcome = absurd alt
-taking test c x (Stops path own) is alt outcome = absurd alt
-taking test c x (Connects d e own) is alt outcome = absurd alt
+taking test c x (Requests Continues own) is alt outcome = outcome
+taking test c x (Requests (Worsens v) own) is alt outcome = absurd alt
+taking test c x (Requests (Removes port) own) is alt outcome = outcome
+taking test c x (Requests (Sends port to v) own) is alt outcome = absurd alt
+taking test c x (Requests (Creates new) own) is alt outcome = absurd alt
+taking test c x (Requests (Starts path frame) own) is alt outcome = absurd alt
+taking test c x (Requests (Stops path) own) is alt outcome = absurd alt
+taking test c x (Requests (Connects d e) own) is alt outcome = absurd alt
 
 -- ---- the step of a component that chooses at once
 

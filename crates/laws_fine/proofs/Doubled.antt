@@ -12,8 +12,8 @@ use Rattle.semantics.specs.Runs.{graph_of, option_elim}
 use Rattle.semantics.specs.Snapshots.{Test, snapshot_of}
 use Rattle.semantics.specs.Statements.{act}
 use Rattle.semantics.specs.Steps.{Expiry, Label, Statement, apply, next, settled}
-use Rattle.ttcn_values.specs.Outcomes.{Outcome}
-use Rattle.ttcn_values.specs.declared.path.Path.{Path}
+use Rattle.value_types.specs.Outcomes.{Outcome}
+use Rattle.value_types.specs.declared.path.Path.{Path}
 
 -- no snapshot is left of none
 pub none-still : (d : Configuration) → still_stored d [] ≡ []

@@ -10,18 +10,18 @@ use Rattle.laws_steps.proofs.Finding.{found-map, path-is}
 use Rattle.semantics.proofs.Pairs.{All-more}
 use Rattle.semantics.specs.Configurations.{Component, Configuration, Created, Data, End, Ended, Frame, Goes, Going, Message, Queue, Running, State, Terminated, component_at, is_running_state, is_terminated_state, overall, path_cmp, path_of, same_path, worse}
 use Rattle.semantics.specs.Snapshots.{Snapshot, Test, front_of, mtc_of, snapshot_of}
-use Rattle.semantics.specs.Statements.{Act, Connects, Continues, Creates, Errs, Removes, Sends, Starts, Stops, Waits, Worsens, act}
+use Rattle.semantics.specs.Statements.{Act, Connects, Continues, Creates, Errs, Removes, Requests, Sends, Starts, Stops, Waits, Worsens, act}
 use Rattle.semantics.specs.Steps.{Statement, addressed, apply, at_queue, begin, change_queue, connect, connection, deliver, ending, insert, is_before, is_double, is_terminated_at, is_terminated_component, next, peers, send, settle, settled, start_component, start_created, start_in, statement_step, stop, touch, unless_terminated, with_connection, with_data, with_new, with_state, with_verdict, without_first}
-use Rattle.ttcn_values.specs.Outcomes.{Fails, Outcome, Yields, dynamic_error, outcome_map}
-use Rattle.ttcn_values.specs.declared.path.Path.{Path}
-use Rattle.ttcn_values.specs.declared.value.ComponentId.{ComponentId}
+use Rattle.value_types.specs.Outcomes.{Fails, Outcome, Yields, dynamic_error, outcome_map}
+use Rattle.value_types.specs.declared.path.Path.{Path}
+use Rattle.value_types.specs.declared.value.ComponentId.{ComponentId}
 
 -- ---- what a component does early
 
 -- a component that has done what it asks for
 abbrev pub made_by : Act → Component → Component
-made_by (Continues own) x = with_data own x
-made_by (Removes port own) x = at_queue port without_first (with_data own x)
+made_by (Requests Continues own) x = with_data own x
+made_by (Requests (Removes port) own) x = at_queue port without_first (with_data own x)
 made_by other x = x
 
 -- a component that has chosen by a snapshot
@@ -51,38 +51,38 @@ early_in test pending (Goes c) = Goes (early test pending c)
 made-itself : (a : Act) (x : Component) → (made_by a x).itself ≡ x.itself
 made-itself Waits x = refl
 made-itself (Errs why) x = refl
-made-itself (Continues own) x = refl
-made-itself (Worsens v own) x = refl
-made-itself (Removes port own) x = refl
-made-itself (Sends port to v own) x = refl
-made-itself (Creates new own) x = refl
-made-itself (Starts path frame own) x = refl
-made-itself (Stops path own) x = refl
-made-itself (Connects d e own) x = refl
+made-itself (Requests Continues own) x = refl
+made-itself (Requests (Worsens v) own) x = refl
+made-itself (Requests (Removes port) own) x = refl
+made-itself (Requests (Sends port to v) own) x = refl
+made-itself (Requests (Creates new) own) x = refl
+made-itself (Requests (Starts path frame) own) x = refl
+made-itself (Requests (Stops path) own) x = refl
+made-itself (Requests (Connects d e) own) x = refl
 
 pub made-state : (a : Act) (x : Component) → (made_by a x).state ≡ x.state
 made-state Waits x = refl
 made-state (Errs why) x = refl
-made-state (Continues own) x = refl
-made-state (Worsens v own) x = refl
-made-state (Removes port own) x = refl
-made-state (Sends port to v own) x = refl
-made-state (Creates new own) x = refl
-made-state (Starts path frame own) x = refl
-made-state (Stops path own) x = refl
-made-state (Connects d e own) x = refl
+made-state (Requests Continues own) x = refl
+made-state (Requests (Worsens v) own) x = refl
+made-state (Requests (Removes port) own) x = refl
+made-state (Requests (Sends port to v) own) x = refl
+made-state (Requests (Creates new) own) x = refl
+made-state (Requests (Starts path frame) own) x = refl
+made-state (Requests (Stops path) own) x = refl
+made-state (Requests (Connects d e) own) x = refl
 
 made-verdict : (a : Act) (x : Component) → (made_by a x).verdict ≡ x.verdict
 made-verdict Waits x = refl
 made-verdict (Errs why) x = refl
-made-verdict (Continues own) x = refl
-made-verdict (Worsens v own) x = refl
-made-verdict (Removes port own) x = refl
-made-verdict (Sends port to v own) x = refl
-made-verdict (Creates new own) x = refl
-made-verdict (Starts path frame own) x = refl
-made-verdict (Stops path own) x = refl
-made-verdict (Connects d e own) x = refl
+made-verdict (Requests Continues own) x = refl
+made-verdict (Requests (Worsens v) own) x = refl
+made-verdict (Requests (Removes port) own) x = refl
+made-verdict (Requests (Sends port to v) own) x = refl
+made-verdict (Requests (Creates new) own) x = refl
+made-verdict (Requests (Starts path frame) own) x = refl
+made-verdict (Requests (Stops path) own) x = refl
+made-verdict (Requests (Connects d e) own) x = refl
 
 if-itself : (test : Test) (o : Option Snapshot) (x : Component) → (made_if test o x).itself ≡ x.itself
 if-itself test None x = refl
@@ -186,14 +186,14 @@ settle-free test pending c p own none = touch-free test pending c p (with_data o
 state-made : (state : State) (a : Act) (x : Component) → with_state state (made_by a x) ≡ made_by a (with_state state x)
 state-made state Waits x = refl
 state-made state (Errs why) x = refl
-state-made state (Continues own) x = refl
-state-made state (Worsens v own) x = refl
-state-made state (Removes port own) x = refl
-state-made state (Sends port to v own) x = refl
-state-made state (Creates new own) x = refl
-state-made state (Starts path frame own) x = refl
-state-made state (Stops path own) x = refl
-state-made state (Connects d e own) x = refl
+state-made state (Requests Continues own) x = refl
+state-made state (Requests (Worsens v) own) x = refl
+state-made state (Requests (Removes port) own) x = refl
+state-made state (Requests (Sends port to v) own) x = refl
+state-made state (Requests (Creates new) own) x = refl
+state-made state (Requests (Starts path frame) own) x = refl
+state-made state (Requests (Stops path) own) x = refl
+state-made state (Requests (Connects d e) own) x = refl
 
 state-if : (test : Test) (state : State) (o : Option Snapshot) (x : Component) → with_state state (made_if test o x) ≡ made_if test o (with_state state x)
 state-if test state None x = refl
@@ -212,7 +212,7 @@ HasFront port queues = IfSome (find (λ queue. bytes_eq queue.0 port) queues) (�
 
 -- what is asked for finds the message that it removes
 abbrev pub FindsFront : Act → List Queue → Type 0
-FindsFront (Removes port own) queues = HasFront port queues
+FindsFront (Requests (Removes port) own) queues = HasFront port queues
 FindsFront other queues = Unit {0}
 
 abbrev behind_all : Message → List Message → List Message
@@ -254,14 +254,14 @@ with_queues x own queues = record { itself = x.itself; own = own; state = x.stat
 queue-made : (to : List ℕ) (message : Message) (a : Act) (x : Component) → FindsFront a x.queues → at_queue to (behind_all message) (made_by a x) ≡ made_by a (at_queue to (behind_all message) x)
 queue-made to message Waits x front = refl
 queue-made to message (Errs why) x front = refl
-queue-made to message (Continues own) x front = refl
-queue-made to message (Worsens v own) x front = refl
-queue-made to message (Removes port own) x front = ap (with_queues x (with_data own x).own) (queues-agree port to message x.queues front)
-queue-made to message (Sends port other v own) x front = refl
-queue-made to message (Creates new own) x front = refl
-queue-made to message (Starts path frame own) x front = refl
-queue-made to message (Stops path own) x front = refl
-queue-made to message (Connects d e own) x front = refl
+queue-made to message (Requests Continues own) x front = refl
+queue-made to message (Requests (Worsens v) own) x front = refl
+queue-made to message (Requests (Removes port) own) x front = ap (with_queues x (with_data own x).own) (queues-agree port to message x.queues front)
+queue-made to message (Requests (Sends port other v) own) x front = refl
+queue-made to message (Requests (Creates new) own) x front = refl
+queue-made to message (Requests (Starts path frame) own) x front = refl
+queue-made to message (Requests (Stops path) own) x front = refl
+queue-made to message (Requests (Connects d e) own) x front = refl
 
 -- a component that has to choose finds the message that it will remove
 abbrev pub IsReadyFor : Test → Option Snapshot → Component → Type 0
@@ -429,31 +429,31 @@ pub apply_early : (test : Test) (pending : Pending) (c : Going) (itself : Compon
     → apply test (early test pending c) itself a ≡ option_map (outcome_map (early_in test pending)) (apply test c itself a)
 apply_early test pending c itself Waits none run ready = refl
 apply_early test pending c itself (Errs why) none run ready = refl
-apply_early test pending c itself (Continues own) none run ready = ap (λ d. Some (Yields (Goes d))) (settle-free test pending c itself.path own none)
-apply_early test pending c itself (Worsens v own) none run ready =
+apply_early test pending c itself (Requests Continues own) none run ready = ap (λ d. Some (Yields (Goes d))) (settle-free test pending c itself.path own none)
+apply_early test pending c itself (Requests (Worsens v) own) none run ready =
     ap (λ d. Some (Yields (Goes (touch d itself.path (with_verdict v))))) (settle-free test pending c itself.path own none)
     ∙ ap (λ d. Some (Yields (Goes d))) (touch-free test pending (settle c itself.path own) itself.path (with_verdict v) (λ x. refl) none)
-apply_early test pending c itself (Removes port own) none run ready =
+apply_early test pending c itself (Requests (Removes port) own) none run ready =
     ap (λ d. Some (Yields (Goes (touch d itself.path (at_queue port without_first))))) (settle-free test pending c itself.path own none)
     ∙ ap (λ d. Some (Yields (Goes d))) (touch-free test pending (settle c itself.path own) itself.path (at_queue port without_first) (λ x. refl) none)
-apply_early test pending c itself (Sends port to v own) none run ready =
+apply_early test pending c itself (Requests (Sends port to v) own) none run ready =
     ap (λ d. Some (ending (send d itself port to v))) (settle-free test pending c itself.path own none)
     ∙ ending-early test pending (send (settle c itself.path own) itself port to v) (send (early test pending (settle c itself.path own)) itself port to v)
     (deliver-early test pending (settle c itself.path own) (record { value = v; sender = itself })
     (filter (addressed to) (peers (settle c itself.path own) (record { component = itself.path; port = port })))
     (settle-ready test pending c itself.path own none ready))
-apply_early test pending c itself (Creates new own) none run ready =
+apply_early test pending c itself (Requests (Creates new) own) none run ready =
     ap (λ d. Some (Yields (Goes (with_new new d)))) (settle-free test pending c itself.path own none)
     ∙ ap (λ d. Some (Yields (Goes d))) (new-early test pending (settle c itself.path own) new (settle-run pending c itself.path own run))
-apply_early test pending c itself (Starts path frame own) none run ready =
+apply_early test pending c itself (Requests (Starts path frame) own) none run ready =
     ap (λ d. Some (ending (start_component d path frame))) (settle-free test pending c itself.path own none)
     ∙ ending-early test pending (start_component (settle c itself.path own) path frame) (start_component (early test pending (settle c itself.path own)) path frame)
     (ap (start_created (early test pending (settle c itself.path own)) path frame) (early-at test pending (settle c itself.path own) path)
     ∙ start-early test pending (settle c itself.path own) path frame (component_at (settle c itself.path own) path) (settle-run pending c itself.path own run path))
-apply_early test pending c itself (Stops path own) none run ready =
+apply_early test pending c itself (Requests (Stops path) own) none run ready =
     ap (λ d. Some (Yields (stop test d path))) (settle-free test pending c itself.path own none)
     ∙ ap (λ d. Some (Yields d)) (stop-told test pending (settle c itself.path own) path (same_path path (mtc_of test).path))
-apply_early test pending c itself (Connects d e own) none run ready =
+apply_early test pending c itself (Requests (Connects d e) own) none run ready =
     ap (λ x. Some (ending (connect x d e))) (settle-free test pending c itself.path own none)
     ∙ ending-early test pending (connect (settle c itself.path own) d e) (connect (early test pending (settle c itself.path own)) d e) (connect-early test pending (settle c itself.path own) d e)
 

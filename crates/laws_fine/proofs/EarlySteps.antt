@@ -11,11 +11,11 @@ use Rattle.laws_steps.proofs.Finding.{alive, path-is}
 use Rattle.semantics.proofs.Pairs.{All-more}
 use Rattle.semantics.specs.Configurations.{Component, Data, Goes, Going, component_at, is_running_state, is_terminated_state, path_of, same_path}
 use Rattle.semantics.specs.Snapshots.{Snapshot, Test}
-use Rattle.semantics.specs.Statements.{Act, Connects, Continues, Creates, Errs, Removes, Sends, Starts, Stops, Waits, Worsens, act}
+use Rattle.semantics.specs.Statements.{Act, Connects, Continues, Creates, Errs, Removes, Requests, Sends, Starts, Stops, Waits, Worsens, act}
 use Rattle.semantics.specs.Steps.{Expiry, apply, at_queue, exchanged, expired, expiry_step, next, settle, settled, touch, unless_terminated, with_data, without_first}
-use Rattle.ttcn_values.specs.Outcomes.{Yields}
-use Rattle.ttcn_values.specs.declared.frame.TimerState.TheVariants as timer
-use Rattle.ttcn_values.specs.declared.path.Path.{Path}
+use Rattle.value_types.specs.Outcomes.{Yields}
+use Rattle.value_types.specs.declared.frame.TimerState.TheVariants as timer
+use Rattle.value_types.specs.declared.path.Path.{Path}
 
 -- ---- one component at a path
 
@@ -40,7 +40,7 @@ pick-told change y false is = refl
 only-alive : (p : Path) (x y : Component) → is_running_state x.state ≡ true → (same_path (path_of y) p ≡ true → y ≡ x) → same_path (path_of y) p ≡ true → is_terminated_state y.state ≡ false
 only-alive p x y runs only at = ap (λ (z : Component). is_terminated_state z.state) (only at) ∙ alive x runs
 
-settle-is : (p : Path) (x : Component) (c : Going) (own : Data) → is_running_state x.state ≡ true → IsOnly p x c → settle c p own ≡ made_at (Continues own) p c
+settle-is : (p : Path) (x : Component) (c : Going) (own : Data) → is_running_state x.state ≡ true → IsOnly p x c → settle c p own ≡ made_at (Requests Continues own) p c
 settle-is p x c own runs only =
     made-all (λ y. if same_path (path_of y) p then unless_terminated (with_data own) y else y) (λ y. if same_path (path_of y) p then with_data own y else y) c
     (All-more (λ y. same_path (path_of y) p ≡ true → y ≡ x) (λ y. (if same_path (path_of y) p then unless_terminated (with_data own) y else y) ≡ (if same_path (path_of y) p then with_data own y else y))
@@ -48,41 +48,41 @@ settle-is p x c own runs only =
 
 two-told : (port : List ℕ) (own : Data) (p : Path) (y : Component) (b : Bool) → same_path (path_of y) p ≡ b → (b ≡ true → is_terminated_state y.state ≡ false)
     → (if same_path (path_of (if b then with_data own y else y)) p then unless_terminated (at_queue port without_first) (if b then with_data own y else y) else (if b then with_data own y else y))
-    ≡ (if b then made_by (Removes port own) y else y)
+    ≡ (if b then made_by (Requests (Removes port) own) y else y)
 two-told port own p y true at is =
     ap (λ b. if b then unless_terminated (at_queue port without_first) (with_data own y) else with_data own y) at ∙ ap (λ t. if t then with_data own y else at_queue port without_first (with_data own y)) (is refl)
 two-told port own p y false at is = ap (λ b. if b then unless_terminated (at_queue port without_first) y else y) at
 
 remove-is : (p : Path) (x : Component) (c : Going) (port : List ℕ) (own : Data) → is_running_state x.state ≡ true → IsOnly p x c
-    → touch (settle c p own) p (at_queue port without_first) ≡ made_at (Removes port own) p c
+    → touch (settle c p own) p (at_queue port without_first) ≡ made_at (Requests (Removes port) own) p c
 remove-is p x c port own runs only =
     ap (λ d. touch d p (at_queue port without_first)) (settle-is p x c own runs only)
     ∙ ap (with_components c)
     (map-map (λ y. if same_path (path_of y) p then unless_terminated (at_queue port without_first) y else y) (λ y. if same_path (path_of y) p then with_data own y else y) c.components)
     ∙ made-all (λ y. if same_path (path_of (if same_path (path_of y) p then with_data own y else y)) p then unless_terminated (at_queue port without_first) (if same_path (path_of y) p then with_data own y else y) else (if same_path (path_of y) p then with_data own y else y))
-    (λ y. if same_path (path_of y) p then made_by (Removes port own) y else y) c
+    (λ y. if same_path (path_of y) p then made_by (Requests (Removes port) own) y else y) c
     (All-more (λ y. same_path (path_of y) p ≡ true → y ≡ x)
     (λ y. (if same_path (path_of (if same_path (path_of y) p then with_data own y else y)) p then unless_terminated (at_queue port without_first) (if same_path (path_of y) p then with_data own y else y) else (if same_path (path_of y) p then with_data own y else y))
-    ≡ (if same_path (path_of y) p then made_by (Removes port own) y else y))
+    ≡ (if same_path (path_of y) p then made_by (Requests (Removes port) own) y else y))
     (λ y is. two-told port own p y (same_path (path_of y) p) refl (only-alive p x y runs is)) c.components only)
 
 -- the outcome of what is asked for at an `alt`
 abbrev pub OutcomeIs : Test → Going → Component → Act → Type 0
-OutcomeIs test c x (Continues own) = apply test c x.itself (Continues own) ≡ Some (Yields (Goes (made_at (Continues own) (path_of x) c)))
-OutcomeIs test c x (Removes port own) = apply test c x.itself (Removes port own) ≡ Some (Yields (Goes (made_at (Removes port own) (path_of x) c)))
+OutcomeIs test c x (Requests Continues own) = apply test c x.itself (Requests Continues own) ≡ Some (Yields (Goes (made_at (Requests Continues own) (path_of x) c)))
+OutcomeIs test c x (Requests (Removes port) own) = apply test c x.itself (Requests (Removes port) own) ≡ Some (Yields (Goes (made_at (Requests (Removes port) own) (path_of x) c)))
 OutcomeIs test c x other = Unit {0}
 
 pub outcome-is : (test : Test) (c : Going) (x : Component) (a : Act) → is_running_state x.state ≡ true → IsOnly (path_of x) x c → OutcomeIs test c x a
 outcome-is test c x Waits runs only = tt
 outcome-is test c x (Errs why) runs only = tt
-outcome-is test c x (Continues own) runs only = ap (λ d. Some (Yields (Goes d))) (settle-is (path_of x) x c own runs only)
-outcome-is test c x (Worsens v own) runs only = tt
-outcome-is test c x (Removes port own) runs only = ap (λ d. Some (Yields (Goes d))) (remove-is (path_of x) x c port own runs only)
-outcome-is test c x (Sends port to v own) runs only = tt
-outcome-is test c x (Creates new own) runs only = tt
-outcome-is test c x (Starts path frame own) runs only = tt
-outcome-is test c x (Stops path own) runs only = tt
-outcome-is test c x (Connects d e own) runs only = tt
+outcome-is test c x (Requests Continues own) runs only = ap (λ d. Some (Yields (Goes d))) (settle-is (path_of x) x c own runs only)
+outcome-is test c x (Requests (Worsens v) own) runs only = tt
+outcome-is test c x (Requests (Removes port) own) runs only = ap (λ d. Some (Yields (Goes d))) (remove-is (path_of x) x c port own runs only)
+outcome-is test c x (Requests (Sends port to v) own) runs only = tt
+outcome-is test c x (Requests (Creates new) own) runs only = tt
+outcome-is test c x (Requests (Starts path frame) own) runs only = tt
+outcome-is test c x (Requests (Stops path) own) runs only = tt
+outcome-is test c x (Requests (Connects d e) own) runs only = tt
 
 -- ---- choosing early, and when it is time
 
@@ -93,14 +93,14 @@ IsMore p snapshot pending others = (others p ≡ Some snapshot) × (pending p �
 pub made-path : (a : Act) (x : Component) → path_of (made_by a x) ≡ path_of x
 made-path Waits x = refl
 made-path (Errs why) x = refl
-made-path (Continues own) x = refl
-made-path (Worsens v own) x = refl
-made-path (Removes port own) x = refl
-made-path (Sends port to v own) x = refl
-made-path (Creates new own) x = refl
-made-path (Starts path frame own) x = refl
-made-path (Stops path own) x = refl
-made-path (Connects d e own) x = refl
+made-path (Requests Continues own) x = refl
+made-path (Requests (Worsens v) own) x = refl
+made-path (Requests (Removes port) own) x = refl
+made-path (Requests (Sends port to v) own) x = refl
+made-path (Requests (Creates new) own) x = refl
+made-path (Requests (Starts path frame) own) x = refl
+made-path (Requests (Stops path) own) x = refl
+made-path (Requests (Connects d e) own) x = refl
 
 -- a component that hasn't to choose is as it is
 pub free : (test : Test) (pending : Pending) (p : Path) (y : Component) → path_of y ≡ p → pending p ≡ None → hastened test pending y ≡ y
@@ -174,27 +174,27 @@ with_own x own = record { itself = x.itself; own = own; state = x.state; verdict
 pub made-lapses : (n : ℕ) (name : List ℕ) (a : Act) (x : Component) → IsOfAlt a → exchanged (lapsed n name (made_by a x).own) (made_by a x) ≡ made_by (asked (lapsed n name) a) (exchanged (lapsed n name x.own) x)
 made-lapses n name Waits x is = refl
 made-lapses n name (Errs why) x is = refl
-made-lapses n name (Continues own) x is = ap (with_own x) (sym (uncovered-lapses n name own))
-made-lapses n name (Worsens v own) x is = absurd is
-made-lapses n name (Removes port own) x is =
+made-lapses n name (Requests Continues own) x is = ap (with_own x) (sym (uncovered-lapses n name own))
+made-lapses n name (Requests (Worsens v) own) x is = absurd is
+made-lapses n name (Requests (Removes port) own) x is =
     ap (with_own (at_queue port without_first x)) (sym (uncovered-lapses n name own))
-made-lapses n name (Sends port to v own) x is = absurd is
-made-lapses n name (Creates new own) x is = absurd is
-made-lapses n name (Starts path frame own) x is = absurd is
-made-lapses n name (Stops path own) x is = absurd is
-made-lapses n name (Connects d e own) x is = absurd is
+made-lapses n name (Requests (Sends port to v) own) x is = absurd is
+made-lapses n name (Requests (Creates new) own) x is = absurd is
+made-lapses n name (Requests (Starts path frame) own) x is = absurd is
+made-lapses n name (Requests (Stops path) own) x is = absurd is
+made-lapses n name (Requests (Connects d e) own) x is = absurd is
 
 made-timer : (n : ℕ) (name : List ℕ) (a : Act) (x : Component) → IsOfAlt a → IfData a (λ d. timer_in n name d ≡ timer_in n name x.own) → timer_in n name (made_by a x).own ≡ timer_in n name x.own
 made-timer n name Waits x is same = refl
 made-timer n name (Errs why) x is same = refl
-made-timer n name (Continues own) x is same = uncovered-timer n name own ∙ same
-made-timer n name (Worsens v own) x is same = absurd is
-made-timer n name (Removes port own) x is same = uncovered-timer n name own ∙ same
-made-timer n name (Sends port to v own) x is same = absurd is
-made-timer n name (Creates new own) x is same = absurd is
-made-timer n name (Starts path frame own) x is same = absurd is
-made-timer n name (Stops path own) x is same = absurd is
-made-timer n name (Connects d e own) x is same = absurd is
+made-timer n name (Requests Continues own) x is same = uncovered-timer n name own ∙ same
+made-timer n name (Requests (Worsens v) own) x is same = absurd is
+made-timer n name (Requests (Removes port) own) x is same = uncovered-timer n name own ∙ same
+made-timer n name (Requests (Sends port to v) own) x is same = absurd is
+made-timer n name (Requests (Creates new) own) x is same = absurd is
+made-timer n name (Requests (Starts path frame) own) x is same = absurd is
+made-timer n name (Requests (Stops path) own) x is same = absurd is
+made-timer n name (Requests (Connects d e) own) x is same = absurd is
 
 -- a component that has to choose stands at an `alt`, and its choice is safe
 abbrev pub IsBound : Test → Option Snapshot → Component → Type 0

@@ -14,7 +14,7 @@ use Rattle.semantics.specs.Runs.{graph_of, mark_of, option_elim, replay, start}
 use Rattle.semantics.specs.Snapshots.{Test}
 use Rattle.semantics.specs.Steps.{Label, next, settled, step}
 use Rattle.summary.specs.Run.{IsRun, Run, Start, Then, end_of, labels_of, steps_of}
-use Rattle.ttcn_values.specs.Outcomes.{Outcome}
+use Rattle.value_types.specs.Outcomes.{Outcome}
 
 -- ---- one label more
 

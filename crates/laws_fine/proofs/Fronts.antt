@@ -11,7 +11,7 @@ use Rattle.ttcn_syntax.specs.declared.tree.statement.Receive.{Receive}
 use Rattle.ttcn_syntax.specs.declared.tree.template.MessageTemplate.{MessageTemplate}
 use Rattle.check_scope.specs.Typings.{same_type}
 use Rattle.check_scope.specs.declared.types.DataType.{DataType}
-use Rattle.check_statements.specs.Messages.{incoming, received_type}
+use Rattle.check_rules.specs.Messages.{incoming, received_type}
 use Rattle.laws_steps.proofs.Finding.{find-passes}
 use Rattle.semantics.proofs.Pairs.{pairs-head, pairs-tail}
 use Rattle.semantics.specs.Branches.{Judge, read_by}
@@ -19,10 +19,10 @@ use Rattle.semantics.specs.Configurations.{Data, Message, same_path}
 use Rattle.semantics.specs.Events.{Elapses, Faulty, Happened, Passed, Plain, Receives, Redirect, Trial, from_fits, happened_if, happened_or_passed, or_next, redirects, template_fits, timer_seen, tried, try_chance, try_event, try_front, try_fronts, try_port, try_receive, try_template, try_timeout, try_type, try_typed, type_of}
 use Rattle.semantics.specs.Sites.{Site, scope_at}
 use Rattle.semantics.specs.Snapshots.{Snapshot, Test, is_terminated_in, mtc_of, others_run}
-use Rattle.ttcn_values.specs.Outcomes.{DynamicError, Fails, Outcome, Yields}
-use Rattle.ttcn_values.specs.Readings.{Reading, component_referred}
-use Rattle.ttcn_values.specs.declared.frame.TimerState.{TimerState}
-use Rattle.ttcn_values.specs.declared.frame.TimerState.TheVariants as timer
+use Rattle.value_types.specs.Outcomes.{DynamicError, Fails, Outcome, Yields}
+use Rattle.value_types.specs.Readings.{Reading, component_referred}
+use Rattle.value_types.specs.declared.frame.TimerState.{TimerState}
+use Rattle.value_types.specs.declared.frame.TimerState.TheVariants as timer
 
 abbrev pub Fronts : Type 0
 Fronts = List (List ℕ × Option Message)

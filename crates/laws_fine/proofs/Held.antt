@@ -15,9 +15,9 @@ use Rattle.semantics.specs.Configurations.{Component, Configuration, Data, Ended
 use Rattle.semantics.specs.Snapshots.{Snapshot, Test, snapshot_of}
 use Rattle.semantics.specs.Statements.{Act, act}
 use Rattle.semantics.specs.Steps.{Expiry, Label, Statement, apply, exchanged, next, settled, unless_terminated}
-use Rattle.ttcn_values.specs.Outcomes.{Fails, IfYields, Outcome, Yields}
-use Rattle.ttcn_values.specs.declared.frame.TimerState.TheVariants as timer
-use Rattle.ttcn_values.specs.declared.path.Path.{Path}
+use Rattle.value_types.specs.Outcomes.{Fails, IfYields, Outcome, Yields}
+use Rattle.value_types.specs.declared.frame.TimerState.TheVariants as timer
+use Rattle.value_types.specs.declared.path.Path.{Path}
 
 -- this is what is kept of a snapshot of a component that has these data now
 pub record IsHeld (test : Test) (p : Path) (s : Snapshot) (own : Data) (h : Held) : Type 0 where

@@ -18,8 +18,8 @@ use Rattle.semantics.specs.Runs.{option_elim}
 use Rattle.semantics.specs.Snapshots.{Snapshot, Test, snapshot_of}
 use Rattle.semantics.specs.Statements.{Act, act}
 use Rattle.semantics.specs.Steps.{Label, apply, next, settled}
-use Rattle.ttcn_values.specs.Outcomes.{Outcome}
-use Rattle.ttcn_values.specs.declared.path.Path.{Path}
+use Rattle.value_types.specs.Outcomes.{Outcome}
+use Rattle.value_types.specs.declared.path.Path.{Path}
 
 -- ---- what is held, and what is stored
 

@@ -20,10 +20,10 @@ use Rattle.semantics.specs.Snapshots.{Snapshot, Test, View, members_in, seen_mem
 use Rattle.semantics.specs.Statements.{act, act_first, act_in, act_port, acting, with_frames}
 use Rattle.semantics.specs.Storing.{in_last, with_remaining}
 use Rattle.semantics.specs.Taking.{entered, marked, port_taken, taken}
-use Rattle.ttcn_values.specs.Frames.{entry, seen_entry}
-use Rattle.ttcn_values.specs.Outcomes.{Fails, Outcome, Yields, outcome_and_then}
-use Rattle.ttcn_values.specs.declared.frame.TimerState.{TimerState}
-use Rattle.ttcn_values.specs.declared.frame.TimerState.TheVariants as timer
+use Rattle.value_types.specs.Frames.{entry, seen_entry}
+use Rattle.value_types.specs.Outcomes.{Fails, Outcome, Yields, outcome_and_then}
+use Rattle.value_types.specs.declared.frame.TimerState.{TimerState}
+use Rattle.value_types.specs.declared.frame.TimerState.TheVariants as timer
 
 -- ---- what a snapshot says later
 

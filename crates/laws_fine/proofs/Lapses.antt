@@ -18,11 +18,11 @@ use Rattle.semantics.specs.Statements.{most, with_frames}
 use Rattle.semantics.specs.Steps.{expire_in, expired, expired_call, expired_frame}
 use Rattle.semantics.specs.Storing.{in_frame, in_last, last_values, store, target_meant, values_in, with_calls, with_members, with_remaining, with_timers, with_values}
 use Rattle.semantics.specs.Taking.{effected, entered, marked, store_all, uncovered, without_marks}
-use Rattle.ttcn_values.specs.Frames.{entry}
-use Rattle.ttcn_values.specs.Outcomes.{Fails, IfYields, Outcome, Yields, dynamic_error, outcome_and_then, outcome_map}
-use Rattle.ttcn_values.specs.declared.frame.TimerState.{TimerState}
-use Rattle.ttcn_values.specs.declared.frame.TimerState.TheVariants as timer
-use Rattle.ttcn_values.specs.declared.value.Value.{Value}
+use Rattle.value_types.specs.Frames.{entry}
+use Rattle.value_types.specs.Outcomes.{Fails, IfYields, Outcome, Yields, dynamic_error, outcome_and_then, outcome_map}
+use Rattle.value_types.specs.declared.frame.TimerState.{TimerState}
+use Rattle.value_types.specs.declared.frame.TimerState.TheVariants as timer
+use Rattle.value_types.specs.declared.value.Value.{Value}
 
 -- ---- an expiry
 

@@ -13,10 +13,10 @@ use Rattle.semantics.proofs.Pairs.{All-more}
 use Rattle.semantics.specs.Configurations.{Component, Configuration, Data, Goes, Going, component_at, is_running_state, is_terminated_state, path_of, same_path}
 use Rattle.semantics.specs.Runs.{option_elim}
 use Rattle.semantics.specs.Snapshots.{Snapshot, Test}
-use Rattle.semantics.specs.Statements.{Act, Connects, Continues, Creates, Errs, Removes, Sends, Starts, Stops, Waits, Worsens, act}
+use Rattle.semantics.specs.Statements.{Act, Connects, Continues, Creates, Errs, Removes, Requests, Sends, Starts, Stops, Waits, Worsens, act}
 use Rattle.semantics.specs.Steps.{Expiry, Label, apply, exchanged, settled, touch, unless_terminated}
-use Rattle.ttcn_values.specs.declared.frame.TimerState.TheVariants as timer
-use Rattle.ttcn_values.specs.declared.path.Path.{Path}
+use Rattle.value_types.specs.declared.frame.TimerState.TheVariants as timer
+use Rattle.value_types.specs.declared.path.Path.{Path}
 
 -- ---- expiries one after the other
 
@@ -80,20 +80,20 @@ pub one-lapse : (test : Test) (c : Going) (p : Path) (n : ℕ) (name : List ℕ)
     → option_map settled (apply test c x.itself (asked (lapsed n name) a)) ≡ option_map (λ d. after_label test d (Expiry p n name)) (option_map settled (apply test c x.itself a))
 one-lapse test c p n name x own Waits there runs only alt ran same = refl
 one-lapse test c p n name x own (Errs why) there runs only alt ran same = refl
-one-lapse test c p n name x own (Continues behind) there runs only alt ran same =
-    ap (option_map settled) (outcome-is test c x (Continues (lapsed n name behind)) runs only)
-    ∙ ap Some (sym (lapse-made test c p n name x (Continues behind) there runs only (uncovered-timer n name behind ∙ same ∙ ran) (made-lapses n name (Continues behind) x tt)))
-    ∙ ap (λ o. option_map (λ d. after_label test d (Expiry p n name)) (option_map settled o)) (sym (outcome-is test c x (Continues behind) runs only))
-one-lapse test c p n name x own (Removes port behind) there runs only alt ran same =
-    ap (option_map settled) (outcome-is test c x (Removes port (lapsed n name behind)) runs only)
-    ∙ ap Some (sym (lapse-made test c p n name x (Removes port behind) there runs only (uncovered-timer n name behind ∙ same ∙ ran) (made-lapses n name (Removes port behind) x tt)))
-    ∙ ap (λ o. option_map (λ d. after_label test d (Expiry p n name)) (option_map settled o)) (sym (outcome-is test c x (Removes port behind) runs only))
-one-lapse test c p n name x own (Worsens v behind) there runs only alt ran same = absurd alt
-one-lapse test c p n name x own (Sends port to v behind) there runs only alt ran same = absurd alt
-one-lapse test c p n name x own (Creates new behind) there runs only alt ran same = absurd alt
-one-lapse test c p n name x own (Starts path frame behind) there runs only alt ran same = absurd alt
-one-lapse test c p n name x own (Stops path behind) there runs only alt ran same = absurd alt
-one-lapse test c p n name x own (Connects d e behind) there runs only alt ran same = absurd alt
+one-lapse test c p n name x own (Requests Continues behind) there runs only alt ran same =
+    ap (option_map settled) (outcome-is test c x (Requests Continues (lapsed n name behind)) runs only)
+    ∙ ap Some (sym (lapse-made test c p n name x (Requests Continues behind) there runs only (uncovered-timer n name behind ∙ same ∙ ran) (made-lapses n name (Requests Continues behind) x tt)))
+    ∙ ap (λ o. option_map (λ d. after_label test d (Expiry p n name)) (option_map settled o)) (sym (outcome-is test c x (Requests Continues behind) runs only))
+one-lapse test c p n name x own (Requests (Removes port) behind) there runs only alt ran same =
+    ap (option_map settled) (outcome-is test c x (Requests (Removes port) (lapsed n name behind)) runs only)
+    ∙ ap Some (sym (lapse-made test c p n name x (Requests (Removes port) behind) there runs only (uncovered-timer n name behind ∙ same ∙ ran) (made-lapses n name (Requests (Removes port) behind) x tt)))
+    ∙ ap (λ o. option_map (λ d. after_label test d (Expiry p n name)) (option_map settled o)) (sym (outcome-is test c x (Requests (Removes port) behind) runs only))
+one-lapse test c p n name x own (Requests (Worsens v) behind) there runs only alt ran same = absurd alt
+one-lapse test c p n name x own (Requests (Sends port to v) behind) there runs only alt ran same = absurd alt
+one-lapse test c p n name x own (Requests (Creates new) behind) there runs only alt ran same = absurd alt
+one-lapse test c p n name x own (Requests (Starts path frame) behind) there runs only alt ran same = absurd alt
+one-lapse test c p n name x own (Requests (Stops path) behind) there runs only alt ran same = absurd alt
+one-lapse test c p n name x own (Requests (Connects d e) behind) there runs only alt ran same = absurd alt
 
 -- ---- choices that are done later
 

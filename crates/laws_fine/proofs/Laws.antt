@@ -43,9 +43,9 @@ use Rattle.semantics.specs.Runs.{replay, start}
 use Rattle.semantics.specs.Snapshots.{Snapshot, Test, front_at}
 use Rattle.semantics.specs.Statements.{act}
 use Rattle.semantics.specs.Steps.{apply, settled}
-use Rattle.ttcn_types.specs.Rules.{AreWellTyped}
-use Rattle.ttcn_values.specs.Outcomes.{Fails, IfYields, Outcome, Yields}
-use Rattle.ttcn_values.specs.declared.path.Path.{Path}
+use Rattle.check_rules.specs.Rules.{AreWellTyped}
+use Rattle.value_types.specs.Outcomes.{Fails, IfYields, Outcome, Yields}
+use Rattle.value_types.specs.declared.path.Path.{Path}
 
 -- ---- what the rules of the checker say of each configuration
 

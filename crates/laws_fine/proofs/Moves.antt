@@ -9,10 +9,10 @@ use Rattle.semantics.specs.Configurations.{Component, Configuration, Goes, Going
 use Rattle.semantics.specs.Snapshots.{Snapshot, Test, snapshot_of}
 use Rattle.semantics.specs.Statements.{act}
 use Rattle.semantics.specs.Steps.{Expiry, Label, Statement, apply, exchanged, expired, expiry_step, next, settled, statement_step, touch}
-use Rattle.ttcn_values.specs.Outcomes.{Outcome, Yields}
-use Rattle.ttcn_values.specs.declared.frame.TimerState.{TimerState}
-use Rattle.ttcn_values.specs.declared.frame.TimerState.TheVariants as timer
-use Rattle.ttcn_values.specs.declared.path.Path.{Path}
+use Rattle.value_types.specs.Outcomes.{Outcome, Yields}
+use Rattle.value_types.specs.declared.frame.TimerState.{TimerState}
+use Rattle.value_types.specs.declared.frame.TimerState.TheVariants as timer
+use Rattle.value_types.specs.declared.path.Path.{Path}
 
 -- a component took its snapshot
 pub record HasSnapped (test : Test) (c : Going) (stored : Stored) (p : Path) (f : Fine) : Type 0 where

@@ -17,7 +17,7 @@ use Rattle.semantics.specs.Configurations.{Component, Configuration, Ended, Goes
 use Rattle.semantics.specs.Runs.{option_elim, replay, replay_from, start}
 use Rattle.semantics.specs.Snapshots.{Test}
 use Rattle.semantics.specs.Steps.{Label, next}
-use Rattle.ttcn_values.specs.declared.path.Path.{Path}
+use Rattle.value_types.specs.declared.path.Path.{Path}
 
 -- ---- leading and replaying
 

@@ -18,8 +18,8 @@ use Rattle.semantics.specs.Runs.{option_elim, replay, start}
 use Rattle.semantics.specs.Snapshots.{Test, snapshot_of}
 use Rattle.semantics.specs.Statements.{act}
 use Rattle.semantics.specs.Steps.{Expiry, Label, Statement, apply, next, settled}
-use Rattle.ttcn_values.specs.Outcomes.{Outcome}
-use Rattle.ttcn_values.specs.declared.path.Path.{Path}
+use Rattle.value_types.specs.Outcomes.{Outcome}
+use Rattle.value_types.specs.declared.path.Path.{Path}
 
 ended-none : (test : Test) (labels : List Label) (c d : Configuration) → c ≡ Ended verdict.Error → leads test labels c ≡ Some d → labels ≡ []
 ended-none test [] c d ended e = refl

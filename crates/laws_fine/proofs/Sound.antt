@@ -19,13 +19,13 @@ use Rattle.semantics.proofs.Pairs.{All-more}
 use Rattle.semantics.specs.Configurations.{Component, Configuration, Data, Ended, Frame, Goes, Going, Queue, component_at, is_running_state, is_terminated_state, path_of, same_path}
 use Rattle.semantics.specs.Entries.{Entries, put}
 use Rattle.semantics.specs.Snapshots.{Snapshot, Test, front_at, front_of, snapshot_of, timers_of}
-use Rattle.semantics.specs.Statements.{Act, Connects, Continues, Creates, Errs, Removes, Sends, Starts, Stops, Waits, Worsens, act}
+use Rattle.semantics.specs.Statements.{Act, Connects, Continues, Creates, Errs, Removes, Requests, Sends, Starts, Stops, Waits, Worsens, act}
 use Rattle.semantics.specs.Steps.{Expiry, Label, Statement, apply, exchanged, next, settled, unless_terminated}
-use Rattle.ttcn_values.specs.Frames.{entry}
-use Rattle.ttcn_values.specs.Outcomes.{Fails, IfYields, Outcome, Yields}
-use Rattle.ttcn_values.specs.declared.frame.TimerState.{TimerState}
-use Rattle.ttcn_values.specs.declared.frame.TimerState.TheVariants as timer
-use Rattle.ttcn_values.specs.declared.path.Path.{Path}
+use Rattle.value_types.specs.Frames.{entry}
+use Rattle.value_types.specs.Outcomes.{Fails, IfYields, Outcome, Yields}
+use Rattle.value_types.specs.declared.frame.TimerState.{TimerState}
+use Rattle.value_types.specs.declared.frame.TimerState.TheVariants as timer
+use Rattle.value_types.specs.declared.path.Path.{Path}
 
 -- ---- what is asked of configurations
 
@@ -199,14 +199,14 @@ follows-kept snapshot x y follows kept = record {
 pub asked-fate : (f : Data → Data) (a : Act) → fate_of (asked f a) ≡ fate_of a
 asked-fate f Waits = refl
 asked-fate f (Errs why) = refl
-asked-fate f (Continues own) = refl
-asked-fate f (Worsens v own) = refl
-asked-fate f (Removes port own) = refl
-asked-fate f (Sends port to v own) = refl
-asked-fate f (Creates new own) = refl
-asked-fate f (Starts path frame own) = refl
-asked-fate f (Stops path own) = refl
-asked-fate f (Connects d e own) = refl
+asked-fate f (Requests Continues own) = refl
+asked-fate f (Requests (Worsens v) own) = refl
+asked-fate f (Requests (Removes port) own) = refl
+asked-fate f (Requests (Sends port to v) own) = refl
+asked-fate f (Requests (Creates new) own) = refl
+asked-fate f (Requests (Starts path frame) own) = refl
+asked-fate f (Requests (Stops path) own) = refl
+asked-fate f (Requests (Connects d e) own) = refl
 
 pub follows-fate : (test : Test) (snapshot : Snapshot) (x y : Component) → HasOwn x y → is_at_alt test x.own.calls ≡ true → IsKept snapshot x → IsApart test x.own.calls
     → fate_of (act test snapshot y.own) ≡ fate_of (act test snapshot x.own)

@@ -10,11 +10,11 @@ use Rattle.laws_order.proofs.Changes.{Precedes, insert-ordered, none-found}
 use Rattle.semantics.proofs.Pairs.{pairs-head, pairs-map, pairs-more, pairs-tail}
 use Rattle.semantics.specs.Configurations.{Component, Configuration, Created, Data, End, Ended, Frame, Goes, Going, Message, Queue, Running, State, Terminated, component_at, is_running_state, is_terminated_state, overall, path_cmp, path_of, same_path}
 use Rattle.semantics.specs.Snapshots.{Test, front_of, mtc_of}
-use Rattle.semantics.specs.Statements.{Act, Connects, Continues, Creates, Errs, Removes, Sends, Starts, Stops, Waits, Worsens}
+use Rattle.semantics.specs.Statements.{Act, Connects, Continues, Creates, Errs, Removes, Requests, Sends, Starts, Stops, Waits, Worsens}
 use Rattle.semantics.specs.Steps.{addressed, apply, at_queue, begin, change_queue, connect, connection, deliver, ending, insert, is_double, is_terminated_at, peers, send, settle, start_component, start_created, start_in, touch, unless_terminated, with_connection, with_data, with_new, with_state, with_verdict, without_first}
-use Rattle.ttcn_values.specs.Outcomes.{Fails, IfYields, Outcome, Yields, dynamic_error}
-use Rattle.ttcn_values.specs.declared.path.Path.{Path}
-use Rattle.ttcn_values.specs.declared.value.ComponentId.{ComponentId}
+use Rattle.value_types.specs.Outcomes.{Fails, IfYields, Outcome, Yields, dynamic_error}
+use Rattle.value_types.specs.declared.path.Path.{Path}
+use Rattle.value_types.specs.declared.value.ComponentId.{ComponentId}
 
 -- a component as it was, but for messages that came and for its state
 pub record IsSteady (x y : Component) : Type 0 where
@@ -176,27 +176,27 @@ pub apply-stays : (test : Test) (c : Going) (itself : ComponentId) (a : Act) (p 
     → StaysBehind p x (apply test c itself a)
 apply-stays test c itself Waits p x there runs other = tt
 apply-stays test c itself (Errs why) p x there runs other = tt
-apply-stays test c itself (Continues own) p x there runs other =
+apply-stays test c itself (Requests Continues own) p x there runs other =
     record { y = x; there = other-touch c itself.path (with_data own) (λ y. refl) p x there other; steady = as-it-is x }
-apply-stays test c itself (Worsens v own) p x there runs other =
+apply-stays test c itself (Requests (Worsens v) own) p x there runs other =
     let settled = other-touch c itself.path (with_data own) (λ y. refl) p x there other in
     record { y = x; there = other-touch (settle c itself.path own) itself.path (with_verdict v) (λ y. refl) p x settled other; steady = as-it-is x }
-apply-stays test c itself (Removes port own) p x there runs other =
+apply-stays test c itself (Requests (Removes port) own) p x there runs other =
     let settled = other-touch c itself.path (with_data own) (λ y. refl) p x there other in
     record { y = x; there = other-touch (settle c itself.path own) itself.path (at_queue port without_first) (λ y. refl) p x settled other; steady = as-it-is x }
-apply-stays test c itself (Sends port to v own) p x there runs other =
+apply-stays test c itself (Requests (Sends port to v) own) p x there runs other =
     ending-stays p x (send (settle c itself.path own) itself port to v)
     (deliver-stays (settle c itself.path own) p x (record { value = v; sender = itself })
     (filter (addressed to) (peers (settle c itself.path own) (record { component = itself.path; port = port })))
     (other-touch c itself.path (with_data own) (λ y. refl) p x there other))
-apply-stays test c itself (Creates new own) p x there runs other =
+apply-stays test c itself (Requests (Creates new) own) p x there runs other =
     new-stays (settle c itself.path own) p x new (other-touch c itself.path (with_data own) (λ y. refl) p x there other)
-apply-stays test c itself (Starts path frame own) p x there runs other =
+apply-stays test c itself (Requests (Starts path frame) own) p x there runs other =
     ending-stays p x (start_component (settle c itself.path own) path frame)
     (start-stays (settle c itself.path own) p path x frame (component_at (settle c itself.path own) path) (other-touch c itself.path (with_data own) (λ y. refl) p x there other) runs refl)
-apply-stays test c itself (Stops path own) p x there runs other =
+apply-stays test c itself (Requests (Stops path) own) p x there runs other =
     stop-stays (settle c itself.path own) p path x (same_path path (mtc_of test).path) (other-touch c itself.path (with_data own) (λ y. refl) p x there other)
-apply-stays test c itself (Connects d e own) p x there runs other =
+apply-stays test c itself (Requests (Connects d e) own) p x there runs other =
     ending-stays p x (connect (settle c itself.path own) d e)
     (connect-stays (settle c itself.path own) p x d e
     (is_terminated_at (settle c itself.path own) d.component || is_terminated_at (settle c itself.path own) e.component || is_double (settle c itself.path own) d e || is_double (settle c itself.path own) e d)
@@ -259,20 +259,20 @@ connect-ascends c d e false ordered = ordered
 pub apply-ascends : (test : Test) (c : Going) (itself : ComponentId) (a : Act) → Ascends c → AscendsBehind (apply test c itself a)
 apply-ascends test c itself Waits ordered = tt
 apply-ascends test c itself (Errs why) ordered = tt
-apply-ascends test c itself (Continues own) ordered = settle-ascends c itself.path own ordered
-apply-ascends test c itself (Worsens v own) ordered = touch-ascends (settle c itself.path own) itself.path (with_verdict v) (λ y. refl) (settle-ascends c itself.path own ordered)
-apply-ascends test c itself (Removes port own) ordered = touch-ascends (settle c itself.path own) itself.path (at_queue port without_first) (λ y. refl) (settle-ascends c itself.path own ordered)
-apply-ascends test c itself (Sends port to v own) ordered =
+apply-ascends test c itself (Requests Continues own) ordered = settle-ascends c itself.path own ordered
+apply-ascends test c itself (Requests (Worsens v) own) ordered = touch-ascends (settle c itself.path own) itself.path (with_verdict v) (λ y. refl) (settle-ascends c itself.path own ordered)
+apply-ascends test c itself (Requests (Removes port) own) ordered = touch-ascends (settle c itself.path own) itself.path (at_queue port without_first) (λ y. refl) (settle-ascends c itself.path own ordered)
+apply-ascends test c itself (Requests (Sends port to v) own) ordered =
     ending-ascends (send (settle c itself.path own) itself port to v)
     (deliver-ascends (settle c itself.path own) (record { value = v; sender = itself })
     (filter (addressed to) (peers (settle c itself.path own) (record { component = itself.path; port = port }))) (settle-ascends c itself.path own ordered))
-apply-ascends test c itself (Creates new own) ordered =
+apply-ascends test c itself (Requests (Creates new) own) ordered =
     new-ascends (settle c itself.path own) new (is_some (component_at (settle c itself.path own) (path_of new))) refl (settle-ascends c itself.path own ordered)
-apply-ascends test c itself (Starts path frame own) ordered =
+apply-ascends test c itself (Requests (Starts path frame) own) ordered =
     ending-ascends (start_component (settle c itself.path own) path frame)
     (start-ascends (settle c itself.path own) path frame (component_at (settle c itself.path own) path) (settle-ascends c itself.path own ordered))
-apply-ascends test c itself (Stops path own) ordered = stop-ascends (settle c itself.path own) path (same_path path (mtc_of test).path) (settle-ascends c itself.path own ordered)
-apply-ascends test c itself (Connects d e own) ordered =
+apply-ascends test c itself (Requests (Stops path) own) ordered = stop-ascends (settle c itself.path own) path (same_path path (mtc_of test).path) (settle-ascends c itself.path own ordered)
+apply-ascends test c itself (Requests (Connects d e) own) ordered =
     ending-ascends (connect (settle c itself.path own) d e)
     (connect-ascends (settle c itself.path own) d e
     (is_terminated_at (settle c itself.path own) d.component || is_terminated_at (settle c itself.path own) e.component || is_double (settle c itself.path own) d e || is_double (settle c itself.path own) e d)

@@ -11,7 +11,7 @@ use Rattle.laws_fine.specs.Gathering.{Told, first_by, first_told, gathered}
 use Rattle.semantics.specs.Configurations.{Configuration, Ended, Goes, Going, same_path}
 use Rattle.semantics.specs.Runs.{option_elim}
 use Rattle.semantics.specs.Snapshots.{Snapshot, Test}
-use Rattle.ttcn_values.specs.declared.path.Path.{Path}
+use Rattle.value_types.specs.declared.path.Path.{Path}
 
 -- what comes of the choice that a label makes; any other label makes none
 abbrev pub told_at : Test → Fine → FineLabel → Fate

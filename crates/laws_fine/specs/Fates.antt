@@ -6,7 +6,7 @@ use Rattle.semantics.specs.Snapshots.{Snapshot, Test}
 use Rattle.semantics.specs.Statements.{Act, Errs, Waits, act}
 use Rattle.semantics.specs.Steps.{Label, Statement}
 use Rattle.laws_fine.specs.Fine.{Choose, Fine, FineLabel, Plain, Snap, fine_next, fine_start, stored_at}
-use Rattle.ttcn_values.specs.declared.path.Path.{Path}
+use Rattle.value_types.specs.declared.path.Path.{Path}
 
 -- what comes of a stored snapshot
 pub data Fate : Type 0 where

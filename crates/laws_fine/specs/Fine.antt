@@ -3,7 +3,7 @@ use Rattle.std.specs.Prelude.{ℕ, ◌+◌, Bool, true, false, ◌&&◌, not, Li
 use Rattle.std.specs.List.{filter, find}
 use Rattle.std.specs.Option.{option_and_then, option_map}
 use Rattle.ttcn_syntax.specs.declared.tree.statement.Action.TheOpen.{Action-F}
-use Rattle.check_expressions.specs.Calls.{altstep_meant}
+use Rattle.check_rules.specs.Calls.{altstep_meant}
 use Rattle.check_scope.specs.Names.{module_names}
 use Rattle.semantics.specs.Configurations.{Component, Configuration, Ended, Frame, Goes, Going, component_at, is_running_state, path_of, same_path}
 use Rattle.semantics.specs.Items.{Does, Doing, Item, Whole, action_of}
@@ -11,14 +11,10 @@ use Rattle.semantics.specs.Runs.{option_elim, start}
 use Rattle.semantics.specs.Snapshots.{Snapshot, Test, snapshot_of}
 use Rattle.semantics.specs.Statements.{act}
 use Rattle.semantics.specs.Steps.{Expiry, Label, Statement, apply, next, settled}
-use Rattle.ttcn_values.specs.Outcomes.{Outcome}
-use Rattle.ttcn_values.specs.declared.path.Path.{Path}
-
--- what a fine step is of: a component takes its snapshot, a component chooses by the snapshot that it took, or a step that is neither
-pub data FineLabel : Type 0 where
-  Snap : Path → FineLabel
-  Choose : Path → FineLabel
-  Plain : Label → FineLabel
+pub use Rattle.step_labels.specs.declared.fine.FineLabel.{FineLabel}
+pub use Rattle.step_labels.specs.declared.fine.FineLabel.TheVariants.{Choose, Plain, Snap}
+use Rattle.value_types.specs.Outcomes.{Outcome}
+use Rattle.value_types.specs.declared.path.Path.{Path}
 
 -- the snapshots by which components have still to choose, each with its component's path
 abbrev pub Stored : Type 0
@@ -102,7 +98,7 @@ behind stored d = record { now = d; stored = still_stored d stored }
 abbrev pub step_plainly : Test → Going → Stored → Label → Option Fine
 step_plainly test c stored label = if is_of_alt test c label then None else option_map (behind stored) (next test (Goes c) label)
 
--- the fine step of a label in a test case that goes on, where the label can follow
+-- the fine step of a label in a test case that goes on, where the label can follow: a component takes its snapshot, a component chooses by the snapshot that it took, or a step that is neither
 abbrev pub fine_step_in : Test → Going → Stored → FineLabel → Option Fine
 fine_step_in test c stored (Snap path) = option_and_then (snap test c stored) (component_at c path)
 fine_step_in test c stored (Choose path) = option_and_then (λ component. choose test c stored component (stored_at stored path)) (component_at c path)

@@ -4,7 +4,7 @@ use Rattle.laws_fine.specs.Fates.{Fate, Lapses, by_fate}
 use Rattle.laws_fine.specs.Fine.{Choose, FineLabel, Plain, Snap}
 use Rattle.semantics.specs.Configurations.{same_path}
 use Rattle.semantics.specs.Steps.{Label}
-use Rattle.ttcn_values.specs.declared.path.Path.{Path}
+use Rattle.value_types.specs.declared.path.Path.{Path}
 
 -- a fine label, with what came of the choice where it is one
 abbrev pub Told : Type 0

@@ -10,8 +10,8 @@ use Rattle.semantics.specs.Runs.{option_elim, start}
 use Rattle.semantics.specs.Snapshots.{Test, snapshot_of}
 use Rattle.semantics.specs.Statements.{Act, Waits, act}
 use Rattle.semantics.specs.Steps.{Expiry, Label, Statement, apply, next, settled}
-use Rattle.ttcn_values.specs.Outcomes.{Outcome}
-use Rattle.ttcn_values.specs.declared.path.Path.{Path}
+use Rattle.value_types.specs.Outcomes.{Outcome}
+use Rattle.value_types.specs.declared.path.Path.{Path}
 
 -- what is held of the stored snapshot of the component with a path: the configuration in which it was taken, and the expiries of the component's timers since, in their order
 pub record Held : Type 0 where

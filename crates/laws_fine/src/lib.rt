@@ -12,8 +12,8 @@ ghost use Rattle.semantics.specs.Runs.{replay};
 ghost use Rattle.semantics.specs.Snapshots.{Snapshot, Test};
 ghost use Rattle.semantics.specs.Steps.{Label};
 ghost use Rattle.ttcn_syntax.specs.declared.tree.statement.Verdict.{Verdict};
-ghost use Rattle.ttcn_types.specs.Rules.{AreWellTyped};
-ghost use Rattle.ttcn_values.specs.declared.path.Path.{Path};
+ghost use Rattle.check_rules.specs.Rules.{AreWellTyped};
+ghost use Rattle.value_types.specs.declared.path.Path.{Path};
 
 /// Taking snapshots and choices apart loses and adds no verdict: in a module that breaks no rule of the checker, some fine run
 /// ends with a verdict exactly where some run does.

@@ -1,7 +1,6 @@
 -- Configurations with one live part go on alike.
 use Rattle.std.proofs.Common.{◌≡◌, true, false, List, [], ◌∷◌, ◌++◌, map, None, option_map, refl, sym, ap, ◌∙◌, if◌then◌else◌}
 use Rattle.std.specs.List.{flat_map}
-use Rattle.ttcn_syntax.specs.declared.place.Span.{Span}
 use Rattle.laws_live.specs.Same.{AreSame}
 use Rattle.semantics.proofs.LiveSteps.{by-state, live-alive, live-over}
 use Rattle.semantics.proofs.LiveTheorem.{blocked_live, branch_live, labels_live, mark_live, next_live, steps_live}
@@ -12,8 +11,8 @@ use Rattle.semantics.specs.Places.{blocked, branch_of, place_of, place_of_frames
 use Rattle.semantics.specs.Runs.{mark_of}
 use Rattle.semantics.specs.Snapshots.{Test}
 use Rattle.semantics.specs.Steps.{Label, next, step}
-use Rattle.ttcn_values.specs.Outcomes.{outcome_map}
-use Rattle.ttcn_values.specs.declared.path.Path.{Path}
+use Rattle.step_labels.specs.declared.standing.Standing.{Standing}
+use Rattle.value_types.specs.Outcomes.{outcome_map}
 
 -- what is seen alike from each live part is seen alike from configurations with one live part
 alike : {A : Type 0} (f : Configuration → A) → ((c : Configuration) → f (live_part c) ≡ f c) → (c d : Configuration) → AreSame c d → f c ≡ f d
@@ -57,7 +56,7 @@ places-live (x ∷ xs) =
 pub standing_live : (c : Going) → standings (live_going c) ≡ standings c
 standing_live c = places-live c.components
 
-standing-of : Configuration → List (Path × Span)
+standing-of : Configuration → List Standing
 standing-of (Goes c) = standings c
 standing-of (Ended v) = []
 

@@ -1,12 +1,12 @@
 -- What summaries may read of configurations and of steps: marks, blocked components and branches, each put into a summary of any type.
 use Rattle.std.specs.Prelude.{ℕ, List, Option}
 use Rattle.ttcn_syntax.specs.declared.place.Span.{Span}
-use Rattle.ttcn_values.specs.declared.path.Path.{Path}
 use Rattle.semantics.specs.Configurations.{Configuration}
 use Rattle.semantics.specs.Places.{blocked, branch_of}
 use Rattle.semantics.specs.Runs.{mark_of}
 use Rattle.semantics.specs.Snapshots.{Test}
 use Rattle.semantics.specs.Steps.{Label}
+use Rattle.step_labels.specs.declared.standing.Standing.{Standing}
 use Rattle.summary.specs.Sums.{Observation}
 
 -- a reading of marks: a configuration shows its mark, a step shows nothing
@@ -14,7 +14,7 @@ abbrev pub mark_reading : {S : Type 0} → (Option ℕ → S) → S → Observat
 mark_reading put none = record { at = λ c. put (mark_of c); by = λ c label. none }
 
 -- a reading of blocked components: a configuration shows them with the places where they stand, a step shows nothing
-abbrev pub blocked_reading : {S : Type 0} → Test → (List (Path × Span) → S) → S → Observation Configuration Label S
+abbrev pub blocked_reading : {S : Type 0} → Test → (List Standing → S) → S → Observation Configuration Label S
 blocked_reading test put none = record { at = λ c. put (blocked test c); by = λ c label. none }
 
 -- a reading of branches: a configuration shows nothing, a step shows the place of the branch that it takes, where it takes one

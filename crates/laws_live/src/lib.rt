@@ -15,12 +15,12 @@ ghost use Rattle.semantics.specs.Places.{blocked, branch_of, standings};
 ghost use Rattle.semantics.specs.Runs.{graph_of, mark_of, start};
 ghost use Rattle.semantics.specs.Snapshots.{Test};
 ghost use Rattle.semantics.specs.Steps.{Label, next, step};
+ghost use Rattle.step_labels.specs.declared.standing.Standing.{Standing};
 ghost use Rattle.summary.specs.Exploration.{Counts, HasMark, IsComplete, IsReached};
 ghost use Rattle.summary.specs.Sums.{Observation};
 ghost use Rattle.summary.specs.Run.{IsRun, Run};
 ghost use Rattle.ttcn_syntax.specs.declared.place.Span.{Span};
-ghost use Rattle.ttcn_values.specs.Outcomes.{outcome_map};
-ghost use Rattle.ttcn_values.specs.declared.path.Path.{Path};
+ghost use Rattle.value_types.specs.Outcomes.{outcome_map};
 
 /// A configuration and its live part are the same.
 #[tactic(auto, using(semantics::proofs::LiveTheorem::live_twice))]
@@ -76,7 +76,7 @@ pub fn the_same_runs_have_marks()
 #[tactic(auto, using(crate::proofs::SameReadings::marks_seen, crate::proofs::SameReadings::blocked_seen, crate::proofs::SameReadings::branches_seen))]
 pub fn places_are_seen_of_live_parts<S>()
     ensures marks { (put : Option ℕ → S) (none : S) → SeesLiveParts (mark_reading put none) }
-    ensures blocked { (test : Test) (put : List (Path × Span) → S) (none : S) → SeesLiveParts (blocked_reading test put none) }
+    ensures blocked { (test : Test) (put : List Standing → S) (none : S) → SeesLiveParts (blocked_reading test put none) }
     ensures branches { (test : Test) (put : Option Span → S) (none : S) → SeesLiveParts (branch_reading test put none) }
 {}
 

@@ -3,7 +3,7 @@ use Rattle.std.proofs.Common.{◌≡◌, subst, ℕ, ◌+◌, List, [], ◌∷�
 use Rattle.std.specs.List.{All}
 use Rattle.std.proofs.lemmas.List.Elements.{All-append, All-nil, All-cons, All-head, All-tail}
 use Rattle.ttcn_syntax.specs.declared.tree.statement.Statement.{Statement, out-Statement}
-use Rattle.check_expressions.specs.Calls.{parameters_of}
+use Rattle.check_rules.specs.Calls.{parameters_of}
 use Rattle.check_scope.specs.Names.{kind_at}
 use Rattle.laws_order.proofs.Members.{members-ordered}
 use Rattle.laws_steps.proofs.Acting.{Keeps, act-asks, end-asks, part-asks}
@@ -19,28 +19,28 @@ use Rattle.semantics.specs.Events.{Effect, Elapses, Plain, Receives, Redirect, T
 use Rattle.semantics.specs.Items.{Item, Part, Waiting, action_of, items}
 use Rattle.semantics.specs.Sites.{Site, beginning}
 use Rattle.semantics.specs.Snapshots.{Snapshot, Test}
-use Rattle.semantics.specs.Statements.{Act, Connects, Continues, Creates, Errs, Removes, Sends, Stand, Starts, Stops, Waits, Worsens, act, choice_at, choose_from, declared, done, judge_at, new_id, reads, with_child}
+use Rattle.semantics.specs.Statements.{Act, Connects, Continues, Creates, Errs, Removes, Requests, Sends, Stand, Starts, Stops, Waits, Worsens, act, choice_at, choose_from, declared, done, judge_at, new_id, reads, with_child}
 use Rattle.semantics.specs.Storing.{declare, declare_timer, forget, going_on, in_last, store, target_meant, with_calls, with_remaining}
 use Rattle.semantics.specs.Taking.{effected, entered, from_mark, marked, repeat_in, repeated, store_all, taken}
-use Rattle.ttcn_values.specs.Literals.{value_wanted}
-use Rattle.ttcn_values.specs.Outcomes.{IfYields}
-use Rattle.ttcn_values.specs.Templates.{arguments}
-use Rattle.ttcn_values.specs.declared.frame.TimerState.TheVariants as timer
-use Rattle.ttcn_values.specs.declared.value.ComponentId.{ComponentId}
-use Rattle.ttcn_values.specs.declared.value.Value.TheVariants as value
+use Rattle.value_types.specs.Literals.{value_wanted}
+use Rattle.value_types.specs.Outcomes.{IfYields}
+use Rattle.value_types.specs.Templates.{arguments}
+use Rattle.value_types.specs.declared.frame.TimerState.TheVariants as timer
+use Rattle.value_types.specs.declared.value.ComponentId.{ComponentId}
+use Rattle.value_types.specs.declared.value.Value.TheVariants as value
 
 -- what a component that has created so many others asks for: its data are in order, and so is what starts or is new
 abbrev pub IsAskedInOrder : ComponentId → ℕ → Act → Type 0
 IsAskedInOrder itself n Waits = Unit {0}
 IsAskedInOrder itself n (Errs why) = Unit {0}
-IsAskedInOrder itself n (Continues own) = IsDataInOrder n own
-IsAskedInOrder itself n (Worsens v own) = IsDataInOrder n own
-IsAskedInOrder itself n (Removes port own) = IsDataInOrder n own
-IsAskedInOrder itself n (Sends port to v own) = IsDataInOrder n own
-IsAskedInOrder itself n (Creates new own) = (path_of new ≡ child_of itself n) × IsFrameInOrder new.own.members × (new.own.calls ≡ []) × (new.own.children ≡ 0) × IsDataInOrder (n + 1) own
-IsAskedInOrder itself n (Starts path frame own) = IsFrameInOrder frame × HasNone frame.remaining × IsDataInOrder n own
-IsAskedInOrder itself n (Stops path own) = IsDataInOrder n own
-IsAskedInOrder itself n (Connects d e own) = IsDataInOrder n own
+IsAskedInOrder itself n (Requests Continues own) = IsDataInOrder n own
+IsAskedInOrder itself n (Requests (Worsens v) own) = IsDataInOrder n own
+IsAskedInOrder itself n (Requests (Removes port) own) = IsDataInOrder n own
+IsAskedInOrder itself n (Requests (Sends port to v) own) = IsDataInOrder n own
+IsAskedInOrder itself n (Requests (Creates new) own) = (path_of new ≡ child_of itself n) × IsFrameInOrder new.own.members × (new.own.calls ≡ []) × (new.own.children ≡ 0) × IsDataInOrder (n + 1) own
+IsAskedInOrder itself n (Requests (Starts path frame) own) = IsFrameInOrder frame × HasNone frame.remaining × IsDataInOrder n own
+IsAskedInOrder itself n (Requests (Stops path) own) = IsDataInOrder n own
+IsAskedInOrder itself n (Requests (Connects d e) own) = IsDataInOrder n own
 
 -- the frame of a call is in order, and begins with no mark
 abbrev pub IsNewFrame : Frame → Type 0

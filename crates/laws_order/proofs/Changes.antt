@@ -26,11 +26,11 @@ use Rattle.semantics.specs.Statements.{act}
 use Rattle.semantics.specs.Steps.{add_connection, apply, at_queue, begin, connection, connection_cmp, exchanged, expire_in, expired, expired_call, expired_frame, insert, settle, touch, unless_terminated, with_connection, with_data, with_new, with_state, with_verdict, without_first}
 use Rattle.semantics.specs.Storing.{with_remaining}
 use Rattle.semantics.specs.Taking.{without_marks}
-use Rattle.ttcn_values.specs.Frames.{entry}
-use Rattle.ttcn_values.specs.declared.frame.TimerState.{TimerState}
-use Rattle.ttcn_values.specs.declared.frame.TimerState.TheVariants as timer
-use Rattle.ttcn_values.specs.declared.path.Path.{Path}
-use Rattle.ttcn_values.specs.declared.value.ComponentId.{ComponentId}
+use Rattle.value_types.specs.Frames.{entry}
+use Rattle.value_types.specs.declared.frame.TimerState.{TimerState}
+use Rattle.value_types.specs.declared.frame.TimerState.TheVariants as timer
+use Rattle.value_types.specs.declared.path.Path.{Path}
+use Rattle.value_types.specs.declared.value.ComponentId.{ComponentId}
 
 pub record IsComponentInOrder (component : Component) : Type 0 where
   pub own : IsDataInOrder component.own.children component.own

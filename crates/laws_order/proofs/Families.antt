@@ -20,9 +20,9 @@ use Rattle.semantics.specs.Configurations.{Component, Configuration, Connection,
 use Rattle.semantics.specs.Creating.{child_of, new_members}
 use Rattle.semantics.specs.Runs.{first_snapshot, mtc_with, replay, start}
 use Rattle.semantics.specs.Snapshots.{Test, mtc_of, snapshot_of}
-use Rattle.semantics.specs.Statements.{Creates, act}
+use Rattle.semantics.specs.Statements.{Creates, Requests, act}
 use Rattle.semantics.specs.Steps.{Label, apply, at_queue, begin, connection, exchanged, expired, insert, settle, touch, unless_terminated, with_connection, with_data, with_new, with_state, with_verdict, without_first}
-use Rattle.ttcn_values.specs.declared.path.Path.{Path}
+use Rattle.value_types.specs.declared.path.Path.{Path}
 
 -- ---- changes
 
@@ -276,17 +276,17 @@ pub child-new : (c : Going) (component : Component) (p : Path) → IsFamily c �
 child-new c component p family there path = new-in c component p (component_at c p) refl family there path
 
 pub new_path : (test : Test) (run : List Label) (c : Going) (component new : Component) (own : Data) → replay test run ≡ Ok (Goes c) → component_at c (path_of component) ≡ Some component
-    → act test (snapshot_of c component) component.own ≡ Creates new own → component_at c (path_of new) ≡ None
+    → act test (snapshot_of c component) component.own ≡ Requests (Creates new) own → component_at c (path_of new) ≡ None
 new_path test run c component new own e there asks =
     let is : StandsWell c = replay-well test run (Goes c) e in
     let fine = component-ordered c (path_of component) component is.order there in
-    let asked : IsAskedInOrder component.itself component.own.children (Creates new own) =
+    let asked : IsAskedInOrder component.itself component.own.children (Requests (Creates new) own) =
     subst (IsAskedInOrder component.itself component.own.children) asks (asked-ordered component.own.children test (snapshot_of c component) component.own fine.own) in
     new-in c component (path_of new) (component_at c (path_of new)) refl is.family there asked.0
 
 -- so it is inserted
 pub new_inserted : (test : Test) (run : List Label) (c : Going) (component new : Component) (own : Data) → replay test run ≡ Ok (Goes c) → component_at c (path_of component) ≡ Some component
-    → act test (snapshot_of c component) component.own ≡ Creates new own
+    → act test (snapshot_of c component) component.own ≡ Requests (Creates new) own
     → (with_new new (settle c (path_of component) own)).components ≡ insert new (settle c (path_of component) own).components
 new_inserted test run c component new own e there asks =
     ap (λ o. if is_some o then (settle c (path_of component) own).components else insert new (settle c (path_of component) own).components)

@@ -12,9 +12,9 @@ use Rattle.semantics.specs.Configurations.{Frame}
 use Rattle.semantics.specs.Creating.{declared_in_turn, declared_member, declared_variable, declared_with, empty_frame, new_members, reading_of_members}
 use Rattle.semantics.specs.Snapshots.{Snapshot, Test}
 use Rattle.semantics.specs.Storing.{declare, declare_timer}
-use Rattle.ttcn_values.specs.Literals.{value_wanted}
-use Rattle.ttcn_values.specs.Outcomes.{IfYields, Outcome, Yields}
-use Rattle.ttcn_values.specs.declared.value.ComponentId.{ComponentId}
+use Rattle.value_types.specs.Literals.{value_wanted}
+use Rattle.value_types.specs.Outcomes.{IfYields, Outcome, Yields}
+use Rattle.value_types.specs.declared.value.ComponentId.{ComponentId}
 
 empty-ordered : IsFrameInOrder empty_frame
 empty-ordered = record { values = none-ordered; timers = none-ordered }

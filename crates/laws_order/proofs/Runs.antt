@@ -32,8 +32,8 @@ use Rattle.semantics.specs.Snapshots.{Snapshot, Test, mtc_of}
 use Rattle.semantics.specs.Statements.{act}
 use Rattle.semantics.specs.Steps.{Label, apply, connection_cmp, next, settled, step}
 use Rattle.summary.specs.Run.{Run, end_of}
-use Rattle.ttcn_values.specs.declared.path.Path.{Path}
-use Rattle.ttcn_values.specs.declared.value.ComponentId.{ComponentId}
+use Rattle.value_types.specs.declared.path.Path.{Path}
+use Rattle.value_types.specs.declared.value.ComponentId.{ComponentId}
 
 -- ---- in the words of the laws
 

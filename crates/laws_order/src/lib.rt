@@ -11,7 +11,7 @@ ghost use Rattle.semantics.specs.Labels.{label_cmp, labels};
 ghost use Rattle.semantics.specs.LiveParts.{live_part};
 ghost use Rattle.semantics.specs.Runs.{graph_of, replay, start};
 ghost use Rattle.semantics.specs.Snapshots.{Test, snapshot_of};
-ghost use Rattle.semantics.specs.Statements.{Creates, act};
+ghost use Rattle.semantics.specs.Statements.{Creates, Requests, act};
 ghost use Rattle.semantics.specs.Steps.{Label, insert, next, settle, step, with_new};
 ghost use Rattle.summary.specs.Run.{Run, end_of};
 
@@ -62,6 +62,6 @@ pub fn runs_keep_families()
 
 /// No component of a configuration that a run leads to has the path of a new one, which always comes in.
 pub fn new_components_have_new_paths()
-    ensures path { (test : Test) (run : List Label) (c : Going) (component new : Component) (own : Data) → replay test run ≡ Ok (Goes c) → component_at c (path_of component) ≡ Some component → act test (snapshot_of c component) component.own ≡ Creates new own → component_at c (path_of new) ≡ None }
-    ensures inserted { (test : Test) (run : List Label) (c : Going) (component new : Component) (own : Data) → replay test run ≡ Ok (Goes c) → component_at c (path_of component) ≡ Some component → act test (snapshot_of c component) component.own ≡ Creates new own → (with_new new (settle c (path_of component) own)).components ≡ insert new (settle c (path_of component) own).components }
+    ensures path { (test : Test) (run : List Label) (c : Going) (component new : Component) (own : Data) → replay test run ≡ Ok (Goes c) → component_at c (path_of component) ≡ Some component → act test (snapshot_of c component) component.own ≡ Requests (Creates new) own → component_at c (path_of new) ≡ None }
+    ensures inserted { (test : Test) (run : List Label) (c : Going) (component new : Component) (own : Data) → replay test run ≡ Ok (Goes c) → component_at c (path_of component) ≡ Some component → act test (snapshot_of c component) component.own ≡ Requests (Creates new) own → (with_new new (settle c (path_of component) own)).components ≡ insert new (settle c (path_of component) own).components }
 {}

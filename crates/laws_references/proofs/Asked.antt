@@ -8,7 +8,7 @@ use Rattle.ttcn_syntax.specs.declared.tree.expression.ComponentRef.{ComponentRef
 use Rattle.ttcn_syntax.specs.declared.tree.statement.Send.{Send}
 use Rattle.ttcn_syntax.specs.declared.tree.statement.Statement.{Statement, out-Statement}
 use Rattle.ttcn_syntax.specs.declared.tree.value.Value as written
-use Rattle.check_expressions.specs.Calls.{parameters_of}
+use Rattle.check_rules.specs.Calls.{parameters_of}
 use Rattle.check_scope.specs.Names.{kind_at, members_of}
 use Rattle.check_scope.specs.declared.types.DataType.{DataType}
 use Rattle.laws_references.proofs.Events.{EffectRefers}
@@ -35,15 +35,15 @@ use Rattle.semantics.specs.Events.{Effect, Elapses, Plain, Receives, Redirect, T
 use Rattle.semantics.specs.Items.{Item, Part, Waiting, action_of, items}
 use Rattle.semantics.specs.Sites.{Site, beginning, scope_at}
 use Rattle.semantics.specs.Snapshots.{Snapshot, Test, last_view, mtc_of}
-use Rattle.semantics.specs.Statements.{Act, Connects, Continues, Creates, Errs, Removes, Sends, Stand, Starts, Stops, Waits, Worsens, act, choice_at, choose_from, component_meant_at, declared, done, judge_at, may_connect, new_id, port_type, reads, same_end, sent_to, sent_type, sent_value, suit_each_other, with_child}
+use Rattle.semantics.specs.Statements.{Act, Connects, Continues, Creates, Errs, Removes, Requests, Sends, Stand, Starts, Stops, Waits, Worsens, act, choice_at, choose_from, component_meant_at, declared, done, judge_at, may_connect, new_id, port_type, reads, same_end, sent_to, sent_type, sent_value, suit_each_other, with_child}
 use Rattle.semantics.specs.Storing.{declare, declare_timer, forget, going_on, in_last, store, target_meant, with_calls, with_remaining}
 use Rattle.semantics.specs.Taking.{effected, entered, from_mark, marked, repeat_in, repeated, store_all, taken}
-use Rattle.ttcn_values.specs.Literals.{value_wanted}
-use Rattle.ttcn_values.specs.Outcomes.{IfYields}
-use Rattle.ttcn_values.specs.Templates.{arguments}
-use Rattle.ttcn_values.specs.declared.frame.TimerState.TheVariants as timer
-use Rattle.ttcn_values.specs.declared.value.ComponentId.{ComponentId}
-use Rattle.ttcn_values.specs.declared.value.Value.TheVariants as value
+use Rattle.value_types.specs.Literals.{value_wanted}
+use Rattle.value_types.specs.Outcomes.{IfYields}
+use Rattle.value_types.specs.Templates.{arguments}
+use Rattle.value_types.specs.declared.frame.TimerState.TheVariants as timer
+use Rattle.value_types.specs.declared.value.ComponentId.{ComponentId}
+use Rattle.value_types.specs.declared.value.Value.TheVariants as value
 
 -- an end is a port of such a component, by the component's type
 abbrev pub IsEndOf : (ComponentId → Type 0) → List Definition → End → Type 0
@@ -51,9 +51,9 @@ IsEndOf P definitions e = (id : ComponentId) × P id × (id.path ≡ e.component
 
 -- what a component that has created so many others asks for: it refers only to such components, connects ports of such, and a new one is its next child, with the ports of its type
 abbrev pub IsAsked : (ComponentId → Type 0) → List Definition → ComponentId → ℕ → Act → Type 0
-IsAsked P definitions itself n (Creates new own) =
+IsAsked P definitions itself n (Requests (Creates new) own) =
     (path_of new ≡ child_of itself n) × ComponentRefersTo (HoldsOrIs P new.itself) new × DataReferTo (HoldsOrIs P new.itself) own × HasItsPorts definitions new
-IsAsked P definitions itself n (Connects d e own) = IsEndOf P definitions d × IsEndOf P definitions e × DataReferTo P own
+IsAsked P definitions itself n (Requests (Connects d e) own) = IsEndOf P definitions d × IsEndOf P definitions e × DataReferTo P own
 IsAsked P definitions itself n other = ActRefersTo P other
 
 -- where a component stands
@@ -126,7 +126,7 @@ module _ (P : ComponentId → Type 0) (stand : Stand) (is : StandsAmong P stand)
   end-of : (c : ComponentId) (p : List ℕ) → P c → is_some (port_type stand.test.definitions c p) ≡ true → IsEndOf P stand.test.definitions (record { component = c.path; port = p })
   end-of c p holds is = (c, holds, refl, port-named stand.test.definitions c.component_type p is)
 
-  connection-asks : (c d : ComponentId) (p q : List ℕ) → P c → P d → may_connect stand.test.definitions c p d q ≡ true → Asks (Connects (record { component = c.path; port = p }) (record { component = d.path; port = q }) (done stand))
+  connection-asks : (c d : ComponentId) (p q : List ℕ) → P c → P d → may_connect stand.test.definitions c p d q ≡ true → Asks (Requests (Connects (record { component = c.path; port = p }) (record { component = d.path; port = q })) (done stand))
   connection-asks c d p q one other may =
       let parts = and_parts (suit_each_other stand.test.definitions (port_type stand.test.definitions c p) (port_type stand.test.definitions d q))
       (not (same_end (record { component = c.path; port = p }) (record { component = d.path; port = q }))) may in
@@ -286,13 +286,13 @@ module _ (P : ComponentId → Type 0) (test : Test) (snapshot : Snapshot) (own :
 
 -- in the words of the law
 pub act-refers : (P : ComponentId → Type 0) (definitions : List Definition) (itself : ComponentId) (n : ℕ) (asked : Act) → IsAsked P definitions itself n asked → ActRefersTo P asked
-act-refers P definitions itself n (Creates new own) is = (is.1, is.2)
-act-refers P definitions itself n (Connects d e own) is = ((is.0.0, is.0.1, is.0.2), (is.1.0, is.1.1, is.1.2), is.2)
+act-refers P definitions itself n (Requests (Creates new) own) is = (is.1, is.2)
+act-refers P definitions itself n (Requests (Connects d e) own) is = ((is.0.0, is.0.1, is.0.2), (is.1.0, is.1.1, is.1.2), is.2)
 act-refers P definitions itself n Waits is = is
 act-refers P definitions itself n (Errs why) is = is
-act-refers P definitions itself n (Continues own) is = is
-act-refers P definitions itself n (Worsens v own) is = is
-act-refers P definitions itself n (Removes port own) is = is
-act-refers P definitions itself n (Sends port to v own) is = is
-act-refers P definitions itself n (Starts path frame own) is = is
-act-refers P definitions itself n (Stops path own) is = is
+act-refers P definitions itself n (Requests Continues own) is = is
+act-refers P definitions itself n (Requests (Worsens v) own) is = is
+act-refers P definitions itself n (Requests (Removes port) own) is = is
+act-refers P definitions itself n (Requests (Sends port to v) own) is = is
+act-refers P definitions itself n (Requests (Starts path frame) own) is = is
+act-refers P definitions itself n (Requests (Stops path) own) is = is

@@ -13,11 +13,11 @@ use Rattle.laws_steps.proofs.Found.{get-each}
 use Rattle.laws_references.proofs.Values.{LevelRefersTo, StateRefersTo, all-of, record-refers, refers-out}
 use Rattle.laws_references.specs.References.{RefersTo}
 use Rattle.laws_steps.proofs.Outcomes.{map-yields, then-yields, unmet-yields}
-use Rattle.ttcn_values.specs.Outcomes.{Fails, IfYields, Outcome, Yields, or_unmet, outcome_and_then, outcome_map}
-use Rattle.ttcn_values.specs.Values.{is_omit, record_in, record_of}
-use Rattle.ttcn_values.specs.declared.value.ComponentId.{ComponentId}
-use Rattle.ttcn_values.specs.declared.value.Value.{Value, out-Value}
-use Rattle.ttcn_values.specs.declared.value.Value.TheOpen.{Value-F}
+use Rattle.value_types.specs.Outcomes.{Fails, IfYields, Outcome, Yields, or_unmet, outcome_and_then, outcome_map}
+use Rattle.value_types.specs.Values.{is_omit, record_in, record_of}
+use Rattle.value_types.specs.declared.value.ComponentId.{ComponentId}
+use Rattle.value_types.specs.declared.value.Value.{Value, out-Value}
+use Rattle.value_types.specs.declared.value.Value.TheOpen.{Value-F}
 
 -- with what is made of the value first, by which its type is known
 map-known : {A B : Type 0} (f : A → B) (o : Outcome A) (P : A → Type 0) (Q : B → Type 0) → ((a : A) → P a → Q (f a)) → IfYields o P → IfYields (outcome_map f o) Q

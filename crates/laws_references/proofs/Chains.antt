@@ -13,11 +13,11 @@ use Rattle.laws_references.proofs.Templates.{GivesTemplate, template-gives}
 use Rattle.laws_references.proofs.Values.{get-at}
 use Rattle.laws_references.specs.References.{FactsReferTo, ReadingRefersTo, RefersTo}
 use Rattle.laws_steps.proofs.Outcomes.{unmet-yields}
-use Rattle.ttcn_values.specs.Chains.{constant_value, given_to, template_value, with_names, within_chains}
-use Rattle.ttcn_values.specs.Outcomes.{Outcome, unmet}
-use Rattle.ttcn_values.specs.Readings.{Reading}
-use Rattle.ttcn_values.specs.declared.value.ComponentId.{ComponentId}
-use Rattle.ttcn_values.specs.declared.value.Value.{Value}
+use Rattle.value_types.specs.Chains.{constant_value, given_to, template_value, with_names, within_chains}
+use Rattle.value_types.specs.Outcomes.{Outcome, unmet}
+use Rattle.value_types.specs.Readings.{Reading}
+use Rattle.value_types.specs.declared.value.ComponentId.{ComponentId}
+use Rattle.value_types.specs.declared.value.Value.{Value}
 
 module _ (P : ComponentId → Type 0) where
   constant-gives : (reading : Reading) (constant : Option Constant) (wanted : Option DataType) → ReadingRefersTo P reading → Gives P (constant_value reading constant wanted)

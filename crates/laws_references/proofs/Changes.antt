@@ -28,8 +28,8 @@ use Rattle.semantics.specs.Snapshots.{Test, mtc_of}
 use Rattle.semantics.specs.Steps.{add_connection, at_queue, begin, change_queue, connection, connection_cmp, exchanged, expired, expired_call, expired_frame, insert, settle, touch, unless_terminated, with_connection, with_data, with_new, with_state, with_verdict, without_first}
 use Rattle.semantics.specs.Storing.{with_remaining}
 use Rattle.semantics.specs.Taking.{without_marks}
-use Rattle.ttcn_values.specs.declared.path.Path.{Path}
-use Rattle.ttcn_values.specs.declared.value.ComponentId.{ComponentId}
+use Rattle.value_types.specs.declared.path.Path.{Path}
+use Rattle.value_types.specs.declared.value.ComponentId.{ComponentId}
 
 module _ (P : ComponentId → Type 0) (definitions : List Definition) where
   abbrev Refers : Component → Type 0

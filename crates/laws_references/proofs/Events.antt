@@ -9,11 +9,11 @@ use Rattle.ttcn_syntax.specs.declared.tree.statement.PortSelector.{PortSelector}
 use Rattle.ttcn_syntax.specs.declared.tree.statement.PortSelector.TheVariants as selector
 use Rattle.ttcn_syntax.specs.declared.tree.statement.Receive.{Receive}
 use Rattle.ttcn_syntax.specs.declared.tree.template.MessageTemplate.{MessageTemplate}
-use Rattle.check_expressions.specs.Targets.{target_at}
+use Rattle.check_rules.specs.Targets.{target_at}
 use Rattle.check_scope.specs.Names.{Scope}
 use Rattle.check_scope.specs.Typings.{same_type}
 use Rattle.check_scope.specs.declared.types.DataType.{DataType}
-use Rattle.check_statements.specs.Messages.{incoming, received_type}
+use Rattle.check_rules.specs.Messages.{incoming, received_type}
 use Rattle.laws_references.proofs.Values.{component-refers}
 use Rattle.laws_references.specs.References.{MessageRefersTo, RefersTo, SnapshotRefersTo}
 use Rattle.laws_steps.proofs.Found.{found-each}
@@ -23,13 +23,13 @@ use Rattle.semantics.specs.Configurations.{Data, Message, same_path}
 use Rattle.semantics.specs.Events.{Effect, Elapses, Faulty, Happened, Passed, Plain, Receives, Redirect, Trial, fits_sender, from_fits, happened_if, happened_or_passed, or_next, redirected_sender, redirected_value, redirects, template_fits, timer_seen, tried, try_all_done, try_chance, try_event, try_front, try_fronts, try_port, try_receive, try_template, try_timeout, try_type, try_typed, type_of}
 use Rattle.semantics.specs.Sites.{Site, scope_at}
 use Rattle.semantics.specs.Snapshots.{Snapshot, Test, is_terminated_in, mtc_of}
-use Rattle.ttcn_values.specs.Outcomes.{Fails, IfYields, Outcome, Yields, dynamic_error}
-use Rattle.ttcn_values.specs.Readings.{Reading, component_referred}
-use Rattle.ttcn_values.specs.declared.frame.TimerState.{TimerState}
-use Rattle.ttcn_values.specs.declared.frame.TimerState.TheVariants as timer
-use Rattle.ttcn_values.specs.declared.value.ComponentId.{ComponentId}
-use Rattle.ttcn_values.specs.declared.value.Value.{Value}
-use Rattle.ttcn_values.specs.declared.value.Value.TheVariants as value
+use Rattle.value_types.specs.Outcomes.{Fails, IfYields, Outcome, Yields, dynamic_error}
+use Rattle.value_types.specs.Readings.{Reading, component_referred}
+use Rattle.value_types.specs.declared.frame.TimerState.{TimerState}
+use Rattle.value_types.specs.declared.frame.TimerState.TheVariants as timer
+use Rattle.value_types.specs.declared.value.ComponentId.{ComponentId}
+use Rattle.value_types.specs.declared.value.Value.{Value}
+use Rattle.value_types.specs.declared.value.Value.TheVariants as value
 
 module _ (P : ComponentId → Type 0) where
   abbrev RedirectRefers : Redirect → Type 0

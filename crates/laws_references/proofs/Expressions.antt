@@ -21,16 +21,16 @@ use Rattle.check_scope.specs.declared.names.Meaning.TheVariants as meaning
 use Rattle.laws_references.proofs.Values.{LevelRefersTo, StateRefersTo, boolean-refers, component-refers, enumerated-refers, get-at, integer-refers, map-any, null-refers, refers-out, then-any}
 use Rattle.laws_references.specs.References.{ReadingRefersTo, RefersTo}
 use Rattle.laws_steps.proofs.Outcomes.{then-yields, unmet-yields}
-use Rattle.ttcn_values.specs.Evaluation.{Evaluation, after, expression_step, joined, link, link_step, value_of}
-use Rattle.ttcn_values.specs.Operations.{applied, both, compared, decides, fitting, logical, negated, ordered, truth, under_sign, with_sign}
-use Rattle.ttcn_values.specs.Outcomes.{IfYields, Outcome, Yields, dynamic_error, or_error, or_unmet, outcome_and_then}
-use Rattle.ttcn_values.specs.Readings.{Reading, along, by_meaning, component_at, component_referred, component_runs, enumerators_of, field, is_there, last_presence, named, presence, read, referred, runs_at, state_in, state_of_field, timer_at}
-use Rattle.ttcn_values.specs.Values as values
-use Rattle.ttcn_values.specs.Values.{boolean, equal, integer, is_complete, is_omit, record_in}
-use Rattle.ttcn_values.specs.declared.value.ComponentId.{ComponentId}
-use Rattle.ttcn_values.specs.declared.value.Value.{Value, out-Value}
-use Rattle.ttcn_values.specs.declared.value.Value.TheOpen.{Value-F}
-use Rattle.ttcn_values.specs.declared.value.Value.TheVariants as value
+use Rattle.value_types.specs.Evaluation.{Evaluation, after, expression_step, joined, link, link_step, value_of}
+use Rattle.value_types.specs.Operations.{applied, both, compared, decides, fitting, logical, negated, ordered, truth, under_sign, with_sign}
+use Rattle.value_types.specs.Outcomes.{IfYields, Outcome, Yields, dynamic_error, or_error, or_unmet, outcome_and_then}
+use Rattle.value_types.specs.Readings.{Reading, along, by_meaning, component_at, component_referred, component_runs, enumerators_of, field, is_there, last_presence, named, presence, read, referred, runs_at, state_in, state_of_field, timer_at}
+use Rattle.value_types.specs.Values as values
+use Rattle.value_types.specs.Values.{boolean, equal, integer, is_complete, is_omit, record_in}
+use Rattle.value_types.specs.declared.value.ComponentId.{ComponentId}
+use Rattle.value_types.specs.declared.value.Value.{Value, out-Value}
+use Rattle.value_types.specs.declared.value.Value.TheOpen.{Value-F}
+use Rattle.value_types.specs.declared.value.Value.TheVariants as value
 
 module _ (P : ComponentId → Type 0) where
   -- what is given refers only to such components

@@ -3,12 +3,12 @@ use Rattle.std.proofs.Common.{◌≡◌, ℕ, ℤ, Bool, List, [], ◌∷◌, �
 use Rattle.std.specs.List.{flat_map}
 use Rattle.laws_references.specs.References.{references, references_in_field, references_step}
 use Rattle.semantics.specs.Runs.{option_elim}
-use Rattle.ttcn_values.specs.declared.value.ComponentId.{ComponentId}
-use Rattle.ttcn_values.specs.declared.value.Value.{Value, roll-Value}
-use Rattle.ttcn_values.specs.declared.value.Value.TheFolds.{fold-roll-Value, map-Value}
-use Rattle.ttcn_values.specs.declared.value.Value.TheOpen.{Value-F}
-use Rattle.ttcn_values.specs.declared.value.Value.TheShapes.{former-Value-Record-1-at-1}
-use Rattle.ttcn_values.specs.declared.value.Value.TheVariants as value
+use Rattle.value_types.specs.declared.value.ComponentId.{ComponentId}
+use Rattle.value_types.specs.declared.value.Value.{Value, roll-Value}
+use Rattle.value_types.specs.declared.value.Value.TheFolds.{fold-roll-Value, map-Value}
+use Rattle.value_types.specs.declared.value.Value.TheOpen.{Value-F}
+use Rattle.value_types.specs.declared.value.Value.TheShapes.{former-Value-Record-1-at-1}
+use Rattle.value_types.specs.declared.value.Value.TheVariants as value
 
 rolled : (x : Value-F Value) (v : Value) → roll-Value x ≡ v → references v ≡ references_step (map-Value Value (List ComponentId) references x)
 rolled x v e = ap references (sym e) ∙ fold-roll-Value (List ComponentId) references_step x

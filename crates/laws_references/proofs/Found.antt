@@ -18,12 +18,12 @@ use Rattle.semantics.proofs.Pairs.{All-flat, All-more}
 use Rattle.semantics.specs.Configurations.{Component, Connection, Created, Data, End, Frame, Goes, Going, Running, State, Terminated, component_at, path_of}
 use Rattle.semantics.specs.Sites.{Site}
 use Rattle.semantics.specs.Snapshots.{Snapshot, Test, View, reading_in}
-use Rattle.semantics.specs.Statements.{Starts, act, same_end}
+use Rattle.semantics.specs.Statements.{Requests, Starts, act, same_end}
 use Rattle.semantics.specs.Steps.{opposite, peers, settle, start_component, start_created, start_in, with_data}
-use Rattle.ttcn_values.specs.Literals.{value_wanted}
-use Rattle.ttcn_values.specs.Outcomes.{IfYields, IsMet}
-use Rattle.ttcn_values.specs.Readings.{component_referred}
-use Rattle.ttcn_values.specs.declared.path.Path.{Path}
+use Rattle.value_types.specs.Literals.{value_wanted}
+use Rattle.value_types.specs.Outcomes.{IfYields, IsMet}
+use Rattle.value_types.specs.Readings.{component_referred}
+use Rattle.value_types.specs.declared.path.Path.{Path}
 
 -- ---- what evaluation gives
 
@@ -60,9 +60,9 @@ start-met c p frame None is = absurd (let no = is in cc)
 start-met c p frame (Some component) is = started-met c p frame component.state
 
 pub start_is_met : (test : Test) (snapshot : Snapshot) (c : Going) (p : Path) (x : Component) (path : Path) (frame : Frame) (own : Data) → StandsWithAllReferred test (Goes c) → component_at c p ≡ Some x → snapshot.itself ≡ x.itself
-    → SnapshotRefersTo (IsThere c) snapshot → act test snapshot x.own ≡ Starts path frame own → IsMet (start_component (settle c (path_of x) own) path frame)
+    → SnapshotRefersTo (IsThere c) snapshot → act test snapshot x.own ≡ Requests (Starts path frame) own → IsMet (start_component (settle c (path_of x) own) path frame)
 start_is_met test snapshot c p x path frame own is found same fronts asks =
-    let asked : ActRefersTo (IsThere c) (Starts path frame own) = subst (ActRefersTo (IsThere c)) asks (asked_is_there test snapshot c p x is found same fronts) in
+    let asked : ActRefersTo (IsThere c) (Requests (Starts path frame) own) = subst (ActRefersTo (IsThere c)) asks (asked_is_there test snapshot c p x is found same fronts) in
     let of : IsPathOf (IsThere c) path = asked.0 in
     start-met (settle c (path_of x) own) path frame (component_at (settle c (path_of x) own) path)
     (there-path (settle c (path_of x) own) path (of.0, stay-touched c (path_of x) (with_data own) (λ y. refl) of.0 of.1, of.2))

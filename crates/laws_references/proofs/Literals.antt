@@ -15,12 +15,12 @@ use Rattle.laws_references.specs.References.{ReadingRefersTo, RefersTo}
 use Rattle.laws_steps.proofs.Found.{found-each}
 use Rattle.laws_steps.proofs.Outcomes.{map-yields}
 use Rattle.semantics.proofs.Pairs.{All-more}
-use Rattle.ttcn_values.specs.Literals.{Wanted, by_name, element, element_named, field_value, field_value_step, given_by_name, in_order, record_at, type_of_field, value_step, value_wanted, wanted_record}
-use Rattle.ttcn_values.specs.Outcomes.{Fails, IfYields, Outcome, Yields, each, unmet}
-use Rattle.ttcn_values.specs.Readings.{Reading}
-use Rattle.ttcn_values.specs.declared.value.ComponentId.{ComponentId}
-use Rattle.ttcn_values.specs.declared.value.Value.{Value}
-use Rattle.ttcn_values.specs.declared.value.Value.TheVariants as value
+use Rattle.value_types.specs.Literals.{Wanted, by_name, element, element_named, field_value, field_value_step, given_by_name, in_order, record_at, type_of_field, value_step, value_wanted, wanted_record}
+use Rattle.value_types.specs.Outcomes.{Fails, IfYields, Outcome, Yields, each, unmet}
+use Rattle.value_types.specs.Readings.{Reading}
+use Rattle.value_types.specs.declared.value.ComponentId.{ComponentId}
+use Rattle.value_types.specs.declared.value.Value.{Value}
+use Rattle.value_types.specs.declared.value.Value.TheVariants as value
 
 -- a choice between what is given and nothing
 pub if-unmet : {A : Type 0} (Q : A → Type 0) (b : Bool) (o : Outcome A) → IfYields o Q → IfYields (if b then o else unmet) Q

@@ -18,8 +18,8 @@ use Rattle.semantics.specs.Runs.{graph_of}
 use Rattle.semantics.specs.Snapshots.{Test}
 use Rattle.semantics.specs.Steps.{Label}
 use Rattle.summary.specs.Run.{Run, end_of}
-use Rattle.ttcn_values.specs.declared.path.Path.{Path}
-use Rattle.ttcn_values.specs.declared.value.ComponentId.{ComponentId}
+use Rattle.value_types.specs.declared.path.Path.{Path}
+use Rattle.value_types.specs.declared.value.ComponentId.{ComponentId}
 
 -- what is found in the live part
 live-found : (p : Path) (xs : List Component) → find (λ x. same_path (path_of x) p) (map live_component xs) ≡ option_map live_component (find (λ x. same_path (path_of x) p) xs)

@@ -17,11 +17,11 @@ use Rattle.semantics.specs.Creating.{declared_in_turn, declared_member, declared
 use Rattle.semantics.specs.Sites.{Site, runs_on}
 use Rattle.semantics.specs.Snapshots.{Snapshot, Test, View, facts_of, members_in, mtc_of, reading_in, seen_members}
 use Rattle.semantics.specs.Storing.{declare, declare_timer}
-use Rattle.ttcn_types.specs.Limits.{longest_chain}
-use Rattle.ttcn_values.specs.Frames.{seen_entry}
-use Rattle.ttcn_values.specs.Literals.{value_wanted}
-use Rattle.ttcn_values.specs.Outcomes.{IfYields, Outcome, Yields}
-use Rattle.ttcn_values.specs.declared.value.ComponentId.{ComponentId}
+use Rattle.check_rules.specs.Limits.{longest_chain}
+use Rattle.value_types.specs.Frames.{seen_entry}
+use Rattle.value_types.specs.Literals.{value_wanted}
+use Rattle.value_types.specs.Outcomes.{IfYields, Outcome, Yields}
+use Rattle.value_types.specs.declared.value.ComponentId.{ComponentId}
 
 module _ (P : ComponentId → Type 0) (test : Test) (snapshot : Snapshot) (mtc : P (mtc_of test)) where
   -- ---- readings

@@ -4,8 +4,8 @@ use Rattle.laws_references.specs.References.{ComponentRefersTo, DataReferTo, Def
 use Rattle.semantics.proofs.Pairs.{All-more}
 use Rattle.semantics.specs.Configurations.{ActiveDefault, Component, Data, Frame, Message, Queue}
 use Rattle.semantics.specs.Entries.{Entries}
-use Rattle.ttcn_values.specs.declared.value.ComponentId.{ComponentId}
-use Rattle.ttcn_values.specs.declared.value.Value.{Value}
+use Rattle.value_types.specs.declared.value.ComponentId.{ComponentId}
+use Rattle.value_types.specs.declared.value.Value.{Value}
 
 module _ (P Q : ComponentId → Type 0) (more : (id : ComponentId) → P id → Q id) where
   pub value-more : (v : Value) → RefersTo P v → RefersTo Q v

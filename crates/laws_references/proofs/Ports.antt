@@ -15,7 +15,7 @@ use Rattle.ttcn_syntax.specs.declared.tree.statement.Timer.{Timer}
 use Rattle.check_scope.specs.Names.{Entry, Names, behind, behind_members, constant_entries, entries_at, entries_from, kind_at, listed, member_entries, members_of, module_names, names_on, resolved}
 use Rattle.check_scope.specs.declared.names.Meaning.{Meaning}
 use Rattle.check_scope.specs.declared.names.Meaning.TheVariants as meaning
-use Rattle.check_statements.specs.Messages.{port_meant}
+use Rattle.check_rules.specs.Messages.{port_meant}
 use Rattle.laws_references.proofs.Values.{all-of}
 use Rattle.laws_references.specs.There.{port_names}
 use Rattle.semantics.specs.Configurations.{Message, Queue}

@@ -28,9 +28,9 @@ use Rattle.semantics.specs.Snapshots.{Snapshot, Test, front_at, front_of, mtc_of
 use Rattle.semantics.specs.Statements.{act}
 use Rattle.semantics.specs.Steps.{Label, apply, exchanged, expired, next, settled, step_in, touch}
 use Rattle.summary.specs.Run.{Run, end_of}
-use Rattle.ttcn_values.specs.Outcomes.{Fails, Outcome, Yields}
-use Rattle.ttcn_values.specs.declared.path.Path.{Path}
-use Rattle.ttcn_values.specs.declared.value.ComponentId.{ComponentId}
+use Rattle.value_types.specs.Outcomes.{Fails, Outcome, Yields}
+use Rattle.value_types.specs.declared.path.Path.{Path}
+use Rattle.value_types.specs.declared.value.ComponentId.{ComponentId}
 
 -- ---- steps
 

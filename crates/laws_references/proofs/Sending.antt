@@ -10,16 +10,16 @@ use Rattle.laws_references.proofs.Values.{StateRefersTo, flat-each, map-each, om
 use Rattle.laws_references.specs.References as references
 use Rattle.laws_references.specs.References.{ReadingRefersTo, RefersTo, TemplateRefersTo, pattern_step, references_in_template}
 use Rattle.laws_steps.proofs.Outcomes.{then-yields}
-use Rattle.ttcn_values.specs.Matching.{all_fields, before_fields, record_with, specific_step, specific_template_step, specific_value, specific_value_of_pattern}
-use Rattle.ttcn_values.specs.Outcomes.{Fails, IfYields, Outcome, Yields, dynamic_error, outcome_and_then}
-use Rattle.ttcn_values.specs.Readings.{Reading}
-use Rattle.ttcn_values.specs.Templates.{template_wanted}
-use Rattle.ttcn_values.specs.declared.template.Pattern.{Pattern, roll-Pattern}
-use Rattle.ttcn_values.specs.declared.template.Pattern.TheFolds as fold
-use Rattle.ttcn_values.specs.declared.template.Pattern.TheOpen as level
-use Rattle.ttcn_values.specs.declared.template.Template.{Template, roll-Template}
-use Rattle.ttcn_values.specs.declared.value.ComponentId.{ComponentId}
-use Rattle.ttcn_values.specs.declared.value.Value.{Value}
+use Rattle.value_types.specs.Matching.{all_fields, before_fields, record_with, specific_step, specific_template_step, specific_value, specific_value_of_pattern}
+use Rattle.value_types.specs.Outcomes.{Fails, IfYields, Outcome, Yields, dynamic_error, outcome_and_then}
+use Rattle.value_types.specs.Readings.{Reading}
+use Rattle.value_types.specs.Templates.{template_wanted}
+use Rattle.value_types.specs.declared.template.Pattern.{Pattern, roll-Pattern}
+use Rattle.value_types.specs.declared.template.Pattern.TheFolds as fold
+use Rattle.value_types.specs.declared.template.Pattern.TheOpen as level
+use Rattle.value_types.specs.declared.template.Template.{Template, roll-Template}
+use Rattle.value_types.specs.declared.value.ComponentId.{ComponentId}
+use Rattle.value_types.specs.declared.value.Value.{Value}
 
 module _ (P : ComponentId → Type 0) where
   -- ---- what a pattern refers to

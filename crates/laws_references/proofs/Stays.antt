@@ -9,11 +9,11 @@ use Rattle.laws_references.specs.There.{IsThere}
 use Rattle.semantics.proofs.Pairs.{All-more}
 use Rattle.semantics.specs.Configurations.{Component, Configuration, Created, Data, End, Ended, Frame, Goes, Going, Message, Running, State, Terminated, component_at, is_running_state, overall, path_of, same_path}
 use Rattle.semantics.specs.Snapshots.{Snapshot, Test, mtc_of, snapshot_of}
-use Rattle.semantics.specs.Statements.{Act, Connects, Continues, Creates, Errs, Removes, Sends, Starts, Stops, Waits, Worsens, act}
+use Rattle.semantics.specs.Statements.{Act, Connects, Continues, Creates, Errs, Removes, Requests, Sends, Starts, Stops, Waits, Worsens, act}
 use Rattle.semantics.specs.Steps.{Expiry, Label, Statement, addressed, apply, at_queue, begin, connect, connection, deliver, ending, exchanged, expired, expiry_step, insert, is_double, is_terminated_at, next, peers, send, settle, settled, start_component, start_created, start_in, statement_step, step_in, touch, with_connection, with_data, with_new, with_state, with_verdict, without_first}
-use Rattle.ttcn_values.specs.Outcomes.{Fails, IfYields, Outcome, Yields, dynamic_error}
-use Rattle.ttcn_values.specs.declared.path.Path.{Path}
-use Rattle.ttcn_values.specs.declared.value.ComponentId.{ComponentId}
+use Rattle.value_types.specs.Outcomes.{Fails, IfYields, Outcome, Yields, dynamic_error}
+use Rattle.value_types.specs.declared.path.Path.{Path}
+use Rattle.value_types.specs.declared.value.ComponentId.{ComponentId}
 
 module _ (c : Going) where
   abbrev StaysIn : Configuration → Type 0
@@ -64,20 +64,20 @@ module _ (c : Going) where
   applied-stays : (test : Test) (itself : ComponentId) (asked : Act) → LeadsOn (apply test c itself asked)
   applied-stays test itself Waits = tt
   applied-stays test itself (Errs why) = tt
-  applied-stays test itself (Continues own) = stay-settled itself.path own
-  applied-stays test itself (Worsens v own) = touched (settle c itself.path own) itself.path (with_verdict v) (λ x. refl) (stay-settled itself.path own)
-  applied-stays test itself (Removes port own) = touched (settle c itself.path own) itself.path (at_queue port without_first) (λ x. refl) (stay-settled itself.path own)
-  applied-stays test itself (Sends port to v own) =
+  applied-stays test itself (Requests Continues own) = stay-settled itself.path own
+  applied-stays test itself (Requests (Worsens v) own) = touched (settle c itself.path own) itself.path (with_verdict v) (λ x. refl) (stay-settled itself.path own)
+  applied-stays test itself (Requests (Removes port) own) = touched (settle c itself.path own) itself.path (at_queue port without_first) (λ x. refl) (stay-settled itself.path own)
+  applied-stays test itself (Requests (Sends port to v) own) =
       ending-stays (send (settle c itself.path own) itself port to v)
       (deliver-stays (settle c itself.path own) (record { value = v; sender = itself }) (filter (addressed to) (peers (settle c itself.path own) (record { component = itself.path; port = port })))
       (stay-settled itself.path own))
-  applied-stays test itself (Creates new own) = λ id there.
+  applied-stays test itself (Requests (Creates new) own) = λ id there.
       new-stays-in new (settle c itself.path own) (component_at (settle c itself.path own) (path_of new)) refl id (stay-settled itself.path own id there)
-  applied-stays test itself (Starts path frame own) =
+  applied-stays test itself (Requests (Starts path frame) own) =
       ending-stays (start_component (settle c itself.path own) path frame)
       (start-stays (settle c itself.path own) path frame (component_at (settle c itself.path own) path) (stay-settled itself.path own))
-  applied-stays test itself (Stops path own) = stop-stays (same_path path (mtc_of test).path) (settle c itself.path own) path (stay-settled itself.path own)
-  applied-stays test itself (Connects d e own) =
+  applied-stays test itself (Requests (Stops path) own) = stop-stays (same_path path (mtc_of test).path) (settle c itself.path own) path (stay-settled itself.path own)
+  applied-stays test itself (Requests (Connects d e) own) =
       ending-stays (connect (settle c itself.path own) d e)
       (connect-stays (is_terminated_at (settle c itself.path own) d.component || is_terminated_at (settle c itself.path own) e.component || is_double (settle c itself.path own) d e || is_double (settle c itself.path own) e d)
       (settle c itself.path own) d e (stay-settled itself.path own))

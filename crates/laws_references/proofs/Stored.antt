@@ -9,7 +9,7 @@ use Rattle.std.proofs.lemmas.List.Elements.{All-cons, All-filter, All-head, All-
 use Rattle.ttcn_syntax.specs.declared.tree.definition.Definition.{Definition}
 use Rattle.ttcn_syntax.specs.declared.tree.definition.Parameter.{Parameter}
 use Rattle.value_assignment.specs.Assignment.{assigned}
-use Rattle.check_expressions.specs.Calls.{parameters_of}
+use Rattle.check_rules.specs.Calls.{parameters_of}
 use Rattle.check_scope.specs.Names.{kind_at}
 use Rattle.laws_references.proofs.Assigned.{assigned-gives}
 use Rattle.laws_references.proofs.Values.{StateRefersTo, zip-last}
@@ -23,11 +23,11 @@ use Rattle.semantics.specs.Items.{Item, Target}
 use Rattle.semantics.specs.Sites.{Site, is_own}
 use Rattle.semantics.specs.Snapshots.{Test}
 use Rattle.semantics.specs.Storing.{declare, declare_timer, forget, going_on, in_frame, in_last, last_values, set_timer, store, values_in, with_calls, with_remaining, with_timers, with_values}
-use Rattle.ttcn_values.specs.Frames.{entry, seen_entry}
-use Rattle.ttcn_values.specs.Outcomes.{IfYields}
-use Rattle.ttcn_values.specs.declared.frame.TimerState.{TimerState}
-use Rattle.ttcn_values.specs.declared.value.ComponentId.{ComponentId}
-use Rattle.ttcn_values.specs.declared.value.Value.{Value}
+use Rattle.value_types.specs.Frames.{entry, seen_entry}
+use Rattle.value_types.specs.Outcomes.{IfYields}
+use Rattle.value_types.specs.declared.frame.TimerState.{TimerState}
+use Rattle.value_types.specs.declared.value.ComponentId.{ComponentId}
+use Rattle.value_types.specs.declared.value.Value.{Value}
 
 module _ (P : ComponentId → Type 0) where
   -- ---- entries

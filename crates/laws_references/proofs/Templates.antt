@@ -12,7 +12,7 @@ use Rattle.ttcn_syntax.specs.declared.tree.template.TemplateBody.{TemplateBody}
 use Rattle.ttcn_syntax.specs.declared.tree.template.TemplateBody.TheFolds.{fold-roll-FieldTemplate, fold-roll-Template, fold-roll-TemplateBody, ind-Template, map-FieldTemplate, map-Template, map-TemplateBody}
 use Rattle.ttcn_syntax.specs.declared.tree.template.TemplateBody.TheOpen.{FieldTemplate-F, Template-F, TemplateBody-F}
 use Rattle.ttcn_syntax.specs.declared.tree.value.Value as written
-use Rattle.check_expressions.specs.Calls.{parameters_of}
+use Rattle.check_rules.specs.Calls.{parameters_of}
 use Rattle.check_scope.specs.Names.{fields_at, kind_at, module_names, resolved}
 use Rattle.check_scope.specs.declared.types.DataType.{DataType}
 use Rattle.laws_references.proofs.Expressions.{expression-gives}
@@ -23,19 +23,19 @@ use Rattle.laws_references.specs.References as references
 use Rattle.laws_steps.proofs.Found.{found-each}
 use Rattle.laws_steps.proofs.Outcomes.{map-yields, then-yields}
 use Rattle.semantics.proofs.Pairs.{All-flat, All-more}
-use Rattle.ttcn_values.specs.Evaluation.{value_of}
-use Rattle.ttcn_values.specs.Literals.{type_of_field, wanted_record}
-use Rattle.ttcn_values.specs.Outcomes.{Fails, IfYields, Outcome, Yields, dynamic_error, each, outcome_map}
-use Rattle.ttcn_values.specs.Readings.{Reading}
-use Rattle.ttcn_values.specs.Templates.{Wanted, argument, arguments, as_pattern, body_step, body_wanted, by_name, element, element_named, field_template, field_template_step, in_order, parts_of, plain, record_at, template_called, template_named, template_of_expression, template_of_name, template_of_range, template_step, template_wanted, value_of_bound, with_ifpresent}
-use Rattle.ttcn_values.specs.Values.{is_complete}
-use Rattle.ttcn_values.specs.declared.template.Pattern.{Pattern, fold-Pattern, roll-Pattern}
-use Rattle.ttcn_values.specs.declared.template.Pattern.TheFolds as fold
-use Rattle.ttcn_values.specs.declared.template.Pattern.TheOpen as level
-use Rattle.ttcn_values.specs.declared.template.Pattern.TheVariants as pattern
-use Rattle.ttcn_values.specs.declared.template.Template.{Template}
-use Rattle.ttcn_values.specs.declared.value.ComponentId.{ComponentId}
-use Rattle.ttcn_values.specs.declared.value.Value.{Value}
+use Rattle.value_types.specs.Evaluation.{value_of}
+use Rattle.value_types.specs.Literals.{type_of_field, wanted_record}
+use Rattle.value_types.specs.Outcomes.{Fails, IfYields, Outcome, Yields, dynamic_error, each, outcome_map}
+use Rattle.value_types.specs.Readings.{Reading}
+use Rattle.value_types.specs.Templates.{Wanted, argument, arguments, as_pattern, body_step, body_wanted, by_name, element, element_named, field_template, field_template_step, in_order, parts_of, plain, record_at, template_called, template_named, template_of_expression, template_of_name, template_of_range, template_step, template_wanted, value_of_bound, with_ifpresent}
+use Rattle.value_types.specs.Values.{is_complete}
+use Rattle.value_types.specs.declared.template.Pattern.{Pattern, fold-Pattern, roll-Pattern}
+use Rattle.value_types.specs.declared.template.Pattern.TheFolds as fold
+use Rattle.value_types.specs.declared.template.Pattern.TheOpen as level
+use Rattle.value_types.specs.declared.template.Pattern.TheVariants as pattern
+use Rattle.value_types.specs.declared.template.Template.{Template}
+use Rattle.value_types.specs.declared.value.ComponentId.{ComponentId}
+use Rattle.value_types.specs.declared.value.Value.{Value}
 
 -- ---- templates by their patterns
 

@@ -9,8 +9,8 @@ use Rattle.laws_references.specs.There.{IsThere}
 use Rattle.laws_order.proofs.Changes.{none-found}
 use Rattle.semantics.specs.Configurations.{Component, Going, component_at, is_terminated_state, path_of, same_path}
 use Rattle.semantics.specs.Steps.{insert, is_before, touch, unless_terminated, with_new}
-use Rattle.ttcn_values.specs.declared.path.Path.{Path}
-use Rattle.ttcn_values.specs.declared.value.ComponentId.{ComponentId}
+use Rattle.value_types.specs.declared.path.Path.{Path}
+use Rattle.value_types.specs.declared.value.ComponentId.{ComponentId}
 
 -- ---- finding
 

@@ -7,13 +7,13 @@ use Rattle.laws_references.specs.References.{RefersTo, references, references_in
 use Rattle.laws_steps.proofs.Outcomes.{map-yields}
 use Rattle.laws_steps.proofs.Found.{get-each}
 use Rattle.semantics.proofs.Pairs.{All-flat, All-more}
-use Rattle.ttcn_values.specs.Outcomes.{Fails, IfYields, Outcome, Yields, each, or_error, outcome_and_then, outcome_map}
-use Rattle.ttcn_values.specs.declared.value.ComponentId.{ComponentId}
-use Rattle.ttcn_values.specs.declared.value.Value.{Value, fold_out-Value, out-Value, roll-Value}
-use Rattle.ttcn_values.specs.declared.value.Value.TheFolds.{fold-roll-Value, map-Value}
-use Rattle.ttcn_values.specs.declared.value.Value.TheOpen.{Value-F}
-use Rattle.ttcn_values.specs.declared.value.Value.TheShapes.{former-Value-Record-1-at-1}
-use Rattle.ttcn_values.specs.declared.value.Value.TheVariants as value
+use Rattle.value_types.specs.Outcomes.{Fails, IfYields, Outcome, Yields, each, or_error, outcome_and_then, outcome_map}
+use Rattle.value_types.specs.declared.value.ComponentId.{ComponentId}
+use Rattle.value_types.specs.declared.value.Value.{Value, fold_out-Value, out-Value, roll-Value}
+use Rattle.value_types.specs.declared.value.Value.TheFolds.{fold-roll-Value, map-Value}
+use Rattle.value_types.specs.declared.value.Value.TheOpen.{Value-F}
+use Rattle.value_types.specs.declared.value.Value.TheShapes.{former-Value-Record-1-at-1}
+use Rattle.value_types.specs.declared.value.Value.TheVariants as value
 
 -- ---- lists
 

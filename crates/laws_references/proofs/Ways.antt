@@ -11,7 +11,7 @@ use Rattle.ttcn_syntax.specs.declared.tree.statement.Conditional.{Conditional}
 use Rattle.ttcn_syntax.specs.declared.tree.statement.Event.{Event}
 use Rattle.ttcn_syntax.specs.declared.tree.statement.Statement.{Statement}
 use Rattle.ttcn_syntax.specs.declared.tree.value.Call.{Call}
-use Rattle.check_expressions.specs.Calls.{altstep_meant, parameters_of}
+use Rattle.check_rules.specs.Calls.{altstep_meant, parameters_of}
 use Rattle.check_scope.specs.Names.{kind_at, module_names}
 use Rattle.laws_references.proofs.Events.{EffectRefers, TrialRefers, chance-refers}
 use Rattle.laws_references.proofs.Members.{reading-refers}
@@ -25,11 +25,11 @@ use Rattle.semantics.specs.Configurations.{Data}
 use Rattle.semantics.specs.Events.{Choice, Faulty, Happened, Nothing, Passed, Refused, Taken, Trial, chosen_by, first_choice, try_chance}
 use Rattle.semantics.specs.Items.{Does, Item, items, items_if_any}
 use Rattle.semantics.specs.Snapshots.{Snapshot, Test, mtc_of}
-use Rattle.ttcn_types.specs.Limits.{longest_chain}
-use Rattle.ttcn_values.specs.Outcomes.{Fails, IfYields, Outcome, Unmet, Yields}
-use Rattle.ttcn_values.specs.Templates.{arguments}
-use Rattle.ttcn_values.specs.declared.value.ComponentId.{ComponentId}
-use Rattle.ttcn_values.specs.declared.value.Value.{Value}
+use Rattle.check_rules.specs.Limits.{longest_chain}
+use Rattle.value_types.specs.Outcomes.{Fails, IfYields, Outcome, Unmet, Yields}
+use Rattle.value_types.specs.Templates.{arguments}
+use Rattle.value_types.specs.declared.value.ComponentId.{ComponentId}
+use Rattle.value_types.specs.declared.value.Value.{Value}
 
 -- ---- lists
 

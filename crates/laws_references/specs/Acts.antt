@@ -1,9 +1,9 @@
 -- What a component asks for refers only to components of which something holds.
 use Rattle.std.specs.Prelude.{◌≡◌, ◌⊎◌, IfSome}
 use Rattle.laws_references.specs.References.{ComponentRefersTo, DataReferTo, FrameRefersTo, RefersTo}
-use Rattle.semantics.specs.Statements.{Act, Connects, Continues, Creates, Errs, Removes, Sends, Starts, Stops, Waits, Worsens}
-use Rattle.ttcn_values.specs.declared.path.Path.{Path}
-use Rattle.ttcn_values.specs.declared.value.ComponentId.{ComponentId}
+use Rattle.semantics.specs.Statements.{Act, Connects, Continues, Creates, Errs, Removes, Requests, Sends, Starts, Stops, Waits, Worsens}
+use Rattle.value_types.specs.declared.path.Path.{Path}
+use Rattle.value_types.specs.declared.value.ComponentId.{ComponentId}
 
 -- a path is that of a component of which something holds
 abbrev pub IsPathOf : (ComponentId → Type 0) → Path → Type 0
@@ -17,11 +17,11 @@ HoldsOrIs P new id = P id ⊎ (id ≡ new)
 abbrev pub ActRefersTo : (ComponentId → Type 0) → Act → Type 0
 ActRefersTo P Waits = Unit {0}
 ActRefersTo P (Errs why) = Unit {0}
-ActRefersTo P (Continues own) = DataReferTo P own
-ActRefersTo P (Worsens v own) = DataReferTo P own
-ActRefersTo P (Removes port own) = DataReferTo P own
-ActRefersTo P (Sends port to v own) = IfSome to (IsPathOf P) × RefersTo P v × DataReferTo P own
-ActRefersTo P (Creates new own) = ComponentRefersTo (HoldsOrIs P new.itself) new × DataReferTo (HoldsOrIs P new.itself) own
-ActRefersTo P (Starts path frame own) = IsPathOf P path × FrameRefersTo P frame × DataReferTo P own
-ActRefersTo P (Stops path own) = IsPathOf P path × DataReferTo P own
-ActRefersTo P (Connects d e own) = IsPathOf P d.component × IsPathOf P e.component × DataReferTo P own
+ActRefersTo P (Requests Continues own) = DataReferTo P own
+ActRefersTo P (Requests (Worsens v) own) = DataReferTo P own
+ActRefersTo P (Requests (Removes port) own) = DataReferTo P own
+ActRefersTo P (Requests (Sends port to v) own) = IfSome to (IsPathOf P) × RefersTo P v × DataReferTo P own
+ActRefersTo P (Requests (Creates new) own) = ComponentRefersTo (HoldsOrIs P new.itself) new × DataReferTo (HoldsOrIs P new.itself) own
+ActRefersTo P (Requests (Starts path frame) own) = IsPathOf P path × FrameRefersTo P frame × DataReferTo P own
+ActRefersTo P (Requests (Stops path) own) = IsPathOf P path × DataReferTo P own
+ActRefersTo P (Requests (Connects d e) own) = IsPathOf P d.component × IsPathOf P e.component × DataReferTo P own

@@ -4,13 +4,13 @@ use Rattle.std.specs.List.{All, flat_map}
 use Rattle.semantics.specs.Configurations.{ActiveDefault, Component, Data, Frame, Message, Queue}
 use Rattle.semantics.specs.Entries.{Entries}
 use Rattle.semantics.specs.Snapshots.{Snapshot}
-use Rattle.ttcn_values.specs.Outcomes.{IfYields}
-use Rattle.ttcn_values.specs.Readings.{Reading}
-use Rattle.ttcn_values.specs.declared.template.Pattern.TheOpen.{Pattern-F, Template-F}
-use Rattle.ttcn_values.specs.declared.template.Template.{Template, fold-Template}
-use Rattle.ttcn_values.specs.declared.value.ComponentId.{ComponentId}
-use Rattle.ttcn_values.specs.declared.value.Value.{Value, fold-Value}
-use Rattle.ttcn_values.specs.declared.value.Value.TheOpen.{Value-F}
+use Rattle.value_types.specs.Outcomes.{IfYields}
+use Rattle.value_types.specs.Readings.{Reading}
+use Rattle.value_types.specs.declared.template.Pattern.TheOpen.{Pattern-F, Template-F}
+use Rattle.value_types.specs.declared.template.Template.{Template, fold-Template}
+use Rattle.value_types.specs.declared.value.ComponentId.{ComponentId}
+use Rattle.value_types.specs.declared.value.Value.{Value, fold-Value}
+use Rattle.value_types.specs.declared.value.Value.TheOpen.{Value-F}
 
 -- ---- values
 

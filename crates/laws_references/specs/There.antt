@@ -8,7 +8,7 @@ use Rattle.semantics.specs.Configurations.{Component, Configuration, Connection,
 use Rattle.semantics.specs.Creating.{ports_of}
 use Rattle.semantics.specs.LiveParts.{husk}
 use Rattle.semantics.specs.Snapshots.{Test, mtc_of}
-use Rattle.ttcn_values.specs.declared.value.ComponentId.{ComponentId}
+use Rattle.value_types.specs.declared.value.ComponentId.{ComponentId}
 
 -- ---- components
 

@@ -19,22 +19,22 @@ ghost use Rattle.semantics.specs.LiveParts.{live_part};
 ghost use Rattle.semantics.specs.Runs.{graph_of, option_elim, replay, start};
 ghost use Rattle.semantics.specs.Sites.{Site};
 ghost use Rattle.semantics.specs.Snapshots.{Snapshot, Test, View, mtc_of, reading_in, snapshot_of};
-ghost use Rattle.semantics.specs.Statements.{Act, Starts, act};
+ghost use Rattle.semantics.specs.Statements.{Act, Requests, Starts, act};
 ghost use Rattle.semantics.specs.Steps.{Label, apply, exchanged, expired, next, peers, settle, settled, start_component, touch};
 ghost use Rattle.summary.specs.Run.{Run, end_of};
-ghost use Rattle.ttcn_values.specs.Chains.{within_chains};
-ghost use Rattle.ttcn_values.specs.Evaluation.{value_of};
-ghost use Rattle.ttcn_values.specs.Literals.{value_wanted};
-ghost use Rattle.ttcn_values.specs.Matching.{specific_value};
-ghost use Rattle.ttcn_values.specs.Outcomes.{IfYields, IsMet, Yields, outcome_and_then};
-ghost use Rattle.ttcn_values.specs.Readings as readings;
-ghost use Rattle.ttcn_values.specs.Readings.{Reading, component_referred, referred};
-ghost use Rattle.ttcn_values.specs.Templates.{arguments, template_wanted};
-ghost use Rattle.ttcn_values.specs.declared.path.Path.{Path};
-ghost use Rattle.ttcn_values.specs.declared.template.Template.{Template};
-ghost use Rattle.ttcn_values.specs.declared.value.ComponentId.{ComponentId};
-ghost use Rattle.ttcn_values.specs.declared.value.Value.{Value};
-ghost use Rattle.ttcn_values.specs.declared.value.Value.TheVariants as value;
+ghost use Rattle.value_types.specs.Chains.{within_chains};
+ghost use Rattle.value_types.specs.Evaluation.{value_of};
+ghost use Rattle.value_types.specs.Literals.{value_wanted};
+ghost use Rattle.value_types.specs.Matching.{specific_value};
+ghost use Rattle.value_types.specs.Outcomes.{IfYields, IsMet, Yields, outcome_and_then};
+ghost use Rattle.value_types.specs.Readings as readings;
+ghost use Rattle.value_types.specs.Readings.{Reading, component_referred, referred};
+ghost use Rattle.value_types.specs.Templates.{arguments, template_wanted};
+ghost use Rattle.value_types.specs.declared.path.Path.{Path};
+ghost use Rattle.value_types.specs.declared.template.Template.{Template};
+ghost use Rattle.value_types.specs.declared.value.ComponentId.{ComponentId};
+ghost use Rattle.value_types.specs.declared.value.Value.{Value};
+ghost use Rattle.value_types.specs.declared.value.Value.TheVariants as value;
 
 /// A value refers to the component that it is a reference to, and a record to what the values of its fields refer to; any other
 /// value refers to none.
@@ -129,6 +129,6 @@ pub fn evaluation_refers_to_what_is_there()
 /// and the peers of a port are ports of components that are there.
 pub fn what_is_asked_for_is_found()
     ensures asked { (test : Test) (snapshot : Snapshot) (c : Going) (p : Path) (x : Component) → StandsWithAllReferred test (Goes c) → component_at c p ≡ Some x → snapshot.itself ≡ x.itself → SnapshotRefersTo (IsThere c) snapshot → ActRefersTo (IsThere c) (act test snapshot x.own) }
-    ensures starts { (test : Test) (snapshot : Snapshot) (c : Going) (p : Path) (x : Component) (path : Path) (frame : Frame) (own : Data) → StandsWithAllReferred test (Goes c) → component_at c p ≡ Some x → snapshot.itself ≡ x.itself → SnapshotRefersTo (IsThere c) snapshot → act test snapshot x.own ≡ Starts path frame own → IsMet (start_component (settle c (path_of x) own) path frame) }
+    ensures starts { (test : Test) (snapshot : Snapshot) (c : Going) (p : Path) (x : Component) (path : Path) (frame : Frame) (own : Data) → StandsWithAllReferred test (Goes c) → component_at c p ≡ Some x → snapshot.itself ≡ x.itself → SnapshotRefersTo (IsThere c) snapshot → act test snapshot x.own ≡ Requests (Starts path frame) own → IsMet (start_component (settle c (path_of x) own) path frame) }
     ensures peers { (test : Test) (c : Going) (d : End) → StandsWithAllReferred test (Goes c) → All (IsPortThere c) (peers c d) }
 {}

@@ -6,7 +6,7 @@ use Rattle.ttcn_syntax.specs.declared.tree.definition.Definition.{Definition}
 use Rattle.ttcn_syntax.specs.declared.tree.statement.Conditional.{out-Conditional}
 use Rattle.ttcn_syntax.specs.declared.tree.statement.Statement.{Statement, out-Statement}
 use Rattle.value_assignment.specs.Assignment.{assigned}
-use Rattle.check_expressions.specs.Calls.{parameters_of}
+use Rattle.check_rules.specs.Calls.{parameters_of}
 use Rattle.check_scope.specs.Names.{kind_at}
 use Rattle.laws_repeat.proofs.Blocks.{IsClosedBlock, conditional-closed, do-closed, for-closed, for-made, last-closed, made-block, made-block-if, made-both, made-none, made-part, made-waiting, while-closed}
 use Rattle.laws_repeat.proofs.Ways.{HasNoMark, IsChanceAt, IsChoiceAt, IsWayAt, alt-ways, choice-at, default-ways}
@@ -25,14 +25,14 @@ use Rattle.semantics.specs.Snapshots.{Snapshot, Test}
 use Rattle.semantics.specs.Statements.{Stand, act, choice_at, choose_from, declared, done, judge_at, new_id, reads, remaining, with_child}
 use Rattle.semantics.specs.Storing.{declare, declare_timer, forget, going_on, in_frame, in_last, set_timer, store, target_meant, values_in, with_calls, with_remaining, with_timers, with_values}
 use Rattle.semantics.specs.Taking.{effected, entered, from_mark, marked, repeat_in, repeated, store_all, taken}
-use Rattle.ttcn_values.specs.Frames.{entry}
-use Rattle.ttcn_values.specs.Literals.{value_wanted}
-use Rattle.ttcn_values.specs.Outcomes.{Fails, IfYields, Outcome, Yields}
-use Rattle.ttcn_values.specs.Templates.{arguments}
-use Rattle.ttcn_values.specs.declared.frame.TimerState.{TimerState}
-use Rattle.ttcn_values.specs.declared.frame.TimerState.TheVariants as timer
-use Rattle.ttcn_values.specs.declared.value.Value.{Value}
-use Rattle.ttcn_values.specs.declared.value.Value.TheVariants as value
+use Rattle.value_types.specs.Frames.{entry}
+use Rattle.value_types.specs.Literals.{value_wanted}
+use Rattle.value_types.specs.Outcomes.{Fails, IfYields, Outcome, Yields}
+use Rattle.value_types.specs.Templates.{arguments}
+use Rattle.value_types.specs.declared.frame.TimerState.{TimerState}
+use Rattle.value_types.specs.declared.frame.TimerState.TheVariants as timer
+use Rattle.value_types.specs.declared.value.Value.{Value}
+use Rattle.value_types.specs.declared.value.Value.TheVariants as value
 
 -- ---- what remains in frames
 
@@ -252,21 +252,20 @@ module _ (stand : Stand) (at-frame : stand.own.calls ≡ stand.frame ∷ stand.b
           (taken-follows chance effect (some-of (IsChoiceAt stand.test stand.snapshot stand.own site) (choice_at stand site s) (Taken chance effect) chosen chosen-at));
       fails = λ why. tt;
       waits = λ whole is. tt;
-      continues = λ own is. is;
+      continues = λ own is. (tt, is);
       worsens = λ v reasons whole e. ((site, s, stand.rest, under, reasons, before-first ∙ ap (λ p. (Doing site s p ∷ stand.rest) ∷ under) whole, e), done-follows);
-      removes = λ port own is. is;
-      sends = λ send v to of meant. done-follows;
+      removes = λ port own is. (tt, is);
+      sends = λ send v to of meant. (tt, done-follows);
       creates = λ target own at members changed holds made stored. (
-        refl,
-        refl,
+        (refl, refl),
         over (with_child changed) (yields-is (In stand.rest) (store stand.test target (value.Component (new_id stand own at)) own) changed stored
             (store-kept (stand.rest ∷ under) stand.test target (value.Component (new_id stand own at)) own holds)),
       );
       starts = λ reference c frame meant new. (new, done-follows);
-      stops_itself = done-follows;
-      stops_last = λ is. left [] is;
-      stops = λ reference c meant. done-follows;
-      connects = λ one other c d first second may. done-follows;
+      stops_itself = (tt, done-follows);
+      stops_last = λ is. (tt, left [] is);
+      stops = λ reference c meant. (tt, done-follows);
+      connects = λ one other c d first second may. (tt, done-follows);
     }
 
 -- ---- steps of a component
@@ -276,7 +275,7 @@ pub asked_followed : (test : Test) (snapshot : Snapshot) (own : Data) → IsFoll
 asked_followed test snapshot own =
     act-asks test snapshot own (IsFollowed test.definitions (lists own)) (λ why. tt)
     (λ frame below calls nothing. let stand : Stand = record { test = test; snapshot = snapshot; own = own; frame = frame; below = below; rest = [] } in
-    end-asks stand (IsFollowed test.definitions (lists own)) (λ why. tt) (λ is. left stand calls [] is) (λ last frames is. left stand calls (last ∷ frames) is) below refl)
+    end-asks stand (IsFollowed test.definitions (lists own)) (λ why. tt) (λ is. (tt, left stand calls [] is)) (λ last frames is. (tt, left stand calls (last ∷ frames) is)) below refl)
     (λ frame below site s part rest calls first. let stand : Stand = record { test = test; snapshot = snapshot; own = own; frame = frame; below = below; rest = rest } in
     part-asks stand site s part (IsFollowed test.definitions (lists own)) (λ changed. lists changed ≡ rest ∷ lists_of below) (λ changed. lists changed ≡ rest ∷ lists_of below)
     (λ changed. Follows test.definitions (lists own) (lists changed)) (λ v. Unit {0}) (IsNewFrame test.definitions)

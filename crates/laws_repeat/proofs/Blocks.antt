@@ -11,7 +11,7 @@ use Rattle.ttcn_syntax.specs.declared.tree.statement.ForStart.{ForStart}
 use Rattle.ttcn_syntax.specs.declared.tree.statement.ForStart.TheVariants as for_start
 use Rattle.ttcn_syntax.specs.declared.tree.statement.Statement.{Statement}
 use Rattle.check_scope.specs.Names.{Entry, Scope}
-use Rattle.check_statements.specs.Statements.{Place, behind_for_start, check_for_start, statement, statements, with_scope}
+use Rattle.check_rules.specs.Statements.{Place, behind_for_start, check_for_start, statement, statements, with_scope}
 use Rattle.laws_checker.proofs.Descent.{first_fine, others_fine, statement_whole}
 use Rattle.laws_checker.proofs.Whole.{variables_whole}
 use Rattle.laws_checker.specs.Laws.{IsWhole}

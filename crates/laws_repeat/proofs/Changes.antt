@@ -14,13 +14,13 @@ use Rattle.semantics.specs.Configurations.{Component, Configuration, Data, Frame
 use Rattle.semantics.specs.Items.{Item}
 use Rattle.semantics.specs.Runs.{body_frame, graph_of, mtc_with, replay, start}
 use Rattle.semantics.specs.Snapshots.{Test, snapshot_of}
-use Rattle.semantics.specs.Statements.{Act, Connects, Continues, Creates, Errs, Removes, Sends, Starts, Stops, Waits, Worsens, act}
+use Rattle.semantics.specs.Statements.{Act, Errs, Requests, Waits, act}
 use Rattle.semantics.specs.Steps.{Label, exchanged, expired, next}
 use Rattle.semantics.specs.Storing.{in_last, with_remaining}
 use Rattle.semantics.specs.Taking.{without_marks}
 use Rattle.summary.specs.Run.{Run, end_of}
-use Rattle.ttcn_values.specs.declared.path.Path.{Path}
-use Rattle.ttcn_values.specs.declared.value.ComponentId.{ComponentId}
+use Rattle.value_types.specs.declared.path.Path.{Path}
+use Rattle.value_types.specs.declared.value.ComponentId.{ComponentId}
 
 module _ (test : Test) (Lasts : List (List Item) → Type 0) (lasting : IsLasting test.definitions Lasts) where
   abbrev ds : List Definition
@@ -60,14 +60,7 @@ module _ (test : Test) (Lasts : List (List Item) → Type 0) (lasting : IsLastin
     owns : (asked : Act) → IsFollowed ds before asked → OwnHas LastsIn asked
     owns Waits is = tt
     owns (Errs why) is = tt
-    owns (Continues own) is = lasting.followed before (lists_of own.calls) is lasts
-    owns (Worsens v own) is = lasting.followed before (lists_of own.calls) is.1 lasts
-    owns (Removes port own) is = lasting.followed before (lists_of own.calls) is lasts
-    owns (Sends port to v own) is = lasting.followed before (lists_of own.calls) is lasts
-    owns (Creates new own) is = lasting.followed before (lists_of own.calls) is.2 lasts
-    owns (Starts path frame own) is = lasting.followed before (lists_of own.calls) is.1 lasts
-    owns (Stops path own) is = lasting.followed before (lists_of own.calls) is lasts
-    owns (Connects d e own) is = lasting.followed before (lists_of own.calls) is lasts
+    owns (Requests request own) is = lasting.followed before (lists_of own.calls) is.1 lasts
 
     each : (itself : ComponentId) → AppliesEach (IsFollowed ds before) LastsIn Stands itself
     each itself = record {
@@ -76,7 +69,7 @@ module _ (test : Test) (Lasts : List (List Item) → Type 0) (lasting : IsLastin
       worsens = λ v x is. is;
       removes = λ port x is. is;
       delivers = λ port to v own at asks x is. is;
-      creates = λ new own asks. no-frames new asks.0;
+      creates = λ new own asks. no-frames new asks.0.0;
       starts = λ path frame own asks x is. begin-lasts frame asks.0;
       stops = λ x is. is;
     }

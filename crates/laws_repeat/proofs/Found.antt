@@ -9,8 +9,8 @@ use Rattle.semantics.specs.Runs.{replay}
 use Rattle.semantics.specs.Snapshots.{Test}
 use Rattle.semantics.specs.Steps.{Label}
 use Rattle.semantics.specs.Taking.{repeated}
-use Rattle.ttcn_types.specs.Rules.{AreWellTyped}
-use Rattle.ttcn_values.specs.declared.path.Path.{Path}
+use Rattle.check_rules.specs.Rules.{AreWellTyped}
+use Rattle.value_types.specs.declared.path.Path.{Path}
 
 pub repeats_found : (test : Test) (run : List Label) (c : Going) (p : Path) (x : Component) → AreWellTyped test.definitions → replay test run ≡ Ok (Goes c) → component_at c p ≡ Some x → StandsAtRepeat x.own.calls
     → is_some (repeated x.own.calls) ≡ true

@@ -6,12 +6,12 @@ use Rattle.ttcn_syntax.specs.declared.tree.definition.Definition.{Definition}
 use Rattle.ttcn_syntax.specs.declared.tree.definition.DefinitionKind.{DefinitionKind}
 use Rattle.ttcn_syntax.specs.declared.tree.definition.DefinitionKind.TheVariants as kind
 use Rattle.ttcn_syntax.specs.declared.tree.statement.Statement.{Statement}
-use Rattle.check_expressions.specs.Calls.{component_named}
+use Rattle.check_rules.specs.Calls.{component_named}
 use Rattle.check_scope.specs.Names.{Entry, Scope, kind_at}
 use Rattle.check_scope.specs.Scopes.{scope_on}
 use Rattle.check_scope.specs.declared.rule.Rule.{Rule}
-use Rattle.check_statements.specs.Definitions.{check_component_name, check_parameters, check_result, place_in, returns_of}
-use Rattle.check_statements.specs.Statements.{Place, statements}
+use Rattle.check_rules.specs.Definitions.{check_component_name, check_parameters, check_result, place_in, returns_of}
+use Rattle.check_rules.specs.Statements.{Place, statements}
 use Rattle.laws_checker.proofs.Nothing.{nothing-first, nothing-rest}
 use Rattle.laws_checker.proofs.Whole.{behaviour_whole, definition_is_fine, parameters_whole}
 use Rattle.laws_checker.specs.Laws.{IsWhole}
@@ -28,7 +28,7 @@ use Rattle.semantics.specs.Runs.{testcase_body}
 use Rattle.semantics.specs.Sites.{Site, beginning}
 use Rattle.semantics.specs.Statements.{body_of}
 use Rattle.semantics.specs.Taking.{from_mark, without_marks}
-use Rattle.ttcn_types.specs.Rules.{AreWellTyped}
+use Rattle.check_rules.specs.Rules.{AreWellTyped}
 
 -- ---- marks in lists
 

@@ -17,7 +17,7 @@ use Rattle.semantics.specs.Snapshots.{Test}
 use Rattle.semantics.specs.Steps.{Label, next}
 use Rattle.semantics.specs.Taking.{from_mark, repeated}
 use Rattle.summary.specs.Run.{Run, end_of}
-use Rattle.ttcn_types.specs.Rules.{AreWellTyped}
+use Rattle.check_rules.specs.Rules.{AreWellTyped}
 
 -- ---- in frames
 

@@ -11,7 +11,7 @@ use Rattle.ttcn_syntax.specs.declared.tree.statement.Conditional.{Conditional}
 use Rattle.ttcn_syntax.specs.declared.tree.statement.Event.{Event}
 use Rattle.ttcn_syntax.specs.declared.tree.statement.Statement.{Statement}
 use Rattle.ttcn_syntax.specs.declared.tree.value.Call.{Call}
-use Rattle.check_expressions.specs.Calls.{altstep_meant, parameters_of}
+use Rattle.check_rules.specs.Calls.{altstep_meant, parameters_of}
 use Rattle.check_scope.specs.Names.{kind_at, module_names}
 use Rattle.laws_repeat.proofs.Blocks.{block-inside, block-inside-if}
 use Rattle.laws_repeat.specs.Following.{IsInside, IsUnmarked}
@@ -22,10 +22,10 @@ use Rattle.semantics.specs.Events.{Choice, Faulty, Happened, Nothing, Passed, Re
 use Rattle.semantics.specs.Items.{Does, Doing, Item, Mark, Waiting, items, items_if_any}
 use Rattle.semantics.specs.Sites.{Site}
 use Rattle.semantics.specs.Snapshots.{Snapshot, Test}
-use Rattle.ttcn_types.specs.Limits.{longest_chain}
-use Rattle.ttcn_values.specs.Outcomes.{Fails, Outcome, Unmet, Yields}
-use Rattle.ttcn_values.specs.Templates.{arguments}
-use Rattle.ttcn_values.specs.declared.value.Value.{Value}
+use Rattle.check_rules.specs.Limits.{longest_chain}
+use Rattle.value_types.specs.Outcomes.{Fails, Outcome, Unmet, Yields}
+use Rattle.value_types.specs.Templates.{arguments}
+use Rattle.value_types.specs.declared.value.Value.{Value}
 
 -- in a frame no mark remains
 abbrev pub HasNoMark : Frame → Type 0

@@ -8,13 +8,13 @@ use Rattle.ttcn_syntax.specs.declared.tree.statement.Statement.{Statement}
 use Rattle.ttcn_syntax.specs.declared.tree.statement.Verdict.{Verdict}
 use Rattle.ttcn_syntax.specs.declared.tree.statement.Verdict.TheVariants as verdict
 use Rattle.check_scope.specs.Names.{Entry, kind_at}
-use Rattle.check_statements.specs.Statements.{Place, statement}
+use Rattle.check_rules.specs.Statements.{Place, statement}
 use Rattle.laws_checker.specs.Laws.{IsWhole}
 use Rattle.semantics.specs.Configurations.{Frame}
 use Rattle.semantics.specs.Items.{Doing, Item, Mark, Part, Target, Waiting, Whole, action_of, items}
 use Rattle.semantics.specs.Runs.{testcase_body}
 use Rattle.semantics.specs.Sites.{Site, beginning}
-use Rattle.semantics.specs.Statements.{Act, Connects, Continues, Creates, Errs, Removes, Sends, Starts, Stops, Waits, Worsens, body_of}
+use Rattle.semantics.specs.Statements.{Act, Creates, Errs, Request, Requests, Starts, Waits, Worsens, body_of}
 use Rattle.semantics.specs.Taking.{from_mark}
 
 -- ---- frames
@@ -101,15 +101,15 @@ abbrev pub SetsVerdict : List (List Item) → Verdict → Type 0
 SetsVerdict before v =
     (site : Site) × (s : Statement) × (rest : List Item) × (lists : List (List Item)) × (reasons : List LogItem) × (before ≡ (Doing site s Whole ∷ rest) ∷ lists) × (action_of s ≡ Action-F.Setverdict v reasons)
 
--- what a component asks for where this remained before: what remains behind follows. A verdict gets worse by a `setverdict`, a new component has no frames and verdict none, and one that starts has one in which a body remains
+-- what is asked for where this remained before: a verdict gets worse by a `setverdict`, a new component has no frames and verdict none, and one that starts has a frame in which a body remains
+abbrev pub IsFollowedRequest : List Definition → List (List Item) → Request → Type 0
+IsFollowedRequest definitions before (Worsens v) = SetsVerdict before v
+IsFollowedRequest definitions before (Creates new) = (new.own.calls ≡ []) × (new.verdict ≡ verdict.None)
+IsFollowedRequest definitions before (Starts path frame) = IsNewFrame definitions frame
+IsFollowedRequest definitions before _ = Unit {0}
+
+-- what a component does where this remained before: what remains behind follows
 abbrev pub IsFollowed : List Definition → List (List Item) → Act → Type 0
 IsFollowed definitions before Waits = Unit {0}
 IsFollowed definitions before (Errs why) = Unit {0}
-IsFollowed definitions before (Continues own) = Follows definitions before (lists_of own.calls)
-IsFollowed definitions before (Worsens v own) = SetsVerdict before v × Follows definitions before (lists_of own.calls)
-IsFollowed definitions before (Removes port own) = Follows definitions before (lists_of own.calls)
-IsFollowed definitions before (Sends port to v own) = Follows definitions before (lists_of own.calls)
-IsFollowed definitions before (Creates new own) = (new.own.calls ≡ []) × (new.verdict ≡ verdict.None) × Follows definitions before (lists_of own.calls)
-IsFollowed definitions before (Starts path frame own) = IsNewFrame definitions frame × Follows definitions before (lists_of own.calls)
-IsFollowed definitions before (Stops path own) = Follows definitions before (lists_of own.calls)
-IsFollowed definitions before (Connects d e own) = Follows definitions before (lists_of own.calls)
+IsFollowed definitions before (Requests request own) = IsFollowedRequest definitions before request × Follows definitions before (lists_of own.calls)

@@ -12,8 +12,8 @@ ghost use Rattle.semantics.specs.Statements.{act};
 ghost use Rattle.semantics.specs.Steps.{Label, next};
 ghost use Rattle.semantics.specs.Taking.{repeated};
 ghost use Rattle.summary.specs.Run.{Run, end_of};
-ghost use Rattle.ttcn_types.specs.Rules.{AreWellTyped};
-ghost use Rattle.ttcn_values.specs.declared.path.Path.{Path};
+ghost use Rattle.check_rules.specs.Rules.{AreWellTyped};
+ghost use Rattle.value_types.specs.declared.path.Path.{Path};
 
 /// What remains in a component's frames behind its step follows from what remained before, in any module and by any snapshot.
 #[tactic(auto, using(crate::proofs::Asked::asked_followed))]

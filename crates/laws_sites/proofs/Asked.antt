@@ -7,10 +7,10 @@ use Rattle.ttcn_syntax.specs.declared.tree.statement.Action.TheOpen.{Action-F}
 use Rattle.ttcn_syntax.specs.declared.tree.statement.Conditional.{out-Conditional}
 use Rattle.ttcn_syntax.specs.declared.tree.statement.Statement.{Statement, out-Statement}
 use Rattle.ttcn_syntax.specs.declared.tree.statement.Timer.{Timer}
-use Rattle.check_expressions.specs.Calls.{parameters_of}
-use Rattle.check_expressions.specs.Targets.{check_timer_name}
+use Rattle.check_rules.specs.Calls.{parameters_of}
+use Rattle.check_rules.specs.Targets.{check_timer_name}
 use Rattle.check_scope.specs.Names.{kind_at}
-use Rattle.check_statements.specs.Statements.{statements}
+use Rattle.check_rules.specs.Statements.{statements}
 use Rattle.laws_sites.proofs.Blocks.{block-fine, block-fine-if, for-fine, parts-of, place}
 use Rattle.laws_sites.proofs.Frames.{AreOpen, IsDataIn, IsFineData, KeepsFrame, all-in, declare-kept, declare-timer-kept, effect-kept, entered-in, forget-kept, last-kept, last-remaining, open-in, set-timer-kept, store-kept}
 use Rattle.laws_sites.proofs.Outside.{Begins, beginning-fine, body-fine}
@@ -32,29 +32,28 @@ use Rattle.semantics.specs.Events.{Effect, Taken}
 use Rattle.semantics.specs.Items.{Does, Doing, From, Item, Last, Loop, Mark, Name, Part, Start, Target, Waiting, Whole, action_of, items}
 use Rattle.semantics.specs.Sites.{Site, beginning, scope_at}
 use Rattle.semantics.specs.Snapshots.{Snapshot, Test}
-use Rattle.semantics.specs.Statements.{Act, Connects, Continues, Creates, Errs, Removes, Sends, Stand, Starts, Stops, Waits, Worsens, act, body_of, choice_at, choose_from, declared, done, judge_at, new_id, reads}
+use Rattle.semantics.specs.Statements.{Act, Creates, Errs, Request, Requests, Stand, Starts, Waits, act, body_of, choice_at, choose_from, declared, done, judge_at, new_id, reads}
 use Rattle.semantics.specs.Storing.{declare, declare_timer, forget, going_on, in_last, store, with_calls, with_remaining}
 use Rattle.semantics.specs.Taking.{effected, entered, marked, repeated, taken}
-use Rattle.ttcn_types.specs.Rules.{AreWellTyped}
-use Rattle.ttcn_values.specs.Literals.{value_wanted}
-use Rattle.ttcn_values.specs.Outcomes.{Fails, IfYields, Outcome, Yields}
-use Rattle.ttcn_values.specs.Templates.{arguments}
-use Rattle.ttcn_values.specs.declared.value.ComponentId.{ComponentId}
-use Rattle.ttcn_values.specs.declared.value.Value.{Value}
-use Rattle.ttcn_values.specs.declared.value.Value.TheVariants as value
+use Rattle.check_rules.specs.Rules.{AreWellTyped}
+use Rattle.value_types.specs.Literals.{value_wanted}
+use Rattle.value_types.specs.Outcomes.{Fails, IfYields, Outcome, Yields}
+use Rattle.value_types.specs.Templates.{arguments}
+use Rattle.value_types.specs.declared.value.ComponentId.{ComponentId}
+use Rattle.value_types.specs.declared.value.Value.{Value}
+use Rattle.value_types.specs.declared.value.Value.TheVariants as value
 
--- what a component asks for: its frames are fine behind the step, and so are a new component and a frame that starts
+-- what is asked for brings a component and frames that are fine
+abbrev pub IsFineRequest : List Definition → Request → Type 0
+IsFineRequest definitions (Creates new) = IsFineComponent definitions new
+IsFineRequest definitions (Starts path frame) = IsFineFrame definitions frame
+IsFineRequest definitions _ = Unit {0}
+
+-- what a component does: its frames are fine behind the step, and so is what it asks for
 abbrev pub IsFineAct : List Definition → Act → Type 0
 IsFineAct definitions Waits = Unit {0}
 IsFineAct definitions (Errs why) = Unit {0}
-IsFineAct definitions (Continues own) = IsFineData definitions own
-IsFineAct definitions (Worsens v own) = IsFineData definitions own
-IsFineAct definitions (Removes port own) = IsFineData definitions own
-IsFineAct definitions (Sends port to v own) = IsFineData definitions own
-IsFineAct definitions (Creates new own) = IsFineComponent definitions new × IsFineData definitions own
-IsFineAct definitions (Starts path frame own) = IsFineFrame definitions frame × IsFineData definitions own
-IsFineAct definitions (Stops path own) = IsFineData definitions own
-IsFineAct definitions (Connects d e own) = IsFineData definitions own
+IsFineAct definitions (Requests request own) = IsFineRequest definitions request × IsFineData definitions own
 
 -- where the last frame is one of this behaviour
 yields-in : (definitions : List Definition) (at : ℕ) (o : Outcome Data) → IfYields o (IsDataIn definitions at) → IfYields o (IsFineData definitions)
@@ -243,20 +242,20 @@ module _ (stand : Stand) (well : AreWellTyped stand.test.definitions) (at : ℕ)
           (taken-fine chance effect (known-as Whole whole) (some-of (IsFineChoice ds at) (choice_at stand site s) (Taken chance effect) chosen (chosen-fine (known-as Whole whole).1)));
       fails = λ why. tt;
       waits = λ whole is. tt;
-      continues = λ own also. also;
-      worsens = λ v reasons whole e. done-fine;
-      removes = λ port own also. also;
-      sends = λ send v to of meant. done-fine;
+      continues = λ own also. (tt, also);
+      worsens = λ v reasons whole e. (tt, done-fine);
+      removes = λ port own also. (tt, also);
+      sends = λ send v to of meant. (tt, done-fine);
       creates = λ target own type_at members changed also made stored. (
         new-fine (new_id stand own type_at) members,
         all-in ds at changed.calls (yields-is (IsDataIn ds at) (store stand.test target (value.Component (new_id stand own type_at)) own) changed stored
             (store-kept ds at stand.test target (value.Component (new_id stand own type_at)) own also)),
       );
       starts = λ reference c frame meant new. (new, done-fine);
-      stops_itself = done-fine;
-      stops_last = λ under. All-nil (IsFineFrame ds);
-      stops = λ reference c meant. done-fine;
-      connects = λ one other c d first second may. done-fine;
+      stops_itself = (tt, done-fine);
+      stops_last = λ under. (tt, All-nil (IsFineFrame ds));
+      stops = λ reference c meant. (tt, done-fine);
+      connects = λ one other c d first second may. (tt, done-fine);
     }
 
 -- ---- steps of a component
@@ -266,8 +265,8 @@ pub asked-fine : (test : Test) → AreWellTyped test.definitions → (snapshot :
 asked-fine test well snapshot own all =
     act-asks test snapshot own (IsFineAct test.definitions) (λ why. tt)
     (λ frame below calls nothing.
-    end-asks (record { test = test; snapshot = snapshot; own = own; frame = frame; below = below; rest = [] }) (IsFineAct test.definitions) (λ why. tt) (λ under. All-nil (IsFineFrame test.definitions))
-    (λ last frames under. subst (All (IsFineFrame test.definitions)) under (under-fine frame below calls)) below refl)
+    end-asks (record { test = test; snapshot = snapshot; own = own; frame = frame; below = below; rest = [] }) (IsFineAct test.definitions) (λ why. tt) (λ under. (tt, All-nil (IsFineFrame test.definitions)))
+    (λ last frames under. (tt, subst (All (IsFineFrame test.definitions)) under (under-fine frame below calls))) below refl)
     (λ frame below site s part rest calls first.
     let stand : Stand = record { test = test; snapshot = snapshot; own = own; frame = frame; below = below; rest = rest } in
     let found : IsFineFrame test.definitions frame = All-head (IsFineFrame test.definitions) frame below (frames-fine frame below calls) in

@@ -14,8 +14,8 @@ use Rattle.ttcn_syntax.specs.declared.tree.statement.Statement.{Statement}
 use Rattle.check_scope.specs.Scopes.{outer_names}
 use Rattle.check_scope.specs.declared.names.Meaning.{Meaning}
 use Rattle.check_scope.specs.declared.rule.Rule.TheVariants as rule
-use Rattle.check_statements.specs.Messages.{check_event, is_timer_name}
-use Rattle.check_statements.specs.Statements.{Place}
+use Rattle.check_rules.specs.Messages.{check_event, is_timer_name}
+use Rattle.check_rules.specs.Statements.{Place}
 use Rattle.laws_checker.proofs.Nothing.{kept}
 use Rattle.laws_sites.proofs.Blocks.{parts-of, place}
 use Rattle.laws_sites.proofs.Firsts.{last_frame, outside_same}
@@ -27,8 +27,8 @@ use Rattle.semantics.specs.Configurations.{Component, Frame, Goes, Going, compon
 use Rattle.semantics.specs.Items.{Does, Doing, Item, Whole, action_of}
 use Rattle.semantics.specs.Sites.{Site, is_own, runs_on}
 use Rattle.semantics.specs.Snapshots.{Test}
-use Rattle.ttcn_values.specs.Frames.{entry}
-use Rattle.ttcn_values.specs.declared.path.Path.{Path}
+use Rattle.value_types.specs.Frames.{entry}
+use Rattle.value_types.specs.declared.path.Path.{Path}
 
 event-timer : (place : Place) (name : List ℕ) (e : Event) → IsTimeout name e → check_event place.scope e ≡ [] → is_timer_name (place.scope.names name) ≡ true
 event-timer place name (event.Timeout timer) is nothing =

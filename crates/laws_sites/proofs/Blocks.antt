@@ -21,8 +21,8 @@ use Rattle.ttcn_syntax.specs.declared.tree.statement.Timer.{Timer}
 use Rattle.ttcn_syntax.specs.declared.tree.statement.Variable.{Variable}
 use Rattle.check_scope.specs.Names.{kind_at, resolved}
 use Rattle.check_scope.specs.declared.names.Meaning.TheVariants as meaning
-use Rattle.check_statements.proofs.StatementForms.{statement_out}
-use Rattle.check_statements.specs.Statements.{Check, Place, StatementRules, action, action_step, alternative, alternative_step, behind_for_start, branch, inside_branch, branch_step, conditional, conditional_step, statement, statement_step, statements}
+use Rattle.check_rules.proofs.StatementForms.{statement_out}
+use Rattle.check_rules.specs.Statements.{Check, Place, StatementRules, action, action_step, alternative, alternative_step, behind_for_start, branch, inside_branch, branch_step, conditional, conditional_step, statement, statement_step, statements}
 use Rattle.laws_checker.proofs.Descent.{first_fine, others_fine}
 use Rattle.laws_sites.proofs.Sites.{behind-constants-fine, behind-scope, behind-timers-fine, behind-variables-fine, constants-fine, timers-fine, variables-fine}
 use Rattle.laws_sites.specs.Standing.{BeginsByAssignment, IsFineItem, IsFineLoop, IsFineName, IsFineSite, IsNoDeclaration, MayReturn, PlaceIn, place_at}

@@ -17,16 +17,16 @@ use Rattle.semantics.specs.Configurations.{Component, Configuration, Data, Frame
 use Rattle.semantics.specs.Entries.{Entries}
 use Rattle.semantics.specs.Items.{Doing, Item, Mark, Waiting}
 use Rattle.semantics.specs.Snapshots.{Snapshot, Test, snapshot_of}
-use Rattle.semantics.specs.Statements.{Act, Connects, Continues, Creates, Errs, Removes, Sends, Starts, Stops, Waits, Worsens, act}
+use Rattle.semantics.specs.Statements.{Act, Errs, Requests, Waits, act}
 use Rattle.semantics.specs.Steps.{apply, at_queue, begin, exchanged, expire_in, expired, expired_call, touch, with_data, with_state, with_verdict, without_first}
 use Rattle.semantics.specs.Storing.{in_last, with_remaining}
 use Rattle.semantics.specs.Taking.{without_marks}
-use Rattle.ttcn_types.specs.Rules.{AreWellTyped}
-use Rattle.ttcn_values.specs.Frames.{entry}
-use Rattle.ttcn_values.specs.declared.frame.TimerState.{TimerState}
-use Rattle.ttcn_values.specs.declared.frame.TimerState.TheVariants as timer
-use Rattle.ttcn_values.specs.declared.path.Path.{Path}
-use Rattle.ttcn_values.specs.declared.value.ComponentId.{ComponentId}
+use Rattle.check_rules.specs.Rules.{AreWellTyped}
+use Rattle.value_types.specs.Frames.{entry}
+use Rattle.value_types.specs.declared.frame.TimerState.{TimerState}
+use Rattle.value_types.specs.declared.frame.TimerState.TheVariants as timer
+use Rattle.value_types.specs.declared.path.Path.{Path}
+use Rattle.value_types.specs.declared.value.ComponentId.{ComponentId}
 
 module _ (ds : List Definition) where
   abbrev Fine : Component → Type 0
@@ -85,14 +85,7 @@ module _ (ds : List Definition) where
   owns : (asked : Act) → IsFineAct ds asked → OwnHas (IsFineData ds) asked
   owns Waits fine = tt
   owns (Errs why) fine = tt
-  owns (Continues own) fine = fine
-  owns (Worsens v own) fine = fine
-  owns (Removes port own) fine = fine
-  owns (Sends port to v own) fine = fine
-  owns (Creates new own) fine = fine.1
-  owns (Starts path frame own) fine = fine.1
-  owns (Stops path own) fine = fine
-  owns (Connects d e own) fine = fine
+  owns (Requests request own) fine = fine.1
 
   each : (itself : ComponentId) → AppliesEach (IsFineAct ds) (IsFineData ds) Fine itself
   each itself = record {

@@ -6,12 +6,12 @@ use Rattle.std.proofs.lemmas.List.Elements.{All-head}
 use Rattle.ttcn_syntax.specs.declared.tree.definition.Definition.{Definition}
 use Rattle.ttcn_syntax.specs.declared.tree.definition.Parameter.{Parameter}
 use Rattle.ttcn_syntax.specs.declared.tree.statement.Statement.{Statement}
-use Rattle.check_expressions.specs.Calls.{parameters_of}
-use Rattle.check_expressions.specs.Declarations.{behind_all}
+use Rattle.check_rules.specs.Calls.{parameters_of}
+use Rattle.check_rules.specs.Declarations.{behind_all}
 use Rattle.check_scope.specs.Names.{Entry, Scope, declaring, kind_at}
 use Rattle.check_scope.specs.Scopes.{outer_names, scope_on}
 use Rattle.check_scope.specs.declared.names.Meaning.{Meaning}
-use Rattle.check_statements.specs.Definitions.{parameter_entry}
+use Rattle.check_rules.specs.Definitions.{parameter_entry}
 use Rattle.laws_sites.proofs.Blocks.{parts-of}
 use Rattle.laws_sites.proofs.Changes.{component-fine}
 use Rattle.laws_sites.proofs.Ports.{queues-found}
@@ -23,8 +23,8 @@ use Rattle.semantics.specs.Configurations.{Component, Frame, Goes, Going, compon
 use Rattle.semantics.specs.Items.{Doing, Item, Part, Whole, action_of}
 use Rattle.semantics.specs.Sites.{Site, behaviour_scope, is_own, runs_on, scope_at, scope_with}
 use Rattle.semantics.specs.Snapshots.{Test}
-use Rattle.ttcn_types.specs.Rules.{AreWellTyped}
-use Rattle.ttcn_values.specs.declared.path.Path.{Path}
+use Rattle.check_rules.specs.Rules.{AreWellTyped}
+use Rattle.value_types.specs.declared.path.Path.{Path}
 
 pub component_fine : (test : Test) (c : Going) (p : Path) (x : Component) → StandsByRules test (Goes c) → component_at c p ≡ Some x → IsFineComponent test.definitions x
 component_fine test c p x is found = some-of (IsFineComponent test.definitions) (component_at c p) x found (component-fine test.definitions c p is)

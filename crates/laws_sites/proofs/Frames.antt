@@ -20,12 +20,12 @@ use Rattle.semantics.specs.Snapshots.{Test}
 use Rattle.semantics.specs.Storing.{declare, declare_timer, forget, in_frame, in_last, set_timer, store, target_meant, values_in, with_remaining, with_timers, with_values}
 use Rattle.semantics.specs.Taking.{effected, store_all}
 use Rattle.value_assignment.specs.Assignment.{assigned}
-use Rattle.ttcn_types.specs.Rules.{AreWellTyped}
-use Rattle.ttcn_values.specs.Frames.{entry}
-use Rattle.ttcn_values.specs.Outcomes.{IfYields}
-use Rattle.ttcn_values.specs.declared.frame.TimerState.{TimerState}
-use Rattle.ttcn_values.specs.declared.frame.TimerState.TheVariants as timer
-use Rattle.ttcn_values.specs.declared.value.Value.{Value}
+use Rattle.check_rules.specs.Rules.{AreWellTyped}
+use Rattle.value_types.specs.Frames.{entry}
+use Rattle.value_types.specs.Outcomes.{IfYields}
+use Rattle.value_types.specs.declared.frame.TimerState.{TimerState}
+use Rattle.value_types.specs.declared.frame.TimerState.TheVariants as timer
+use Rattle.value_types.specs.declared.value.Value.{Value}
 
 -- ---- timers
 

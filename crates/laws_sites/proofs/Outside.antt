@@ -8,16 +8,16 @@ use Rattle.ttcn_syntax.specs.declared.tree.definition.DefinitionKind.TheVariants
 use Rattle.ttcn_syntax.specs.declared.tree.definition.Parameter.{Parameter}
 use Rattle.ttcn_syntax.specs.declared.tree.statement.Statement.{Statement}
 use Rattle.ttcn_syntax.specs.declared.tree.value.Value.{Value}
-use Rattle.check_expressions.specs.Calls.{component_named, parameters_of}
-use Rattle.check_expressions.specs.Declarations.{behind_all, one_by_one}
-use Rattle.check_expressions.specs.Targets.{check_new_name, check_type}
-use Rattle.check_expressions.specs.Templates.{template}
+use Rattle.check_rules.specs.Calls.{component_named, parameters_of}
+use Rattle.check_rules.specs.Declarations.{behind_all, one_by_one}
+use Rattle.check_rules.specs.Targets.{check_new_name, check_type}
+use Rattle.check_rules.specs.Templates.{template}
 use Rattle.check_scope.specs.Names.{Entry, Scope, declaring, kind_at, listed, resolved}
 use Rattle.check_scope.specs.Scopes.{module_scope, scope_on}
 use Rattle.check_scope.specs.Typings.{target_of}
 use Rattle.check_scope.specs.declared.rule.Rule.{Rule}
-use Rattle.check_statements.specs.Definitions.{check_component_name, check_parameter, check_parameters, check_result, parameter_entry, place_in, returns_of, with_parameters}
-use Rattle.check_statements.specs.Statements.{Check, Place, branch, check_return, statements, with_scope}
+use Rattle.check_rules.specs.Definitions.{check_component_name, check_parameter, check_parameters, check_result, parameter_entry, place_in, returns_of, with_parameters}
+use Rattle.check_rules.specs.Statements.{Check, Place, branch, check_return, statements, with_scope}
 use Rattle.laws_checker.proofs.Nothing.{nothing-first, nothing-rest}
 use Rattle.laws_checker.proofs.Whole.{behaviour_whole, definition_is_fine, parameters_whole}
 use Rattle.laws_sites.specs.Standing.{IsFineSite, IsFree, MayReturn, PlaceIn, place_at}
@@ -28,7 +28,7 @@ use Rattle.semantics.specs.Branches.{branches_of}
 use Rattle.semantics.specs.Runs.{testcase_body}
 use Rattle.semantics.specs.Sites.{beginning, component_name, runs_on, scope_at, scope_with}
 use Rattle.semantics.specs.Statements.{body_of}
-use Rattle.ttcn_types.specs.Rules.{AreWellTyped}
+use Rattle.check_rules.specs.Rules.{AreWellTyped}
 
 -- ---- names
 

@@ -10,14 +10,14 @@ use Rattle.ttcn_syntax.specs.declared.tree.definition.DefinitionKind.{Definition
 use Rattle.ttcn_syntax.specs.declared.tree.definition.DefinitionKind.TheVariants as kind
 use Rattle.ttcn_syntax.specs.declared.tree.definition.Member.{Member}
 use Rattle.ttcn_syntax.specs.declared.tree.definition.Member.TheVariants as member
-use Rattle.check_expressions.specs.Declarations.{one_by_one}
+use Rattle.check_rules.specs.Declarations.{one_by_one}
 use Rattle.check_scope.specs.Names.{Entry, Scope, declaring, kind_at, listed, member_entries, members_of, port_type_meant}
 use Rattle.check_scope.specs.Scopes.{component_scope}
 use Rattle.check_scope.specs.Typings.{unless}
 use Rattle.check_scope.specs.declared.names.Meaning.{Meaning}
 use Rattle.check_scope.specs.declared.names.Meaning.TheVariants as meaning
 use Rattle.check_scope.specs.declared.rule.Rule.TheVariants as rule
-use Rattle.check_statements.specs.Definitions.{check_member, check_members, check_port_name, port_entry}
+use Rattle.check_rules.specs.Definitions.{check_member, check_members, check_port_name, port_entry}
 use Rattle.laws_checker.proofs.Nothing.{nothing-first, nothing-rest}
 use Rattle.laws_checker.proofs.Whole.{definition_is_fine}
 use Rattle.laws_sites.proofs.Outside.{each-unseen}
@@ -27,7 +27,7 @@ use Rattle.semantics.proofs.Pairs.{All-both, All-more, pairs-append, pairs-head,
 use Rattle.semantics.specs.Configurations.{Message, Queue}
 use Rattle.semantics.specs.Creating.{empty_queues, ports_of}
 use Rattle.semantics.specs.Steps.{change_queue}
-use Rattle.ttcn_types.specs.Rules.{AreWellTyped}
+use Rattle.check_rules.specs.Rules.{AreWellTyped}
 
 abbrev Differ : List ℕ → List ℕ → Type 0
 Differ p q = bytes_eq p q ≡ false

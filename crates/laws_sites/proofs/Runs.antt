@@ -5,7 +5,7 @@ use Rattle.std.proofs.lemmas.List.Elements.{All-cons, All-nil}
 use Rattle.ttcn_syntax.specs.declared.tree.definition.Definition.{Definition}
 use Rattle.ttcn_syntax.specs.declared.tree.statement.Statement.{Statement}
 use Rattle.check_scope.specs.Names.{kind_at}
-use Rattle.check_statements.specs.Statements.{statements}
+use Rattle.check_rules.specs.Statements.{statements}
 use Rattle.laws_sites.proofs.Blocks.{block-fine}
 use Rattle.laws_sites.proofs.Changes.{IsFineConfiguration, IsFineGoing, ask-fine, component-fine, each-keeps, exchange-fine, expired-fine, steps-fine}
 use Rattle.laws_steps.proofs.Applying.{Anyhow, Leads}
@@ -22,9 +22,9 @@ use Rattle.semantics.specs.Snapshots.{Snapshot, Test, mtc_of}
 use Rattle.semantics.specs.Statements.{act}
 use Rattle.semantics.specs.Steps.{Label, apply, exchanged, expired, next, settled, touch}
 use Rattle.summary.specs.Run.{Run, end_of}
-use Rattle.ttcn_types.specs.Rules.{AreWellTyped}
-use Rattle.ttcn_values.specs.Outcomes.{Fails, Outcome, Yields}
-use Rattle.ttcn_values.specs.declared.path.Path.{Path}
+use Rattle.check_rules.specs.Rules.{AreWellTyped}
+use Rattle.value_types.specs.Outcomes.{Fails, Outcome, Yields}
+use Rattle.value_types.specs.declared.path.Path.{Path}
 
 -- ---- in the words of the laws
 

@@ -10,9 +10,9 @@ use Rattle.ttcn_syntax.specs.declared.tree.statement.Statement.{Statement}
 use Rattle.ttcn_syntax.specs.declared.tree.statement.Timer.{Timer}
 use Rattle.ttcn_syntax.specs.declared.tree.statement.Variable.{Variable}
 use Rattle.ttcn_syntax.specs.declared.tree.statement.Variables.{Variables}
-use Rattle.check_expressions.specs.Calls.{parameters_of}
-use Rattle.check_expressions.specs.Declarations.{behind_all, one_by_one}
-use Rattle.check_expressions.specs.Targets.{check_constant, check_constants, check_timer_name, check_timers, check_type, check_variable, check_variables, constant_entry, variable_entry}
+use Rattle.check_rules.specs.Calls.{parameters_of}
+use Rattle.check_rules.specs.Declarations.{behind_all, one_by_one}
+use Rattle.check_rules.specs.Targets.{check_constant, check_constants, check_timer_name, check_timers, check_type, check_variable, check_variables, constant_entry, variable_entry}
 use Rattle.check_scope.specs.Names.{Entry, Scope, kind_at, resolved}
 use Rattle.check_scope.specs.declared.names.Meaning.{Meaning}
 use Rattle.check_scope.specs.declared.names.Meaning.TheVariants as meaning
@@ -30,9 +30,9 @@ use Rattle.laws_statements.proofs.Within.{type_stays}
 use Rattle.laws_statements.specs.Within.{IsWithin}
 use Rattle.semantics.specs.Items.{Doing, Name, action_of, declarations}
 use Rattle.semantics.specs.Sites.{Site, behaviour_scope, constant_entries, is_own, runs_on, scope_at, site_behind, site_with, timer_entries, variable_entries}
-use Rattle.check_statements.specs.Definitions.{parameter_entry}
+use Rattle.check_rules.specs.Definitions.{parameter_entry}
 use Rattle.check_scope.specs.Scopes.{scope_on}
-use Rattle.ttcn_types.specs.Rules.{AreWellTyped}
+use Rattle.check_rules.specs.Rules.{AreWellTyped}
 
 -- ---- names at a site
 

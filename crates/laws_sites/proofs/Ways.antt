@@ -12,9 +12,9 @@ use Rattle.ttcn_syntax.specs.declared.tree.statement.Conditional.{Conditional}
 use Rattle.ttcn_syntax.specs.declared.tree.statement.Event.{Event}
 use Rattle.ttcn_syntax.specs.declared.tree.statement.Statement.{Statement}
 use Rattle.ttcn_syntax.specs.declared.tree.value.Call.{Call}
-use Rattle.check_expressions.specs.Calls.{altstep_meant, parameters_of}
+use Rattle.check_rules.specs.Calls.{altstep_meant, parameters_of}
 use Rattle.check_scope.specs.Names.{kind_at, module_names}
-use Rattle.check_statements.specs.Statements.{branch}
+use Rattle.check_rules.specs.Statements.{branch}
 use Rattle.laws_sites.proofs.Blocks.{block-fine, block-fine-if, in-branch, place}
 use Rattle.laws_sites.proofs.Outside.{Begins, beginning-fine, branches-fine}
 use Rattle.laws_sites.specs.Standing.{IsFineFrame, IsFineItem, IsFineSite, IsFrameOf, IsFree, PlaceIn}
@@ -27,11 +27,11 @@ use Rattle.semantics.specs.Events.{Choice, Faulty, Happened, Nothing, Passed, Re
 use Rattle.semantics.specs.Items.{Does, Item, items, items_if_any}
 use Rattle.semantics.specs.Sites.{Site, beginning}
 use Rattle.semantics.specs.Snapshots.{Snapshot, Test}
-use Rattle.ttcn_types.specs.Limits.{longest_chain}
-use Rattle.ttcn_types.specs.Rules.{AreWellTyped}
-use Rattle.ttcn_values.specs.Outcomes.{Fails, Outcome, Unmet, Yields}
-use Rattle.ttcn_values.specs.Templates.{arguments}
-use Rattle.ttcn_values.specs.declared.value.Value.{Value}
+use Rattle.check_rules.specs.Limits.{longest_chain}
+use Rattle.check_rules.specs.Rules.{AreWellTyped}
+use Rattle.value_types.specs.Outcomes.{Fails, Outcome, Unmet, Yields}
+use Rattle.value_types.specs.Templates.{arguments}
+use Rattle.value_types.specs.declared.value.Value.{Value}
 
 -- where a branch is judged is a site of the last frame: one of those that it brings, or else the one of the `alt`, which is of this behaviour
 abbrev pub IsLastSite : List Definition → ℕ → Site → List Frame → Type 0

@@ -9,12 +9,12 @@ use Rattle.ttcn_syntax.specs.declared.tree.statement.ForStart.TheVariants as for
 use Rattle.ttcn_syntax.specs.declared.tree.statement.Statement.{Statement}
 use Rattle.ttcn_syntax.specs.declared.tree.statement.Variable.{Variable}
 use Rattle.ttcn_syntax.specs.declared.tree.value.Value.{Value}
-use Rattle.check_expressions.specs.Targets.{check_assignment, check_constant, check_timer_name, check_variable}
+use Rattle.check_rules.specs.Targets.{check_assignment, check_constant, check_timer_name, check_variable}
 use Rattle.check_scope.specs.Names.{Scope, kind_at, resolved}
 use Rattle.check_scope.specs.Scopes.{outer_names}
 use Rattle.check_scope.specs.declared.types.DataType.{DataType}
-use Rattle.check_statements.specs.Definitions.{returns_of}
-use Rattle.check_statements.specs.Statements.{Place, check_return, statement, with_scope}
+use Rattle.check_rules.specs.Definitions.{returns_of}
+use Rattle.check_rules.specs.Statements.{Place, check_return, statement, with_scope}
 use Rattle.laws_checker.specs.Laws.{IsWhole}
 use Rattle.laws_statements.specs.Parts.{IsCondition, IsFine}
 use Rattle.semantics.specs.Configurations.{Component, Configuration, Ended, Frame, Goes, Queue}

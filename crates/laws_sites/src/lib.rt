@@ -17,9 +17,9 @@ ghost use Rattle.semantics.specs.Snapshots.{Snapshot, Test};
 ghost use Rattle.semantics.specs.Statements.{act};
 ghost use Rattle.semantics.specs.Steps.{Label, apply, exchanged, expired, next, settled, touch};
 ghost use Rattle.summary.specs.Run.{Run, end_of};
-ghost use Rattle.ttcn_types.specs.Rules.{AreWellTyped};
-ghost use Rattle.ttcn_values.specs.Frames.{entry};
-ghost use Rattle.ttcn_values.specs.declared.path.Path.{Path};
+ghost use Rattle.check_rules.specs.Rules.{AreWellTyped};
+ghost use Rattle.value_types.specs.Frames.{entry};
+ghost use Rattle.value_types.specs.declared.path.Path.{Path};
 
 /// Runs start by the rules: what remains to be done breaks none where it stands.
 #[tactic(auto, using(crate::proofs::Runs::start_stands))]

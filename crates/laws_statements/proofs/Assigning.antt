@@ -5,8 +5,8 @@ use Rattle.std.proofs.lemmas.List.Elements.{All-head, All-tail}
 use Rattle.ttcn_syntax.specs.declared.tree.definition.Field.{Field}
 use Rattle.ttcn_syntax.specs.declared.tree.expression.Reference.{Reference}
 use Rattle.ttcn_syntax.specs.declared.tree.statement.Assignment.{Assignment}
-use Rattle.check_expressions.specs.Expressions.{along, check_field, within}
-use Rattle.check_expressions.specs.Targets.{as_target, check_assignment, check_rhs, check_target, target_at}
+use Rattle.check_rules.specs.Expressions.{along, check_field, within}
+use Rattle.check_rules.specs.Targets.{as_target, check_assignment, check_rhs, check_target, target_at}
 use Rattle.check_scope.specs.Names.{Scope, fields_at, module_names, resolved}
 use Rattle.check_scope.specs.Typings.{type_known, typed}
 use Rattle.check_scope.specs.declared.names.Meaning.{Meaning}

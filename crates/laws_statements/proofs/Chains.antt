@@ -3,10 +3,10 @@ use Rattle.std.proofs.Common.{◌≤◌, List, [], ◌∷◌, length, inl, inr}
 use Rattle.std.proofs.lemmas.Bool.{cases_lt}
 use Rattle.ttcn_syntax.specs.declared.tree.definition.Definition.{Definition}
 use Rattle.check_survey.specs.Graphs.{AllChainsWithin}
-use Rattle.ttcn_types.specs.Limits.{longest_chain}
-use Rattle.ttcn_types.specs.Parts.{altsteps}
-use Rattle.ttcn_types.specs.Rules.{AreWellTyped}
-use Rattle.ttcn_types.specs.Rules.Breaks.{altstep_size}
+use Rattle.check_rules.specs.Limits.{longest_chain}
+use Rattle.check_rules.specs.Parts.{altsteps}
+use Rattle.check_rules.specs.Rules.{AreWellTyped}
+use Rattle.check_rules.specs.Rules.Breaks.{altstep_size}
 use Rattle.check_scope.specs.declared.rule.Rule.TheVariants as rule
 
 pub chains_short : (definitions : List Definition) → AreWellTyped definitions → AllChainsWithin (altsteps definitions) longest_chain

@@ -12,9 +12,9 @@ use Rattle.ttcn_syntax.specs.declared.tree.statement.Conditional.{Conditional, f
 use Rattle.ttcn_syntax.specs.declared.tree.statement.ForStart.{ForStart}
 use Rattle.ttcn_syntax.specs.declared.tree.statement.ForStart.TheVariants as for_start
 use Rattle.ttcn_syntax.specs.declared.tree.statement.Statement.{Statement, out-Statement}
-use Rattle.check_expressions.specs.Calls.{check_call, is_altstep}
-use Rattle.check_expressions.specs.Expressions.{expression}
-use Rattle.check_expressions.specs.Targets.{check_assignment}
+use Rattle.check_rules.specs.Calls.{check_call, is_altstep}
+use Rattle.check_rules.specs.Expressions.{expression}
+use Rattle.check_rules.specs.Targets.{check_assignment}
 use Rattle.check_scope.specs.Names.{Scope}
 use Rattle.check_scope.specs.Typings.{same_type, unless}
 use Rattle.check_scope.specs.declared.rule.Rule.{Rule}
@@ -23,9 +23,9 @@ use Rattle.check_scope.specs.declared.types.DataType.{DataType}
 use Rattle.check_scope.specs.declared.types.DataType.TheVariants as type
 use Rattle.check_scope.specs.declared.types.Typing.{Typing}
 use Rattle.check_scope.specs.declared.types.Typing.TheVariants as typing
-use Rattle.check_statements.proofs.StatementForms.{branch_out, statement_out}
-use Rattle.check_statements.specs.Messages.{check_event}
-use Rattle.check_statements.specs.Statements.{Check, Place, StatementRules, action, action_step, alternative, alternative_step, check_boolean, check_condition, check_for_start, check_guard, behind_for_start, branch, branch_step, conditional, conditional_step, check_block_if_any, inside_branch, statement, statement_step, statements, with_scope}
+use Rattle.check_rules.proofs.StatementForms.{branch_out, statement_out}
+use Rattle.check_rules.specs.Messages.{check_event}
+use Rattle.check_rules.specs.Statements.{Check, Place, StatementRules, action, action_step, alternative, alternative_step, check_boolean, check_condition, check_for_start, check_guard, behind_for_start, branch, branch_step, conditional, conditional_step, check_block_if_any, inside_branch, statement, statement_step, statements, with_scope}
 use Rattle.laws_checker.proofs.Nothing.{kept, nothing-first, nothing-rest}
 use Rattle.laws_checker.proofs.Typed.{expression_typed}
 use Rattle.laws_checker.proofs.Whole.{variables_whole}

@@ -18,9 +18,9 @@ use Rattle.ttcn_syntax.specs.declared.tree.statement.Constant.{Constant}
 use Rattle.ttcn_syntax.specs.declared.tree.statement.Statement.{Statement, out-Statement}
 use Rattle.ttcn_syntax.specs.declared.tree.statement.Timer.{Timer}
 use Rattle.ttcn_syntax.specs.declared.tree.statement.Variable.{Variable}
-use Rattle.check_expressions.specs.Declarations.{behind_all, one_by_one}
-use Rattle.check_expressions.specs.Targets.{check_constant, check_initial, check_new_name, check_timer_name, check_type, check_variable, constant_entry, timer_entry, variable_entry}
-use Rattle.check_expressions.specs.Values.{value}
+use Rattle.check_rules.specs.Declarations.{behind_all, one_by_one}
+use Rattle.check_rules.specs.Targets.{check_constant, check_initial, check_new_name, check_timer_name, check_type, check_variable, constant_entry, timer_entry, variable_entry}
+use Rattle.check_rules.specs.Values.{value}
 use Rattle.check_scope.specs.Names.{Entry, Names, Scope, behind, behind_members, declaring, kind_at, listed, member_entries, module_names, port_type_meant, resolved}
 use Rattle.check_scope.specs.Typings.{target_of, unless}
 use Rattle.check_scope.specs.declared.names.Meaning.{Meaning}
@@ -28,16 +28,16 @@ use Rattle.check_scope.specs.declared.names.Meaning.TheVariants as meaning
 use Rattle.check_scope.specs.declared.rule.Rule.{Rule}
 use Rattle.check_scope.specs.declared.rule.Rule.TheVariants as rule
 use Rattle.check_scope.specs.declared.types.DataType.{DataType}
-use Rattle.check_statements.proofs.StatementForms.{statement_out}
-use Rattle.check_statements.specs.Definitions.{check_initial_value, check_member, check_member_variable, check_members, check_parameter, check_parameters, check_port_name, member_variable_entry, parameter_entry, port_entry, with_parameters}
-use Rattle.check_statements.specs.Statements.{Check, Place, StatementRules, action, action_step, alternative, alternative_step, branch, branch_step, conditional, conditional_step, statement, statement_step}
+use Rattle.check_rules.proofs.StatementForms.{statement_out}
+use Rattle.check_rules.specs.Definitions.{check_initial_value, check_member, check_member_variable, check_members, check_parameter, check_parameters, check_port_name, member_variable_entry, parameter_entry, port_entry, with_parameters}
+use Rattle.check_rules.specs.Statements.{Check, Place, StatementRules, action, action_step, alternative, alternative_step, branch, branch_step, conditional, conditional_step, statement, statement_step}
 use Rattle.laws_checker.proofs.Nothing.{kept, nothing-first, nothing-rest}
 use Rattle.laws_checker.proofs.Whole.{naming}
 use Rattle.laws_statements.proofs.Members.{fine-between}
 use Rattle.laws_statements.proofs.Naming.{same-name}
 use Rattle.laws_statements.specs.Members.{scope_behind}
 use Rattle.laws_statements.specs.Within.{IsWithin}
-use Rattle.ttcn_types.specs.Rules.{AreWellTyped}
+use Rattle.check_rules.specs.Rules.{AreWellTyped}
 
 -- ---- within
 

@@ -12,8 +12,8 @@ use Rattle.ttcn_syntax.specs.declared.tree.statement.Timer.{Timer}
 use Rattle.ttcn_syntax.specs.declared.tree.value.TypeName.{TypeName}
 use Rattle.ttcn_syntax.specs.declared.tree.value.TypeName.TheVariants as type_name
 use Rattle.ttcn_syntax.specs.declared.tree.value.Value.{Value}
-use Rattle.check_expressions.specs.Declarations.{one_by_one}
-use Rattle.check_expressions.specs.Targets.{check_constant, check_new_name, check_timer_name, check_type, constant_entry, timer_entry}
+use Rattle.check_rules.specs.Declarations.{one_by_one}
+use Rattle.check_rules.specs.Targets.{check_constant, check_new_name, check_timer_name, check_type, constant_entry, timer_entry}
 use Rattle.check_scope.specs.Names.{Entry, Names, Scope, behind, behind_members, declaring, kind_at, listed, member_entries, module_names, port_type_meant, resolved, type_meant}
 use Rattle.check_scope.specs.Scopes.{component_scope}
 use Rattle.check_scope.specs.Typings.{target_of, unless}
@@ -22,7 +22,7 @@ use Rattle.check_scope.specs.declared.names.Meaning.TheVariants as meaning
 use Rattle.check_scope.specs.declared.rule.Rule.{Rule}
 use Rattle.check_scope.specs.declared.rule.Rule.TheVariants as rule
 use Rattle.check_scope.specs.declared.types.DataType.{DataType}
-use Rattle.check_statements.specs.Definitions.{check_initial_value, check_member, check_member_variable, check_members, check_port_name, member_variable_entry, port_entry}
+use Rattle.check_rules.specs.Definitions.{check_initial_value, check_member, check_member_variable, check_members, check_port_name, member_variable_entry, port_entry}
 use Rattle.laws_checker.proofs.Nothing.{kept, nothing-first, nothing-rest}
 use Rattle.laws_checker.proofs.Whole.{declaring-whole, definition_is_fine, module_whole, naming}
 use Rattle.laws_checker.specs.Laws.{IsKnown, IsWhole}
@@ -30,8 +30,8 @@ use Rattle.laws_statements.proofs.Naming.{name_defined}
 use Rattle.laws_statements.proofs.RightSides.{constants_fit}
 use Rattle.laws_statements.proofs.Typing.{some_of, type_known}
 use Rattle.laws_statements.specs.Members.{AreMemberVariables, AreNew, DeclaresMemberVariables, DeclaresPorts, IsInitialValue, IsMember, scope_behind}
-use Rattle.ttcn_types.proofs.Meanings.{EachMeans, IfMeans, means-listed}
-use Rattle.ttcn_types.specs.Rules.{AreWellTyped}
+use Rattle.check_rules.proofs.Meanings.{EachMeans, IfMeans, means-listed}
+use Rattle.check_rules.specs.Rules.{AreWellTyped}
 
 -- ---- members declare no types
 

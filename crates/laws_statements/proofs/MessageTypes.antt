@@ -10,10 +10,10 @@ use Rattle.ttcn_syntax.specs.declared.tree.template.TemplateBody.TheOpen.{Templa
 use Rattle.ttcn_syntax.specs.declared.tree.value.TypeName.{TypeName}
 use Rattle.ttcn_syntax.specs.declared.tree.value.TypeName.TheVariants as type_name
 use Rattle.ttcn_syntax.specs.declared.tree.value.Value.{Value}
-use Rattle.check_expressions.specs.Expressions.{Judgement, expression}
-use Rattle.check_expressions.specs.Targets.{check_type}
-use Rattle.check_expressions.specs.Templates.{check_name, check_named_template, bare_name, body, body_step, field_template, field_template_step, template, template_by_name, template_meant, template_named, template_step, type_of_template, typing_at_name, typing_by_position, typing_of_body, typing_of_template}
-use Rattle.check_expressions.specs.Values.{AtTarget}
+use Rattle.check_rules.specs.Expressions.{Judgement, expression}
+use Rattle.check_rules.specs.Targets.{check_type}
+use Rattle.check_rules.specs.Templates.{check_name, check_named_template, bare_name, body, body_step, field_template, field_template_step, template, template_by_name, template_meant, template_named, template_step, type_of_template, typing_at_name, typing_by_position, typing_of_body, typing_of_template}
+use Rattle.check_rules.specs.Values.{AtTarget}
 use Rattle.check_scope.specs.Names.{Scope, kind_at, module_names, resolved, type_meant}
 use Rattle.check_scope.specs.PortTypes.{only_type, types_of_port}
 use Rattle.check_scope.specs.Typings.{fits, target_of, type_known, typed, unless}
@@ -24,7 +24,7 @@ use Rattle.check_scope.specs.declared.types.DataType.{DataType}
 use Rattle.check_scope.specs.declared.types.Target.{Target}
 use Rattle.check_scope.specs.declared.types.Typing.{Typing}
 use Rattle.check_scope.specs.declared.types.Typing.TheVariants as typing
-use Rattle.check_statements.specs.Messages.{check_message, passage_at, check_type_name, by_template, by_type_name, of_only, type_anywhere, type_by_itself, type_by_port, type_of_message}
+use Rattle.check_rules.specs.Messages.{check_message, passage_at, check_type_name, by_template, by_type_name, of_only, type_anywhere, type_by_itself, type_by_port, type_of_message}
 use Rattle.laws_checker.proofs.Nothing.{kept, nothing-first, nothing-rest}
 use Rattle.laws_checker.proofs.Typed.{expression_typed}
 use Rattle.laws_checker.specs.Laws.{IsKnown, IsWhole}

@@ -10,7 +10,7 @@ use Rattle.ttcn_syntax.specs.declared.tree.expression.Expr.TheFolds.{fold-roll-E
 use Rattle.ttcn_syntax.specs.declared.tree.expression.Expr.TheOpen.{Expr-F}
 use Rattle.ttcn_syntax.specs.declared.tree.expression.Link.{Link}
 use Rattle.ttcn_syntax.specs.declared.tree.expression.Reference.{Reference}
-use Rattle.check_expressions.specs.Expressions.{Judge, Judgement, after, along, check_component, check_field, check_meaning, check_reference, check_running, check_self, expression, expression_step, fine, join_link, join_links, link, link_step, names_timer, runs, within}
+use Rattle.check_rules.specs.Expressions.{Judge, Judgement, after, along, check_component, check_field, check_meaning, check_reference, check_running, check_self, expression, expression_step, fine, join_link, join_links, link, link_step, names_timer, runs, within}
 use Rattle.check_scope.specs.Names.{Scope, constants_type, field_named, fields_at, kind_at, module_names, resolved}
 use Rattle.check_scope.specs.Typings.{typed}
 use Rattle.check_scope.specs.declared.names.Meaning.{Meaning}

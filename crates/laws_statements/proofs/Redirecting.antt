@@ -5,7 +5,7 @@ use Rattle.ttcn_syntax.specs.declared.tree.statement.PortSelector.{PortSelector}
 use Rattle.ttcn_syntax.specs.declared.tree.statement.PortSelector.TheVariants as selector
 use Rattle.ttcn_syntax.specs.declared.tree.statement.Receive.{Receive}
 use Rattle.ttcn_syntax.specs.declared.tree.template.MessageTemplate.{MessageTemplate}
-use Rattle.check_expressions.specs.Targets.{check_target}
+use Rattle.check_rules.specs.Targets.{check_target}
 use Rattle.check_scope.specs.Names.{Scope}
 use Rattle.check_scope.specs.Typings.{is_component, type_known, unless}
 use Rattle.check_scope.specs.declared.names.Meaning.{Meaning}
@@ -16,7 +16,7 @@ use Rattle.check_scope.specs.declared.types.DataType.{DataType}
 use Rattle.check_scope.specs.declared.types.DataType.TheVariants as type
 use Rattle.check_scope.specs.declared.types.Typing.{Typing}
 use Rattle.check_scope.specs.declared.types.Typing.TheVariants as typing
-use Rattle.check_statements.specs.Messages.{check_message, check_receive, check_received, check_selector, check_sender_redirect, check_to, check_value_redirect, incoming, incoming_at, port_meant, received_type, stores, stores_sender, type_of_message}
+use Rattle.check_rules.specs.Messages.{check_message, check_receive, check_received, check_selector, check_sender_redirect, check_to, check_value_redirect, incoming, incoming_at, port_meant, received_type, stores, stores_sender, type_of_message}
 use Rattle.laws_checker.proofs.Nothing.{kept, nothing-first, nothing-rest}
 use Rattle.laws_checker.specs.Laws.{IsKnown, IsWhole}
 use Rattle.laws_statements.proofs.Assigning.{reference_typed, reference_variable}

@@ -3,13 +3,13 @@ use Rattle.std.proofs.Common.{◌≡◌, ℕ, true, false, List, [], ◌++◌, O
 use Rattle.ttcn_syntax.specs.declared.tree.definition.DefinitionKind.{DefinitionKind}
 use Rattle.ttcn_syntax.specs.declared.tree.expression.ComponentRef.{ComponentRef}
 use Rattle.ttcn_syntax.specs.declared.tree.value.Call.{Call}
-use Rattle.check_expressions.specs.Calls.{altstep_meant, check_activation, check_arguments, check_behaviour, behaviour_meant, component_named, is_altstep, parameters_of, runs_here, runs_on_of}
-use Rattle.check_expressions.specs.Expressions.{Judgement, check_component}
+use Rattle.check_rules.specs.Calls.{altstep_meant, check_activation, check_arguments, check_behaviour, behaviour_meant, component_named, is_altstep, parameters_of, runs_here, runs_on_of}
+use Rattle.check_rules.specs.Expressions.{Judgement, check_component}
 use Rattle.check_scope.specs.Names.{Scope, kind_at}
 use Rattle.check_scope.specs.Typings.{refers_to_component, unless}
 use Rattle.check_scope.specs.declared.rule.Rule.{Rule}
 use Rattle.check_scope.specs.declared.rule.Rule.TheVariants as rule
-use Rattle.check_statements.specs.Statements.{check_start, check_started, is_function, runs_there, says_component}
+use Rattle.check_rules.specs.Statements.{check_start, check_started, is_function, runs_there, says_component}
 use Rattle.laws_checker.proofs.Fitting.{arguments_fit}
 use Rattle.laws_checker.proofs.Nothing.{kept, nothing-first, nothing-rest}
 use Rattle.laws_statements.specs.Resolved.{Activates, Starts}

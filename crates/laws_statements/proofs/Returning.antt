@@ -8,19 +8,19 @@ use Rattle.ttcn_syntax.specs.declared.tree.definition.Function.{Function}
 use Rattle.ttcn_syntax.specs.declared.tree.definition.Testcase.{Testcase}
 use Rattle.ttcn_syntax.specs.declared.tree.value.TypeName.{TypeName}
 use Rattle.ttcn_syntax.specs.declared.tree.value.Value.{Value}
-use Rattle.check_expressions.specs.Calls.{component_named, result_type_of}
-use Rattle.check_expressions.specs.Values.{value}
+use Rattle.check_rules.specs.Calls.{component_named, result_type_of}
+use Rattle.check_rules.specs.Values.{value}
 use Rattle.check_scope.specs.Names.{Scope, kind_at, module_names, resolved}
 use Rattle.check_scope.specs.Scopes.{scope_on}
 use Rattle.check_scope.specs.Typings.{target_of}
 use Rattle.check_scope.specs.declared.rule.Rule.{Rule}
-use Rattle.check_statements.specs.Definitions.{check_component_name, check_parameters, check_result, place_in, returns_of}
-use Rattle.check_statements.specs.Statements.{Check, Place, check_return, statements}
+use Rattle.check_rules.specs.Definitions.{check_component_name, check_parameters, check_result, place_in, returns_of}
+use Rattle.check_rules.specs.Statements.{Check, Place, check_return, statements}
 use Rattle.laws_checker.proofs.Nothing.{nothing-first, nothing-rest}
 use Rattle.laws_checker.proofs.Whole.{definition_is_fine}
 use Rattle.laws_statements.proofs.Typing.{some_of, type_known}
 use Rattle.laws_statements.specs.Results.{IsFineWithoutReturns, IsResultKnown, IsReturn, KnowsResults, branches, scope_in}
-use Rattle.ttcn_types.specs.Rules.{AreWellTyped}
+use Rattle.check_rules.specs.Rules.{AreWellTyped}
 
 -- ---- results
 

@@ -11,10 +11,10 @@ use Rattle.ttcn_syntax.specs.declared.tree.value.Call.{Call}
 use Rattle.ttcn_syntax.specs.declared.tree.value.Rhs.{Rhs}
 use Rattle.ttcn_syntax.specs.declared.tree.value.Rhs.TheVariants as rhs
 use Rattle.ttcn_syntax.specs.declared.tree.value.TypeName.{TypeName}
-use Rattle.check_expressions.specs.Calls.{behaviour_meant, check_activation, check_call, gives_value, result_type_of, result_typing}
-use Rattle.check_expressions.specs.Declarations.{one_by_one}
-use Rattle.check_expressions.specs.Targets.{call_typing, check_assignment, check_constant, check_constants, check_created, check_initial, check_new_name, check_rhs, check_target, check_type, check_variable, check_variables, constant_entry, target_at, variable_entry}
-use Rattle.check_expressions.specs.Values.{value}
+use Rattle.check_rules.specs.Calls.{behaviour_meant, check_activation, check_call, gives_value, result_type_of, result_typing}
+use Rattle.check_rules.specs.Declarations.{one_by_one}
+use Rattle.check_rules.specs.Targets.{call_typing, check_assignment, check_constant, check_constants, check_created, check_initial, check_new_name, check_rhs, check_target, check_type, check_variable, check_variables, constant_entry, target_at, variable_entry}
+use Rattle.check_rules.specs.Values.{value}
 use Rattle.check_scope.specs.Names.{Scope, component_meant, declaring, kind_at, module_names, resolved}
 use Rattle.check_scope.specs.Typings.{fits, goes_to, same_type, target_of, type_known, unless}
 use Rattle.check_scope.specs.declared.rule.Rule.{Rule}

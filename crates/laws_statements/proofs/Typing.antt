@@ -2,7 +2,7 @@
 use Rattle.std.proofs.Common.{◌≡◌, Bool, true, Option, Some, None, is_some, [], refl, sym, ap}
 use Rattle.ttcn_syntax.specs.declared.tree.value.TypeName.{TypeName}
 use Rattle.ttcn_syntax.specs.declared.tree.value.TypeName.TheVariants as type_name
-use Rattle.check_expressions.specs.Targets.{check_type}
+use Rattle.check_rules.specs.Targets.{check_type}
 use Rattle.check_scope.specs.Names.{Names, resolved, type_meant}
 use Rattle.check_scope.specs.Typings.{goes_to, same_type, typed}
 use Rattle.check_scope.specs.declared.rule.Rule.TheVariants as rule

@@ -19,16 +19,16 @@ use Rattle.ttcn_syntax.specs.declared.tree.value.Call.{Call}
 use Rattle.ttcn_syntax.specs.declared.tree.value.Rhs.{Rhs}
 use Rattle.ttcn_syntax.specs.declared.tree.value.TypeName.{TypeName}
 use Rattle.ttcn_syntax.specs.declared.tree.value.Value.{Value}
-use Rattle.check_expressions.specs.Calls.{check_activation, check_arguments, check_call}
-use Rattle.check_expressions.specs.Expressions.{Judgement, check_component, check_reference, check_wanted_component, expression}
-use Rattle.check_expressions.specs.Targets.{check_assignment, check_rhs, check_target, check_type, target_at}
-use Rattle.check_expressions.specs.Templates.{template}
-use Rattle.check_expressions.specs.Values.{value}
+use Rattle.check_rules.specs.Calls.{check_activation, check_arguments, check_call}
+use Rattle.check_rules.specs.Expressions.{Judgement, check_component, check_reference, check_wanted_component, expression}
+use Rattle.check_rules.specs.Targets.{check_assignment, check_rhs, check_target, check_type, target_at}
+use Rattle.check_rules.specs.Templates.{template}
+use Rattle.check_rules.specs.Values.{value}
 use Rattle.check_scope.specs.Names.{Scope, resolved}
 use Rattle.check_scope.specs.declared.types.Target.{Target}
-use Rattle.check_statements.specs.Definitions.{returns_of}
-use Rattle.check_statements.specs.Messages.{Passing, check_event, check_message, check_receive, check_selector, check_send, check_timer, incoming, type_of_message}
-use Rattle.check_statements.specs.Statements.{Place, check_condition, check_deactivate, check_ends, check_guard, check_log, check_return, check_setverdict, check_start, check_stop}
+use Rattle.check_rules.specs.Definitions.{returns_of}
+use Rattle.check_rules.specs.Messages.{Passing, check_event, check_message, check_receive, check_selector, check_send, check_timer, incoming, type_of_message}
+use Rattle.check_rules.specs.Statements.{Place, check_condition, check_deactivate, check_ends, check_guard, check_log, check_return, check_setverdict, check_start, check_stop}
 use Rattle.laws_checker.proofs.Whole.{naming}
 use Rattle.laws_statements.specs.Within.{IsWithin, ReturnsStayFine, StaysFine, StaysSame}
 use Rattle.laws_statements.proofs.WithinExpressions as inside

@@ -14,16 +14,16 @@ use Rattle.ttcn_syntax.specs.declared.tree.statement.ForStart.TheVariants as for
 use Rattle.ttcn_syntax.specs.declared.tree.statement.Statement.{Statement, roll-Statement}
 use Rattle.ttcn_syntax.specs.declared.tree.statement.Timer.{Timer}
 use Rattle.ttcn_syntax.specs.declared.tree.statement.Variables.{Variables}
-use Rattle.check_expressions.specs.Calls.{check_activation, check_call, is_altstep, stands_alone}
-use Rattle.check_expressions.specs.Targets.{check_assignment, check_constants, check_new_name, check_timers, check_variables}
+use Rattle.check_rules.specs.Calls.{check_activation, check_call, is_altstep, stands_alone}
+use Rattle.check_rules.specs.Targets.{check_assignment, check_constants, check_new_name, check_timers, check_variables}
 use Rattle.check_scope.specs.Names.{Names, Scope}
 use Rattle.check_scope.specs.Typings.{unless}
 use Rattle.check_scope.specs.declared.names.Meaning.{Meaning}
 use Rattle.check_scope.specs.declared.names.Meaning.TheVariants as meaning
 use Rattle.check_scope.specs.declared.rule.Rule.{Rule}
 use Rattle.check_scope.specs.declared.rule.Rule.TheVariants as rule
-use Rattle.check_statements.specs.Messages.{check_event, check_send, check_timer}
-use Rattle.check_statements.specs.Statements.{Check, Place, StatementRules, action, action_step, alternative, alternative_step, behind_for_start, branch, branch_step, check_block, check_condition, check_deactivate, check_ends, check_for_start, check_guard, check_log, check_return, check_setverdict, check_start, check_stop, conditional, conditional_step, inside_branch, leaf_rules, statement, statement_step, statements, with_scope}
+use Rattle.check_rules.specs.Messages.{check_event, check_send, check_timer}
+use Rattle.check_rules.specs.Statements.{Check, Place, StatementRules, action, action_step, alternative, alternative_step, behind_for_start, branch, branch_step, check_block, check_condition, check_deactivate, check_ends, check_for_start, check_guard, check_log, check_return, check_setverdict, check_start, check_stop, conditional, conditional_step, inside_branch, leaf_rules, statement, statement_step, statements, with_scope}
 use Rattle.laws_checker.proofs.Nothing.{nothing-first, nothing-rest}
 use Rattle.laws_statements.proofs.Within.{activation_stays, assignment_stays, call_stays, condition_stays, deactivate_stays, ends_stays, event_stays, guard_stays, log_stays, send_stays, setverdict_stays, start_stays, stop_stays, timer_stays}
 use Rattle.laws_statements.proofs.WithinExpressions.{none-append, part-by-part}

@@ -16,9 +16,9 @@ use Rattle.ttcn_syntax.specs.declared.tree.value.FieldValue.{FieldValue}
 use Rattle.ttcn_syntax.specs.declared.tree.value.Value.{Value}
 use Rattle.ttcn_syntax.specs.declared.tree.value.Value.TheFolds.{fold-roll-FieldValue, fold-roll-Value, ind-Value, map-FieldValue, map-Value}
 use Rattle.ttcn_syntax.specs.declared.tree.value.Value.TheOpen.{FieldValue-F, Value-F}
-use Rattle.check_expressions.specs.Calls.{arguments, check_arguments, next_parameters, parameter_target}
-use Rattle.check_expressions.specs.Expressions.{Judge, Judgement, after, along, between, check_component, check_meaning, check_reference, check_running, check_wanted_component, demand, expression, expression_step, fine, is_timer, join_link, join_links, link, link_step, names_field, of_type, operand, runs}
-use Rattle.check_expressions.specs.Values.{AtTarget, by_name, check_expression, field_value, field_value_step, first_target, in_order, is_field, is_full, next_fields, takes_braces, target_named, value, value_step, wanted_fields}
+use Rattle.check_rules.specs.Calls.{arguments, check_arguments, next_parameters, parameter_target}
+use Rattle.check_rules.specs.Expressions.{Judge, Judgement, after, along, between, check_component, check_meaning, check_reference, check_running, check_wanted_component, demand, expression, expression_step, fine, is_timer, join_link, join_links, link, link_step, names_field, of_type, operand, runs}
+use Rattle.check_rules.specs.Values.{AtTarget, by_name, check_expression, field_value, field_value_step, first_target, in_order, is_field, is_full, next_fields, takes_braces, target_named, value, value_step, wanted_fields}
 use Rattle.check_scope.specs.Names.{Names, Scope}
 use Rattle.check_scope.specs.Typings.{compares, fits, refers_to_component, unless}
 use Rattle.check_scope.specs.declared.names.Meaning.{Meaning}

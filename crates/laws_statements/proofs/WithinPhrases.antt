@@ -24,10 +24,10 @@ use Rattle.ttcn_syntax.specs.declared.tree.value.Rhs.TheVariants as rhs
 use Rattle.ttcn_syntax.specs.declared.tree.value.TypeName.{TypeName}
 use Rattle.ttcn_syntax.specs.declared.tree.value.TypeName.TheVariants as type_name
 use Rattle.ttcn_syntax.specs.declared.tree.value.Value.{Value}
-use Rattle.check_expressions.specs.Calls.{altstep_meant, behaviour_meant, check_activation, check_arguments, check_behaviour, check_call, component_named, gives_value, is_altstep, parameters_of, result_type_of, result_typing, runs_here, runs_on_of}
-use Rattle.check_expressions.specs.Expressions.{Judgement, after, along, check_component, check_reference, check_wanted_component, expression, is_timer}
-use Rattle.check_expressions.specs.Targets.{as_target, call_typing, check_assignment, check_created, check_rhs, check_target, check_type, last_optional, target_at}
-use Rattle.check_expressions.specs.Templates.{template}
+use Rattle.check_rules.specs.Calls.{altstep_meant, behaviour_meant, check_activation, check_arguments, check_behaviour, check_call, component_named, gives_value, is_altstep, parameters_of, result_type_of, result_typing, runs_here, runs_on_of}
+use Rattle.check_rules.specs.Expressions.{Judgement, after, along, check_component, check_reference, check_wanted_component, expression, is_timer}
+use Rattle.check_rules.specs.Targets.{as_target, call_typing, check_assignment, check_created, check_rhs, check_target, check_type, last_optional, target_at}
+use Rattle.check_rules.specs.Templates.{template}
 use Rattle.check_scope.specs.Names.{Names, Scope, component_meant, kind_at, module_names, resolved, type_meant}
 use Rattle.check_scope.specs.Typings.{fits, refers_to_component, target_of, type_known, typed, unless}
 use Rattle.check_scope.specs.declared.names.Meaning.{Meaning}
@@ -38,9 +38,9 @@ use Rattle.check_scope.specs.declared.types.DataType.TheVariants as type
 use Rattle.check_scope.specs.declared.types.Target.{Target}
 use Rattle.check_scope.specs.declared.types.Typing.{Typing}
 use Rattle.check_scope.specs.declared.types.Typing.TheVariants as typing
-use Rattle.check_statements.specs.Definitions.{returns_of}
-use Rattle.check_statements.specs.Messages.{Passage, Passing, by_template, by_type_name, check_event, check_message, check_receive, check_received, check_selector, check_send, check_sender_redirect, check_sent, check_timer, check_to, check_type_name, check_value_redirect, incoming, incoming_at, is_timer_name, passage_at, port_meant, received_type, stores, stores_sender, type_by_itself, type_of_message}
-use Rattle.check_statements.specs.Statements.{check_boolean, check_condition, check_deactivate, check_ends, check_guard, check_log, check_log_item, check_return, check_setverdict, check_start, check_started, check_stop, is_error, is_function, refers_to_default, runs_there, says_component}
+use Rattle.check_rules.specs.Definitions.{returns_of}
+use Rattle.check_rules.specs.Messages.{Passage, Passing, by_template, by_type_name, check_event, check_message, check_receive, check_received, check_selector, check_send, check_sender_redirect, check_sent, check_timer, check_to, check_type_name, check_value_redirect, incoming, incoming_at, is_timer_name, passage_at, port_meant, received_type, stores, stores_sender, type_by_itself, type_of_message}
+use Rattle.check_rules.specs.Statements.{check_boolean, check_condition, check_deactivate, check_ends, check_guard, check_log, check_log_item, check_return, check_setverdict, check_start, check_started, check_stop, is_error, is_function, refers_to_default, runs_there, says_component}
 use Rattle.laws_checker.proofs.Nothing.{nothing-first, nothing-rest}
 use Rattle.laws_checker.proofs.Whole.{naming}
 use Rattle.laws_statements.proofs.WithinExpressions.{arguments-fine, component-same, expression-same, none-append, part-by-part, reference-same, reference_meant, same, value-fine, wanted-same}

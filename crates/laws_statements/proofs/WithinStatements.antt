@@ -8,9 +8,9 @@ use Rattle.ttcn_syntax.specs.declared.tree.statement.Timer.{Timer}
 use Rattle.ttcn_syntax.specs.declared.tree.statement.Variable.{Variable}
 use Rattle.ttcn_syntax.specs.declared.tree.statement.Variables.{Variables}
 use Rattle.ttcn_syntax.specs.declared.tree.value.Rhs.{Rhs}
-use Rattle.check_expressions.specs.Declarations.{behind_all, one_by_one}
-use Rattle.check_expressions.specs.Targets.{behind_constants, behind_variables, check_constant, check_constants, check_initial, check_new_name, check_timer_name, check_timers, check_type, check_variable, check_variables, constant_entry, variable_entry}
-use Rattle.check_expressions.specs.Values.{value}
+use Rattle.check_rules.specs.Declarations.{behind_all, one_by_one}
+use Rattle.check_rules.specs.Targets.{behind_constants, behind_variables, check_constant, check_constants, check_initial, check_new_name, check_timer_name, check_timers, check_type, check_variable, check_variables, constant_entry, variable_entry}
+use Rattle.check_rules.specs.Values.{value}
 use Rattle.check_scope.specs.Names.{Entry, Scope, declaring, listed, resolved}
 use Rattle.check_scope.specs.Typings.{target_of, unless}
 use Rattle.check_scope.specs.declared.names.Meaning.{Meaning}
@@ -19,7 +19,7 @@ use Rattle.check_scope.specs.declared.rule.Rule.{Rule}
 use Rattle.check_scope.specs.declared.rule.Rule.TheVariants as rule
 use Rattle.check_scope.specs.declared.types.DataType.{DataType}
 use Rattle.check_scope.specs.declared.types.Target.{Target}
-use Rattle.check_statements.specs.Statements.{Check, Place, StatementRules, check_block, with_scope, without_declaration}
+use Rattle.check_rules.specs.Statements.{Check, Place, StatementRules, check_block, with_scope, without_declaration}
 use Rattle.laws_checker.proofs.Nothing.{nothing-first, nothing-rest}
 use Rattle.laws_statements.proofs.Within.{rhs_stays, value_stays}
 use Rattle.laws_statements.proofs.WithinExpressions.{none-append, part-by-part}

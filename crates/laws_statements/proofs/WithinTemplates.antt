@@ -14,10 +14,10 @@ use Rattle.ttcn_syntax.specs.declared.tree.template.TemplateBody.{TemplateBody, 
 use Rattle.ttcn_syntax.specs.declared.tree.template.TemplateBody.TheFolds.{fold-roll-FieldTemplate, fold-roll-Template, fold-roll-TemplateBody, ind-Template, map-FieldTemplate, map-Template, map-TemplateBody}
 use Rattle.ttcn_syntax.specs.declared.tree.template.TemplateBody.TheOpen.{FieldTemplate-F, Template-F, TemplateBody-F}
 use Rattle.ttcn_syntax.specs.declared.tree.value.Value.{Value}
-use Rattle.check_expressions.specs.Calls.{check_arguments, parameters_of}
-use Rattle.check_expressions.specs.Expressions.{Judge, Judgement, expression, expression_step, link, link_step}
-use Rattle.check_expressions.specs.Templates.{bare_name, body, body_step, check_bound, check_name, check_named_template, each, field_template, field_template_step, has_all, template, template_by_name, template_meant, template_named, template_step, type_of_template, typing_at_name, typing_by_position, typing_of_body, typing_of_template, whole_name}
-use Rattle.check_expressions.specs.Values.{AtTarget, by_name, check_expression, in_order, is_full, takes_braces, wanted_fields}
+use Rattle.check_rules.specs.Calls.{check_arguments, parameters_of}
+use Rattle.check_rules.specs.Expressions.{Judge, Judgement, expression, expression_step, link, link_step}
+use Rattle.check_rules.specs.Templates.{bare_name, body, body_step, check_bound, check_name, check_named_template, each, field_template, field_template_step, has_all, template, template_by_name, template_meant, template_named, template_step, type_of_template, typing_at_name, typing_by_position, typing_of_body, typing_of_template, whole_name}
+use Rattle.check_rules.specs.Values.{AtTarget, by_name, check_expression, in_order, is_full, takes_braces, wanted_fields}
 use Rattle.check_scope.specs.Names.{Names, Scope, kind_at}
 use Rattle.check_scope.specs.Typings.{fits, typed, unless}
 use Rattle.check_scope.specs.declared.names.Meaning.{Meaning}

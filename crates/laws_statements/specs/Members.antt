@@ -6,13 +6,13 @@ use Rattle.ttcn_syntax.specs.declared.tree.definition.Member.TheVariants as memb
 use Rattle.ttcn_syntax.specs.declared.tree.definition.MemberVariable.{MemberVariable}
 use Rattle.ttcn_syntax.specs.declared.tree.value.TypeName.{TypeName}
 use Rattle.ttcn_syntax.specs.declared.tree.value.Value.{Value}
-use Rattle.check_expressions.specs.Targets.{timer_entry}
-use Rattle.check_expressions.specs.Values.{value}
+use Rattle.check_rules.specs.Targets.{timer_entry}
+use Rattle.check_rules.specs.Values.{value}
 use Rattle.check_scope.specs.Names.{Entry, Scope, behind_members, declaring, module_names, resolved}
 use Rattle.check_scope.specs.Typings.{target_of}
 use Rattle.check_scope.specs.declared.names.Meaning.TheVariants as meaning
 use Rattle.check_scope.specs.declared.types.DataType.{DataType}
-use Rattle.check_statements.specs.Definitions.{member_variable_entry, port_entry}
+use Rattle.check_rules.specs.Definitions.{member_variable_entry, port_entry}
 use Rattle.laws_statements.specs.Named.{IsDefinedAs}
 use Rattle.laws_statements.specs.Targets.{DeclaresConstants}
 

@@ -4,7 +4,7 @@ use Rattle.ttcn_syntax.specs.declared.tree.template.MessageTemplate.{MessageTemp
 use Rattle.check_scope.specs.Names.{Scope}
 use Rattle.check_scope.specs.declared.types.DataType.{DataType}
 use Rattle.check_scope.specs.declared.types.Typing.TheVariants as typing
-use Rattle.check_statements.specs.Messages.{Passage, type_of_message}
+use Rattle.check_rules.specs.Messages.{Passage, type_of_message}
 
 -- the type of a message is known where messages of some types pass
 pub record HasType (scope : Scope) (port : Passage) (message : MessageTemplate) : Type 0 where

@@ -8,14 +8,14 @@ use Rattle.ttcn_syntax.specs.declared.tree.statement.Alternative.{Alternative, o
 use Rattle.ttcn_syntax.specs.declared.tree.statement.Branch.{Branch, out-Branch}
 use Rattle.ttcn_syntax.specs.declared.tree.statement.Conditional.{Conditional, out-Conditional}
 use Rattle.ttcn_syntax.specs.declared.tree.statement.Statement.{Statement}
-use Rattle.check_expressions.specs.Calls.{check_activation, check_call, is_altstep, stands_alone}
-use Rattle.check_expressions.specs.Expressions.{expression}
-use Rattle.check_expressions.specs.Targets.{check_assignment, check_constants, check_timers, check_variables}
+use Rattle.check_rules.specs.Calls.{check_activation, check_call, is_altstep, stands_alone}
+use Rattle.check_rules.specs.Expressions.{expression}
+use Rattle.check_rules.specs.Targets.{check_assignment, check_constants, check_timers, check_variables}
 use Rattle.check_scope.specs.Names.{Scope}
 use Rattle.check_scope.specs.declared.types.DataType.TheVariants as type
 use Rattle.check_scope.specs.declared.types.Typing.TheVariants as typing
-use Rattle.check_statements.specs.Messages.{check_event, check_send, check_timer}
-use Rattle.check_statements.specs.Statements.{Place, check_deactivate, check_ends, check_for_start, check_log, check_return, check_setverdict, check_start, check_stop, behind_for_start, inside_branch, statements, with_scope}
+use Rattle.check_rules.specs.Messages.{check_event, check_send, check_timer}
+use Rattle.check_rules.specs.Statements.{Place, check_deactivate, check_ends, check_for_start, check_log, check_return, check_setverdict, check_start, check_stop, behind_for_start, inside_branch, statements, with_scope}
 
 -- a condition: it breaks no rule, and is boolean
 pub record IsCondition (scope : Scope) (e : Expr) : Type 0 where

@@ -7,7 +7,7 @@ use Rattle.check_scope.specs.Names.{Scope}
 use Rattle.check_scope.specs.declared.types.DataType.{DataType}
 use Rattle.check_scope.specs.declared.types.DataType.TheVariants as type
 use Rattle.check_scope.specs.declared.types.Typing.TheVariants as typing
-use Rattle.check_statements.specs.Messages.{incoming, type_of_message}
+use Rattle.check_rules.specs.Messages.{incoming, type_of_message}
 use Rattle.laws_statements.specs.Targets.{IsVariable}
 
 -- a template tells the message, and a variable or a field in one takes it, which is of the message's type

@@ -2,11 +2,11 @@
 use Rattle.std.specs.Prelude.{◌≡◌, ℕ, true, false, [], Some}
 use Rattle.ttcn_syntax.specs.declared.tree.expression.ComponentRef.{ComponentRef}
 use Rattle.ttcn_syntax.specs.declared.tree.value.Call.{Call}
-use Rattle.check_expressions.specs.Calls.{altstep_meant, behaviour_meant, component_named, is_altstep, parameters_of, runs_here, runs_on_of}
-use Rattle.check_expressions.specs.Expressions.{check_component}
+use Rattle.check_rules.specs.Calls.{altstep_meant, behaviour_meant, component_named, is_altstep, parameters_of, runs_here, runs_on_of}
+use Rattle.check_rules.specs.Expressions.{check_component}
 use Rattle.check_scope.specs.Names.{Scope, kind_at}
 use Rattle.check_scope.specs.Typings.{refers_to_component}
-use Rattle.check_statements.specs.Statements.{is_function, runs_there, says_component}
+use Rattle.check_rules.specs.Statements.{is_function, runs_there, says_component}
 use Rattle.laws_checker.specs.Laws.{AreArguments}
 
 -- an activation: its name stands for an altstep that runs on this component type, with these arguments

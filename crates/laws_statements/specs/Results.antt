@@ -6,14 +6,14 @@ use Rattle.ttcn_syntax.specs.declared.tree.definition.Parameter.{Parameter}
 use Rattle.ttcn_syntax.specs.declared.tree.statement.Branch.{Branch}
 use Rattle.ttcn_syntax.specs.declared.tree.value.TypeName.{TypeName}
 use Rattle.ttcn_syntax.specs.declared.tree.value.Value.{Value}
-use Rattle.check_expressions.specs.Calls.{component_named, result_type_of}
-use Rattle.check_expressions.specs.Values.{value}
+use Rattle.check_rules.specs.Calls.{component_named, result_type_of}
+use Rattle.check_rules.specs.Values.{value}
 use Rattle.check_scope.specs.Names.{Scope, kind_at, module_names, resolved}
 use Rattle.check_scope.specs.Scopes.{scope_on}
 use Rattle.check_scope.specs.Typings.{target_of}
 use Rattle.check_scope.specs.declared.types.DataType.{DataType}
-use Rattle.check_statements.specs.Definitions.{with_parameters}
-use Rattle.check_statements.specs.Statements.{Check, Place, branch, check_return}
+use Rattle.check_rules.specs.Definitions.{with_parameters}
+use Rattle.check_rules.specs.Statements.{Check, Place, branch, check_return}
 
 -- ---- functions
 

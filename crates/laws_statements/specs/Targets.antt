@@ -10,10 +10,10 @@ use Rattle.ttcn_syntax.specs.declared.tree.value.Call.{Call}
 use Rattle.ttcn_syntax.specs.declared.tree.value.Rhs.{Rhs}
 use Rattle.ttcn_syntax.specs.declared.tree.value.Rhs.TheVariants as rhs
 use Rattle.ttcn_syntax.specs.declared.tree.value.TypeName.{TypeName}
-use Rattle.check_expressions.specs.Calls.{gives_value, result_type_of}
-use Rattle.check_expressions.specs.Expressions.{along}
-use Rattle.check_expressions.specs.Targets.{check_rhs, constant_entry, target_at, variable_entry}
-use Rattle.check_expressions.specs.Values.{value}
+use Rattle.check_rules.specs.Calls.{gives_value, result_type_of}
+use Rattle.check_rules.specs.Expressions.{along}
+use Rattle.check_rules.specs.Targets.{check_rhs, constant_entry, target_at, variable_entry}
+use Rattle.check_rules.specs.Values.{value}
 use Rattle.check_scope.specs.Names.{Scope, component_meant, declaring, kind_at, module_names, resolved}
 use Rattle.check_scope.specs.Typings.{target_of}
 use Rattle.check_scope.specs.declared.names.Meaning.TheVariants as meaning

@@ -1,10 +1,10 @@
 -- A scope within another one, which sees further names, and what stays fine there.
 use Rattle.std.specs.Prelude.{◌≡◌, ℕ, List, [], Option, Some, IfSome}
 use Rattle.ttcn_syntax.specs.declared.tree.value.Value.{Value}
-use Rattle.check_expressions.specs.Expressions.{Judgement}
+use Rattle.check_rules.specs.Expressions.{Judgement}
 use Rattle.check_scope.specs.Names.{Scope}
 use Rattle.check_scope.specs.declared.rule.Rule.{Rule}
-use Rattle.check_statements.specs.Statements.{Place, check_return}
+use Rattle.check_rules.specs.Statements.{Place, check_return}
 
 -- a scope is within another one of the same module and component type: each name that it sees stands for the same there
 pub record IsWithin (scope other : Scope) : Type 0 where

@@ -23,14 +23,14 @@ ghost use Rattle.ttcn_syntax.specs.declared.tree.value.Call.{Call};
 ghost use Rattle.ttcn_syntax.specs.declared.tree.value.Rhs.{Rhs};
 ghost use Rattle.ttcn_syntax.specs.declared.tree.value.TypeName.{TypeName};
 ghost use Rattle.ttcn_syntax.specs.declared.tree.value.Value.{Value};
-ghost use Rattle.check_expressions.specs.Calls.{check_activation};
-ghost use Rattle.check_expressions.specs.Targets.{check_assignment, check_constants, check_rhs, check_variables};
+ghost use Rattle.check_rules.specs.Calls.{check_activation};
+ghost use Rattle.check_rules.specs.Targets.{check_assignment, check_constants, check_rhs, check_variables};
 ghost use Rattle.check_scope.specs.Names.{Scope, declaring, kind_at, module_names, resolved};
 ghost use Rattle.check_scope.specs.declared.names.Meaning.{Meaning};
 ghost use Rattle.check_scope.specs.declared.types.DataType.{DataType};
-ghost use Rattle.check_statements.specs.Definitions.{check_member, returns_of};
-ghost use Rattle.check_statements.specs.Messages.{check_message, check_receive, passage_at, type_anywhere};
-ghost use Rattle.check_statements.specs.Statements.{Place, check_condition, check_return, check_start, branch, statement, statements};
+ghost use Rattle.check_rules.specs.Definitions.{check_member, returns_of};
+ghost use Rattle.check_rules.specs.Messages.{check_message, check_receive, passage_at, type_anywhere};
+ghost use Rattle.check_rules.specs.Statements.{Place, check_condition, check_return, check_start, branch, statement, statements};
 ghost use Rattle.laws_checker.specs.Laws.{IsKnown, IsWhole};
 ghost use Rattle.laws_statements.specs.Members.{IsMember, scope_behind};
 ghost use Rattle.laws_statements.specs.Messages.{HasType};
@@ -41,12 +41,12 @@ ghost use Rattle.laws_statements.specs.Resolved.{Activates, Starts};
 ghost use Rattle.laws_statements.specs.Results.{IsFineWithoutReturns, IsReturn, KnowsResults, branches, scope_in};
 ghost use Rattle.laws_statements.specs.Targets.{DeclaresConstants, DeclaresVariables, HasTarget, IsAssignment, IsRightSide};
 ghost use Rattle.check_survey.specs.Graphs.{AllChainsWithin};
-ghost use Rattle.ttcn_types.specs.Limits.{longest_chain};
-ghost use Rattle.ttcn_types.specs.Parts.{altsteps};
+ghost use Rattle.check_rules.specs.Limits.{longest_chain};
+ghost use Rattle.check_rules.specs.Parts.{altsteps};
 
 mod wider;
 
-use ttcn_types::Program;
+use check_rules::Program;
 pub use wider::{
     declarations_stay_fine, expressions_stay_fine, parts_stay_fine, returns_stay_fine, scopes_grow,
     statements_stay_fine, types_stay_same,

@@ -27,23 +27,23 @@ ghost use Rattle.ttcn_syntax.specs.declared.tree.value.Call.{Call};
 ghost use Rattle.ttcn_syntax.specs.declared.tree.value.Rhs.{Rhs};
 ghost use Rattle.ttcn_syntax.specs.declared.tree.value.TypeName.{TypeName};
 ghost use Rattle.ttcn_syntax.specs.declared.tree.value.Value.{Value};
-ghost use Rattle.check_expressions.specs.Calls.{check_activation, check_arguments, check_call};
-ghost use Rattle.check_expressions.specs.Expressions.{Judgement, check_component, check_reference, check_wanted_component, expression};
-ghost use Rattle.check_expressions.specs.Targets.{check_assignment, check_constants, check_new_name, check_rhs, check_target, check_timers, check_type, check_variables, target_at};
-ghost use Rattle.check_expressions.specs.Templates.{template};
-ghost use Rattle.check_expressions.specs.Values.{value};
+ghost use Rattle.check_rules.specs.Calls.{check_activation, check_arguments, check_call};
+ghost use Rattle.check_rules.specs.Expressions.{Judgement, check_component, check_reference, check_wanted_component, expression};
+ghost use Rattle.check_rules.specs.Targets.{check_assignment, check_constants, check_new_name, check_rhs, check_target, check_timers, check_type, check_variables, target_at};
+ghost use Rattle.check_rules.specs.Templates.{template};
+ghost use Rattle.check_rules.specs.Values.{value};
 ghost use Rattle.check_scope.specs.Names.{Names, Scope, declaring, kind_at, resolved};
 ghost use Rattle.check_scope.specs.declared.names.Meaning.{Meaning};
 ghost use Rattle.check_scope.specs.declared.rule.Rule.TheVariants as rule;
 ghost use Rattle.check_scope.specs.declared.types.Target.{Target};
-ghost use Rattle.check_statements.specs.Definitions.{check_parameters, returns_of, with_parameters};
-ghost use Rattle.check_statements.specs.Messages.{Passing, check_event, check_message, check_receive, check_selector, check_send, check_timer, incoming, type_of_message};
-ghost use Rattle.check_statements.specs.Statements.{Place, branch, check_condition, check_deactivate, check_ends, check_guard, check_log, check_return, check_setverdict, check_start, check_stop, statement, statements, with_scope};
+ghost use Rattle.check_rules.specs.Definitions.{check_parameters, returns_of, with_parameters};
+ghost use Rattle.check_rules.specs.Messages.{Passing, check_event, check_message, check_receive, check_selector, check_send, check_timer, incoming, type_of_message};
+ghost use Rattle.check_rules.specs.Statements.{Place, branch, check_condition, check_deactivate, check_ends, check_guard, check_log, check_return, check_setverdict, check_start, check_stop, statement, statements, with_scope};
 ghost use Rattle.laws_statements.specs.Declares.{Declared, NoneIsFurther, names_of_branch, names_of_constants, names_of_statement, names_of_statements, names_of_timers, names_of_variables};
 ghost use Rattle.laws_statements.specs.Members.{scope_behind};
 ghost use Rattle.laws_statements.specs.Within.{IsWithin, ReturnsStayFine, StaysFine, StaysSame};
 
-use ttcn_types::Program;
+use check_rules::Program;
 
 /// An expression that breaks no rule breaks none where further names are visible, and what is said of it is the same. So it
 /// is with references, components and targets; values and templates break none there.

@@ -21,8 +21,8 @@ use Rattle.ttcn_syntax.specs.declared.tree.value.Call.{Call}
 use Rattle.ttcn_syntax.specs.declared.tree.value.Rhs.{Rhs}
 use Rattle.ttcn_syntax.specs.declared.tree.value.Rhs.TheVariants as rhs
 use Rattle.ttcn_syntax.specs.declared.tree.value.Value as written
-use Rattle.check_expressions.specs.Calls.{altstep_meant, behaviour_meant, parameters_of}
-use Rattle.check_expressions.specs.Targets as checked
+use Rattle.check_rules.specs.Calls.{altstep_meant, behaviour_meant, parameters_of}
+use Rattle.check_rules.specs.Targets as checked
 use Rattle.check_scope.specs.Names.{component_meant, kind_at, module_names, resolved}
 use Rattle.check_scope.specs.declared.types.DataType.{DataType}
 use Rattle.laws_steps.proofs.Outcomes.{map-yields, then-yields}
@@ -34,21 +34,21 @@ use Rattle.semantics.specs.Events.{Choice, Effect, Nothing, Refused, Taken}
 use Rattle.semantics.specs.Items.{Does, Doing, From, Item, Last, Loop, Mark, Name, Part, Start, Target, Waiting, Whole, action_of, items, items_if_any, site_in_for, start_items}
 use Rattle.semantics.specs.Sites.{Site, scope_at}
 use Rattle.semantics.specs.Snapshots.{Snapshot, Test}
-use Rattle.semantics.specs.Statements.{Act, Connects, Continues, Creates, Errs, Removes, Sends, Stand, Starts, Stops, Waits, Worsens, act, act_alt_or, act_assignment, act_choice, act_conditional, act_connect, act_constant, act_deactivate, act_end, act_first, act_for_start, act_for_step, act_from, act_if, act_in, act_initial, act_loop, act_name, act_part, act_port, act_return, act_send, act_start, act_test, act_timer, act_variable, act_while, act_whole, acting, activate, activated, activated_at, ask_connection, assign, body_of, call_function, called_frame, choice_at, component_meant_at, continuing, created, declared, declared_target, done, enter, frame_at, frame_of_call, function_frame, give_back, go_either, leave, may_connect, most, name_in, new_id, otherwise, reads, remaining, result_at, sent_to, sent_type, sent_value, stop_meant, waits_first, with_child, with_defaults, with_frames, without_default}
+use Rattle.semantics.specs.Statements.{Act, Connects, Continues, Creates, Errs, Removes, Requests, Sends, Stand, Starts, Stops, Waits, Worsens, act, act_alt_or, act_assignment, act_choice, act_conditional, act_connect, act_constant, act_deactivate, act_end, act_first, act_for_start, act_for_step, act_from, act_if, act_in, act_initial, act_loop, act_name, act_part, act_port, act_return, act_send, act_start, act_test, act_timer, act_variable, act_while, act_whole, acting, activate, activated, activated_at, ask_connection, assign, body_of, call_function, called_frame, choice_at, component_meant_at, continuing, created, declared, declared_target, done, enter, frame_at, frame_of_call, function_frame, give_back, go_either, leave, may_connect, most, name_in, new_id, otherwise, reads, remaining, result_at, sent_to, sent_type, sent_value, stop_meant, waits_first, with_child, with_defaults, with_frames, without_default}
 use Rattle.semantics.specs.Storing.{declare, declare_timer, forget, going_on, set_timer, store, target_meant, with_calls}
 use Rattle.semantics.specs.Taking.{port_taken, repeat_alt, repeated, taken}
-use Rattle.ttcn_values.specs.Evaluation.{condition_of}
-use Rattle.ttcn_values.specs.Literals.{value_wanted}
-use Rattle.ttcn_values.specs.Outcomes.{DynamicError, Failure, Fails, IfYields, Outcome, Unmet, Yields, dynamic_error, or_unmet, outcome_and_then, outcome_map}
-use Rattle.ttcn_values.specs.Readings.{referred, timer_at}
-use Rattle.ttcn_values.specs.Templates.{arguments}
-use Rattle.ttcn_values.specs.declared.frame.TimerState.{TimerState}
-use Rattle.ttcn_values.specs.declared.frame.TimerState.TheVariants as timer
-use Rattle.ttcn_values.specs.declared.path.Path.{Path}
-use Rattle.ttcn_values.specs.declared.value.ComponentId.{ComponentId}
-use Rattle.ttcn_values.specs.declared.value.Value.{Value, out-Value}
-use Rattle.ttcn_values.specs.declared.value.Value.TheOpen.{Value-F}
-use Rattle.ttcn_values.specs.declared.value.Value.TheVariants as value
+use Rattle.value_types.specs.Evaluation.{condition_of}
+use Rattle.value_types.specs.Literals.{value_wanted}
+use Rattle.value_types.specs.Outcomes.{DynamicError, Failure, Fails, IfYields, Outcome, Unmet, Yields, dynamic_error, or_unmet, outcome_and_then, outcome_map}
+use Rattle.value_types.specs.Readings.{referred, timer_at}
+use Rattle.value_types.specs.Templates.{arguments}
+use Rattle.value_types.specs.declared.frame.TimerState.{TimerState}
+use Rattle.value_types.specs.declared.frame.TimerState.TheVariants as timer
+use Rattle.value_types.specs.declared.path.Path.{Path}
+use Rattle.value_types.specs.declared.value.ComponentId.{ComponentId}
+use Rattle.value_types.specs.declared.value.Value.{Value, out-Value}
+use Rattle.value_types.specs.declared.value.Value.TheOpen.{Value-F}
+use Rattle.value_types.specs.declared.value.Value.TheVariants as value
 
 -- ---- a part of a statement
 
@@ -90,20 +90,20 @@ pub record Keeps (stand : Stand) (site : Site) (s : Statement) (part : Part) (As
   -- what is asked for
   pub fails : (why : Failure) → Asks (Errs why)
   pub waits : part ≡ Whole → choice_at stand site s ≡ Some Nothing → Asks Waits
-  pub continues : (own : Data) → Left own → Asks (Continues own)
-  pub worsens : (v : Verdict) (reasons : List LogItem) → part ≡ Whole → action_of s ≡ Action-F.Setverdict v reasons → Asks (Worsens v (done stand))
-  pub removes : (port : List ℕ) (own : Data) → Left own → Asks (Removes port own)
+  pub continues : (own : Data) → Left own → Asks (Requests Continues own)
+  pub worsens : (v : Verdict) (reasons : List LogItem) → part ≡ Whole → action_of s ≡ Action-F.Setverdict v reasons → Asks (Requests (Worsens v) (done stand))
+  pub removes : (port : List ℕ) (own : Data) → Left own → Asks (Requests (Removes port) own)
   pub sends : (send : Send) (v : Value) (to : Option Path) → sent_value stand site send (sent_type (scope_at stand.test.definitions site) send) ≡ Yields v → sent_to stand site send.to ≡ Yields to
-      → Asks (Sends send.port to v (done stand))
+      → Asks (Requests (Sends send.port to v) (done stand))
   pub creates : (target : Target) (own : Data) (at : ℕ) (members : Frame) (changed : Data) → Opened own → new_members stand.test (new_id stand own at) stand.snapshot ≡ Yields members
-      → store stand.test target (value.Component (new_id stand own at)) own ≡ Yields changed → Asks (Creates (new_component stand.test (new_id stand own at) members) (with_child changed))
-  pub starts : (reference : ComponentRef) (c : ComponentId) (frame : Frame) → component_meant_at stand site reference ≡ Yields c → Begun frame → Asks (Starts c.path frame (done stand))
-  pub stops_itself : Asks (Stops stand.snapshot.itself.path (done stand))
-  pub stops_last : stand.below ≡ [] → Asks (Stops stand.snapshot.itself.path (with_calls [] stand.own))
-  pub stops : (reference : ComponentRef) (c : ComponentId) → component_meant_at stand site reference ≡ Yields c → Asks (Stops c.path (done stand))
+      → store stand.test target (value.Component (new_id stand own at)) own ≡ Yields changed → Asks (Requests (Creates (new_component stand.test (new_id stand own at) members)) (with_child changed))
+  pub starts : (reference : ComponentRef) (c : ComponentId) (frame : Frame) → component_meant_at stand site reference ≡ Yields c → Begun frame → Asks (Requests (Starts c.path frame) (done stand))
+  pub stops_itself : Asks (Requests (Stops stand.snapshot.itself.path) (done stand))
+  pub stops_last : stand.below ≡ [] → Asks (Requests (Stops stand.snapshot.itself.path) (with_calls [] stand.own))
+  pub stops : (reference : ComponentRef) (c : ComponentId) → component_meant_at stand site reference ≡ Yields c → Asks (Requests (Stops c.path) (done stand))
   pub connects : (one other : PortRef) (c d : ComponentId) → component_meant_at stand site one.component ≡ Yields c → component_meant_at stand site other.component ≡ Yields d
       → may_connect stand.test.definitions c one.port d other.port ≡ true
-      → Asks (Connects (record { component = c.path; port = one.port }) (record { component = d.path; port = other.port }) (done stand))
+      → Asks (Requests (Connects (record { component = c.path; port = one.port }) (record { component = d.path; port = other.port })) (done stand))
 
 module _ (stand : Stand) (site : Site) (s : Statement) (part : Part) (Asks : Act → Type 0) (Opened Changed Left : Data → Type 0) (Given : Value → Type 0) (Begun : Frame → Type 0)
     (keeps : Keeps stand site s part Asks Opened Changed Left Given Begun) where
@@ -126,25 +126,25 @@ module _ (stand : Stand) (site : Site) (s : Statement) (part : Part) (Asks : Act
   acting-any f (Fails why) more = keeps.fails why
 
   continuing-of : (o : Outcome Data) → IfYields o Left → Asks (continuing o)
-  continuing-of o is = acting-of Left Continues o keeps.continues is
+  continuing-of o is = acting-of Left (Requests Continues) o keeps.continues is
 
   changed-left : (o : Outcome Data) → IfYields o Changed → IfYields o Left
   changed-left (Yields own) is = keeps.ends own is
   changed-left (Fails why) is = tt
 
-  goes-on : (own : Data) → Changed own → Asks (Continues own)
+  goes-on : (own : Data) → Changed own → Asks (Requests Continues own)
   goes-on own is = keeps.continues own (keeps.ends own is)
 
   done-changed : Changed (done stand)
   done-changed = keeps.opens (done stand) keeps.does
 
-  done-asks : Asks (Continues (done stand))
+  done-asks : Asks (Requests Continues (done stand))
   done-asks = goes-on (done stand) done-changed
 
   -- ---- items
 
-  goes-made : (made xs : List Item) → Makes ds site s part made → made ++ stand.rest ≡ xs → Asks (Continues (remaining stand xs))
-  goes-made made xs makes e = subst (λ ys. Asks (Continues (remaining stand ys))) e (keeps.continues (remaining stand (made ++ stand.rest)) (keeps.makes made makes))
+  goes-made : (made xs : List Item) → Makes ds site s part made → made ++ stand.rest ≡ xs → Asks (Requests Continues (remaining stand xs))
+  goes-made made xs makes e = subst (λ ys. Asks (Requests Continues (remaining stand ys))) e (keeps.continues (remaining stand (made ++ stand.rest)) (keeps.makes made makes))
 
   -- ---- calls
 
@@ -192,14 +192,14 @@ module _ (stand : Stand) (site : Site) (s : Statement) (part : Part) (Asks : Act
   activated-is call own is = activated-is-at call own (altstep_meant (module_names ds call.name)) is
 
   create-of : (target : Target) (own : Data) (at : ℕ) → Opened own → (o : Outcome Frame) → ((members : Frame) → o ≡ Yields members → new_members stand.test (new_id stand own at) stand.snapshot ≡ Yields members)
-      → Asks (acting (λ members. acting (λ changed. Creates (new_component stand.test (new_id stand own at) members) (with_child changed)) (store stand.test target (value.Component (new_id stand own at)) own)) o)
+      → Asks (acting (λ members. acting (λ changed. Requests (Creates (new_component stand.test (new_id stand own at) members)) (with_child changed)) (store stand.test target (value.Component (new_id stand own at)) own)) o)
   create-of target own at is o known =
-      acting-is (λ members. acting (λ changed. Creates (new_component stand.test (new_id stand own at) members) (with_child changed)) (store stand.test target (value.Component (new_id stand own at)) own)) o
-      (λ members e. acting-is (λ changed. Creates (new_component stand.test (new_id stand own at) members) (with_child changed)) (store stand.test target (value.Component (new_id stand own at)) own)
+      acting-is (λ members. acting (λ changed. Requests (Creates (new_component stand.test (new_id stand own at) members)) (with_child changed)) (store stand.test target (value.Component (new_id stand own at)) own)) o
+      (λ members e. acting-is (λ changed. Requests (Creates (new_component stand.test (new_id stand own at) members)) (with_child changed)) (store stand.test target (value.Component (new_id stand own at)) own)
       (λ changed stored. keeps.creates target own at members changed is (known members e) stored))
 
   create-if : (target : Target) (own : Data) (at : ℕ) (b : Bool) → Opened own
-      → Asks (acting (λ members. acting (λ changed. Creates (new_component stand.test (new_id stand own at) members) (with_child changed)) (store stand.test target (value.Component (new_id stand own at)) own))
+      → Asks (acting (λ members. acting (λ changed. Requests (Creates (new_component stand.test (new_id stand own at) members)) (with_child changed)) (store stand.test target (value.Component (new_id stand own at)) own))
       (if b then new_members stand.test (new_id stand own at) stand.snapshot else dynamic_error))
   create-if target own at true is = create-of target own at is (new_members stand.test (new_id stand own at) stand.snapshot) (λ members e. e)
   create-if target own at false is = keeps.fails DynamicError
@@ -239,7 +239,7 @@ module _ (stand : Stand) (site : Site) (s : Statement) (part : Part) (Asks : Act
   constant-asks : (of : Option DataType) (c : Option Constant) → Asks (act_constant stand site of c)
   constant-asks of None = keeps.fails Unmet
   constant-asks of (Some c) =
-      acting-of Given (λ v. Continues (declared stand (declare c.name v))) (value_wanted c.value (reads stand site) of)
+      acting-of Given (λ v. Requests Continues (declared stand (declare c.name v))) (value_wanted c.value (reads stand site) of)
       (λ v given. goes-on (declared stand (declare c.name v)) (keeps.declares c.name v given)) (keeps.evaluated c.value of)
 
   timer-asks : (k : ℕ) (timers : List Timer) (t : Option Timer) → part ≡ Name k → action_of s ≡ Action-F.Timers timers → slice_get timers k ≡ t → Asks (act_timer stand t)
@@ -255,11 +255,11 @@ module _ (stand : Stand) (site : Site) (s : Statement) (part : Part) (Asks : Act
 
   -- ---- conditions and loops
 
-  either-asks : (held failed : List Item) → Asks (Continues (remaining stand held)) → Asks (Continues (remaining stand failed)) → (b : Bool) → Asks (go_either stand held failed b)
+  either-asks : (held failed : List Item) → Asks (Requests Continues (remaining stand held)) → Asks (Requests Continues (remaining stand failed)) → (b : Bool) → Asks (go_either stand held failed b)
   either-asks held failed one other true = one
   either-asks held failed one other false = other
 
-  test-asks : (e : Expr) (held failed : List Item) → Asks (Continues (remaining stand held)) → Asks (Continues (remaining stand failed)) → Asks (act_test stand site e held failed)
+  test-asks : (e : Expr) (held failed : List Item) → Asks (Requests Continues (remaining stand held)) → Asks (Requests Continues (remaining stand failed)) → Asks (act_test stand site e held failed)
   test-asks e held failed one other = acting-any (go_either stand held failed) (condition_of e (reads stand site)) (either-asks held failed one other)
 
   loop-asks : (condition : Expr) (block : List Statement) (again : List Item) → Makes ds site s part (items ds site block ++ again) → Asks (act_loop stand site condition block again)
@@ -268,7 +268,7 @@ module _ (stand : Stand) (site : Site) (s : Statement) (part : Part) (Asks : Act
       (goes-made (items ds site block ++ again) (items ds site block ++ again ++ stand.rest) makes refl) done-asks
 
   otherwise-asks : (next : ℕ) (conditionals : List Conditional) (last : Option (List Statement)) (b : Bool) → IsTest part → action_of s ≡ Action-F.If conditionals last
-      → Asks (Continues (remaining stand (if b then Doing site s (From next) ∷ stand.rest else items_if_any ds site last ++ stand.rest)))
+      → Asks (Requests Continues (remaining stand (if b then Doing site s (From next) ∷ stand.rest else items_if_any ds site last ++ stand.rest)))
   otherwise-asks next conditionals last true tests e = goes-made (Doing site s (From next) ∷ []) (Doing site s (From next) ∷ stand.rest) (MakesTest next conditionals last tests e) refl
   otherwise-asks next conditionals last false tests e = goes-made (items_if_any ds site last) (items_if_any ds site last ++ stand.rest) (MakesElse conditionals last tests e) refl
 
@@ -310,7 +310,7 @@ module _ (stand : Stand) (site : Site) (s : Statement) (part : Part) (Asks : Act
 
   ask-if : (one other : PortRef) (c d : ComponentId) (b : Bool) → component_meant_at stand site one.component ≡ Yields c → component_meant_at stand site other.component ≡ Yields d
       → (b ≡ true → may_connect ds c one.port d other.port ≡ true)
-      → Asks (if b then Connects (record { component = c.path; port = one.port }) (record { component = d.path; port = other.port }) (done stand) else Errs DynamicError)
+      → Asks (if b then Requests (Connects (record { component = c.path; port = one.port }) (record { component = d.path; port = other.port })) (done stand) else Errs DynamicError)
   ask-if one other c d true first second may = keeps.connects one other c d first second (may refl)
   ask-if one other c d false first second may = keeps.fails DynamicError
 
@@ -322,17 +322,17 @@ module _ (stand : Stand) (site : Site) (s : Statement) (part : Part) (Asks : Act
 
   send-asks : (send : Send) → Asks (act_send stand site send)
   send-asks send =
-      acting-is (λ v. acting (λ to. Sends send.port to v (done stand)) (sent_to stand site send.to)) (sent_value stand site send (sent_type (scope_at ds site) send))
-      (λ v of. acting-is (λ to. Sends send.port to v (done stand)) (sent_to stand site send.to) (λ to meant. keeps.sends send v to of meant))
+      acting-is (λ v. acting (λ to. Requests (Sends send.port to v) (done stand)) (sent_to stand site send.to)) (sent_value stand site send (sent_type (scope_at ds site) send))
+      (λ v of. acting-is (λ to. Requests (Sends send.port to v) (done stand)) (sent_to stand site send.to) (λ to meant. keeps.sends send v to of meant))
 
   start-asks : (reference : ComponentRef) (call : Call) → Asks (act_start stand site reference call)
   start-asks reference call =
-      acting-is (λ c. acting (λ frame. Starts c.path frame (done stand)) (frame_of_call stand site call)) (component_meant_at stand site reference)
-      (λ c meant. acting-of Begun (λ frame. Starts c.path frame (done stand)) (frame_of_call stand site call) (λ frame begun. keeps.starts reference c frame meant begun) (frame-begun call))
+      acting-is (λ c. acting (λ frame. Requests (Starts c.path frame) (done stand)) (frame_of_call stand site call)) (component_meant_at stand site reference)
+      (λ c meant. acting-of Begun (λ frame. Requests (Starts c.path frame) (done stand)) (frame_of_call stand site call) (λ frame begun. keeps.starts reference c frame meant begun) (frame-begun call))
 
   stop-asks : (reference : ComponentRef) (o : Option Bool) → Asks (stop_meant stand site reference o)
   stop-asks reference (Some b) = goes-on (set_timer stand.test site (name_in reference) timer.Inactive (done stand)) (keeps.sets_timer (name_in reference) timer.Inactive)
-  stop-asks reference None = acting-is (λ c. Stops c.path (done stand)) (component_meant_at stand site reference) (λ c meant. keeps.stops reference c meant)
+  stop-asks reference None = acting-is (λ c. Requests (Stops c.path) (done stand)) (component_meant_at stand site reference) (λ c meant. keeps.stops reference c meant)
 
   -- ---- defaults
 
@@ -447,12 +447,12 @@ module _ (stand : Stand) (site : Site) (s : Statement) (part : Part) (Asks : Act
 -- ---- the step of a component
 
 -- nothing remains in the last frame, which goes
-pub end-asks : (stand : Stand) (Asks : Act → Type 0) → ((why : Failure) → Asks (Errs why)) → (stand.below ≡ [] → Asks (Stops stand.snapshot.itself.path (with_calls [] stand.own)))
-    → ((frame : Frame) (frames : List Frame) → stand.below ≡ frame ∷ frames → Asks (Continues (with_calls (frame ∷ frames) stand.own))) → (frames : List Frame) → stand.below ≡ frames → Asks (act_end stand frames)
+pub end-asks : (stand : Stand) (Asks : Act → Type 0) → ((why : Failure) → Asks (Errs why)) → (stand.below ≡ [] → Asks (Requests (Stops stand.snapshot.itself.path) (with_calls [] stand.own)))
+    → ((frame : Frame) (frames : List Frame) → stand.below ≡ frame ∷ frames → Asks (Requests Continues (with_calls (frame ∷ frames) stand.own))) → (frames : List Frame) → stand.below ≡ frames → Asks (act_end stand frames)
 end-asks stand Asks fails last leaves [] is = last is
 end-asks stand Asks fails last leaves (frame ∷ frames) is = end-if (waits_first frame.remaining)
   where
-    end-if : (b : Bool) → Asks (if b then Errs DynamicError else Continues (with_calls (frame ∷ frames) stand.own))
+    end-if : (b : Bool) → Asks (if b then Errs DynamicError else Requests Continues (with_calls (frame ∷ frames) stand.own))
     end-if true = fails DynamicError
     end-if false = leaves frame frames is
 

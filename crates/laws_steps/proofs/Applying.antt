@@ -7,12 +7,12 @@ use Rattle.laws_steps.proofs.Found.{new-each}
 use Rattle.semantics.proofs.Pairs.{All-more}
 use Rattle.semantics.specs.Configurations.{Component, Configuration, Created, Data, End, Ended, Frame, Goes, Going, Running, State, Terminated, component_at, is_terminated_state, overall, path_of, same_path}
 use Rattle.semantics.specs.Snapshots.{Test, mtc_of}
-use Rattle.semantics.specs.Statements.{Act, Connects, Continues, Creates, Errs, Removes, Sends, Starts, Stops, Waits, Worsens}
+use Rattle.semantics.specs.Statements.{Act, Connects, Continues, Creates, Errs, Removes, Requests, Sends, Starts, Stops, Waits, Worsens}
 use Rattle.semantics.specs.Steps.{addressed, apply, at_queue, begin, connection, deliver, ending, is_double, is_terminated_at, peers, settle, start_created, start_in, touch, unless_terminated, with_connection, with_data, with_new, with_state, with_verdict, without_first}
-use Rattle.ttcn_values.specs.Outcomes.{DynamicError, Failure, Fails, Outcome, Unmet, Yields, dynamic_error}
-use Rattle.ttcn_values.specs.declared.path.Path.{Path}
-use Rattle.ttcn_values.specs.declared.value.ComponentId.{ComponentId}
-use Rattle.ttcn_values.specs.declared.value.Value.{Value}
+use Rattle.value_types.specs.Outcomes.{DynamicError, Failure, Fails, Outcome, Unmet, Yields, dynamic_error}
+use Rattle.value_types.specs.declared.path.Path.{Path}
+use Rattle.value_types.specs.declared.value.ComponentId.{ComponentId}
+use Rattle.value_types.specs.declared.value.Value.{Value}
 
 -- ---- where a step leads
 
@@ -41,42 +41,42 @@ both-lead May One Other Both join (Some (Fails why)) one other = one
 pub record Applies (May : Failure → Type 0) (Asks : Act → Type 0) (Stands : Going → Type 0) (c : Going) (itself : ComponentId) : Type 0 where
   pub fails : (why : Failure) → Asks (Errs why) → May why
   pub errs : May DynamicError
-  pub continues : (own : Data) → Asks (Continues own) → Stands (settle c itself.path own)
-  pub worsens : (v : Verdict) (own : Data) → Asks (Worsens v own) → Stands (touch (settle c itself.path own) itself.path (with_verdict v))
-  pub removes : (port : List ℕ) (own : Data) → Asks (Removes port own) → Stands (touch (settle c itself.path own) itself.path (at_queue port without_first))
-  pub delivers : (port : List ℕ) (to : Option Path) (v : Value) (own : Data) (e : End) → Asks (Sends port to v own)
+  pub continues : (own : Data) → Asks (Requests Continues own) → Stands (settle c itself.path own)
+  pub worsens : (v : Verdict) (own : Data) → Asks (Requests (Worsens v) own) → Stands (touch (settle c itself.path own) itself.path (with_verdict v))
+  pub removes : (port : List ℕ) (own : Data) → Asks (Requests (Removes port) own) → Stands (touch (settle c itself.path own) itself.path (at_queue port without_first))
+  pub delivers : (port : List ℕ) (to : Option Path) (v : Value) (own : Data) (e : End) → Asks (Requests (Sends port to v) own)
       → Stands (touch (settle c itself.path own) e.component (at_queue e.port (λ messages. messages ++ record { value = v; sender = itself } ∷ [])))
-  pub creates : (new : Component) (own : Data) → Asks (Creates new own) → Stands (with_new new (settle c itself.path own))
-  pub starts : (path : Path) (frame : Frame) (own : Data) → Asks (Starts path frame own) → Stands (touch (settle c itself.path own) path (begin frame))
-  pub lacks : (path : Path) (frame : Frame) (own : Data) → Asks (Starts path frame own) → component_at (settle c itself.path own) path ≡ None → May Unmet
-  pub stops : (path : Path) (own : Data) → Asks (Stops path own) → Stands (touch (settle c itself.path own) path (with_state Terminated))
-  pub connects : (d e : End) (own : Data) → Asks (Connects d e own) → Stands (with_connection (connection d e) (settle c itself.path own))
+  pub creates : (new : Component) (own : Data) → Asks (Requests (Creates new) own) → Stands (with_new new (settle c itself.path own))
+  pub starts : (path : Path) (frame : Frame) (own : Data) → Asks (Requests (Starts path frame) own) → Stands (touch (settle c itself.path own) path (begin frame))
+  pub lacks : (path : Path) (frame : Frame) (own : Data) → Asks (Requests (Starts path frame) own) → component_at (settle c itself.path own) path ≡ None → May Unmet
+  pub stops : (path : Path) (own : Data) → Asks (Requests (Stops path) own) → Stands (touch (settle c itself.path own) path (with_state Terminated))
+  pub connects : (d e : End) (own : Data) → Asks (Requests (Connects d e) own) → Stands (with_connection (connection d e) (settle c itself.path own))
 
 module _ (test : Test) (May : Failure → Type 0) (Asks : Act → Type 0) (Stands : Going → Type 0) (c : Going) (itself : ComponentId) (applies : Applies May Asks Stands c itself) where
   abbrev Well : Outcome Configuration → Type 0
   Well o = LeadsWell May (IfGoes Stands) o
 
-  delivered : (port : List ℕ) (to : Option Path) (v : Value) (own : Data) (ends : List End) → Asks (Sends port to v own)
+  delivered : (port : List ℕ) (to : Option Path) (v : Value) (own : Data) (ends : List End) → Asks (Requests (Sends port to v) own)
       → Well (ending (deliver (settle c itself.path own) (record { value = v; sender = itself }) ends))
   delivered port to v own [] asks = applies.errs
   delivered port to v own (e ∷ []) asks = applies.delivers port to v own e asks
   delivered port to v own (d ∷ e ∷ ends) asks = applies.errs
 
-  started-in : (path : Path) (frame : Frame) (own : Data) (state : State) → Asks (Starts path frame own) → Well (ending (start_in (settle c itself.path own) path frame state))
+  started-in : (path : Path) (frame : Frame) (own : Data) (state : State) → Asks (Requests (Starts path frame) own) → Well (ending (start_in (settle c itself.path own) path frame state))
   started-in path frame own Created asks = applies.starts path frame own asks
   started-in path frame own Running asks = applies.errs
   started-in path frame own Terminated asks = applies.errs
 
-  started : (path : Path) (frame : Frame) (own : Data) (found : Option Component) → component_at (settle c itself.path own) path ≡ found → Asks (Starts path frame own)
+  started : (path : Path) (frame : Frame) (own : Data) (found : Option Component) → component_at (settle c itself.path own) path ≡ found → Asks (Requests (Starts path frame) own)
       → Well (ending (start_created (settle c itself.path own) path frame found))
   started path frame own None is asks = applies.lacks path frame own asks is
   started path frame own (Some component) is asks = started-in path frame own component.state asks
 
-  stopped : (path : Path) (own : Data) (b : Bool) → Asks (Stops path own) → IfGoes Stands (if b then Ended (overall (settle c itself.path own)) else Goes (touch (settle c itself.path own) path (with_state Terminated)))
+  stopped : (path : Path) (own : Data) (b : Bool) → Asks (Requests (Stops path) own) → IfGoes Stands (if b then Ended (overall (settle c itself.path own)) else Goes (touch (settle c itself.path own) path (with_state Terminated)))
   stopped path own true asks = tt
   stopped path own false asks = applies.stops path own asks
 
-  connected : (d e : End) (own : Data) (b : Bool) → Asks (Connects d e own) → Well (ending (if b then dynamic_error else Yields (with_connection (connection d e) (settle c itself.path own))))
+  connected : (d e : End) (own : Data) (b : Bool) → Asks (Requests (Connects d e) own) → Well (ending (if b then dynamic_error else Yields (with_connection (connection d e) (settle c itself.path own))))
   connected d e own true asks = applies.errs
   connected d e own false asks = applies.connects d e own asks
 
@@ -84,15 +84,15 @@ module _ (test : Test) (May : Failure → Type 0) (Asks : Act → Type 0) (Stand
   pub applied : (asked : Act) → Asks asked → Leads May (IfGoes Stands) (apply test c itself asked)
   applied Waits asks = tt
   applied (Errs why) asks = applies.fails why asks
-  applied (Continues own) asks = applies.continues own asks
-  applied (Worsens v own) asks = applies.worsens v own asks
-  applied (Removes port own) asks = applies.removes port own asks
-  applied (Sends port to v own) asks =
+  applied (Requests Continues own) asks = applies.continues own asks
+  applied (Requests (Worsens v) own) asks = applies.worsens v own asks
+  applied (Requests (Removes port) own) asks = applies.removes port own asks
+  applied (Requests (Sends port to v) own) asks =
       delivered port to v own (filter (addressed to) (peers (settle c itself.path own) (record { component = itself.path; port = port }))) asks
-  applied (Creates new own) asks = applies.creates new own asks
-  applied (Starts path frame own) asks = started path frame own (component_at (settle c itself.path own) path) refl asks
-  applied (Stops path own) asks = stopped path own (same_path path (mtc_of test).path) asks
-  applied (Connects d e own) asks =
+  applied (Requests (Creates new) own) asks = applies.creates new own asks
+  applied (Requests (Starts path frame) own) asks = started path frame own (component_at (settle c itself.path own) path) refl asks
+  applied (Requests (Stops path) own) asks = stopped path own (same_path path (mtc_of test).path) asks
+  applied (Requests (Connects d e) own) asks =
       connected d e own (is_terminated_at (settle c itself.path own) d.component || is_terminated_at (settle c itself.path own) e.component || is_double (settle c itself.path own) d e || is_double (settle c itself.path own) e d) asks
 
 -- ---- what holds of each component
@@ -105,14 +105,7 @@ Anyhow why = Unit {0}
 abbrev pub OwnHas : (Data → Type 0) → Act → Type 0
 OwnHas Has Waits = Unit {0}
 OwnHas Has (Errs why) = Unit {0}
-OwnHas Has (Continues own) = Has own
-OwnHas Has (Worsens v own) = Has own
-OwnHas Has (Removes port own) = Has own
-OwnHas Has (Sends port to v own) = Has own
-OwnHas Has (Creates new own) = Has own
-OwnHas Has (Starts path frame own) = Has own
-OwnHas Has (Stops path own) = Has own
-OwnHas Has (Connects d e own) = Has own
+OwnHas Has (Requests request own) = Has own
 
 -- a change of a component keeps what holds of it
 abbrev pub KeepsEach : (Component → Type 0) → (Component → Component) → Type 0
@@ -124,9 +117,9 @@ pub record AppliesEach (Asks : Act → Type 0) (Has : Data → Type 0) (Is : Com
   pub settles : (own : Data) → Has own → KeepsEach Is (with_data own)
   pub worsens : (v : Verdict) → KeepsEach Is (with_verdict v)
   pub removes : (port : List ℕ) → KeepsEach Is (at_queue port without_first)
-  pub delivers : (port : List ℕ) (to : Option Path) (v : Value) (own : Data) (at : List ℕ) → Asks (Sends port to v own) → KeepsEach Is (at_queue at (λ messages. messages ++ record { value = v; sender = itself } ∷ []))
-  pub creates : (new : Component) (own : Data) → Asks (Creates new own) → Is new
-  pub starts : (path : Path) (frame : Frame) (own : Data) → Asks (Starts path frame own) → KeepsEach Is (begin frame)
+  pub delivers : (port : List ℕ) (to : Option Path) (v : Value) (own : Data) (at : List ℕ) → Asks (Requests (Sends port to v) own) → KeepsEach Is (at_queue at (λ messages. messages ++ record { value = v; sender = itself } ∷ []))
+  pub creates : (new : Component) (own : Data) → Asks (Requests (Creates new) own) → Is new
+  pub starts : (path : Path) (frame : Frame) (own : Data) → Asks (Requests (Starts path frame) own) → KeepsEach Is (begin frame)
   pub stops : KeepsEach Is (with_state Terminated)
 
 module _ (Is : Component → Type 0) where
@@ -148,16 +141,16 @@ pub applies-each : (Asks : Act → Type 0) (Has : Data → Type 0) (Is : Compone
 applies-each Asks Has Is c itself all each = record {
   fails = λ why asks. tt;
   errs = tt;
-  continues = λ own asks. settled own (each.owns (Continues own) asks);
-  worsens = λ v own asks. touch-each Is (settle c itself.path own) itself.path (with_verdict v) (each.worsens v) (settled own (each.owns (Worsens v own) asks));
-  removes = λ port own asks. touch-each Is (settle c itself.path own) itself.path (at_queue port without_first) (each.removes port) (settled own (each.owns (Removes port own) asks));
+  continues = λ own asks. settled own (each.owns (Requests Continues own) asks);
+  worsens = λ v own asks. touch-each Is (settle c itself.path own) itself.path (with_verdict v) (each.worsens v) (settled own (each.owns (Requests (Worsens v) own) asks));
+  removes = λ port own asks. touch-each Is (settle c itself.path own) itself.path (at_queue port without_first) (each.removes port) (settled own (each.owns (Requests (Removes port) own) asks));
   delivers = λ port to v own e asks. touch-each Is (settle c itself.path own) e.component (at_queue e.port (λ messages. messages ++ record { value = v; sender = itself } ∷ [])) (each.delivers port to v own e.port asks)
-      (settled own (each.owns (Sends port to v own) asks));
-  creates = λ new own asks. new-each Is new (settle c itself.path own) (is_some (component_at (settle c itself.path own) (path_of new))) (each.creates new own asks) (settled own (each.owns (Creates new own) asks));
-  starts = λ path frame own asks. touch-each Is (settle c itself.path own) path (begin frame) (each.starts path frame own asks) (settled own (each.owns (Starts path frame own) asks));
+      (settled own (each.owns (Requests (Sends port to v) own) asks));
+  creates = λ new own asks. new-each Is new (settle c itself.path own) (is_some (component_at (settle c itself.path own) (path_of new))) (each.creates new own asks) (settled own (each.owns (Requests (Creates new) own) asks));
+  starts = λ path frame own asks. touch-each Is (settle c itself.path own) path (begin frame) (each.starts path frame own asks) (settled own (each.owns (Requests (Starts path frame) own) asks));
   lacks = λ path frame own asks found. tt;
-  stops = λ path own asks. touch-each Is (settle c itself.path own) path (with_state Terminated) each.stops (settled own (each.owns (Stops path own) asks));
-  connects = λ d e own asks. settled own (each.owns (Connects d e own) asks);
+  stops = λ path own asks. touch-each Is (settle c itself.path own) path (with_state Terminated) each.stops (settled own (each.owns (Requests (Stops path) own) asks));
+  connects = λ d e own asks. settled own (each.owns (Requests (Connects d e) own) asks);
 }
   where
     settled : (own : Data) → Has own → All Is (settle c itself.path own).components

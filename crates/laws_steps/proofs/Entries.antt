@@ -8,7 +8,7 @@ use Rattle.std.proofs.lemmas.Cmp.{nat_list_cmp_total}
 use Rattle.std.proofs.lemmas.Map.Text.{is_eq-slice_cmp}
 use Rattle.std.proofs.lemmas.Slice.Eq.{bytes_eq-Decides}
 use Rattle.semantics.specs.Entries.{Entries, name_cmp, put, without}
-use Rattle.ttcn_values.specs.Frames.{entry}
+use Rattle.value_types.specs.Frames.{entry}
 
 pub turned : (name other : List ℕ) (o : Ordering) → name_cmp name other ≡ o → name_cmp other name ≡ ordering_reverse o
 turned name other o is = nat_list_cmp_total.antisymm other name ∙ ap ordering_reverse is

@@ -7,8 +7,8 @@ use Rattle.semantics.specs.Configurations.{Data, Frame}
 use Rattle.semantics.specs.Entries.{Entries}
 use Rattle.semantics.specs.Steps.{expire_in, expired, expired_call, expired_frame}
 use Rattle.semantics.specs.Storing.{with_calls, with_members, with_timers}
-use Rattle.ttcn_values.specs.Frames.{entry}
-use Rattle.ttcn_values.specs.declared.frame.TimerState.{TimerState}
+use Rattle.value_types.specs.Frames.{entry}
+use Rattle.value_types.specs.declared.frame.TimerState.{TimerState}
 
 -- what a law says of the frames of a component stays when timers of theirs expire
 abbrev pub KeepsTimers : (Frame → Type 0) → Type 0

@@ -13,8 +13,8 @@ use Rattle.semantics.specs.Snapshots.{Test, mtc_of, snapshot_of}
 use Rattle.semantics.specs.Statements.{act}
 use Rattle.semantics.specs.Steps.{Expiry, Label, Statement, apply, exchanged, expired, expiry_step, next, settled, statement_step, step, step_in, touch}
 use Rattle.summary.specs.Run.{Run, Start, Then, end_of}
-use Rattle.ttcn_values.specs.Outcomes.{Failure, Fails, Outcome, Yields, or_unmet, outcome_and_then, outcome_map}
-use Rattle.ttcn_values.specs.declared.path.Path.{Path}
+use Rattle.value_types.specs.Outcomes.{Failure, Fails, Outcome, Yields, or_unmet, outcome_and_then, outcome_map}
+use Rattle.value_types.specs.declared.path.Path.{Path}
 
 -- ---- steps
 

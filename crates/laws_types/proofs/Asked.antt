@@ -10,11 +10,11 @@ use Rattle.ttcn_syntax.specs.declared.tree.statement.Conditional.{Conditional, o
 use Rattle.ttcn_syntax.specs.declared.tree.statement.ForStart.TheVariants as for_start
 use Rattle.ttcn_syntax.specs.declared.tree.statement.Statement.{Statement, out-Statement}
 use Rattle.ttcn_syntax.specs.declared.tree.value.Call.{Call}
-use Rattle.check_expressions.specs.Calls.{altstep_meant, behaviour_meant, is_altstep, stands_alone}
+use Rattle.check_rules.specs.Calls.{altstep_meant, behaviour_meant, is_altstep, stands_alone}
 use Rattle.check_scope.specs.Names.{Entry, Scope, kind_at, module_names}
 use Rattle.check_scope.specs.declared.names.Meaning.{Meaning}
 use Rattle.check_scope.specs.declared.names.Meaning.TheVariants as meaning
-use Rattle.check_statements.specs.Statements.{is_function, statements}
+use Rattle.check_rules.specs.Statements.{is_function, statements}
 use Rattle.laws_checker.proofs.Fitting.{call_resolves}
 use Rattle.laws_checker.specs.Laws.{Resolves}
 use Rattle.laws_evaluation.specs.Uses.{GivesOnly}
@@ -33,8 +33,8 @@ use Rattle.semantics.specs.Sites.{Site, scope_at}
 use Rattle.semantics.specs.Snapshots.{Snapshot, Test}
 use Rattle.semantics.specs.Statements.{Act, Errs, Stand, act, act_alt_or, act_conditional, act_first, act_for_start, act_for_step, act_from, act_if, act_in, act_loop, act_part, act_while, act_whole, activated, call_function, choose_from, done, judge_at, otherwise}
 use Rattle.semantics.specs.Taking.{repeat_alt, without_marks}
-use Rattle.ttcn_types.specs.Rules.{AreWellTyped}
-use Rattle.ttcn_values.specs.Outcomes.{DynamicError, Fails, Outcome, Unmet, Yields}
+use Rattle.check_rules.specs.Rules.{AreWellTyped}
+use Rattle.value_types.specs.Outcomes.{DynamicError, Fails, Outcome, Unmet, Yields}
 use Rattle.laws_types.proofs.Branches.{FitsWritten, alt-branch-fits, lone-call-fits, lone-event-fits}
 use Rattle.laws_types.proofs.Choices.{WritesFit, choice-asks, choose-fits, judge-fits}
 use Rattle.laws_types.proofs.Data.{Any, LastAt, frame-outside}

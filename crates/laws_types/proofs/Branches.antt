@@ -17,14 +17,14 @@ use Rattle.ttcn_syntax.specs.declared.tree.statement.Conditional.{Conditional}
 use Rattle.ttcn_syntax.specs.declared.tree.statement.Event.{Event}
 use Rattle.ttcn_syntax.specs.declared.tree.statement.Statement.{Statement}
 use Rattle.ttcn_syntax.specs.declared.tree.value.Call.{Call}
-use Rattle.check_expressions.specs.Calls.{altstep_meant, behaviour_meant, component_named, is_altstep, parameters_of, runs_here, runs_on_of}
-use Rattle.check_expressions.specs.Expressions.{expression}
+use Rattle.check_rules.specs.Calls.{altstep_meant, behaviour_meant, component_named, is_altstep, parameters_of, runs_here, runs_on_of}
+use Rattle.check_rules.specs.Expressions.{expression}
 use Rattle.check_scope.specs.Names.{Entry, Scope, kind_at, module_names}
 use Rattle.check_scope.specs.declared.names.Meaning.{Meaning}
 use Rattle.check_scope.specs.declared.names.Meaning.TheVariants as meaning
 use Rattle.check_scope.specs.declared.types.DataType.{DataType}
-use Rattle.check_statements.specs.Messages.{check_event}
-use Rattle.check_statements.specs.Statements.{branch}
+use Rattle.check_rules.specs.Messages.{check_event}
+use Rattle.check_rules.specs.Statements.{branch}
 use Rattle.laws_checker.proofs.Fitting.{call_resolves}
 use Rattle.laws_checker.specs.Laws.{AreArguments, Resolves}
 use Rattle.laws_evaluation.proofs.ModuleReadings.{parameters_known}
@@ -53,14 +53,14 @@ use Rattle.semantics.specs.Sites.{beginning, runs_on, scope_at}
 use Rattle.semantics.specs.Snapshots.{Snapshot, Test, members_in}
 use Rattle.check_survey.specs.Graphs.{AllChainsWithin, BeginsLongerChain}
 use Rattle.check_survey.specs.declared.thing.Thing.{Thing}
-use Rattle.ttcn_types.specs.Limits.{longest_chain}
-use Rattle.ttcn_types.specs.Parts.{all_of, alternative_parts, altstep_part, altstep_parts, altsteps, branch_parts}
-use Rattle.ttcn_types.specs.Rules.{AreWellTyped}
-use Rattle.ttcn_values.specs.Evaluation.{condition_of}
-use Rattle.ttcn_values.specs.Outcomes.{DynamicError, Fails, Failure, IsMet, Outcome, Unmet, Yields}
-use Rattle.ttcn_values.specs.Readings.{Reading}
-use Rattle.ttcn_values.specs.Templates.{arguments}
-use Rattle.ttcn_values.specs.declared.value.Value.{Value}
+use Rattle.check_rules.specs.Limits.{longest_chain}
+use Rattle.check_rules.specs.Parts.{all_of, alternative_parts, altstep_part, altstep_parts, altsteps, branch_parts}
+use Rattle.check_rules.specs.Rules.{AreWellTyped}
+use Rattle.value_types.specs.Evaluation.{condition_of}
+use Rattle.value_types.specs.Outcomes.{DynamicError, Fails, Failure, IsMet, Outcome, Unmet, Yields}
+use Rattle.value_types.specs.Readings.{Reading}
+use Rattle.value_types.specs.Templates.{arguments}
+use Rattle.value_types.specs.declared.value.Value.{Value}
 use Rattle.laws_types.proofs.Data.{LastAt}
 use Rattle.laws_types.proofs.Events.{FitsJudge, judge-fine, judge-fit, judge-has, judge-locals, judge-whole, judge-within, judged-in, read}
 use Rattle.laws_types.proofs.Forms.{both-none}

@@ -16,9 +16,9 @@ use Rattle.semantics.specs.Statements.{Act, Errs}
 use Rattle.semantics.specs.Steps.{apply, at_queue, begin, change_queue, settle, touch, unless_terminated, with_data, with_state, with_verdict, without_first}
 use Rattle.semantics.specs.Storing.{in_last, with_remaining}
 use Rattle.semantics.specs.Taking.{uncovered, without_marks}
-use Rattle.ttcn_values.specs.Outcomes.{Failure, DynamicError, Fails, Outcome, Unmet, Yields}
-use Rattle.ttcn_values.specs.declared.path.Path.{Path}
-use Rattle.ttcn_values.specs.declared.value.ComponentId.{ComponentId}
+use Rattle.value_types.specs.Outcomes.{Failure, DynamicError, Fails, Outcome, Unmet, Yields}
+use Rattle.value_types.specs.declared.path.Path.{Path}
+use Rattle.value_types.specs.declared.value.ComponentId.{ComponentId}
 use Rattle.laws_types.proofs.Nested.{nest-wider}
 use Rattle.laws_types.specs.internal.Asked.{AreOfType, FitsAct, FitsStart, IsFound}
 use Rattle.laws_types.specs.Typed.{FitCalls, FitQueues, FitsComponent, FitsData, FitsFrame, FitsMessage, FitsOwn, FitsTypes, HasFrames, Nest}

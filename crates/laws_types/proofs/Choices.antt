@@ -14,7 +14,7 @@ use Rattle.check_scope.specs.Names.{Entry, Names, behind, behind_members, kind_a
 use Rattle.check_scope.specs.Scopes.{outer_names}
 use Rattle.check_scope.specs.declared.names.Meaning.{Meaning}
 use Rattle.check_scope.specs.declared.names.Meaning.TheVariants as meaning
-use Rattle.check_statements.specs.Messages.{port_meant}
+use Rattle.check_rules.specs.Messages.{port_meant}
 use Rattle.laws_evaluation.proofs.Only.{only_always, only_then}
 use Rattle.laws_evaluation.specs.Uses.{GivesOnly}
 use Rattle.laws_sites.specs.Standing.{IsFineSite}
@@ -29,9 +29,9 @@ use Rattle.semantics.specs.Snapshots.{Test}
 use Rattle.semantics.specs.Statements.{Stand, act_choice, act_port, choose_from, judge_at, with_frames}
 use Rattle.semantics.specs.Storing.{store, target_meant, with_calls}
 use Rattle.semantics.specs.Taking.{effected, entered, marked, port_taken, store_all, taken}
-use Rattle.ttcn_types.specs.Rules.{AreWellTyped}
-use Rattle.ttcn_values.specs.Outcomes.{DynamicError, Unmet, outcome_and_then}
-use Rattle.ttcn_values.specs.declared.frame.TimerState.TheVariants as timer
+use Rattle.check_rules.specs.Rules.{AreWellTyped}
+use Rattle.value_types.specs.Outcomes.{DynamicError, Unmet, outcome_and_then}
+use Rattle.value_types.specs.declared.frame.TimerState.TheVariants as timer
 use Rattle.laws_types.proofs.Branches.{FitsChance, FitsWritten, defaults-fit}
 use Rattle.laws_types.proofs.Data.{DataAt, data-fits, stored-of, timer-set}
 use Rattle.laws_types.proofs.Events.{FitsEffect, FitsJudge, FitsRedirect, FitsTrial, chance-fits, judge-fine, judge-locals}

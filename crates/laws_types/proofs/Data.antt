@@ -4,8 +4,8 @@ use Rattle.std.specs.List.{All}
 use Rattle.ttcn_syntax.specs.declared.tree.definition.Definition.{Definition}
 use Rattle.ttcn_syntax.specs.declared.tree.expression.Reference.{Reference}
 use Rattle.value_assignment.specs.Assignment.{assigned}
-use Rattle.check_expressions.specs.Expressions.{after, along}
-use Rattle.check_expressions.specs.Targets.{as_target, check_target, last_optional, target_at}
+use Rattle.check_rules.specs.Expressions.{after, along}
+use Rattle.check_rules.specs.Targets.{as_target, check_target, last_optional, target_at}
 use Rattle.check_scope.specs.Names.{Entry, Names, Scope, names_on}
 use Rattle.check_scope.specs.Scopes.{outer_names}
 use Rattle.check_scope.specs.Typings.{type_known}
@@ -28,11 +28,11 @@ use Rattle.semantics.specs.Items.{Item, Target}
 use Rattle.semantics.specs.Sites.{Site, is_own, runs_on, scope_at}
 use Rattle.semantics.specs.Snapshots.{Test, View}
 use Rattle.semantics.specs.Storing.{going_on, in_frame, in_last, last_values, set_timer, store, type_for, values_in, with_calls, with_members, with_remaining, with_timers, with_values}
-use Rattle.ttcn_types.specs.Rules.{AreWellTyped}
-use Rattle.ttcn_values.specs.Frames.{entry}
-use Rattle.ttcn_values.specs.Outcomes.{Fails, Outcome, Yields, outcome_map}
-use Rattle.ttcn_values.specs.declared.frame.TimerState.{TimerState}
-use Rattle.ttcn_values.specs.declared.value.Value.{Value}
+use Rattle.check_rules.specs.Rules.{AreWellTyped}
+use Rattle.value_types.specs.Frames.{entry}
+use Rattle.value_types.specs.Outcomes.{Fails, Outcome, Yields, outcome_map}
+use Rattle.value_types.specs.declared.frame.TimerState.{TimerState}
+use Rattle.value_types.specs.declared.value.Value.{Value}
 use Rattle.laws_types.proofs.Declared.{by-name, declared-fine, outside-declared, seen-outside, seen-set, seen-stored}
 use Rattle.laws_steps.proofs.Entries.{put-other, put-own}
 use Rattle.laws_types.proofs.Readings.{seen_whole}

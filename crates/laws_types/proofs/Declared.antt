@@ -20,11 +20,11 @@ use Rattle.semantics.specs.Entries.{put}
 use Rattle.semantics.specs.Sites.{scope_at}
 use Rattle.semantics.specs.Snapshots.{View}
 use Rattle.semantics.specs.Storing.{declare, declare_timer, forget}
-use Rattle.ttcn_types.specs.Rules.{AreWellTyped}
-use Rattle.ttcn_values.specs.Frames.{entry}
-use Rattle.ttcn_values.specs.declared.frame.TimerState.{TimerState}
-use Rattle.ttcn_values.specs.declared.frame.TimerState.TheVariants as timer
-use Rattle.ttcn_values.specs.declared.value.Value.{Value}
+use Rattle.check_rules.specs.Rules.{AreWellTyped}
+use Rattle.value_types.specs.Frames.{entry}
+use Rattle.value_types.specs.declared.frame.TimerState.{TimerState}
+use Rattle.value_types.specs.declared.frame.TimerState.TheVariants as timer
+use Rattle.value_types.specs.declared.value.Value.{Value}
 use Rattle.laws_steps.proofs.Entries.{put-other, put-own, without-other, without-own}
 use Rattle.laws_types.proofs.Visible.{site-definitions}
 use Rattle.laws_types.specs.Fitting.{DeclaresLocals, FitsSite, IsLocal, IsValueOf, view_of}

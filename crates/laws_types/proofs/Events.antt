@@ -11,9 +11,9 @@ use Rattle.ttcn_syntax.specs.declared.tree.statement.PortSelector.{PortSelector}
 use Rattle.ttcn_syntax.specs.declared.tree.statement.PortSelector.TheVariants as selector
 use Rattle.ttcn_syntax.specs.declared.tree.statement.Receive.{Receive}
 use Rattle.ttcn_syntax.specs.declared.tree.template.MessageTemplate.{MessageTemplate}
-use Rattle.check_expressions.specs.Expressions.{Judgement, along, check_meaning, check_wanted_component}
-use Rattle.check_expressions.specs.Targets.{as_target, target_at}
-use Rattle.check_expressions.specs.Templates.{template}
+use Rattle.check_rules.specs.Expressions.{Judgement, along, check_meaning, check_wanted_component}
+use Rattle.check_rules.specs.Targets.{as_target, target_at}
+use Rattle.check_rules.specs.Templates.{template}
 use Rattle.check_scope.specs.Names.{Scope}
 use Rattle.check_scope.specs.Typings.{same_type, target_of, type_known}
 use Rattle.check_scope.specs.declared.names.Meaning.{Meaning}
@@ -23,7 +23,7 @@ use Rattle.check_scope.specs.declared.rule.Rule.TheVariants as rule
 use Rattle.check_scope.specs.declared.types.DataType.{DataType}
 use Rattle.check_scope.specs.declared.types.DataType.TheVariants as type
 use Rattle.check_scope.specs.declared.types.Typing.TheVariants as typing
-use Rattle.check_statements.specs.Messages.{Passage, check_event, check_message, check_received, check_receive, check_selector, check_sender_redirect, check_to, check_type_name, check_value_redirect, incoming, incoming_at, is_timer_name, passage_at, port_meant, received_type, type_of_message}
+use Rattle.check_rules.specs.Messages.{Passage, check_event, check_message, check_received, check_receive, check_selector, check_sender_redirect, check_to, check_type_name, check_value_redirect, incoming, incoming_at, is_timer_name, passage_at, port_meant, received_type, type_of_message}
 use Rattle.laws_checker.proofs.Fitting.{same-number}
 use Rattle.laws_checker.proofs.Nothing.{kept, nothing-first, nothing-rest}
 use Rattle.laws_checker.specs.Laws.{IsKnown, IsWhole}
@@ -50,18 +50,18 @@ use Rattle.semantics.specs.Events.{Effect, Elapses, Faulty, Happened, Passed, Pl
 use Rattle.semantics.specs.Sites.{Site, scope_at}
 use Rattle.semantics.specs.Snapshots.{Snapshot, Test, is_terminated_in, members_in, mtc_of, others_run}
 use Rattle.semantics.specs.Storing.{target_meant, type_for}
-use Rattle.ttcn_types.specs.Rules.{AreWellTyped}
-use Rattle.ttcn_values.specs.Frames.{entry, is_running}
-use Rattle.ttcn_values.specs.Matching.{is_match}
-use Rattle.ttcn_values.specs.Outcomes.{DynamicError, Fails, IsMet, Outcome, Unmet, Yields, dynamic_error}
-use Rattle.ttcn_values.specs.Readings.{Reading, component_at, component_referred}
-use Rattle.ttcn_values.specs.Templates.{template_wanted}
-use Rattle.ttcn_values.specs.declared.frame.TimerState.{TimerState}
-use Rattle.ttcn_values.specs.declared.frame.TimerState.TheVariants as timer
-use Rattle.ttcn_values.specs.declared.value.ComponentId.{ComponentId}
-use Rattle.ttcn_values.specs.declared.value.Value.{Value, out-Value}
-use Rattle.ttcn_values.specs.declared.value.Value.TheOpen.{Value-F}
-use Rattle.ttcn_values.specs.declared.value.Value.TheVariants as value
+use Rattle.check_rules.specs.Rules.{AreWellTyped}
+use Rattle.value_types.specs.Frames.{entry, is_running}
+use Rattle.value_types.specs.Matching.{is_match}
+use Rattle.value_types.specs.Outcomes.{DynamicError, Fails, IsMet, Outcome, Unmet, Yields, dynamic_error}
+use Rattle.value_types.specs.Readings.{Reading, component_at, component_referred}
+use Rattle.value_types.specs.Templates.{template_wanted}
+use Rattle.value_types.specs.declared.frame.TimerState.{TimerState}
+use Rattle.value_types.specs.declared.frame.TimerState.TheVariants as timer
+use Rattle.value_types.specs.declared.value.ComponentId.{ComponentId}
+use Rattle.value_types.specs.declared.value.Value.{Value, out-Value}
+use Rattle.value_types.specs.declared.value.Value.TheOpen.{Value-F}
+use Rattle.value_types.specs.declared.value.Value.TheVariants as value
 use Rattle.laws_types.proofs.Declared.{declared-fine, declared-locals}
 use Rattle.laws_types.proofs.Forms.{is-timer}
 use Rattle.laws_types.proofs.Readings.{seen_whole, seen_within, site_fits, site_has}

@@ -11,10 +11,10 @@ use Rattle.semantics.specs.Entries.{Entries, put}
 use Rattle.semantics.specs.Sites.{Site, scope_at}
 use Rattle.semantics.specs.Steps.{exchanged, expire_in, expired, expired_call, expired_frame, touch}
 use Rattle.semantics.specs.Storing.{with_calls, with_members, with_timers}
-use Rattle.ttcn_values.specs.Frames.{entry}
-use Rattle.ttcn_values.specs.declared.frame.TimerState.{TimerState}
-use Rattle.ttcn_values.specs.declared.frame.TimerState.TheVariants as timer
-use Rattle.ttcn_values.specs.declared.path.Path.{Path}
+use Rattle.value_types.specs.Frames.{entry}
+use Rattle.value_types.specs.declared.frame.TimerState.{TimerState}
+use Rattle.value_types.specs.declared.frame.TimerState.TheVariants as timer
+use Rattle.value_types.specs.declared.path.Path.{Path}
 use Rattle.laws_types.proofs.Changes.{KeepsAt, touched}
 use Rattle.laws_types.proofs.Declared.{by-name}
 use Rattle.laws_steps.proofs.Entries.{put-other, put-own}

@@ -1,8 +1,8 @@
 -- What is read of names fits a scope, where what is seen of the names does.
 use Rattle.std.proofs.Common.{◌≡◌, ◌≤◌, ℕ, true, List, Option, Some, None, IfSome, is_some, option_map, refl, sym, subst, ◌∙◌}
 use Rattle.ttcn_syntax.specs.declared.tree.definition.Definition.{Definition}
-use Rattle.check_expressions.specs.Expressions.{check_meaning}
-use Rattle.check_expressions.specs.Templates.{template_meant}
+use Rattle.check_rules.specs.Expressions.{check_meaning}
+use Rattle.check_rules.specs.Templates.{template_meant}
 use Rattle.check_scope.specs.Names.{Names, Scope, module_names}
 use Rattle.check_scope.specs.declared.names.Meaning.{Meaning}
 use Rattle.check_scope.specs.declared.names.Meaning.TheVariants as meaning
@@ -10,13 +10,13 @@ use Rattle.laws_evaluation.proofs.ModuleReadings.{module_has_all}
 use Rattle.laws_evaluation.proofs.TypedChains.{names_fit}
 use Rattle.laws_evaluation.specs.Types.{FitsIn, HasAll, IsOfTyping, names_timer, names_value}
 use Rattle.semantics.specs.Snapshots.{Snapshot, Test, View, facts_of}
-use Rattle.ttcn_types.specs.Limits.{longest_chain}
-use Rattle.ttcn_types.specs.Rules.{AreWellTyped}
-use Rattle.ttcn_values.specs.Chains.{with_names, within_chains}
-use Rattle.ttcn_values.specs.Frames.{is_running, seen_entry}
-use Rattle.ttcn_values.specs.Outcomes.{IfYields, IsMet, or_error}
-use Rattle.ttcn_values.specs.Readings.{Reading, by_meaning}
-use Rattle.ttcn_values.specs.declared.value.ComponentId.{ComponentId}
+use Rattle.check_rules.specs.Limits.{longest_chain}
+use Rattle.check_rules.specs.Rules.{AreWellTyped}
+use Rattle.value_types.specs.Chains.{with_names, within_chains}
+use Rattle.value_types.specs.Frames.{is_running, seen_entry}
+use Rattle.value_types.specs.Outcomes.{IfYields, IsMet, or_error}
+use Rattle.value_types.specs.Readings.{Reading, by_meaning}
+use Rattle.value_types.specs.declared.value.ComponentId.{ComponentId}
 use Rattle.laws_types.specs.Fitting.{IsValueOf}
 
 error-yields : {A : Type 0} (P : A → Type 0) (o : Option A) → IfSome o P → IfYields (or_error o) P

@@ -15,9 +15,9 @@ use Rattle.ttcn_syntax.specs.declared.tree.statement.PortRef.{PortRef}
 use Rattle.ttcn_syntax.specs.declared.tree.value.Call.{Call}
 use Rattle.ttcn_syntax.specs.declared.tree.value.TypeName.{TypeName}
 use Rattle.ttcn_syntax.specs.declared.tree.value.Value as written
-use Rattle.check_expressions.specs.Calls.{component_named, result_type_of, runs_on_of}
-use Rattle.check_expressions.specs.Expressions.{Judgement, along, check_component, check_field, check_meaning, check_reference, check_wanted_component, expression, is_timer, within as within_typing}
-use Rattle.check_expressions.specs.Expressions as expressions
+use Rattle.check_rules.specs.Calls.{component_named, result_type_of, runs_on_of}
+use Rattle.check_rules.specs.Expressions.{Judgement, along, check_component, check_field, check_meaning, check_reference, check_wanted_component, expression, is_timer, within as within_typing}
+use Rattle.check_rules.specs.Expressions as expressions
 use Rattle.check_scope.specs.Names.{Scope, constants_type, field_named, fields_at, kind_at, module_names, resolved}
 use Rattle.check_scope.specs.Typings.{refers_to_component, target_of, typed, unless}
 use Rattle.check_scope.specs.declared.names.Meaning.{Meaning}
@@ -28,8 +28,8 @@ use Rattle.check_scope.specs.declared.types.DataType.{DataType}
 use Rattle.check_scope.specs.declared.types.DataType.TheVariants as type
 use Rattle.check_scope.specs.declared.types.Typing.{Typing}
 use Rattle.check_scope.specs.declared.types.Typing.TheVariants as typing
-use Rattle.check_statements.specs.Messages.{check_timer, is_timer_name}
-use Rattle.check_statements.specs.Statements.{Place, check_boolean, check_condition, check_deactivate, check_ends, check_return, check_start, check_stop, is_function, runs_there}
+use Rattle.check_rules.specs.Messages.{check_timer, is_timer_name}
+use Rattle.check_rules.specs.Statements.{Place, check_boolean, check_condition, check_deactivate, check_ends, check_return, check_start, check_stop, is_function, runs_there}
 use Rattle.laws_checker.proofs.Descent.{name_resolves}
 use Rattle.laws_checker.proofs.Fitting.{same-number}
 use Rattle.laws_checker.proofs.Nothing.{kept, nothing-first, nothing-rest}
@@ -50,21 +50,21 @@ use Rattle.laws_statements.specs.Results.{IsReturn, ReturnsValue}
 use Rattle.semantics.specs.Configurations.{ActiveDefault, Data}
 use Rattle.semantics.specs.Items.{Item}
 use Rattle.semantics.specs.Sites.{Site, component_name, scope_at}
-use Rattle.semantics.specs.Statements.{Act, Continues, Errs, Stand, Starts, Stops, act_connect, act_deactivate, act_return, act_start, act_stop_of, act_test, acting, ask_connection, component_meant_at, done, frame_of_call, go_either, leave, may_connect, stop_meant, with_defaults, without_default}
+use Rattle.semantics.specs.Statements.{Act, Continues, Errs, Requests, Stand, Starts, Stops, act_connect, act_deactivate, act_return, act_start, act_stop_of, act_test, acting, ask_connection, component_meant_at, done, frame_of_call, go_either, leave, may_connect, stop_meant, with_defaults, without_default}
 use Rattle.semantics.specs.Storing.{set_timer}
-use Rattle.ttcn_types.specs.Rules.{AreWellTyped}
-use Rattle.ttcn_values.specs.Evaluation.{condition_of}
-use Rattle.ttcn_values.specs.Frames.{entry}
-use Rattle.ttcn_values.specs.Literals.{value_wanted}
-use Rattle.ttcn_values.specs.Outcomes.{DynamicError, Fails, IsMet, Outcome, Unmet, Yields, outcome_and_then}
-use Rattle.ttcn_values.specs.Readings.{referred, timer_at, timer_of}
-use Rattle.ttcn_values.specs.declared.frame.TimerState.{TimerState}
-use Rattle.ttcn_values.specs.declared.frame.TimerState.TheVariants as timer
-use Rattle.ttcn_values.specs.declared.path.Path.{Path}
-use Rattle.ttcn_values.specs.declared.value.ComponentId.{ComponentId}
-use Rattle.ttcn_values.specs.declared.value.Value.{Value, out-Value}
-use Rattle.ttcn_values.specs.declared.value.Value.TheOpen.{Value-F}
-use Rattle.ttcn_values.specs.declared.value.Value.TheVariants as value
+use Rattle.check_rules.specs.Rules.{AreWellTyped}
+use Rattle.value_types.specs.Evaluation.{condition_of}
+use Rattle.value_types.specs.Frames.{entry}
+use Rattle.value_types.specs.Literals.{value_wanted}
+use Rattle.value_types.specs.Outcomes.{DynamicError, Fails, IsMet, Outcome, Unmet, Yields, outcome_and_then}
+use Rattle.value_types.specs.Readings.{referred, timer_at, timer_of}
+use Rattle.value_types.specs.declared.frame.TimerState.{TimerState}
+use Rattle.value_types.specs.declared.frame.TimerState.TheVariants as timer
+use Rattle.value_types.specs.declared.path.Path.{Path}
+use Rattle.value_types.specs.declared.value.ComponentId.{ComponentId}
+use Rattle.value_types.specs.declared.value.Value.{Value, out-Value}
+use Rattle.value_types.specs.declared.value.Value.TheOpen.{Value-F}
+use Rattle.value_types.specs.declared.value.Value.TheVariants as value
 use Rattle.laws_types.proofs.Data.{timer-set}
 use Rattle.laws_types.proofs.Leaving.{leave-asks}
 use Rattle.laws_types.proofs.Stands.{Asks, NestHere, StandsAt, acting-fits, continuing-fits, differ, fit, fits-at, frame-called, goes-on, has, kind-of, known, only-from, reading, remains, view, whole, wide, within}
@@ -199,7 +199,7 @@ module _ (stand : Stand) (well : AreWellTyped stand.test.definitions) (site : Si
   ct = kind-of stand well site is
 
   -- a stop is asked for with data of a component that runs
-  pub stop-done : {path : Path} {own : Data} → FitsData ds ct own → Asking (Stops path own)
+  pub stop-done : {path : Path} {own : Data} → FitsData ds ct own → Asking (Requests (Stops path) own)
   stop-done fits = (record { members = fits.members; calls = fits.calls; defaults = fits.defaults }, inr fits.frames)
 
   done-fits : FitsData ds ct (done stand)
@@ -295,24 +295,24 @@ module _ (stand : Stand) (well : AreWellTyped stand.test.definitions) (site : Si
       let found = (check_component scope reference false).typing in
       let told = told-type found (component-typed scope (whole stand well site is) reference false starts.fine) (reference-told scope reference starts.fine) starts.component in
       let at : ℕ = starts.at in
-      acting-fits stand.test ct stand.snapshot.itself.path (IsMeant stand.test stand.snapshot stand.own stand.frame) (λ id. IsOfTyping ds found (value.Component id) × (component_meant_at stand site reference ≡ Yields id)) (λ c. acting (λ frame. Starts c.path frame (done stand)) (frame_of_call stand site call)) (component_meant_at stand site reference)
+      acting-fits stand.test ct stand.snapshot.itself.path (IsMeant stand.test stand.snapshot stand.own stand.frame) (λ id. IsOfTyping ds found (value.Component id) × (component_meant_at stand site reference ≡ Yields id)) (λ c. acting (λ frame. Requests (Starts c.path frame) (done stand)) (frame_of_call stand site call)) (component_meant_at stand site reference)
       (only-from (λ id. IsOfTyping ds found (value.Component id)) (component_meant_at stand site reference) (component_found reference scope (reading stand well site is) (whole stand well site is) (fit stand well site is) (has stand well site is) false starts.fine starts.component))
       (λ c of.
       let same : c.component_type ≡ told.0 = reference-type ds told.0 c (subst (λ t. IsOfTyping ds t (value.Component c)) told.1 of.0) in
       let on = subst (λ n. IfSome (component_named ds (component_name (kind_at ds at))) (λ m. n ≡ m)) (sym same)
       (runs-there-on ds told.0 (kind_at ds at) starts.function (subst (λ t. runs_there t (component_named ds (runs_on_of (kind_at ds at))) ≡ true) told.1 starts.runs)) in
-      acting-fits stand.test ct stand.snapshot.itself.path (IsMeant stand.test stand.snapshot stand.own stand.frame) (λ frame. FitsFrame ds c.component_type at [] frame × Nest ds at [] frame.remaining) (λ frame. Starts c.path frame (done stand)) (frame_of_call stand site call)
+      acting-fits stand.test ct stand.snapshot.itself.path (IsMeant stand.test stand.snapshot stand.own stand.frame) (λ frame. FitsFrame ds c.component_type at [] frame × Nest ds at [] frame.remaining) (λ frame. Requests (Starts c.path frame) (done stand)) (frame_of_call stand site call)
       (frame-called stand well site is c.component_type call at starts.meant starts.function on starts.arguments)
       (λ frame new. (record { reference = c; is_meant = (site, reference, of.1); is = refl; fits = (at, [], new.0, new.1, tt) }, done-fits)))
 
   -- ---- timers, and stops
 
-  pub timer-asks : (name : List ℕ) (state : TimerState) → here.names name ≡ Some meaning.Timer → Asking (Continues (set_timer stand.test site name state (done stand)))
+  pub timer-asks : (name : List ℕ) (state : TimerState) → here.names name ≡ Some meaning.Timer → Asking (Requests Continues (set_timer stand.test site name state (done stand)))
   timer-asks name state timed =
       fits-at stand well site is site.declared (set_timer stand.test site name state (done stand))
       (timer-set stand.test well ct site is.on is.names name state Nesting (done stand) timed (remains stand well site is stand.rest nest))
 
-  pub start-timer-asks : (name : List ℕ) → check_timer here name ≡ [] → Asking (Continues (set_timer stand.test site name timer.Running (done stand)))
+  pub start-timer-asks : (name : List ℕ) → check_timer here name ≡ [] → Asking (Requests Continues (set_timer stand.test site name timer.Running (done stand)))
   start-timer-asks name nothing = timer-asks name timer.Running (is-timer (here.names name) (kept (is_timer_name (here.names name)) rule.UnknownName nothing))
 
   -- a timer that is meant is one that is visible
@@ -329,9 +329,9 @@ module _ (stand : Stand) (well : AreWellTyped stand.test.definitions) (site : Si
       name_resolves here r (nothing-first (check_reference here r).broken (unless (refers_to_component (check_reference here r).typing) rule.UnknownName)
       (subst (λ c. (check_wanted_component here c).broken ≡ []) named nothing))
 
-  stop-component : (reference : ComponentRef) → (check_wanted_component scope reference).broken ≡ [] → Asking (acting (λ c. Stops c.path (done stand)) (component_meant_at stand site reference))
+  stop-component : (reference : ComponentRef) → (check_wanted_component scope reference).broken ≡ [] → Asking (acting (λ c. Requests (Stops c.path) (done stand)) (component_meant_at stand site reference))
   stop-component reference nothing =
-      acting-fits stand.test ct stand.snapshot.itself.path (IsMeant stand.test stand.snapshot stand.own stand.frame) (λ c. Unit {0}) (λ c. Stops c.path (done stand)) (component_meant_at stand site reference) (wanted-component reference nothing) (λ c any. stop-done done-fits)
+      acting-fits stand.test ct stand.snapshot.itself.path (IsMeant stand.test stand.snapshot stand.own stand.frame) (λ c. Unit {0}) (λ c. Requests (Stops c.path) (done stand)) (component_meant_at stand site reference) (wanted-component reference nothing) (λ c any. stop-done done-fits)
 
   stop-named : (r : Reference) (fields : List (List ℕ)) → r.fields ≡ fields → check_stop here (component.Named r) ≡ [] → (o : Option Bool) → timer_of (reading stand well site is).timers fields r.name ≡ o
       → Asking (stop_meant stand site (component.Named r) o)

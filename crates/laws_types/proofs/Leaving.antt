@@ -8,11 +8,11 @@ use Rattle.laws_evaluation.specs.Types.{is_of}
 use Rattle.semantics.specs.Configurations.{Data, Frame}
 use Rattle.semantics.specs.Items.{Doing, Item, Mark, Target, Waiting}
 use Rattle.semantics.specs.Sites.{Site}
-use Rattle.semantics.specs.Statements.{Act, Continues, Errs, Stand, Stops, act_end, continuing, give_back, leave, waits_first}
+use Rattle.semantics.specs.Statements.{Act, Continues, Errs, Requests, Stand, Stops, act_end, continuing, give_back, leave, waits_first}
 use Rattle.semantics.specs.Storing.{going_on, store, with_calls}
-use Rattle.ttcn_types.specs.Rules.{AreWellTyped}
-use Rattle.ttcn_values.specs.Outcomes.{DynamicError}
-use Rattle.ttcn_values.specs.declared.value.Value.{Value}
+use Rattle.check_rules.specs.Rules.{AreWellTyped}
+use Rattle.value_types.specs.Outcomes.{DynamicError}
+use Rattle.value_types.specs.declared.value.Value.{Value}
 use Rattle.laws_types.proofs.Data.{DataAt, data-fits, frame-outside, stored-of}
 use Rattle.laws_types.proofs.Stands.{always-fits}
 use Rattle.laws_types.specs.internal.Asked.{FitsAct, IsMeant}
@@ -36,12 +36,12 @@ module _ (stand : Stand) (well : AreWellTyped stand.test.definitions) (component
   with-frames frame frames fits = record { members = members; calls = fits; defaults = defaults; frames = tt }
 
   -- a component that stops has none
-  stops : Asks (Stops stand.snapshot.itself.path (with_calls [] stand.own))
+  stops : Asks (Requests (Stops stand.snapshot.itself.path) (with_calls [] stand.own))
   stops = (record { members = members; calls = tt; defaults = defaults }, inl refl)
 
   -- the frame below, where nothing waits
   goes-back : (frame : Frame) (frames : List Frame) (at : ℕ) (declared : List Entry) → FitsFrame ds component_type at declared frame → Nest ds at declared frame.remaining → FitBelow ds component_type (result_of ds at) frames
-      → Asks (Continues (with_calls (frame ∷ frames) stand.own))
+      → Asks (Requests Continues (with_calls (frame ∷ frames) stand.own))
   goes-back frame frames at declared fits nest below = with-frames frame frames (at, declared, fits, nest, below)
 
   -- where a target waits: its site is one of the frame's behaviour
@@ -55,7 +55,7 @@ module _ (stand : Stand) (well : AreWellTyped stand.test.definitions) (component
         last = (record { on = fits.on; names = fits.names; seen = fits.seen }, nest, below);
         defaults = defaults;
       } in
-      always-fits stand.test component_type stand.snapshot.itself.path (IsMeant stand.test stand.snapshot stand.own stand.frame) (DataAt ds component_type site.behaviour site.declared (Nest ds site.behaviour site.declared)) Continues (store stand.test target v own)
+      always-fits stand.test component_type stand.snapshot.itself.path (IsMeant stand.test stand.snapshot stand.own stand.frame) (DataAt ds component_type site.behaviour site.declared (Nest ds site.behaviour site.declared)) (Requests Continues) (store stand.test target v own)
       (stored-of stand.test well component_type site fits.on fits.names target t goal (Nest ds site.behaviour site.declared) own v goes here)
       (λ new also. data-fits ds component_type site.behaviour site.declared new also)
 
@@ -92,7 +92,7 @@ module _ (stand : Stand) (well : AreWellTyped stand.test.definitions) (component
 
   -- the end of a frame in which nothing remains
   ends-with : (frame : Frame) (frames : List Frame) (at : ℕ) (declared : List Entry) (xs : List Item) → frame.remaining ≡ xs → FitsFrame ds component_type at declared frame → Awaits ds at result declared xs
-      → FitBelow ds component_type (result_of ds at) frames → Asks (if waits_first xs then Errs DynamicError else Continues (with_calls (frame ∷ frames) stand.own))
+      → FitBelow ds component_type (result_of ds at) frames → Asks (if waits_first xs then Errs DynamicError else Requests Continues (with_calls (frame ∷ frames) stand.own))
   ends-with frame frames at declared (Waiting target ∷ xs) e fits awaits below = tt
   ends-with frame frames at declared (Doing site s part ∷ xs) e fits awaits below = goes-back frame frames at declared fits (subst (Nest ds at declared) (sym e) awaits) below
   ends-with frame frames at declared (Mark site s ∷ xs) e fits awaits below = goes-back frame frames at declared fits (subst (Nest ds at declared) (sym e) awaits) below

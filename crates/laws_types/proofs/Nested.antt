@@ -17,13 +17,13 @@ use Rattle.ttcn_syntax.specs.declared.tree.statement.Statement.{Statement}
 use Rattle.ttcn_syntax.specs.declared.tree.statement.Timer.{Timer}
 use Rattle.ttcn_syntax.specs.declared.tree.statement.Variable.{Variable}
 use Rattle.ttcn_syntax.specs.declared.tree.statement.Variables.{Variables}
-use Rattle.check_expressions.specs.Declarations.{one_by_one}
-use Rattle.check_expressions.specs.Targets.{check_constant, check_constants, check_timer_name, check_timers, check_type, check_variable, check_variables, constant_entry, variable_entry}
+use Rattle.check_rules.specs.Declarations.{one_by_one}
+use Rattle.check_rules.specs.Targets.{check_constant, check_constants, check_timer_name, check_timers, check_type, check_variable, check_variables, constant_entry, variable_entry}
 use Rattle.check_scope.specs.Names.{Entry, Scope, resolved}
 use Rattle.check_scope.specs.declared.names.Meaning.{Meaning}
 use Rattle.check_scope.specs.declared.names.Meaning.TheVariants as meaning
 use Rattle.check_scope.specs.declared.rule.Rule.{Rule}
-use Rattle.check_statements.specs.Statements.{Check, StatementRules, action, action_step, alternative, branch, conditional, statement, statements}
+use Rattle.check_rules.specs.Statements.{Check, StatementRules, action, action_step, alternative, branch, conditional, statement, statements}
 use Rattle.laws_checker.proofs.Descent.{first_fine, others_fine}
 use Rattle.laws_checker.proofs.Nothing.{nothing-first, nothing-rest}
 use Rattle.laws_checker.specs.Laws.{IsKnown}

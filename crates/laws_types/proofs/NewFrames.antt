@@ -15,10 +15,10 @@ use Rattle.ttcn_syntax.specs.declared.tree.statement.Statement.{Statement}
 use Rattle.ttcn_syntax.specs.declared.tree.statement.Timer.{Timer}
 use Rattle.ttcn_syntax.specs.declared.tree.value.TypeName.{TypeName}
 use Rattle.ttcn_syntax.specs.declared.tree.value.TypeName.TheVariants as type_name
-use Rattle.check_expressions.specs.Calls.{component_named, parameters_of}
-use Rattle.check_expressions.specs.Declarations.{behind_all}
-use Rattle.check_expressions.specs.Targets.{check_new_name, check_type}
-use Rattle.check_expressions.specs.Templates.{template}
+use Rattle.check_rules.specs.Calls.{component_named, parameters_of}
+use Rattle.check_rules.specs.Declarations.{behind_all}
+use Rattle.check_rules.specs.Targets.{check_new_name, check_type}
+use Rattle.check_rules.specs.Templates.{template}
 use Rattle.check_scope.specs.Names.{Entry, Names, Scope, behind, behind_members, declaring, kind_at, listed, member_entries, members_of, module_names, port_type_meant, resolved, type_meant}
 use Rattle.check_scope.specs.Scopes.{module_scope, outer_names, scope_on}
 use Rattle.check_scope.specs.Typings.{target_of, typed}
@@ -26,8 +26,8 @@ use Rattle.check_scope.specs.declared.names.Meaning.{Meaning}
 use Rattle.check_scope.specs.declared.names.Meaning.TheVariants as meaning
 use Rattle.check_scope.specs.declared.rule.Rule.{Rule}
 use Rattle.check_scope.specs.declared.types.DataType.{DataType}
-use Rattle.check_statements.specs.Definitions.{check_component_name, check_parameter, check_parameters, check_result, parameter_entry, place_in, returns_of, with_parameters}
-use Rattle.check_statements.specs.Statements.{statements}
+use Rattle.check_rules.specs.Definitions.{check_component_name, check_parameter, check_parameters, check_result, parameter_entry, place_in, returns_of, with_parameters}
+use Rattle.check_rules.specs.Statements.{statements}
 use Rattle.laws_checker.proofs.Nothing.{nothing-first, nothing-rest}
 use Rattle.laws_checker.proofs.Whole.{definition_is_fine}
 use Rattle.laws_evaluation.proofs.Parameters.{all_parameters_known}
@@ -40,10 +40,10 @@ use Rattle.semantics.specs.Entries.{put}
 use Rattle.semantics.specs.Items.{Item, items}
 use Rattle.semantics.specs.Sites.{Site, beginning, component_name, runs_on, scope_at}
 use Rattle.semantics.specs.Snapshots.{View}
-use Rattle.ttcn_types.proofs.Meanings.{EachMeans, IfMeans, means-listed}
-use Rattle.ttcn_types.specs.Rules.{AreWellTyped}
-use Rattle.ttcn_values.specs.Frames.{entry}
-use Rattle.ttcn_values.specs.declared.value.Value.{Value}
+use Rattle.check_rules.proofs.Meanings.{EachMeans, IfMeans, means-listed}
+use Rattle.check_rules.specs.Rules.{AreWellTyped}
+use Rattle.value_types.specs.Frames.{entry}
+use Rattle.value_types.specs.declared.value.Value.{Value}
 use Rattle.laws_types.proofs.Declared.{by-name, own-behind}
 use Rattle.laws_steps.proofs.Entries.{put-other, put-own}
 use Rattle.laws_types.proofs.Nested.{nest-block}

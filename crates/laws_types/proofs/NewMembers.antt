@@ -13,15 +13,15 @@ use Rattle.ttcn_syntax.specs.declared.tree.definition.MemberVariable.{MemberVari
 use Rattle.ttcn_syntax.specs.declared.tree.statement.Constant.{Constant}
 use Rattle.ttcn_syntax.specs.declared.tree.statement.Timer.{Timer}
 use Rattle.ttcn_syntax.specs.declared.tree.value.Value as tree
-use Rattle.check_expressions.specs.Targets.{timer_entry}
-use Rattle.check_expressions.specs.Templates.{template_meant}
-use Rattle.check_expressions.specs.Values as checked
+use Rattle.check_rules.specs.Targets.{timer_entry}
+use Rattle.check_rules.specs.Templates.{template_meant}
+use Rattle.check_rules.specs.Values as checked
 use Rattle.check_scope.specs.Names.{Entry, Names, Scope, behind, behind_members, kind_at, listed, member_entries, members_of, module_names, port_type_meant, resolved}
 use Rattle.check_scope.specs.Typings.{target_of}
 use Rattle.check_scope.specs.declared.names.Meaning.{Meaning}
 use Rattle.check_scope.specs.declared.names.Meaning.TheVariants as meaning
 use Rattle.check_scope.specs.declared.types.DataType.{DataType}
-use Rattle.check_statements.specs.Definitions.{port_entry}
+use Rattle.check_rules.specs.Definitions.{port_entry}
 use Rattle.laws_checker.proofs.Whole.{module_whole}
 use Rattle.laws_checker.specs.Laws.{IsKnown, IsWhole}
 use Rattle.laws_evaluation.proofs.Only.{only_of, only_then}
@@ -40,14 +40,14 @@ use Rattle.semantics.specs.Configurations.{Frame}
 use Rattle.semantics.specs.Creating.{declared_in_turn, declared_member, declared_variable, declared_with, empty_frame, new_members, reading_of_members}
 use Rattle.semantics.specs.Snapshots.{Snapshot, Test, View}
 use Rattle.semantics.specs.Storing.{declare, declare_timer, forget}
-use Rattle.ttcn_types.specs.Limits.{longest_chain}
-use Rattle.ttcn_types.specs.Rules.{AreWellTyped}
-use Rattle.ttcn_values.specs.Frames.{entry}
-use Rattle.ttcn_values.specs.Literals.{value_wanted}
-use Rattle.ttcn_values.specs.Outcomes.{DynamicError, Fails, Outcome, Unmet, Yields}
-use Rattle.ttcn_values.specs.declared.frame.TimerState.TheVariants as timer
-use Rattle.ttcn_values.specs.declared.value.ComponentId.{ComponentId}
-use Rattle.ttcn_values.specs.declared.value.Value.{Value}
+use Rattle.check_rules.specs.Limits.{longest_chain}
+use Rattle.check_rules.specs.Rules.{AreWellTyped}
+use Rattle.value_types.specs.Frames.{entry}
+use Rattle.value_types.specs.Literals.{value_wanted}
+use Rattle.value_types.specs.Outcomes.{DynamicError, Fails, Outcome, Unmet, Yields}
+use Rattle.value_types.specs.declared.frame.TimerState.TheVariants as timer
+use Rattle.value_types.specs.declared.value.ComponentId.{ComponentId}
+use Rattle.value_types.specs.declared.value.Value.{Value}
 use Rattle.laws_steps.proofs.Entries.{put-other, put-own, without-other, without-own}
 use Rattle.laws_types.proofs.Facts.{Knows, reading-fits, reading-has}
 use Rattle.laws_types.proofs.Readings.{either-seen, if-some, le-itself, member-value}

@@ -3,7 +3,7 @@ use Rattle.std.proofs.Common.{◌≡◌, ◌≤◌, ℕ, true, false, List, [], 
 use Rattle.std.specs.Option.{option_or}
 use Rattle.std.specs.List.{All}
 use Rattle.ttcn_syntax.specs.declared.tree.definition.Definition.{Definition}
-use Rattle.check_expressions.specs.Templates.{template_meant}
+use Rattle.check_rules.specs.Templates.{template_meant}
 use Rattle.check_scope.specs.Names.{Names, fields_at, module_names, names_on}
 use Rattle.check_scope.specs.Scopes.{outer_names}
 use Rattle.check_scope.specs.declared.names.Meaning.{Meaning}
@@ -15,13 +15,13 @@ use Rattle.laws_statements.specs.Within.{IsWithin}
 use Rattle.semantics.specs.Configurations.{Data}
 use Rattle.semantics.specs.Sites.{Site, runs_on, scope_at}
 use Rattle.semantics.specs.Snapshots.{Snapshot, Test, View, facts_of, members_in, reading_in, seen_members}
-use Rattle.ttcn_types.specs.Limits.{longest_chain}
-use Rattle.ttcn_types.specs.Rules.{AreWellTyped}
-use Rattle.ttcn_values.specs.Chains.{within_chains}
-use Rattle.ttcn_values.specs.Frames.{entry, seen_entry}
-use Rattle.ttcn_values.specs.declared.frame.TimerState.{TimerState}
-use Rattle.ttcn_values.specs.declared.value.ComponentId.{ComponentId}
-use Rattle.ttcn_values.specs.declared.value.Value.{Value}
+use Rattle.check_rules.specs.Limits.{longest_chain}
+use Rattle.check_rules.specs.Rules.{AreWellTyped}
+use Rattle.value_types.specs.Chains.{within_chains}
+use Rattle.value_types.specs.Frames.{entry, seen_entry}
+use Rattle.value_types.specs.declared.frame.TimerState.{TimerState}
+use Rattle.value_types.specs.declared.value.ComponentId.{ComponentId}
+use Rattle.value_types.specs.declared.value.Value.{Value}
 use Rattle.laws_types.proofs.Facts.{Knows, reading-fits, reading-has}
 use Rattle.laws_types.proofs.Visible.{Says, module-outside, module-timers, no-template-outside, site-definitions, site-itself, site-says}
 use Rattle.laws_types.specs.Fitting.{DeclaresLocals, FitsMembers, FitsSite, IsLocal, IsMemberValue, IsValueOf, RunsOn, or_timer, scope_seen}

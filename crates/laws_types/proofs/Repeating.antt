@@ -15,8 +15,8 @@ use Rattle.semantics.specs.Items.{Doing, Item, Mark, Waiting, Whole}
 use Rattle.semantics.specs.Snapshots.{Test}
 use Rattle.semantics.specs.Storing.{with_calls}
 use Rattle.semantics.specs.Taking.{from_mark, repeat_alt, repeat_in, repeated}
-use Rattle.ttcn_types.specs.Rules.{AreWellTyped}
-use Rattle.ttcn_values.specs.Outcomes.{or_unmet, outcome_map}
+use Rattle.check_rules.specs.Rules.{AreWellTyped}
+use Rattle.value_types.specs.Outcomes.{or_unmet, outcome_map}
 use Rattle.laws_types.proofs.Data.{frame-outside}
 use Rattle.laws_types.proofs.Nested.{nest-one}
 use Rattle.laws_types.specs.Typed.{Awaits, FitBelow, FitCalls, FitsComponent, FitsData, FitsFrame, FitsOwn, HasFrames, Nest, result_of}

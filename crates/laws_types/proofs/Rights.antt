@@ -19,10 +19,10 @@ use Rattle.ttcn_syntax.specs.declared.tree.value.Call.{Call}
 use Rattle.ttcn_syntax.specs.declared.tree.value.Rhs.{Rhs}
 use Rattle.ttcn_syntax.specs.declared.tree.value.Rhs.TheVariants as rhs
 use Rattle.ttcn_syntax.specs.declared.tree.value.Value as written
-use Rattle.check_expressions.specs.Calls.{altstep_meant, is_altstep, parameters_of, stands_alone}
-use Rattle.check_expressions.specs.Expressions.{along, check_meaning}
-use Rattle.check_expressions.specs.Targets.{as_target, check_assignment, check_constant, check_initial, check_new_name, check_rhs, check_target, check_timer_name, check_variable, last_optional, target_at}
-use Rattle.check_expressions.specs.Values as judged
+use Rattle.check_rules.specs.Calls.{altstep_meant, is_altstep, parameters_of, stands_alone}
+use Rattle.check_rules.specs.Expressions.{along, check_meaning}
+use Rattle.check_rules.specs.Targets.{as_target, check_assignment, check_constant, check_initial, check_new_name, check_rhs, check_target, check_timer_name, check_variable, last_optional, target_at}
+use Rattle.check_rules.specs.Values as judged
 use Rattle.check_scope.specs.Names.{Entry, Scope, component_meant, kind_at, members_of, module_names, resolved}
 use Rattle.check_scope.specs.Typings.{target_of, type_known}
 use Rattle.check_scope.specs.declared.names.Meaning.{Meaning}
@@ -54,18 +54,18 @@ use Rattle.semantics.specs.Creating.{new_component, new_members, ports_of}
 use Rattle.semantics.specs.Items.{Does, Item, Target, Waiting}
 use Rattle.semantics.specs.Sites.{Site, scope_at}
 use Rattle.semantics.specs.Snapshots.{Test}
-use Rattle.semantics.specs.Statements.{Act, Continues, Creates, Stand, act_assignment, act_constant, act_initial, act_name, act_timer, act_variable, acting, activate, activated, activated_at, assign, continuing, create, created, declared as declaring_data, declared_target, done, most, new_id, with_child}
+use Rattle.semantics.specs.Statements.{Act, Continues, Creates, Requests, Stand, act_assignment, act_constant, act_initial, act_name, act_timer, act_variable, acting, activate, activated, activated_at, assign, continuing, create, created, declared as declaring_data, declared_target, done, most, new_id, with_child}
 use Rattle.semantics.specs.Storing.{declare, declare_timer, forget, store, target_meant, type_for}
-use Rattle.ttcn_types.proofs.Meanings.{IfMeans}
-use Rattle.ttcn_types.specs.Rules.{AreWellTyped}
-use Rattle.ttcn_values.specs.Frames.{entry}
-use Rattle.ttcn_values.specs.Literals.{value_wanted}
-use Rattle.ttcn_values.specs.Outcomes.{Outcome, Yields, dynamic_error}
-use Rattle.ttcn_values.specs.Templates.{arguments}
-use Rattle.ttcn_values.specs.declared.value.ComponentId.{ComponentId}
-use Rattle.ttcn_values.specs.declared.value.Value.{Value}
-use Rattle.ttcn_values.specs.declared.value.Value.TheOpen.{Value-F}
-use Rattle.ttcn_values.specs.declared.value.Value.TheVariants as value
+use Rattle.check_rules.proofs.Meanings.{IfMeans}
+use Rattle.check_rules.specs.Rules.{AreWellTyped}
+use Rattle.value_types.specs.Frames.{entry}
+use Rattle.value_types.specs.Literals.{value_wanted}
+use Rattle.value_types.specs.Outcomes.{Outcome, Yields, dynamic_error}
+use Rattle.value_types.specs.Templates.{arguments}
+use Rattle.value_types.specs.declared.value.ComponentId.{ComponentId}
+use Rattle.value_types.specs.declared.value.Value.{Value}
+use Rattle.value_types.specs.declared.value.Value.TheOpen.{Value-F}
+use Rattle.value_types.specs.declared.value.Value.TheVariants as value
 use Rattle.laws_types.proofs.Data.{Any, data-changed, data-going, stored, stored-of}
 use Rattle.laws_types.proofs.Declared.{own-behind, seen-declared, seen-forgotten, seen-timer}
 use Rattle.laws_repeat.proofs.Outside.{outside-itself}
@@ -200,7 +200,7 @@ module _ (stand : Stand) (well : AreWellTyped stand.test.definitions) (site : Si
 
     store-asks : (v : Value) → value_goes v ds (record { data_type = Some t; optional = o }) ≡ true → Asking (continuing (store stand.test target v own))
     store-asks v goes =
-        always-fits stand.test component_type stand.snapshot.itself.path (IsMeant stand.test stand.snapshot stand.own stand.frame) (Now declared (Nesting declared)) Continues (store stand.test target v own)
+        always-fits stand.test component_type stand.snapshot.itself.path (IsMeant stand.test stand.snapshot stand.own stand.frame) (Now declared (Nesting declared)) (Requests Continues) (store stand.test target v own)
         (stored stand.test well component_type (site_of b declared) is.on names target t goal (Nesting declared) own v goes fits) (λ new also. fits-at stand well site is declared new also)
 
     value-asks : (v : written.Value) → judged.value v scope (record { data_type = Some t; optional = o }) ≡ [] → Asking (assign stand site target (Some t) own (rhs.Value v))
@@ -219,10 +219,10 @@ module _ (stand : Stand) (well : AreWellTyped stand.test.definitions) (site : Si
     create-asks at same =
         let new : ComponentId = new_id stand own at in
         acting-fits stand.test component_type stand.snapshot.itself.path (IsMeant stand.test stand.snapshot stand.own stand.frame) (λ frame. FitsMembers ds at (view_of frame))
-        (λ members. acting (λ changed. Creates (new_component stand.test new members) (with_child changed)) (store stand.test target (value.Component new) own))
+        (λ members. acting (λ changed. Requests (Creates (new_component stand.test new members)) (with_child changed)) (store stand.test target (value.Component new) own))
         (if nat_lt own.children most then new_members stand.test new stand.snapshot else dynamic_error)
         (new-if stand.test new (nat_lt own.children most) (new_members stand.test new stand.snapshot) (new_members_fit stand.test new stand.snapshot well))
-        (λ members fit. always-fits stand.test component_type stand.snapshot.itself.path (IsMeant stand.test stand.snapshot stand.own stand.frame) (Now declared (Nesting declared)) (λ changed. Creates (new_component stand.test new members) (with_child changed)) (store stand.test target (value.Component new) own)
+        (λ members fit. always-fits stand.test component_type stand.snapshot.itself.path (IsMeant stand.test stand.snapshot stand.own stand.frame) (Now declared (Nesting declared)) (λ changed. Requests (Creates (new_component stand.test new members)) (with_child changed)) (store stand.test target (value.Component new) own)
         (stored-of stand.test well component_type (site_of b declared) is.on names target t goal (Nesting declared) own (value.Component new) (subst (λ t. is_of ds t (value.Component new) ≡ true) (sym same) (component_goes ds new)) fits)
         (λ changed also. (component-fits stand.test new members fit, fits-at stand well site is declared (with_child changed) (with-one-more changed also))))
 
@@ -245,7 +245,7 @@ module _ (stand : Stand) (well : AreWellTyped stand.test.definitions) (site : Si
     default-asks call activates same =
         acting-fits stand.test component_type stand.snapshot.itself.path (IsMeant stand.test stand.snapshot stand.own stand.frame) (Now declared (Nesting declared)) (λ changed. continuing (store stand.test target (value.Default changed.activations) changed)) (activated stand site call own)
         (activated-fits declared (Nesting declared) call own activates fits)
-        (λ changed also. always-fits stand.test component_type stand.snapshot.itself.path (IsMeant stand.test stand.snapshot stand.own stand.frame) (Now declared (Nesting declared)) Continues (store stand.test target (value.Default changed.activations) changed)
+        (λ changed also. always-fits stand.test component_type stand.snapshot.itself.path (IsMeant stand.test stand.snapshot stand.own stand.frame) (Now declared (Nesting declared)) (Requests Continues) (store stand.test target (value.Default changed.activations) changed)
         (stored-of stand.test well component_type (site_of b declared) is.on names target t goal (Nesting declared) changed (value.Default changed.activations)
         (subst (λ t. is_of ds t (value.Default changed.activations) ≡ true) (sym same) (default-goes ds changed.activations)) also) (λ new more. fits-at stand well site is declared new more))
 
@@ -366,7 +366,7 @@ module _ (stand : Stand) (well : AreWellTyped stand.test.definitions) (site : Si
       let unseen = new-unseen here.names c.name (nothing-first (check_new_name here.names c.name) (judged.value c.value here (target_of (Some t))) rules) in
       let nothing = value_stays c.value (target_of (Some t)) here scope (within stand well site is) (nothing-rest (check_new_name here.names c.name) (judged.value c.value here (target_of (Some t))) rules) in
       let nested : Nesting ((c.name, meaning.Constant (Some t)) ∷ site.declared) stand.rest = subst (λ (e : Entry). Nesting (e ∷ site.declared) stand.rest) declares (subst (λ n. Nesting n stand.rest) same nest) in
-      acting-fits stand.test component_type stand.snapshot.itself.path (IsMeant stand.test stand.snapshot stand.own stand.frame) (λ w. is_of ds t w ≡ true) (λ v. Continues (declaring_data stand (declare c.name v))) (value_wanted c.value read (Some t))
+      acting-fits stand.test component_type stand.snapshot.itself.path (IsMeant stand.test stand.snapshot stand.own stand.frame) (λ w. is_of ds t w ≡ true) (λ v. Requests Continues (declaring_data stand (declare c.name v))) (value_wanted c.value read (Some t))
       (only_of (λ w. is_of ds t w ≡ true) (value_wanted c.value read (Some t))
       (values_met c.value scope read (whole stand well site is) (differ stand well site is) (fit stand well site is) (has stand well site is) t false nothing)
       (values_typed c.value scope read (whole stand well site is) (differ stand well site is) (fit stand well site is) t false nothing))

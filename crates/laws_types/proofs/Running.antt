@@ -2,7 +2,7 @@
 use Rattle.std.proofs.Common.{◌≡◌, ℕ, ◌+◌, true, List, [], ◌∷◌, Option, Some, None, Result, Ok, Err, IfSome, is_some, false, refl, subst}
 use Rattle.ttcn_syntax.specs.declared.tree.statement.Verdict.{Verdict}
 use Rattle.check_scope.specs.Names.{kind_at}
-use Rattle.check_statements.specs.Statements.{is_error}
+use Rattle.check_rules.specs.Statements.{is_error}
 use Rattle.laws_evaluation.specs.Uses.{GivesOnly}
 use Rattle.laws_references.proofs.Runs.{ReachedStands, next-both, start-both}
 use Rattle.laws_repeat.proofs.Repeats.{next_marked, start_marked}
@@ -17,8 +17,8 @@ use Rattle.semantics.specs.Runs.{graph_of, option_elim, replay, replay_from, sta
 use Rattle.semantics.specs.Snapshots.{Test}
 use Rattle.semantics.specs.Steps.{Label, next, settled, step}
 use Rattle.summary.specs.Run.{Run, Start, Then, end_of}
-use Rattle.ttcn_types.specs.Rules.{AreWellTyped}
-use Rattle.ttcn_values.specs.Outcomes.{Fails, Outcome, Yields, or_unmet, outcome_and_then}
+use Rattle.check_rules.specs.Rules.{AreWellTyped}
+use Rattle.value_types.specs.Outcomes.{Fails, Outcome, Yields, or_unmet, outcome_and_then}
 use Rattle.laws_types.proofs.Starting.{start_fits}
 use Rattle.laws_types.proofs.Steps.{next_fits, step_fits}
 use Rattle.laws_types.proofs.Verdicts.{ends-quietly, next-none, start-none}

@@ -11,8 +11,8 @@ use Rattle.ttcn_syntax.specs.declared.tree.statement.Send.{Send}
 use Rattle.ttcn_syntax.specs.declared.tree.template.Template.{Template}
 use Rattle.ttcn_syntax.specs.declared.tree.value.TypeName.{TypeName}
 use Rattle.ttcn_syntax.specs.declared.tree.value.TypeName.TheVariants as type_name
-use Rattle.check_expressions.specs.Expressions.{Judgement}
-use Rattle.check_expressions.specs.Templates.{template, typing_of_template}
+use Rattle.check_rules.specs.Expressions.{Judgement}
+use Rattle.check_rules.specs.Templates.{template, typing_of_template}
 use Rattle.check_scope.specs.Names.{Names, Scope, kind_at, module_names, resolved, type_meant}
 use Rattle.check_scope.specs.PortTypes.{agrees, only_type, passes, types_of_port, types_passing}
 use Rattle.check_scope.specs.Typings.{is_component, is_default, same_type, target_of, type_known, typed}
@@ -23,8 +23,8 @@ use Rattle.check_scope.specs.declared.types.DataType.{DataType}
 use Rattle.check_scope.specs.declared.types.DataType.TheVariants as type
 use Rattle.check_scope.specs.declared.types.Typing.{Typing}
 use Rattle.check_scope.specs.declared.types.Typing.TheVariants as typing
-use Rattle.check_statements.specs.Definitions.{as_part, check_messages, check_part}
-use Rattle.check_statements.specs.Messages.{by_template, by_type_name, check_message, check_send, check_sent, check_to, check_type_name, of_only, passage_at, port_meant, type_by_itself, type_by_port, type_of_message}
+use Rattle.check_rules.specs.Definitions.{as_part, check_messages, check_part}
+use Rattle.check_rules.specs.Messages.{by_template, by_type_name, check_message, check_send, check_sent, check_to, check_type_name, of_only, passage_at, port_meant, type_by_itself, type_by_port, type_of_message}
 use Rattle.laws_checker.proofs.Nothing.{kept, nothing-first, nothing-rest}
 use Rattle.laws_checker.proofs.Whole.{definition_is_fine}
 use Rattle.laws_checker.specs.Laws.{IsKnown}
@@ -37,14 +37,14 @@ use Rattle.laws_statements.proofs.Within.{message_stays, message_type_stays, wan
 use Rattle.laws_statements.specs.Messages.{HasType}
 use Rattle.semantics.specs.Events.{type_in}
 use Rattle.semantics.specs.Sites.{Site, scope_at}
-use Rattle.semantics.specs.Statements.{Sends, Stand, act_send, acting, component_meant_at, done, sent_at, sent_to, sent_value}
-use Rattle.ttcn_types.specs.Rules.{AreWellTyped}
-use Rattle.ttcn_values.specs.Matching.{specific_value}
-use Rattle.ttcn_values.specs.Outcomes.{outcome_and_then}
-use Rattle.ttcn_values.specs.Templates.{template_wanted}
-use Rattle.ttcn_values.specs.declared.value.ComponentId.{ComponentId}
-use Rattle.ttcn_values.specs.declared.value.Value.{Value, out-Value}
-use Rattle.ttcn_values.specs.declared.value.Value.TheOpen.{Value-F}
+use Rattle.semantics.specs.Statements.{Requests, Sends, Stand, act_send, acting, component_meant_at, done, sent_at, sent_to, sent_value}
+use Rattle.check_rules.specs.Rules.{AreWellTyped}
+use Rattle.value_types.specs.Matching.{specific_value}
+use Rattle.value_types.specs.Outcomes.{outcome_and_then}
+use Rattle.value_types.specs.Templates.{template_wanted}
+use Rattle.value_types.specs.declared.value.ComponentId.{ComponentId}
+use Rattle.value_types.specs.declared.value.Value.{Value, out-Value}
+use Rattle.value_types.specs.declared.value.Value.TheOpen.{Value-F}
 use Rattle.laws_types.proofs.Forms.{wanted-component}
 use Rattle.laws_types.proofs.Stands.{Asks, NestHere, StandsAt, acting-fits, differ, fine-site, fit, goes-on, has, kind-of, known, only-mapped, reading, whole, wide, within}
 use Rattle.laws_types.proofs.Visible.{site-definitions}
@@ -190,7 +190,7 @@ module _ (stand : Stand) (well : AreWellTyped stand.test.definitions) (site : Si
       (wanted-component stand well site is nest c (subst (λ (j : Judgement). j.broken ≡ []) (sym (wanted_stays c here scope (within stand well site is) nothing)) nothing)) (λ id any. tt)
 
   sent-at : (port : ℕ) (send : Send) → check_message here (passage_at here.definitions false (Some port)).0 (passage_at here.definitions false (Some port)).1 send.message ≡ [] → check_to here send.to ≡ []
-      → Asks stand well site is (acting (λ v. acting (λ to. Sends send.port to v (done stand)) (sent_to stand site send.to)) (sent_value stand site send (sent_at here (Some (Some port)) send)))
+      → Asks stand well site is (acting (λ v. acting (λ to. Requests (Sends send.port to v) (done stand)) (sent_to stand site send.to)) (sent_value stand site send (sent_at here (Some (Some port)) send)))
   sent-at port send nothing to-fine =
       let passing = (passage_at here.definitions false (Some port)).0 in
       let otherwise = (passage_at here.definitions false (Some port)).1 in
@@ -205,21 +205,21 @@ module _ (stand : Stand) (well : AreWellTyped stand.test.definitions) (site : Si
       let wider = message_stays passing otherwise send.message here scope (within stand well site is) nothing in
       let same-typing : (type_of_message scope passing otherwise send.message).typing ≡ typing.Known of =
       ap (λ (j : Judgement). j.typing) (message_type_stays here scope (within stand well site is) passing otherwise send.message nothing) ∙ known-type.is in
-      subst (λ t. Asks stand well site is (acting (λ v. acting (λ to. Sends send.port to v (done stand)) (sent_to stand site send.to)) (sent_value stand site send (type_known t)))) (sym known-type.is)
-      (acting-fits stand.test ct stand.snapshot.itself.path (IsMeant stand.test stand.snapshot stand.own stand.frame) (IsSpecific ds (target_of (Some of))) (λ v. acting (λ to. Sends send.port to v (done stand)) (sent_to stand site send.to))
+      subst (λ t. Asks stand well site is (acting (λ v. acting (λ to. Requests (Sends send.port to v) (done stand)) (sent_to stand site send.to)) (sent_value stand site send (type_known t)))) (sym known-type.is)
+      (acting-fits stand.test ct stand.snapshot.itself.path (IsMeant stand.test stand.snapshot stand.own stand.frame) (IsSpecific ds (target_of (Some of))) (λ v. acting (λ to. Requests (Sends send.port to v) (done stand)) (sent_to stand site send.to))
       (outcome_and_then specific_value (template_wanted send.message.template (reading stand well site is) (Some of)))
       (message_sent scope (reading stand well site is) (whole stand well site is) (differ stand well site is) (known stand well site is) (fit stand well site is) (has stand well site is) passing otherwise send.message wider of same-typing)
-      (λ v specific. acting-fits stand.test ct stand.snapshot.itself.path (IsMeant stand.test stand.snapshot stand.own stand.frame) (λ to. Unit {0}) (λ to. Sends send.port to v (done stand)) (sent_to stand site send.to) (to-met send.to to-fine)
+      (λ v specific. acting-fits stand.test ct stand.snapshot.itself.path (IsMeant stand.test stand.snapshot stand.own stand.frame) (λ to. Unit {0}) (λ to. Requests (Sends send.port to v) (done stand)) (sent_to stand site send.to) (to-met send.to to-fine)
       (λ to any. (message-fits ds of plain v specific, goes-on stand well site is stand.rest nest))))
 
   sent-port : (port : Option ℕ) (send : Send) → is_some port ≡ true → check_sent here (Some port) send.message ++ check_to here send.to ≡ []
-      → Asks stand well site is (acting (λ v. acting (λ to. Sends send.port to v (done stand)) (sent_to stand site send.to)) (sent_value stand site send (sent_at here (Some port) send)))
+      → Asks stand well site is (acting (λ v. acting (λ to. Requests (Sends send.port to v) (done stand)) (sent_to stand site send.to)) (sent_value stand site send (sent_at here (Some port) send)))
   sent-port (Some port) send there nothing =
       sent-at port send (nothing-first (check_sent here (Some (Some port)) send.message) (check_to here send.to) nothing) (nothing-rest (check_sent here (Some (Some port)) send.message) (check_to here send.to) nothing)
   sent-port None send there nothing = absurd (let e = there in cc)
 
   sent-meaning : (m : Option Meaning) (send : Send) → IfSome m (IsKnown here.definitions) → check_sent here (port_meant m) send.message ++ check_to here send.to ≡ []
-      → Asks stand well site is (acting (λ v. acting (λ to. Sends send.port to v (done stand)) (sent_to stand site send.to)) (sent_value stand site send (sent_at here (port_meant m) send)))
+      → Asks stand well site is (acting (λ v. acting (λ to. Requests (Sends send.port to v) (done stand)) (sent_to stand site send.to)) (sent_value stand site send (sent_at here (port_meant m) send)))
   sent-meaning (Some (meaning.Port of)) send known-port nothing = sent-port of send known-port nothing
   sent-meaning _ send known-port nothing = absurd (let e = nothing in cc)
 

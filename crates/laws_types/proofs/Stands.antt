@@ -6,12 +6,12 @@ use Rattle.ttcn_syntax.specs.declared.tree.definition.DefinitionKind.TheVariants
 use Rattle.ttcn_syntax.specs.declared.tree.statement.Statement.{Statement}
 use Rattle.ttcn_syntax.specs.declared.tree.value.Call.{Call}
 use Rattle.ttcn_syntax.specs.declared.tree.value.Value as written
-use Rattle.check_expressions.specs.Calls.{behaviour_meant, component_named, gives_value, is_altstep, parameters_of, runs_here, runs_on_of, stands_alone}
+use Rattle.check_rules.specs.Calls.{behaviour_meant, component_named, gives_value, is_altstep, parameters_of, runs_here, runs_on_of, stands_alone}
 use Rattle.check_scope.specs.Names.{Entry, Scope, kind_at, module_names}
 use Rattle.check_scope.specs.declared.names.Meaning.{Meaning}
 use Rattle.check_scope.specs.declared.names.Meaning.TheVariants as meaning
 use Rattle.check_scope.specs.declared.types.DataType.{DataType}
-use Rattle.check_statements.specs.Statements.{is_function, statements}
+use Rattle.check_rules.specs.Statements.{is_function, statements}
 use Rattle.laws_checker.proofs.Fitting.{same-number}
 use Rattle.laws_checker.specs.Laws.{AreArguments, IsWhole}
 use Rattle.laws_evaluation.proofs.ModuleReadings.{parameters_known}
@@ -30,14 +30,14 @@ use Rattle.semantics.specs.Sites.{Site, beginning, component_name, runs_on, scop
 use Rattle.semantics.specs.Snapshots.{Test, View, last_view, members_in}
 use Rattle.semantics.specs.Statements.{Act, Stand, acting, body_of, call_function, called_frame, continuing, enter, frame_at, frame_of_call, function_frame, most, reads, with_frames}
 use Rattle.semantics.specs.Storing.{going_on, in_last, with_calls, with_remaining}
-use Rattle.ttcn_types.proofs.Meanings.{IfMeans}
-use Rattle.ttcn_types.specs.Rules.{AreWellTyped}
-use Rattle.ttcn_values.specs.Frames.{entry}
-use Rattle.ttcn_values.specs.Outcomes.{DynamicError, Fails, Outcome, Unmet, Yields, dynamic_error, outcome_map}
-use Rattle.ttcn_values.specs.Readings.{Reading}
-use Rattle.ttcn_values.specs.Templates.{arguments}
-use Rattle.ttcn_values.specs.declared.path.Path.{Path}
-use Rattle.ttcn_values.specs.declared.value.ComponentId.{ComponentId}
+use Rattle.check_rules.proofs.Meanings.{IfMeans}
+use Rattle.check_rules.specs.Rules.{AreWellTyped}
+use Rattle.value_types.specs.Frames.{entry}
+use Rattle.value_types.specs.Outcomes.{DynamicError, Fails, Outcome, Unmet, Yields, dynamic_error, outcome_map}
+use Rattle.value_types.specs.Readings.{Reading}
+use Rattle.value_types.specs.Templates.{arguments}
+use Rattle.value_types.specs.declared.path.Path.{Path}
+use Rattle.value_types.specs.declared.value.ComponentId.{ComponentId}
 use Rattle.laws_types.proofs.Data.{Any, DataAt, LastAt, data-fits, data-going}
 use Rattle.laws_types.proofs.Declared.{declared-fine, declared-locals}
 use Rattle.laws_types.proofs.NewFrames.{IsPart, body-nests, frame-begins, module-meant}

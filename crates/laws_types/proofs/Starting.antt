@@ -7,9 +7,9 @@ use Rattle.ttcn_syntax.specs.declared.tree.definition.DefinitionKind.{Definition
 use Rattle.ttcn_syntax.specs.declared.tree.definition.DefinitionKind.TheVariants as kind
 use Rattle.ttcn_syntax.specs.declared.tree.statement.Statement.{Statement}
 use Rattle.ttcn_syntax.specs.declared.tree.statement.Verdict.TheVariants as verdict
-use Rattle.check_expressions.specs.Calls.{parameters_of}
+use Rattle.check_rules.specs.Calls.{parameters_of}
 use Rattle.check_scope.specs.Names.{kind_at}
-use Rattle.check_statements.specs.Statements.{statements}
+use Rattle.check_rules.specs.Statements.{statements}
 use Rattle.laws_evaluation.proofs.Only.{only_then}
 use Rattle.laws_evaluation.specs.Types.{AreGiven}
 use Rattle.laws_evaluation.specs.Uses.{GivesOnly}
@@ -21,8 +21,8 @@ use Rattle.semantics.specs.Items.{items}
 use Rattle.semantics.specs.Runs.{body_frame, first_snapshot, mtc_with, started, testcase_body}
 use Rattle.semantics.specs.Sites.{beginning, runs_on}
 use Rattle.semantics.specs.Snapshots.{Test, mtc_of, type_said}
-use Rattle.ttcn_types.specs.Rules.{AreWellTyped}
-use Rattle.ttcn_values.specs.Outcomes.{or_unmet, outcome_and_then}
+use Rattle.check_rules.specs.Rules.{AreWellTyped}
+use Rattle.value_types.specs.Outcomes.{or_unmet, outcome_and_then}
 use Rattle.laws_types.proofs.NewFrames.{body-nests, frame-begins}
 use Rattle.laws_types.proofs.NewMembers.{new_members_fit}
 use Rattle.laws_types.proofs.Rights.{component-fits}

@@ -14,7 +14,7 @@ use Rattle.ttcn_syntax.specs.declared.tree.statement.Verdict.TheVariants as verd
 use Rattle.check_scope.specs.Names.{kind_at}
 use Rattle.check_scope.specs.Typings.{unless}
 use Rattle.check_scope.specs.declared.rule.Rule.TheVariants as rule
-use Rattle.check_statements.specs.Statements.{check_log, is_error}
+use Rattle.check_rules.specs.Statements.{check_log, is_error}
 use Rattle.laws_checker.proofs.Nothing.{nothing-first}
 use Rattle.laws_repeat.proofs.Asked.{asked_followed}
 use Rattle.laws_repeat.specs.Following.{IsFollowed, SetsVerdict, lists_of}
@@ -30,12 +30,12 @@ use Rattle.semantics.specs.Items.{Doing, Item, Whole, action_of}
 use Rattle.semantics.specs.Runs.{first_snapshot, mtc_with, start, started, testcase_body}
 use Rattle.semantics.specs.Sites.{Site}
 use Rattle.semantics.specs.Snapshots.{Test, mtc_of, snapshot_of}
-use Rattle.semantics.specs.Statements.{Act, Connects, Continues, Creates, Errs, Removes, Sends, Starts, Stops, Waits, Worsens, act}
+use Rattle.semantics.specs.Statements.{Act, Connects, Continues, Creates, Errs, Removes, Requests, Sends, Starts, Stops, Waits, Worsens, act}
 use Rattle.semantics.specs.Steps.{Expiry, Label, Statement, addressed, apply, at_queue, begin, connect, connection, deliver, ending, exchanged, expired, expiry_step, insert, is_double, is_terminated_at, next, peers, send, settle, settled, start_component, start_created, start_in, statement_step, step, touch, unless_terminated, with_connection, with_data, with_state, with_verdict, without_first}
-use Rattle.ttcn_types.specs.Rules.{AreWellTyped}
-use Rattle.ttcn_values.specs.Outcomes.{Fails, IfYields, Outcome, Yields, dynamic_error, or_unmet, outcome_and_then}
-use Rattle.ttcn_values.specs.declared.path.Path.{Path}
-use Rattle.ttcn_values.specs.declared.value.ComponentId.{ComponentId}
+use Rattle.check_rules.specs.Rules.{AreWellTyped}
+use Rattle.value_types.specs.Outcomes.{Fails, IfYields, Outcome, Yields, dynamic_error, or_unmet, outcome_and_then}
+use Rattle.value_types.specs.declared.path.Path.{Path}
+use Rattle.value_types.specs.declared.value.ComponentId.{ComponentId}
 use Rattle.laws_types.specs.Runs.{HasNoError}
 
 -- ---- verdicts
@@ -156,23 +156,23 @@ module _ (test : Test) (well : AreWellTyped test.definitions) where
     apply-quiet : (asked : Act) → IsFollowed test.definitions (lists_of calls) asked → LeadsToQuiet (apply test c itself asked)
     apply-quiet Waits follows = tt
     apply-quiet (Errs why) follows = tt
-    apply-quiet (Continues own) follows = settles c itself.path own is
-    apply-quiet (Worsens v own) follows =
+    apply-quiet (Requests Continues own) follows = settles c itself.path own is
+    apply-quiet (Requests (Worsens v) own) follows =
         touch-keeps (settle c itself.path own) itself.path (with_verdict v) (λ x fine. worse-none x.verdict v fine (set-none calls v all follows.0)) (settles c itself.path own is)
-    apply-quiet (Removes port own) follows = touch-keeps (settle c itself.path own) itself.path (at_queue port without_first) (λ x fine. fine) (settles c itself.path own is)
-    apply-quiet (Sends port to v own) follows =
+    apply-quiet (Requests (Removes port) own) follows = touch-keeps (settle c itself.path own) itself.path (at_queue port without_first) (λ x fine. fine) (settles c itself.path own is)
+    apply-quiet (Requests (Sends port to v) own) follows =
         ending-quiet (send (settle c itself.path own) itself port to v)
         (deliver-quiet (settle c itself.path own) (record { value = v; sender = itself }) (filter (addressed to) (peers (settle c itself.path own) (record { component = itself.path; port = port }))) (settles c itself.path own is))
-    apply-quiet (Creates new own) follows =
+    apply-quiet (Requests (Creates new) own) follows =
         let settled-fine : AreFine (settle c itself.path own) = settles c itself.path own is in (
           settled-fine.0,
-          new-fine new (settle c itself.path own) (is_some (component_at (settle c itself.path own) (path_of new))) (subst IsNone (sym follows.1) refl) settled-fine.1,
+          new-fine new (settle c itself.path own) (is_some (component_at (settle c itself.path own) (path_of new))) (subst IsNone (sym follows.0.1) refl) settled-fine.1,
         )
-    apply-quiet (Starts path frame own) follows =
+    apply-quiet (Requests (Starts path frame) own) follows =
         ending-quiet (start_component (settle c itself.path own) path frame)
         (start-quiet (settle c itself.path own) path frame (component_at (settle c itself.path own) path) (settles c itself.path own is))
-    apply-quiet (Stops path own) follows = stop-quiet (same_path path (mtc_of test).path) (settle c itself.path own) path (settles c itself.path own is)
-    apply-quiet (Connects d e own) follows =
+    apply-quiet (Requests (Stops path) own) follows = stop-quiet (same_path path (mtc_of test).path) (settle c itself.path own) path (settles c itself.path own is)
+    apply-quiet (Requests (Connects d e) own) follows =
         ending-quiet (connect (settle c itself.path own) d e)
         (connect-quiet (is_terminated_at (settle c itself.path own) d.component || is_terminated_at (settle c itself.path own) e.component || is_double (settle c itself.path own) d e || is_double (settle c itself.path own) e d)
         (settle c itself.path own) d e (settles c itself.path own is))

@@ -12,14 +12,14 @@ use Rattle.ttcn_syntax.specs.declared.tree.definition.MemberVariable.{MemberVari
 use Rattle.ttcn_syntax.specs.declared.tree.definition.Parameter.{Parameter}
 use Rattle.ttcn_syntax.specs.declared.tree.statement.Constant.{Constant}
 use Rattle.ttcn_syntax.specs.declared.tree.statement.Timer.{Timer}
-use Rattle.check_expressions.specs.Calls.{parameters_of}
-use Rattle.check_expressions.specs.Declarations.{behind_all}
-use Rattle.check_expressions.specs.Templates.{template_meant}
+use Rattle.check_rules.specs.Calls.{parameters_of}
+use Rattle.check_rules.specs.Declarations.{behind_all}
+use Rattle.check_rules.specs.Templates.{template_meant}
 use Rattle.check_scope.specs.Names.{Entry, Names, Scope, behind, behind_members, declaring, kind_at, listed, member_entries, members_of, module_names, port_type_meant, resolved}
 use Rattle.check_scope.specs.Scopes.{outer_names, scope_on}
 use Rattle.check_scope.specs.declared.names.Meaning.{Meaning}
 use Rattle.check_scope.specs.declared.names.Meaning.TheVariants as meaning
-use Rattle.check_statements.specs.Definitions.{parameter_entry}
+use Rattle.check_rules.specs.Definitions.{parameter_entry}
 use Rattle.laws_evaluation.specs.Types.{names_timer}
 use Rattle.laws_sites.proofs.Outside.{parameters-free}
 use Rattle.laws_sites.specs.Standing.{IsFineSite, IsFree}
@@ -27,8 +27,8 @@ use Rattle.laws_statements.proofs.Growing.{members_within}
 use Rattle.laws_statements.proofs.Naming.{name_defined, same-name}
 use Rattle.laws_statements.specs.Named.{IsDefinedAs}
 use Rattle.semantics.specs.Sites.{Site, behaviour_scope, runs_on, scope_at, scope_with}
-use Rattle.ttcn_types.proofs.Meanings.{EachMeans, IfMeans, means-listed}
-use Rattle.ttcn_types.specs.Rules.{AreWellTyped}
+use Rattle.check_rules.proofs.Meanings.{EachMeans, IfMeans, means-listed}
+use Rattle.check_rules.specs.Rules.{AreWellTyped}
 use Rattle.laws_types.specs.Fitting.{DeclaresLocals, IsLocal}
 
 -- ---- the module and the members of a component type

@@ -2,7 +2,7 @@
 use Rattle.std.specs.Prelude.{◌≡◌, ℕ, true, List, Option, Some, None, IfSome, is_some}
 use Rattle.std.specs.List.{All}
 use Rattle.ttcn_syntax.specs.declared.tree.definition.Definition.{Definition}
-use Rattle.check_expressions.specs.Expressions.{check_meaning}
+use Rattle.check_rules.specs.Expressions.{check_meaning}
 use Rattle.check_scope.specs.Names.{Names, Scope, names_on}
 use Rattle.check_scope.specs.Typings.{typed}
 use Rattle.check_scope.specs.declared.names.Meaning.{Meaning}
@@ -12,8 +12,8 @@ use Rattle.laws_sites.specs.Standing.{IsFree}
 use Rattle.semantics.specs.Configurations.{Frame}
 use Rattle.semantics.specs.Sites.{Site, runs_on, scope_at}
 use Rattle.semantics.specs.Snapshots.{View}
-use Rattle.ttcn_values.specs.Frames.{entry}
-use Rattle.ttcn_values.specs.declared.value.Value.{Value}
+use Rattle.value_types.specs.Frames.{entry}
+use Rattle.value_types.specs.declared.value.Value.{Value}
 
 -- ---- names
 

@@ -3,13 +3,13 @@ use Rattle.std.specs.Prelude.{◌≡◌, false, List, Some, Ok, IfSome}
 use Rattle.std.specs.List.{All}
 use Rattle.ttcn_syntax.specs.declared.tree.statement.Verdict.{Verdict}
 use Rattle.check_scope.specs.Names.{kind_at}
-use Rattle.check_statements.specs.Statements.{is_error}
+use Rattle.check_rules.specs.Statements.{is_error}
 use Rattle.laws_evaluation.specs.Uses.{GivesOnly}
 use Rattle.semantics.specs.Configurations.{Configuration, Ended, Goes}
 use Rattle.semantics.specs.Runs.{replay, started, testcase_body}
 use Rattle.semantics.specs.Snapshots.{Test}
 use Rattle.semantics.specs.Steps.{Label, step}
-use Rattle.ttcn_values.specs.Outcomes.{Yields, or_unmet, outcome_and_then}
+use Rattle.value_types.specs.Outcomes.{Yields, or_unmet, outcome_and_then}
 use Rattle.laws_types.specs.Typed.{FitsTypes}
 
 -- no component has verdict `error`, and none has had it: a test case that goes on doesn't end with it unless a step fails

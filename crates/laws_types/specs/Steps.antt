@@ -6,7 +6,7 @@ use Rattle.check_scope.specs.Names.{kind_at, members_of}
 use Rattle.semantics.specs.Configurations.{Data, Frame, Message}
 use Rattle.semantics.specs.Creating.{ports_of}
 use Rattle.semantics.specs.Snapshots.{Snapshot}
-use Rattle.ttcn_values.specs.Frames.{entry}
+use Rattle.value_types.specs.Frames.{entry}
 use Rattle.laws_types.specs.Typed.{FitsMessage}
 
 -- the ports that are seen are those of the component's type, and their first messages fit

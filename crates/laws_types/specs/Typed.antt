@@ -7,8 +7,8 @@ use Rattle.ttcn_syntax.specs.declared.tree.statement.Action.TheOpen.{Action-F}
 use Rattle.ttcn_syntax.specs.declared.tree.statement.ForStart.TheVariants as for_start
 use Rattle.ttcn_syntax.specs.declared.tree.statement.Statement.{Statement}
 use Rattle.ttcn_syntax.specs.declared.tree.statement.Variables.{Variables}
-use Rattle.check_expressions.specs.Calls.{is_altstep, parameters_of, result_type_of}
-use Rattle.check_expressions.specs.Expressions.{along}
+use Rattle.check_rules.specs.Calls.{is_altstep, parameters_of, result_type_of}
+use Rattle.check_rules.specs.Expressions.{along}
 use Rattle.check_scope.specs.Names.{Entry, Scope, kind_at, members_of, module_names, resolved}
 use Rattle.check_scope.specs.declared.names.Meaning.TheVariants as meaning
 use Rattle.check_scope.specs.declared.types.DataType.{DataType}
@@ -23,7 +23,7 @@ use Rattle.semantics.specs.Items.{Does, Doing, Item, Mark, Name, Part, Target, W
 use Rattle.semantics.specs.Sites.{Site, is_own, scope_at}
 use Rattle.semantics.specs.Snapshots.{Test}
 use Rattle.semantics.specs.Storing.{type_for}
-use Rattle.ttcn_values.specs.Values.{is_complete}
+use Rattle.value_types.specs.Values.{is_complete}
 use Rattle.laws_types.specs.Fitting.{FitsMembers, FitsSite, IsLocal, RunsOn, view_of}
 
 -- ---- what is declared in a frame

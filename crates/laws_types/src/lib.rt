@@ -20,10 +20,10 @@ ghost use Rattle.semantics.specs.Snapshots.{Snapshot, Test, View, members_in, re
 ghost use Rattle.semantics.specs.Statements.{act};
 ghost use Rattle.semantics.specs.Steps.{Label, apply, next, step};
 ghost use Rattle.summary.specs.Run.{Run, end_of};
-ghost use Rattle.ttcn_types.specs.Rules.{AreWellTyped};
-ghost use Rattle.ttcn_values.specs.Outcomes.{or_unmet, outcome_and_then};
-ghost use Rattle.ttcn_values.specs.declared.path.Path.{Path};
-ghost use Rattle.ttcn_values.specs.declared.value.ComponentId.{ComponentId};
+ghost use Rattle.check_rules.specs.Rules.{AreWellTyped};
+ghost use Rattle.value_types.specs.Outcomes.{or_unmet, outcome_and_then};
+ghost use Rattle.value_types.specs.declared.path.Path.{Path};
+ghost use Rattle.value_types.specs.declared.value.ComponentId.{ComponentId};
 ghost use Rattle.laws_repeat.specs.Marks.{StandsMarked};
 ghost use Rattle.laws_types.specs.Steps.{Sees};
 ghost use Rattle.laws_types.specs.Fitting.{DeclaresLocals, FitsMembers, FitsSite, RunsOn, scope_seen, view_of};

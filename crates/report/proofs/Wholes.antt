@@ -1,19 +1,20 @@
 -- Labels and their texts.
-use Rattle.std.proofs.Common.{◌≡◌, ℕ, Bool, ltb, ◌||◌, ◌&&◌, false, true, true≢false, List, [], ◌∷◌, ◌++◌, Option, Some, None, sym, refl, ap, ◌∙◌, subst, arith, append-nil}
+use Rattle.std.proofs.Common.{◌≡◌, ℕ, Bool, ltb, ◌||◌, ◌&&◌, false, true, true≢false, List, [], ◌∷◌, ◌++◌, Option, Some, None, sym, refl, ap, ◌∙◌, arith}
 use Rattle.std.proofs.lemmas.Bool.Decides.{nat_tests}
 use Rattle.std.proofs.lemmas.List.Folds.{list_any-append}
 use Rattle.std.specs.Char.{encode_utf8}
 use Rattle.std.specs.Fmt.{decimal}
 use Rattle.std.specs.List.{AllByRecursion, flat_map, list_all, list_any}
-use Rattle.std.specs.Option.{MatchOption}
+use Rattle.std.specs.Option.{MatchOption, option_map}
 use Rattle.report.specs.Labels.{expiry_text, label_text, name_text, number_text, path_text}
-use Rattle.report.specs.Runs.{IsProper, IsProperExpiry, IsSmall, is_timer_name}
+use Rattle.report.specs.Runs.{IsProper, IsSmall, is_timer_name}
 use Rattle.report.specs.internal.Reader.{HasBareEnds, IsCut, IsNoExpiry, IsNoLabel, IsNoNumber, IsNoPath, IsPath, TellsExpiry, lacks}
 use Rattle.report.proofs.Cuts.{cut_none, cut_same, path_lacks_slash, path_same}
 use Rattle.report.proofs.Digits.{decimal_lacks, decimal_no_blank, number_same}
-use Rattle.step_labels.specs.declared.label.Expiry.{Expiry}
 use Rattle.step_labels.specs.declared.label.Label.{Label}
+use Rattle.step_labels.specs.declared.label.Label.TheVariants.{Statement, Expiry}
 use Rattle.ttcn_syntax.specs.Characters.{is_blank, is_letter, is_word_byte}
+use Rattle.value_types.specs.declared.path.Path.{Path}
 
 and_true : (a b : Bool) → (a && b) ≡ true → (a ≡ true) × (b ≡ true)
 and_true true b h = (refl, h)
@@ -54,67 +55,68 @@ append-point [] name = refl
 append-point (d ∷ digits) name = ap (λ t. d ∷ t) (append-point digits name)
 
 -- the text of an expiry, behind the slash
-expiry_behind : (e : Expiry) → is_timer_name e.timer ≡ true → expiry_text (Some e) ≡ 47 ∷ (decimal e.frame ++ 46 ∷ e.timer)
-expiry_behind e h = ap (λ t. 47 ∷ t) (append-point (decimal e.frame) (name_text e.timer) ∙ ap (λ t. decimal e.frame ++ 46 ∷ t) (name_plain e.timer h))
+expiry_behind : (frame : ℕ) (timer : List ℕ) → is_timer_name timer ≡ true → expiry_text frame timer ≡ 47 ∷ (decimal frame ++ 46 ∷ timer)
+expiry_behind frame timer h = ap (λ t. 47 ∷ t) (append-point (decimal frame) (name_text timer) ∙ ap (λ t. decimal frame ++ 46 ∷ t) (name_plain timer h))
 
 pub expiry_none_cut : (text : List ℕ) → lacks 46 text → IsNoExpiry text
-expiry_none_cut text no_point = λ e tells. cut_none 46 text (decimal e.frame) e.timer no_point tells.2
+expiry_none_cut text no_point = λ frame timer tells. cut_none 46 text (decimal frame) timer no_point tells.2
 
-expiry_cut : (text before behind : List ℕ) (e : Expiry) → IsCut 46 text before behind → TellsExpiry text e → (before ≡ decimal e.frame) × (behind ≡ e.timer)
-expiry_cut text before behind e cut tells =
-    cut_same 46 before behind (decimal e.frame) e.timer cut.0 (decimal_lacks 46 e.frame (omega arith) tells.0) (sym cut.1 ∙ tells.2)
+expiry_cut : (text before behind : List ℕ) (frame : ℕ) (timer : List ℕ) → IsCut 46 text before behind → TellsExpiry text frame timer → (before ≡ decimal frame) × (behind ≡ timer)
+expiry_cut text before behind frame timer cut tells =
+    cut_same 46 before behind (decimal frame) timer cut.0 (decimal_lacks 46 frame (omega arith) tells.0) (sym cut.1 ∙ tells.2)
 
 pub expiry_none_number : (text before behind : List ℕ) → IsCut 46 text before behind → IsNoNumber before → IsNoExpiry text
-expiry_none_number text before behind cut bad = λ e tells. bad e.frame tells.0 (expiry_cut text before behind e cut tells).0
+expiry_none_number text before behind cut bad = λ frame timer tells. bad frame tells.0 (expiry_cut text before behind frame timer cut tells).0
 
 pub expiry_none_name : (text before behind : List ℕ) → IsCut 46 text before behind → is_timer_name behind ≡ false → IsNoExpiry text
-expiry_none_name text before behind cut bad = λ e tells.
-    true≢false (sym tells.1 ∙ (ap is_timer_name (sym (expiry_cut text before behind e cut tells).1) ∙ bad))
+expiry_none_name text before behind cut bad = λ frame timer tells.
+    true≢false (sym tells.1 ∙ (ap is_timer_name (sym (expiry_cut text before behind frame timer cut tells).1) ∙ bad))
 
-no_statement : (names ns : List ℕ) (e : Option Expiry) → lacks 47 names → IsNoPath names → AllByRecursion IsSmall ns → names ≡ flat_map number_text ns ++ expiry_text e → ⊥
-no_statement names ns None no_slash bad all is = bad ns (all, is ∙ append-nil (flat_map number_text ns))
-no_statement names ns (Some e) no_slash bad all is = cut_none 47 names (flat_map number_text ns) _ no_slash is
+-- a text without a slash that tells no path is that of no label
+pub no_label_from_path : (text names : List ℕ) → text ≡ 109 ∷ 116 ∷ 99 ∷ names → lacks 47 names → IsNoPath names → IsNoLabel text
+no_label_from_path text names is no_slash bad (Statement path) proper whole =
+    let rest : names ≡ flat_map number_text path.numbers = cc in
+    bad path.numbers (proper, rest)
+no_label_from_path text names is no_slash bad (Expiry path frame timer) proper whole =
+    let rest : names ≡ flat_map number_text path.numbers ++ expiry_text frame timer = cc in
+    cut_none 47 names (flat_map number_text path.numbers) _ no_slash rest
 
 -- the label of a statement, whose text has no slash
-pub statement_label : (text names : List ℕ) (o : Option Label) → text ≡ 109 ∷ 116 ∷ 99 ∷ names → lacks 47 names
-    → MatchOption o (IsNoPath names) (λ made. IsPath names made.component × (made.expiry ≡ None)) → MatchOption o (IsNoLabel text) (λ made. (text ≡ label_text made) × IsProper made)
-statement_label text names None is no_slash bad = λ label proper whole.
-    let rest : names ≡ flat_map number_text label.component ++ expiry_text label.expiry = cc in
-    no_statement names label.component label.expiry no_slash bad proper.0 rest
-statement_label text names (Some made) is no_slash good =
-    let P : Option Expiry → Type 0 = IsProperExpiry in
-    let behind : flat_map number_text made.component ++ expiry_text made.expiry ≡ names =
-    ap (λ e. flat_map number_text made.component ++ expiry_text e) good.1 ∙ (append-nil (flat_map number_text made.component) ∙ sym good.0.1) in
-    (is ∙ ap (λ t. 109 ∷ 116 ∷ 99 ∷ t) (sym behind), (good.0.0, subst P (sym good.1) tt))
+pub statement_read : (text names : List ℕ) (o : Option Path) → text ≡ 109 ∷ 116 ∷ 99 ∷ names → lacks 47 names → MatchOption o (IsNoPath names) (λ path. IsPath names path.numbers)
+    → MatchOption (option_map Statement o) (IsNoLabel text) (λ made. (text ≡ label_text made) × IsProper made)
+statement_read text names None is no_slash bad = no_label_from_path text names is no_slash bad
+statement_read text names (Some path) is no_slash good = (is ∙ ap (λ t. 109 ∷ 116 ∷ 99 ∷ t) good.1, good.0)
 
-names_cut : (names path timer ns : List ℕ) (e : Option Expiry) → IsCut 47 names path timer → AllByRecursion IsSmall ns → IsProperExpiry e
-    → names ≡ flat_map number_text ns ++ expiry_text e → (expiry : Expiry) × (e ≡ Some expiry) × IsPath path ns × TellsExpiry timer expiry
-names_cut names path timer ns None cut all proper is =
-    absurd (cut_none 47 (flat_map number_text ns) path timer (path_lacks_slash ns all) (sym (append-nil (flat_map number_text ns)) ∙ (sym is ∙ cut.1)))
-names_cut names path timer ns (Some e) cut all proper is =
-    let whole : names ≡ flat_map number_text ns ++ 47 ∷ (decimal e.frame ++ 46 ∷ e.timer) = is ∙ ap (λ t. flat_map number_text ns ++ t) (expiry_behind e proper.1) in
-    let same = cut_same 47 path timer (flat_map number_text ns) _ cut.0 (path_lacks_slash ns all) (sym cut.1 ∙ whole) in
-    (e, refl, (all, same.0), (proper.0, proper.1, same.1))
+-- a label whose text has a slash is an expiry, and its path and its timer stand before and behind
+slashed : (text names path timer : List ℕ) → text ≡ 109 ∷ 116 ∷ 99 ∷ names → IsCut 47 names path timer → (label : Label) → IsProper label → text ≡ label_text label
+    → (ns : List ℕ) × (frame : ℕ) × (name : List ℕ) × IsPath path ns × TellsExpiry timer frame name
+slashed text names path timer is cut (Statement p) proper whole =
+    let rest : names ≡ flat_map number_text p.numbers = cc in
+    absurd (cut_none 47 (flat_map number_text p.numbers) path timer (path_lacks_slash p.numbers proper) (sym rest ∙ cut.1))
+slashed text names path timer is cut (Expiry p frame name) proper whole =
+    let rest : names ≡ flat_map number_text p.numbers ++ expiry_text frame name = cc in
+    let behind : names ≡ flat_map number_text p.numbers ++ 47 ∷ (decimal frame ++ 46 ∷ name) = rest ∙ ap (λ t. flat_map number_text p.numbers ++ t) (expiry_behind frame name proper.2) in
+    let same = cut_same 47 path timer (flat_map number_text p.numbers) _ cut.0 (path_lacks_slash p.numbers proper.0) (sym cut.1 ∙ behind) in
+    (p.numbers, frame, name, (proper.0, same.0), (proper.1, proper.2, same.1))
 
 pub no_label_from_expiry : (text names path timer : List ℕ) → text ≡ 109 ∷ 116 ∷ 99 ∷ names → IsCut 47 names path timer → IsNoExpiry timer → IsNoLabel text
 no_label_from_expiry text names path timer is cut bad = λ label proper whole.
-    let rest : names ≡ flat_map number_text label.component ++ expiry_text label.expiry = cc in
-    let found = names_cut names path timer label.component label.expiry cut proper.0 proper.1 rest in
+    let found = slashed text names path timer is cut label proper whole in
+    bad found.1 found.2 found.4
+
+pub no_label_before_slash : (text names path timer : List ℕ) → text ≡ 109 ∷ 116 ∷ 99 ∷ names → IsCut 47 names path timer → IsNoPath path → IsNoLabel text
+no_label_before_slash text names path timer is cut bad = λ label proper whole.
+    let found = slashed text names path timer is cut label proper whole in
     bad found.0 found.3
 
 -- the label of an expiry
-pub expiry_label : (text names path timer : List ℕ) (e : Expiry) (o : Option Label) → text ≡ 109 ∷ 116 ∷ 99 ∷ names → IsCut 47 names path timer → TellsExpiry timer e
-    → MatchOption o (IsNoPath path) (λ made. IsPath path made.component × (made.expiry ≡ Some e)) → MatchOption o (IsNoLabel text) (λ made. (text ≡ label_text made) × IsProper made)
-expiry_label text names path timer e None is cut tells bad = λ label proper whole.
-    let rest : names ≡ flat_map number_text label.component ++ expiry_text label.expiry = cc in
-    let found = names_cut names path timer label.component label.expiry cut proper.0 proper.1 rest in
-    bad label.component found.2
-expiry_label text names path timer e (Some made) is cut tells good =
-    let P : Option Expiry → Type 0 = IsProperExpiry in
-    let tail : expiry_text made.expiry ≡ 47 ∷ timer = ap expiry_text good.1 ∙ (expiry_behind e tells.1 ∙ ap (λ t. 47 ∷ t) (sym tells.2)) in
-    let behind : flat_map number_text made.component ++ expiry_text made.expiry ≡ names =
-    ap (λ t. flat_map number_text made.component ++ t) tail ∙ (ap (λ t. t ++ 47 ∷ timer) (sym good.0.1) ∙ sym cut.1) in
-    (is ∙ ap (λ t. 109 ∷ 116 ∷ 99 ∷ t) (sym behind), (good.0.0, subst P (sym good.1) (tells.0, tells.1)))
+pub expiry_read : (text names before timer : List ℕ) (path : Path) (frame : ℕ) (name : List ℕ) → text ≡ 109 ∷ 116 ∷ 99 ∷ names → IsCut 47 names before timer → TellsExpiry timer frame name → IsPath before path.numbers
+    → (text ≡ label_text (Expiry path frame name)) × IsProper (Expiry path frame name)
+expiry_read text names before timer path frame name is cut tells told =
+    let tail : 47 ∷ timer ≡ expiry_text frame name = sym (expiry_behind frame name tells.1 ∙ ap (λ t. 47 ∷ t) (sym tells.2)) in
+    let behind : names ≡ flat_map number_text path.numbers ++ expiry_text frame name =
+    cut.1 ∙ ap (λ t. t ++ 47 ∷ timer) told.1 ∙ ap (λ t. flat_map number_text path.numbers ++ t) tail in
+    (is ∙ ap (λ t. 109 ∷ 116 ∷ 99 ∷ t) behind, (told.0, tells.0, tells.1))
 
 -- ---- no label's text has a blank
 
@@ -141,15 +143,10 @@ path_no_blank : (ns : List ℕ) → AllByRecursion IsSmall ns → no_blank (flat
 path_no_blank [] all = refl
 path_no_blank (n ∷ ns) all = no_blank-append (decimal n) (flat_map number_text ns) (decimal_no_blank n all.0) (path_no_blank ns all.1)
 
-expiry_no_blank : (e : Option Expiry) → IsProperExpiry e → no_blank (expiry_text e)
-expiry_no_blank None proper = refl
-expiry_no_blank (Some e) proper =
-    ap (list_any is_blank) (expiry_behind e proper.1)
-    ∙ no_blank-append (decimal e.frame) (46 ∷ e.timer) (decimal_no_blank e.frame proper.0) (words_no_blank e.timer (timer_words e.timer proper.1))
-
-label_no_blank : (label : Label) → IsProper label → no_blank (label_text label)
-label_no_blank label proper =
-    no_blank-append (flat_map number_text label.component) (expiry_text label.expiry) (path_no_blank label.component proper.0) (expiry_no_blank label.expiry proper.1)
+expiry_no_blank : (frame : ℕ) (timer : List ℕ) → IsSmall frame → is_timer_name timer ≡ true → no_blank (expiry_text frame timer)
+expiry_no_blank frame timer small name =
+    ap (list_any is_blank) (expiry_behind frame timer name)
+    ∙ no_blank-append (decimal frame) (46 ∷ timer) (decimal_no_blank frame small) (words_no_blank timer (timer_words timer name))
 
 ends : (x : ℕ) (xs : List ℕ) → no_blank (x ∷ xs) → (front : List ℕ) × (last : ℕ) × (x ∷ xs ≡ front ++ last ∷ []) × (is_blank last ≡ false)
 ends x [] h = ([], x, refl, (or_false (is_blank x) false h).0)
@@ -175,40 +172,39 @@ pub name_ends : (ns : List ℕ) → AllByRecursion IsSmall ns → HasBareEnds (p
 name_ends ns all = bare 109 (116 ∷ 99 ∷ flat_map number_text ns) (path_no_blank ns all)
 
 pub label_ends : (label : Label) → IsProper label → HasBareEnds (label_text label)
-label_ends label proper = bare 109 (116 ∷ 99 ∷ (flat_map number_text label.component ++ expiry_text label.expiry)) (label_no_blank label proper)
+label_ends (Statement path) proper = name_ends path.numbers proper
+label_ends (Expiry path frame timer) proper =
+    bare 109 (116 ∷ 99 ∷ (flat_map number_text path.numbers ++ expiry_text frame timer))
+    (no_blank-append (flat_map number_text path.numbers) (expiry_text frame timer) (path_no_blank path.numbers proper.0) (expiry_no_blank frame timer proper.1 proper.2))
 
 -- ---- a text is that of one label
 
-expiry_same : (d e : Expiry) → d.frame ≡ e.frame → d.timer ≡ e.timer → d ≡ e
-expiry_same d e frames timers =
-    let made : ℕ → List ℕ → Expiry = λ frame timer. record { frame = frame; timer = timer } in
-    ap (λ frame. made frame d.timer) frames ∙ ap (made e.frame) timers
+-- a name is that of one component
+pub name_same : (one other : Path) → AllByRecursion IsSmall one.numbers → AllByRecursion IsSmall other.numbers → path_text one.numbers ≡ path_text other.numbers → one ≡ other
+name_same one other proper proper_other is =
+    let made : List ℕ → Path = λ numbers. record { numbers = numbers } in
+    let tails : flat_map number_text one.numbers ≡ flat_map number_text other.numbers = cc in
+    ap made (path_same (flat_map number_text one.numbers) one.numbers other.numbers (proper, refl) (proper_other, tails))
 
-label_from_parts : (one other : Label) → one.component ≡ other.component → one.expiry ≡ other.expiry → one ≡ other
-label_from_parts one other paths expiries =
-    let made : List ℕ → Option Expiry → Label = λ component expiry. record { component = component; expiry = expiry } in
-    ap (λ component. made component one.expiry) paths ∙ ap (made other.component) expiries
+-- the text of a statement is that of no expiry
+no_slash_slash : (p q : Path) (frame : ℕ) (timer : List ℕ) → AllByRecursion IsSmall p.numbers → label_text (Statement p) ≡ label_text (Expiry q frame timer) → ⊥
+no_slash_slash p q frame timer proper is =
+    let tails : flat_map number_text p.numbers ≡ flat_map number_text q.numbers ++ expiry_text frame timer = cc in
+    cut_none 47 (flat_map number_text p.numbers) (flat_map number_text q.numbers) _ (path_lacks_slash p.numbers proper) tails
 
-tail_same : (names : List ℕ) (ms ns : List ℕ) (d e : Option Expiry) → AllByRecursion IsSmall ms → AllByRecursion IsSmall ns → IsProperExpiry d → IsProperExpiry e
-    → names ≡ flat_map number_text ms ++ expiry_text d → names ≡ flat_map number_text ns ++ expiry_text e → (ms ≡ ns) × (d ≡ e)
-tail_same names ms ns None None one other proper_d proper_e left right =
-    (path_same names ms ns (one, left ∙ append-nil (flat_map number_text ms)) (other, right ∙ append-nil (flat_map number_text ns)), refl)
-tail_same names ms ns None (Some e) one other proper_d proper_e left right =
-    absurd (cut_none 47 (flat_map number_text ms) (flat_map number_text ns) _ (path_lacks_slash ms one) (sym (append-nil (flat_map number_text ms)) ∙ (sym left ∙ right)))
-tail_same names ms ns (Some d) None one other proper_d proper_e left right =
-    absurd (cut_none 47 (flat_map number_text ns) (flat_map number_text ms) _ (path_lacks_slash ns other) (sym (append-nil (flat_map number_text ns)) ∙ (sym right ∙ left)))
-tail_same names ms ns (Some d) (Some e) one other proper_d proper_e left right =
-    let first : names ≡ flat_map number_text ms ++ 47 ∷ (decimal d.frame ++ 46 ∷ d.timer) = left ∙ ap (λ t. flat_map number_text ms ++ t) (expiry_behind d proper_d.1) in
-    let second : names ≡ flat_map number_text ns ++ 47 ∷ (decimal e.frame ++ 46 ∷ e.timer) = right ∙ ap (λ t. flat_map number_text ns ++ t) (expiry_behind e proper_e.1) in
-    let same = cut_same 47 (flat_map number_text ms) _ (flat_map number_text ns) _ (path_lacks_slash ms one) (path_lacks_slash ns other) (sym first ∙ second) in
-    let inner = cut_same 46 (decimal d.frame) d.timer (decimal e.frame) e.timer
-    (decimal_lacks 46 d.frame (omega arith) proper_d.0) (decimal_lacks 46 e.frame (omega arith) proper_e.0) same.1 in
-    let frames : d.frame ≡ e.frame = number_same (decimal d.frame) d.frame e.frame (proper_d.0, refl) (proper_e.0, inner.0) in
-    (path_same (flat_map number_text ms) ms ns (one, refl) (other, same.0), ap Some (expiry_same d e frames inner.1))
+expiry_same : (p q : Path) (m n : ℕ) (name other : List ℕ) → IsProper (Expiry p m name) → IsProper (Expiry q n other) → label_text (Expiry p m name) ≡ label_text (Expiry q n other) → Expiry p m name ≡ Expiry q n other
+expiry_same p q m n name other one two is =
+    let tails : flat_map number_text p.numbers ++ expiry_text m name ≡ flat_map number_text q.numbers ++ expiry_text n other = cc in
+    let cut : flat_map number_text p.numbers ++ 47 ∷ (decimal m ++ 46 ∷ name) ≡ flat_map number_text q.numbers ++ 47 ∷ (decimal n ++ 46 ∷ other) =
+    sym (ap (λ t. flat_map number_text p.numbers ++ t) (expiry_behind m name one.2)) ∙ tails ∙ ap (λ t. flat_map number_text q.numbers ++ t) (expiry_behind n other two.2) in
+    let same = cut_same 47 (flat_map number_text p.numbers) _ (flat_map number_text q.numbers) _ (path_lacks_slash p.numbers one.0) (path_lacks_slash q.numbers two.0) cut in
+    let inner = cut_same 46 (decimal m) name (decimal n) other (decimal_lacks 46 m (omega arith) one.1) (decimal_lacks 46 n (omega arith) two.1) same.1 in
+    let paths : p ≡ q = name_same p q one.0 two.0 (ap (λ t. 109 ∷ 116 ∷ 99 ∷ t) same.0) in
+    let frames : m ≡ n = number_same (decimal m) m n (one.1, refl) (two.1, inner.0) in
+    ap (λ path. Expiry path m name) paths ∙ ap (λ frame. Expiry q frame name) frames ∙ ap (Expiry q n) inner.1
 
 pub label_same : (text : List ℕ) (one other : Label) → IsProper one → IsProper other → text ≡ label_text one → text ≡ label_text other → one ≡ other
-label_same text one other proper_one proper_other left right =
-    let tails : flat_map number_text one.component ++ expiry_text one.expiry ≡ flat_map number_text other.component ++ expiry_text other.expiry = cc in
-    let same = tail_same (flat_map number_text one.component ++ expiry_text one.expiry) one.component other.component one.expiry other.expiry
-    proper_one.0 proper_other.0 proper_one.1 proper_other.1 refl tails in
-    label_from_parts one other same.0 same.1
+label_same text (Statement p) (Statement q) one other left right = ap Statement (name_same p q one other (sym left ∙ right))
+label_same text (Statement p) (Expiry q frame timer) one other left right = absurd (no_slash_slash p q frame timer one (sym left ∙ right))
+label_same text (Expiry p frame timer) (Statement q) one other left right = absurd (no_slash_slash q p frame timer other (sym right ∙ left))
+label_same text (Expiry p m name) (Expiry q n other_name) one other left right = expiry_same p q m n name other_name one other (sym left ∙ right)

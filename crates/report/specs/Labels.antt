@@ -1,12 +1,12 @@
 -- The texts of components' names, of labels, and of labels of fine runs.
-use Rattle.std.specs.Prelude.{ℕ, List, ◌++◌, Option, None, Some, codes}
+use Rattle.std.specs.Prelude.{ℕ, List, ◌++◌, codes}
 use Rattle.std.specs.Char.{encode_utf8}
 use Rattle.std.specs.Fmt.{decimal}
 use Rattle.std.specs.List.{flat_map}
 use Rattle.step_labels.specs.declared.fine.FineLabel.{FineLabel}
 use Rattle.step_labels.specs.declared.fine.FineLabel.TheVariants.{Snap, Choose, Plain}
-use Rattle.step_labels.specs.declared.label.Expiry.{Expiry}
 use Rattle.step_labels.specs.declared.label.Label.{Label}
+use Rattle.step_labels.specs.declared.label.Label.TheVariants.{Statement, Expiry}
 
 -- a timer's name: each byte is written as the character of its code, so those below 128 stay as they are
 abbrev pub name_text : List ℕ → List ℕ
@@ -21,13 +21,13 @@ abbrev pub path_text : List ℕ → List ℕ
 path_text numbers = codes "mtc" ++ flat_map number_text numbers
 
 -- what an expiry adds to its component's name: `/0.t`
-abbrev pub expiry_text : Option Expiry → List ℕ
-expiry_text None = codes ""
-expiry_text (Some expiry) = codes "/" ++ decimal expiry.frame ++ codes "." ++ name_text expiry.timer
+abbrev pub expiry_text : ℕ → List ℕ → List ℕ
+expiry_text frame timer = codes "/" ++ decimal frame ++ codes "." ++ name_text timer
 
 -- a label: its component's name, and the frame and the timer of an expiry
 abbrev pub label_text : Label → List ℕ
-label_text label = path_text label.component ++ expiry_text label.expiry
+label_text (Statement path) = path_text path.numbers
+label_text (Expiry path frame timer) = path_text path.numbers ++ expiry_text frame timer
 
 -- a label of a fine run: `snap mtc.1`, `choose mtc.1`, or a label
 abbrev pub fine_text : FineLabel → List ℕ

@@ -1,5 +1,5 @@
 -- Run files: which texts read as which runs, and as which fine runs.
-use Rattle.std.specs.Prelude.{◌≡◌, ℕ, ◌+◌, ◌<◌, ◌^◌, ◌==◌, ◌&&◌, Bool, true, false, not, IsTrue, List, [], ◌∷◌, ◌++◌, length, Option, None, Some}
+use Rattle.std.specs.Prelude.{◌≡◌, ℕ, ◌+◌, ◌<◌, ◌^◌, ◌==◌, ◌&&◌, Bool, true, false, not, IsTrue, List, [], ◌∷◌, ◌++◌, length}
 use Rattle.std.specs.Fmt.{decimal}
 use Rattle.std.specs.List.{AllByRecursion, AllZip, filter, list_all, slice_split}
 use Rattle.report.specs.declared.run.RunError.{RunError}
@@ -7,8 +7,8 @@ use Rattle.report.specs.declared.run.RunError.TheVariants.{BadLabel, Memory}
 use Rattle.report.specs.Labels.{fine_text, label_text}
 use Rattle.step_labels.specs.declared.fine.FineLabel.{FineLabel}
 use Rattle.step_labels.specs.declared.fine.FineLabel.TheVariants.{Snap, Choose, Plain}
-use Rattle.step_labels.specs.declared.label.Expiry.{Expiry}
 use Rattle.step_labels.specs.declared.label.Label.{Label}
+use Rattle.step_labels.specs.declared.label.Label.TheVariants.{Statement, Expiry}
 use Rattle.ttcn_syntax.specs.Characters.{is_blank, is_letter, is_word_byte}
 
 -- the numbers of labels are below 4294967296
@@ -24,14 +24,10 @@ abbrev pub is_timer_name : List ℕ → Bool
 is_timer_name [] = false
 is_timer_name (first ∷ others) = is_letter first && list_all is_word_byte others
 
--- the expiry of a label, if it has one, has a small frame number and a timer's name
-abbrev pub IsProperExpiry : Option Expiry → Type 0
-IsProperExpiry None = Unit {0}
-IsProperExpiry (Some expiry) = IsSmall expiry.frame × IsTrue (is_timer_name expiry.timer)
-
--- a label that a run file can hold
+-- a label that a run file can hold: an expiry has a small frame number and a timer's name
 abbrev pub IsProper : Label → Type 0
-IsProper label = AllByRecursion IsSmall label.component × IsProperExpiry label.expiry
+IsProper (Statement path) = AllByRecursion IsSmall path.numbers
+IsProper (Expiry path frame timer) = AllByRecursion IsSmall path.numbers × IsSmall frame × IsTrue (is_timer_name timer)
 
 -- a label that the file of a fine run can hold
 abbrev pub IsProperFine : FineLabel → Type 0

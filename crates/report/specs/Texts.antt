@@ -4,9 +4,9 @@ use Rattle.std.specs.Fmt.{decimal}
 use Rattle.std.specs.List.{flat_map}
 use Rattle.report.specs.declared.report.Outcome.{Outcome}
 use Rattle.report.specs.declared.report.Report.{Report}
-use Rattle.report.specs.declared.report.Standing.{Standing}
 use Rattle.report.specs.Labels.{label_text, path_text}
 use Rattle.step_labels.specs.declared.label.Label.{Label}
+use Rattle.step_labels.specs.declared.standing.Standing.{Standing}
 use Rattle.ttcn_syntax.specs.declared.place.Span.{Span}
 use Rattle.ttcn_syntax.specs.declared.tree.statement.Verdict.{Verdict}
 use Rattle.ttcn_syntax.specs.declared.tree.statement.Verdict.TheVariants as verdict

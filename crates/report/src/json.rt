@@ -3,11 +3,11 @@ ghost use Rattle.report.specs.Json.{json_text, label_json, list_of, outcome_json
 ghost use Rattle.serde_json.specs.View.{view};
 ghost use Rattle.std.specs.Prelude.{◌≡◌, IfOk, string_bytes};
 
-use crate::report::{Outcome, Report, Standing};
+use crate::report::{Outcome, Report};
 use crate::text::{LabelText, PathText, PlaceText, word_of};
 use serde_json::{Value, json};
 use std::alloc::{AllocError, Global};
-use step_labels::Label;
+use step_labels::{Label, Standing};
 use ttcn_syntax::Span;
 
 /// The texts of a run's labels.

@@ -1,15 +1,15 @@
 //! Labels as run files write them.
 ghost use Rattle.report.specs.Labels.{fine_text, label_text, number_text};
-ghost use Rattle.report.specs.Runs.{IsNumber, IsProper, IsProperExpiry, IsProperFine, IsSmall, is_timer_name};
+ghost use Rattle.report.specs.Runs.{IsNumber, IsProper, IsProperFine, IsSmall, is_timer_name};
 ghost use Rattle.report.specs.internal.Reader.{HasBareEnds, IsCut, IsName, IsNoExpiry, IsNoName, IsNoNumber, IsNoPath, IsPath, IsReadAs, TellsExpiry, lacks};
 ghost use Rattle.ttcn_syntax.specs.Characters.{is_letter, is_word_byte};
 ghost use Rattle.std.specs.Prelude.{◌≡◌, IfOk, MatchOption, None, Some};
 
 use std::alloc::{AllocError, Global};
 use std::str;
-use step_labels::{Expiry, FineLabel, Label};
+use step_labels::{FineLabel, Label};
 use ttcn_syntax::{Name, Seq};
-use ttcn_values::Path;
+use value_types::Path;
 
 fn is_letter(byte: u8) -> bool
     ensures { result ≡ is_letter byte }
@@ -84,9 +84,21 @@ fn numbers_of(alloc: Global, text: &[u8]) -> Result<Option<Vec<u32>>, AllocError
     Ok(Some(numbers))
 }
 
-/// The expiry that a frame's number, a point and a timer's name tell.
-fn expiry_of(alloc: Global, text: &[u8]) -> Result<Option<Expiry>, AllocError>
-    ensures { IfOk result (λ expiry. MatchOption expiry (IsNoExpiry text.now) (TellsExpiry text.now)) }
+/// The path that has these numbers.
+fn path_with(alloc: Global, text: &[u8]) -> Result<Option<Path>, AllocError>
+    ensures { IfOk result (λ path. MatchOption path (IsNoPath text.now) (λ made. IsPath text.now made.numbers)) }
+{
+    let Some(numbers) = numbers_of(alloc, text)? else {
+        return Ok(None);
+    };
+    Ok(Some(Path {
+        numbers: Seq::from_vec(numbers),
+    }))
+}
+
+/// The frame and the timer of an expiry: the frame's number, a point and the timer's name.
+fn expiry_of(alloc: Global, text: &[u8]) -> Result<Option<(u32, Name)>, AllocError>
+    ensures { IfOk result (λ expiry. MatchOption expiry (IsNoExpiry text.now) (λ e. TellsExpiry text.now e.0 e.1)) }
 {
     let Some((frame, timer)) = cut_at(text, b'.') else {
         return Ok(None);
@@ -97,26 +109,7 @@ fn expiry_of(alloc: Global, text: &[u8]) -> Result<Option<Expiry>, AllocError>
     if !is_timer_name(timer) {
         return Ok(None);
     }
-    let timer = Name::new(alloc, timer)?;
-    Ok(Some(Expiry { frame, timer }))
-}
-
-/// The label of a component whose path has these numbers.
-fn label_with(
-    alloc: Global,
-    path: &[u8],
-    expiry: Option<Expiry>,
-) -> Result<Option<Label>, AllocError>
-    ensures { IfOk result (λ label. MatchOption label (IsNoPath path.now)
-        (λ made. IsPath path.now made.component × (made.expiry ≡ expiry))) }
-{
-    let Some(numbers) = numbers_of(alloc, path)? else {
-        return Ok(None);
-    };
-    Ok(Some(Label {
-        component: Seq::from_vec(numbers),
-        expiry,
-    }))
+    Ok(Some((frame, Name::new(alloc, timer)?)))
 }
 
 /// The label that is written so.
@@ -127,12 +120,19 @@ fn label_of(alloc: Global, text: &[u8]) -> Result<Option<Label>, AllocError>
         return Ok(None);
     };
     let Some((path, timer)) = cut_at(names, b'/') else {
-        return label_with(alloc, names, None);
+        return Ok(path_with(alloc, names)?.map(Label::Statement));
     };
-    let Some(expiry) = expiry_of(alloc, timer)? else {
+    let Some((frame, timer)) = expiry_of(alloc, timer)? else {
         return Ok(None);
     };
-    label_with(alloc, path, Some(expiry))
+    let Some(component) = path_with(alloc, path)? else {
+        return Ok(None);
+    };
+    Ok(Some(Label::Expiry {
+        component,
+        frame,
+        timer,
+    }))
 }
 
 /// The path of the component with this name.
@@ -142,12 +142,7 @@ fn path_of(alloc: Global, name: &[u8]) -> Result<Option<Path>, AllocError>
     let Some(numbers) = name.strip_prefix(b"mtc") else {
         return Ok(None);
     };
-    let Some(numbers) = numbers_of(alloc, numbers)? else {
-        return Ok(None);
-    };
-    Ok(Some(Path {
-        numbers: Seq::from_vec(numbers),
-    }))
+    path_with(alloc, numbers)
 }
 
 /// The label of a fine run that is written so.

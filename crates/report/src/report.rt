@@ -1,7 +1,6 @@
 //! What an exploration has found.
-use step_labels::Label;
+use step_labels::{Label, Standing};
 use ttcn_syntax::{Span, Verdict};
-use ttcn_values::Path;
 
 /// The report on a test case: how many configurations its runs of at most so many steps reach, whether there are no others,
 /// each verdict that a run ends with, each branch that is taken, and each component that stands still where no step is left.
@@ -14,6 +13,7 @@ pub struct Report {
     pub outcomes: Vec<Outcome>,
     /// The places of the branches that are taken.
     pub branches: Vec<Span>,
+    /// The components that are blocked, each with the place where it stands.
     pub blocked: Vec<Standing>,
 }
 
@@ -22,11 +22,4 @@ pub struct Report {
 pub struct Outcome {
     pub verdict: Verdict,
     pub run: Vec<Label>,
-}
-
-/// A component that is blocked, and the place of its first remaining statement.
-#[derive(Debug, Drop)]
-pub struct Standing {
-    pub component: Path,
-    pub place: Span,
 }

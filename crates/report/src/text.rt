@@ -5,10 +5,10 @@ ghost use Rattle.std.specs.Fmt.{DisplaysOnOk};
 ghost use Rattle.std.specs.List.{flat_map};
 ghost use Rattle.std.specs.Prelude.{◌≡◌, IfOk, Some, string_bytes};
 
-use crate::report::{Outcome, Report, Standing};
+use crate::report::{Outcome, Report};
 use std::alloc::{AllocError, Global};
 use std::fmt;
-use step_labels::{FineLabel, Label};
+use step_labels::{FineLabel, Label, Standing};
 use ttcn_syntax::{Name, Span, Verdict};
 
 /// A timer's name, whose bytes are shown as the characters of these codes.
@@ -30,6 +30,10 @@ pub struct FineText<'a>(pub &'a FineLabel);
 /// A place in a module's text: `14:1`, line and column.
 #[derive(Clone, Copy)]
 pub struct PlaceText(pub Span);
+
+/// A component that is blocked, and the place where it stands, as a line of a report.
+#[derive(Clone, Copy)]
+struct StandingText<'a>(&'a Standing);
 
 impl<'a> fmt::Display for NameText<'a> {
     ghost output = { λ shown. Some (name_text shown.0.now) };
@@ -59,11 +63,14 @@ impl<'a> fmt::Display for LabelText<'a> {
     ghost output = { λ shown. Some (label_text shown.0.now) };
 
     fn fmt<W: fmt::Write>(&self, f: &mut fmt::Formatter<W>) -> fmt::Result {
-        let path = PathText(self.0.component.as_slice());
-        match &self.0.expiry {
-            None => write!(f, "{path}"),
-            Some(expiry) => {
-                let (frame, timer) = (expiry.frame, NameText(&expiry.timer));
+        match self.0 {
+            Label::Statement(path) => write!(f, "{}", PathText(path.numbers.as_slice())),
+            Label::Expiry {
+                component,
+                frame,
+                timer,
+            } => {
+                let (path, timer) = (PathText(component.numbers.as_slice()), NameText(timer));
                 write!(f, "{path}/{frame}.{timer}")
             }
         }
@@ -124,13 +131,13 @@ impl fmt::Display for Outcome {
     }
 }
 
-impl fmt::Display for Standing {
-    ghost output = { λ standing. Some (blocked_line standing) };
+impl<'a> fmt::Display for StandingText<'a> {
+    ghost output = { λ shown. Some (blocked_line shown.0.now) };
 
     fn fmt<W: fmt::Write>(&self, f: &mut fmt::Formatter<W>) -> fmt::Result {
         let (component, place) = (
-            PathText(self.component.numbers.as_slice()),
-            PlaceText(self.place),
+            PathText(self.0.component.numbers.as_slice()),
+            PlaceText(self.0.place),
         );
         writeln!(f, "blocked {component} {place}")
     }
@@ -173,6 +180,7 @@ impl Report {
         ensures { DisplaysOnOk W.write_str_gives f.old result (Some (flat_map blocked_line self.now.blocked.items)) f.new }
     {
         for standing in &self.blocked {
+            let standing = StandingText(standing);
             write!(f, "{standing}")?;
         }
         Ok(())

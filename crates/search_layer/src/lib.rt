@@ -13,4 +13,4 @@ pub use leftovers::Leftovers;
 pub use plan::{ExploreError, Gate, NoGate, Plan};
 pub use showing::show_states;
 pub use visited::{Candidate, Step, Visited};
-pub use workers::find_first;
+pub use workers::{Firsts, find_first};

@@ -8,7 +8,7 @@ mod turns;
 
 use crate::plan::Gate;
 use crate::visited::Candidate;
-pub use layer::find_first;
+pub use layer::{Firsts, find_first};
 use search_shards::ShardedSet;
 use shared::{Board, BoardSeat, Seen, SeenSeat};
 use std::alloc::AllocError;

@@ -29,18 +29,18 @@ use Rattle.semantics.specs.Items.{Doing, Item, Mark, Name, Waiting, Whole, actio
 use Rattle.semantics.specs.Runs.{first_snapshot, mtc_with, start, started, testcase_body}
 use Rattle.semantics.specs.Sites.{Site, beginning, scope_at}
 use Rattle.semantics.specs.Snapshots.{Snapshot, Test, is_terminated_in, last_view, mtc_of, reading_in}
-use Rattle.semantics.specs.Statements.{Connects, Creates, Sends, Waits, act_choice, act_initial, act_name, act_port, act_variable, ask_connection, component_meant_at, continuing, created, declared, declared_target, done, may_connect, sent_to, sent_type, sent_value, with_child, acting, most, Continues, Errs, Stand, Worsens, act, act_alt_or, act_whole, choose_from, judge_at}
+use Rattle.semantics.specs.Statements.{Connects, Continues, Creates, Errs, Requests, Sends, Stand, Waits, Worsens, act, act_alt_or, act_choice, act_initial, act_name, act_port, act_variable, act_whole, acting, ask_connection, choose_from, component_meant_at, continuing, created, declared, declared_target, done, judge_at, may_connect, most, sent_to, sent_type, sent_value, with_child}
 use Rattle.semantics.specs.Steps.{Expiry, Statement as OfStatement, apply, settled, step}
 use Rattle.semantics.specs.Storing.{forget, store, with_calls, with_remaining, with_timers, with_values}
 use Rattle.semantics.specs.Taking.{from_mark, repeat_in, repeated, uncovered}
-use Rattle.ttcn_values.specs.Frames.{is_running}
-use Rattle.ttcn_values.specs.Outcomes.{DynamicError, Unmet, Yields, dynamic_error, or_unmet, outcome_and_then, outcome_map}
-use Rattle.ttcn_values.specs.Readings.{component_referred}
-use Rattle.ttcn_values.specs.declared.frame.TimerState.{TimerState}
-use Rattle.ttcn_values.specs.declared.frame.TimerState.TheVariants as timer
-use Rattle.ttcn_values.specs.declared.value.ComponentId.{ComponentId}
-use Rattle.ttcn_values.specs.declared.value.Value.{Value}
-use Rattle.ttcn_values.specs.declared.value.Value.TheVariants as value
+use Rattle.value_types.specs.Frames.{is_running}
+use Rattle.value_types.specs.Outcomes.{DynamicError, Unmet, Yields, dynamic_error, or_unmet, outcome_and_then, outcome_map}
+use Rattle.value_types.specs.Readings.{component_referred}
+use Rattle.value_types.specs.declared.frame.TimerState.{TimerState}
+use Rattle.value_types.specs.declared.frame.TimerState.TheVariants as timer
+use Rattle.value_types.specs.declared.value.ComponentId.{ComponentId}
+use Rattle.value_types.specs.declared.value.Value.{Value}
+use Rattle.value_types.specs.declared.value.Value.TheVariants as value
 
 -- ---- marks
 
@@ -62,13 +62,13 @@ no-mark (Waiting target ∷ items) none = no-mark items none
 module _ (test : Test) (snapshot : Snapshot) (own : Data) (frame : Frame) (below : List Frame) where
   -- `setverdict(v)`: the verdict gets no better, and the statement is done
   sets_verdict-holds : (site : Site) (s : Statement) (rest : List Item) (v : Verdict) (reasons : List LogItem) → action_of s ≡ Action-F.Setverdict v reasons
-      → act test snapshot (with_last own frame below (Doing site s Whole ∷ rest)) ≡ Worsens v (with_last own frame below rest)
+      → act test snapshot (with_last own frame below (Doing site s Whole ∷ rest)) ≡ Requests (Worsens v) (with_last own frame below rest)
   sets_verdict-holds site s rest v reasons is =
       ap (act_whole (record { test = test; snapshot = snapshot; own = with_last own frame below (Doing site s Whole ∷ rest); frame = with_remaining (Doing site s Whole ∷ rest) frame; below = below; rest = rest }) site s) is
 
   -- `repeat` in the block of a branch: what stands in front of the mark is skipped, and the `alt` is put back
   repeats-holds : (site inner : Site) (s r : Statement) (between rest : List Item) → action_of r ≡ Action-F.Repeat → HasNoMark between
-      → act test snapshot (with_last own frame below (Doing inner r Whole ∷ (between ++ Mark site s ∷ rest))) ≡ Continues (with_last own frame below (Doing site s Whole ∷ rest))
+      → act test snapshot (with_last own frame below (Doing inner r Whole ∷ (between ++ Mark site s ∷ rest))) ≡ Requests Continues (with_last own frame below (Doing site s Whole ∷ rest))
   repeats-holds site inner s r between rest is none =
       let remaining : List Item = Doing inner r Whole ∷ (between ++ Mark site s ∷ rest) in
       let held : Data = with_last own frame below remaining in
@@ -78,13 +78,13 @@ module _ (test : Test) (snapshot : Snapshot) (own : Data) (frame : Frame) (below
   -- `repeat` and one more statement, in an `alt` in the block of a branch of another `alt`
   repeats_inner-holds : (site inner outer : Site) (s r other around : Statement) (rest : List Item) → action_of r ≡ Action-F.Repeat
       → act test snapshot (with_last own frame below (Doing inner r Whole ∷ Doing inner other Whole ∷ Mark site s ∷ Mark outer around ∷ rest))
-      ≡ Continues (with_last own frame below (Doing site s Whole ∷ Mark outer around ∷ rest))
+      ≡ Requests Continues (with_last own frame below (Doing site s Whole ∷ Mark outer around ∷ rest))
   repeats_inner-holds site inner outer s r other around rest is = repeats-holds site inner s r (Doing inner other Whole ∷ []) (Mark outer around ∷ rest) is refl
 
   -- a branch with `else`: its block, and the mark behind it
   takes_else-holds : (site : Site) (s : Statement) (rest : List Item) (b : Branch) (block : List Statement)
       → action_of s ≡ Action-F.Alt (b ∷ []) → out-Alternative (out-Branch b).alternative ≡ Alternative-F.Else block → nat_lt (length (frame ∷ below)) most ≡ true
-      → act test snapshot (with_last own frame below (Doing site s Whole ∷ rest)) ≡ Continues (with_last own frame below (items test.definitions site block ++ Mark site s ∷ rest))
+      → act test snapshot (with_last own frame below (Doing site s Whole ∷ rest)) ≡ Requests Continues (with_last own frame below (items test.definitions site block ++ Mark site s ∷ rest))
   takes_else-holds site s rest b block is alternative few =
       let here : Stand = record { test = test; snapshot = snapshot; own = with_last own frame below (Doing site s Whole ∷ rest); frame = with_remaining (Doing site s Whole ∷ rest) frame; below = below; rest = rest } in
       ap (act_whole here site s) is
@@ -97,7 +97,7 @@ module _ (test : Test) (snapshot : Snapshot) (own : Data) (frame : Frame) (below
       → action_of s ≡ Action-F.Alt [] → own.defaults ≡ d ∷ [] → branches_of (kind_at test.definitions d.altstep) ≡ b ∷ [] → out-Alternative (out-Branch b).alternative ≡ Alternative-F.Else block
       → nat_lt (length (frame ∷ frame ∷ below)) most ≡ true
       → act test snapshot (with_last own frame below (Doing site s Whole ∷ rest))
-      ≡ Continues (with_calls (frame_with test.definitions d.altstep d.arguments (items test.definitions (beginning d.altstep) block) ∷ with_remaining (Mark site s ∷ rest) frame ∷ below) own)
+      ≡ Requests Continues (with_calls (frame_with test.definitions d.altstep d.arguments (items test.definitions (beginning d.altstep) block) ∷ with_remaining (Mark site s ∷ rest) frame ∷ below) own)
   takes_default-holds site s rest d b block is one branches alternative few =
       let here : Stand = record { test = test; snapshot = snapshot; own = with_last own frame below (Doing site s Whole ∷ rest); frame = with_remaining (Doing site s Whole ∷ rest) frame; below = below; rest = rest } in
       let held : Data = with_last own frame below (Doing site s Whole ∷ rest) in
@@ -111,7 +111,7 @@ module _ (test : Test) (snapshot : Snapshot) (own : Data) (frame : Frame) (below
   -- `repeat` in the block of an altstep's branch: the altstep's frame goes, and the `alt` is put back in the frame that has its mark
   repeats_outside-holds : (site inner : Site) (s r : Statement) (behind between rest : List Item) (outer : Frame) → action_of r ≡ Action-F.Repeat → HasNoMark behind → HasNoMark between
       → act test snapshot (with_calls (with_remaining (Doing inner r Whole ∷ behind) frame ∷ with_remaining (between ++ Mark site s ∷ rest) outer ∷ below) own)
-      ≡ Continues (with_calls (with_remaining (Doing site s Whole ∷ rest) outer ∷ below) own)
+      ≡ Requests Continues (with_calls (with_remaining (Doing site s Whole ∷ rest) outer ∷ below) own)
   repeats_outside-holds site inner s r behind between rest outer is none_behind none =
       let above : Frame = with_remaining (Doing inner r Whole ∷ behind) frame in
       let under : Frame = with_remaining (between ++ Mark site s ∷ rest) outer in
@@ -124,7 +124,7 @@ module _ (test : Test) (snapshot : Snapshot) (own : Data) (frame : Frame) (below
   takes_done-holds : (site : Site) (s : Statement) (rest : List Item) (reference : ComponentRef) (c : ComponentId) → action_of s ≡ Action-F.«Action::Event» (event.Done reference)
       → component_referred (reading_in test snapshot own site (last_view snapshot frame)) reference ≡ Yields c → is_terminated_in snapshot c.path ≡ true
       → nat_lt (length (frame ∷ below)) most ≡ true
-      → act test snapshot (with_last own frame below (Doing site s Whole ∷ rest)) ≡ Continues (with_last own frame below (Mark site s ∷ rest))
+      → act test snapshot (with_last own frame below (Doing site s Whole ∷ rest)) ≡ Requests Continues (with_last own frame below (Mark site s ∷ rest))
   takes_done-holds site s rest reference c is means over few =
       let held : Data = with_last own frame below (Doing site s Whole ∷ rest) in
       let here : Stand = record { test = test; snapshot = snapshot; own = held; frame = with_remaining (Doing site s Whole ∷ rest) frame; below = below; rest = rest } in
@@ -156,7 +156,7 @@ module _ (test : Test) (snapshot : Snapshot) (own : Data) (frame : Frame) (below
       → component_meant (module_names test.definitions name) ≡ Some at → nat_lt own.children most ≡ true
       → members_of (kind_at test.definitions at) ≡ member.Ports port_type ports ∷ []
       → act test snapshot (with_last own frame below (Doing site s (Name 0) ∷ rest))
-      ≡ Creates (new_component test (record { path = child_of snapshot.itself own.children; component_type = at }) empty_frame)
+      ≡ Requests (Creates (new_component test (record { path = child_of snapshot.itself own.children; component_type = at }) empty_frame))
       (with_child (with_calls (with_values (put v.name (value.Component (record { path = child_of snapshot.itself own.children; component_type = at })) (without v.name frame.values))
       (with_timers (without v.name frame.timers) (with_remaining rest frame)) ∷ below) own))
   creates-holds site s rest vs v name port_type ports at is first right means few members =
@@ -168,8 +168,8 @@ module _ (test : Test) (snapshot : Snapshot) (own : Data) (frame : Frame) (below
       ∙ ap (act_variable here site of) first
       ∙ ap (act_initial here site of v.name) right
       ∙ ap (created here (declared_target v.name) held) means
-      ∙ ap (λ allowed. acting (λ found. acting (λ changed. Creates (new_component test new found) (with_child changed)) (store test (declared_target v.name) (value.Component new) held)) (if allowed then new_members test new snapshot else dynamic_error)) few
-      ∙ ap (λ ms. acting (λ found. acting (λ changed. Creates (new_component test new found) (with_child changed)) (store test (declared_target v.name) (value.Component new) held)) (declared_in_turn (declared_member test new snapshot) ms empty_frame)) members
+      ∙ ap (λ allowed. acting (λ found. acting (λ changed. Requests (Creates (new_component test new found)) (with_child changed)) (store test (declared_target v.name) (value.Component new) held)) (if allowed then new_members test new snapshot else dynamic_error)) few
+      ∙ ap (λ ms. acting (λ found. acting (λ changed. Requests (Creates (new_component test new found)) (with_child changed)) (store test (declared_target v.name) (value.Component new) held)) (declared_in_turn (declared_member test new snapshot) ms empty_frame)) members
 
 -- the start of a test case on a component type with nothing but ports: the MTC runs, with the body as frame 1
 starts-holds : (test : Test) (t : Testcase) (port_type : List ℕ) (ports : List (List ℕ)) → kind_at test.definitions test.testcase ≡ Some (kind.Testcase t)
@@ -203,9 +203,9 @@ module _ (test : Test) (of : ℕ) (own other : Data) (frame : Frame) (below : Li
       let here : Stand = mtc_stand test now of own frame below (Doing site s Whole) rest in
       let itself : ComponentId = record { path = mtc_path; component_type = of } in
       ap (λ does. apply test now itself (act_whole here site s does)) is
-      ∙ ap (λ found. apply test now itself (acting (λ u. acting (λ whom. Sends send.port whom u (done here)) (sent_to here site send.to)) found)) sent
-      ∙ ap (λ whom. apply test now itself (acting (λ found. Sends send.port found v (done here)) (sent_to here site whom))) to
-      ∙ ap (λ name. apply test now itself (Sends name None v (done here))) port
+      ∙ ap (λ found. apply test now itself (acting (λ u. acting (λ whom. Requests (Sends send.port whom u) (done here)) (sent_to here site send.to)) found)) sent
+      ∙ ap (λ whom. apply test now itself (acting (λ found. Requests (Sends send.port found v) (done here)) (sent_to here site whom))) to
+      ∙ ap (λ name. apply test now itself (Requests (Sends name None v) (done here))) port
 
   -- `connect(c:p, self:p)` on the MTC: the ports are connected
   connects_ports-holds : (one two : PortRef) → action_of s ≡ Action-F.Connect one two → one.port ≡ port_name → two.port ≡ port_name
@@ -226,7 +226,7 @@ module _ (test : Test) (of : ℕ) (own other : Data) (frame : Frame) (below : Li
       ∙ ap (λ c. apply test now itself (acting (λ e. ask_connection here child one.port e two.port) c)) other_means
       ∙ ap (λ name. apply test now itself (ask_connection here child name itself two.port)) port
       ∙ ap (λ name. apply test now itself (ask_connection here child port_name itself name)) other_port
-      ∙ ap (λ may. apply test now itself (if may then Connects (record { component = child_path; port = port_name }) (record { component = mtc_path; port = port_name }) (done here) else Errs DynamicError)) allowed
+      ∙ ap (λ may. apply test now itself (if may then Requests (Connects (record { component = child_path; port = port_name }) (record { component = mtc_path; port = port_name })) (done here) else Errs DynamicError)) allowed
 
 -- the expiry of a timer that runs in frame 1, where frame 2 is the last
 expires-holds : (test : Test) (of : ℕ) (own other : Data) (last first : Frame) (waiting : List Message) (connections : List Connection)

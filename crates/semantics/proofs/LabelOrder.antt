@@ -15,8 +15,8 @@ use Rattle.semantics.specs.Labels.{call_expiries, expiries, expiry_cmp, frame_ex
 use Rattle.semantics.specs.Order.{HasTimersInOrder, IsOrdered, IsOrderedWithin}
 use Rattle.semantics.specs.Snapshots.{Test}
 use Rattle.semantics.specs.Steps.{Expiry, Label, Statement, statement_step}
-use Rattle.ttcn_values.specs.Frames.{is_running}
-use Rattle.ttcn_values.specs.declared.path.Path.{Path}
+use Rattle.value_types.specs.Frames.{is_running}
+use Rattle.value_types.specs.declared.path.Path.{Path}
 
 -- ---- orders
 

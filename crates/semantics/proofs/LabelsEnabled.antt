@@ -17,11 +17,11 @@ use Rattle.semantics.specs.Snapshots.{Test, snapshot_of}
 use Rattle.semantics.specs.Statements.{act}
 use Rattle.semantics.specs.Storing.{with_calls, with_members, with_timers}
 use Rattle.semantics.specs.Steps.{Expiry, Label, Statement, apply, exchanged, expire_in, touch, expired, expired_call, expired_frame, expiry_step, statement_step, step, step_in}
-use Rattle.ttcn_values.specs.Frames.{entry, is_running}
-use Rattle.ttcn_values.specs.Outcomes.{Yields}
-use Rattle.ttcn_values.specs.declared.frame.TimerState.{TimerState}
-use Rattle.ttcn_values.specs.declared.frame.TimerState.TheVariants as timer
-use Rattle.ttcn_values.specs.declared.path.Path.{Path}
+use Rattle.value_types.specs.Frames.{entry, is_running}
+use Rattle.value_types.specs.Outcomes.{Yields}
+use Rattle.value_types.specs.declared.frame.TimerState.{TimerState}
+use Rattle.value_types.specs.declared.frame.TimerState.TheVariants as timer
+use Rattle.value_types.specs.declared.path.Path.{Path}
 
 -- ---- finding by names
 

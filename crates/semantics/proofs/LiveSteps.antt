@@ -9,7 +9,7 @@ use Rattle.semantics.proofs.Verdicts.{none_worse, worse_associates, worse_commut
 use Rattle.semantics.specs.Configurations.{Component, Connection, Going, component_at, is_terminated_state, path_of, path_cmp, same_path, worse}
 use Rattle.semantics.specs.LiveParts.{forget_verdict, husk, is_live, live_component, live_going}
 use Rattle.semantics.specs.Steps.{add_connection, connection_cmp, insert, is_before, is_terminated_component, touch, unless_terminated, with_connection, with_new}
-use Rattle.ttcn_values.specs.declared.path.Path.{Path}
+use Rattle.value_types.specs.declared.path.Path.{Path}
 
 -- ---- components
 

@@ -12,12 +12,12 @@ use Rattle.semantics.specs.LiveParts.{forget_verdict, is_live, live_component, l
 use Rattle.semantics.specs.Places.{blocked, branch_in, branch_of, branch_of_component, if_none, place_in_frames, place_of, place_of_frames, standings, unless_fault, with_place}
 use Rattle.semantics.specs.Runs.{mark_of}
 use Rattle.semantics.specs.Snapshots.{Test, mtc_of, snapshot_of}
-use Rattle.semantics.specs.Statements.{Act, Connects, Continues, Creates, Errs, Removes, Sends, Starts, Stops, Waits, Worsens, act, same_end}
-use Rattle.semantics.specs.Steps.{Expiry, Label, Statement, addressed, apply, at_queue, begin, connect, connection, deliver, ending, exchanged, expired, expiry_step, if_running, is_double, is_terminated_at, is_terminated_component, next, opposite, peers, send, settle, settled, start_component, start_created, start_in, statement_step, step, step_in, touch, with_connection, with_data, with_new, with_state, with_verdict, without_first}
-use Rattle.ttcn_values.specs.Outcomes.{Fails, Outcome, Yields, dynamic_error, outcome_map}
-use Rattle.ttcn_values.specs.declared.path.Path.{Path}
-use Rattle.ttcn_values.specs.declared.value.ComponentId.{ComponentId}
-use Rattle.ttcn_values.specs.declared.value.Value.{Value}
+use Rattle.semantics.specs.Statements.{Act, Connects, Continues, Creates, Errs, Removes, Request, Requests, Sends, Starts, Stops, Waits, Worsens, act, same_end}
+use Rattle.semantics.specs.Steps.{Expiry, Label, Statement, addressed, apply, at_queue, begin, connect, connection, deliver, ending, exchanged, expired, expiry_step, if_running, is_double, is_terminated_at, is_terminated_component, next, opposite, peers, perform, send, settle, settled, start_component, start_created, start_in, statement_step, step, step_in, touch, with_connection, with_data, with_new, with_state, with_verdict, without_first}
+use Rattle.value_types.specs.Outcomes.{Fails, Outcome, Yields, dynamic_error, outcome_map}
+use Rattle.value_types.specs.declared.path.Path.{Path}
+use Rattle.value_types.specs.declared.value.ComponentId.{ComponentId}
+use Rattle.value_types.specs.declared.value.Value.{Value}
 
 -- ---- connections of components that aren't terminated
 
@@ -215,24 +215,25 @@ unfolding pick
 settle-over c p own q =
     found-over (pick (with_data own) p) (λ x. x) (settle-path p own) (settle-state p own) q c.components ∙ ap (λ xs. over_in xs q) (map-same c.components)
 
+perform-live : (test : Test) (c d : Going) → Alike c d → (itself : ComponentId) → is_terminated_at c itself.path ≡ false → (request : Request)
+    → live_outcome (perform test c itself request) ≡ live_outcome (perform test d itself request)
+perform-live test c d same itself alive Continues = ap (λ x. Yields (Goes x)) same
+perform-live test c d same itself alive (Worsens v) = ap (λ x. Yields (Goes x)) (alike (λ x. touch x itself.path (with_verdict v)) (keeps_touch (with_verdict v) (λ x. refl) itself.path) c d same)
+perform-live test c d same itself alive (Removes port) =
+    ap (λ x. Yields (Goes x)) (alike (λ x. touch x itself.path (at_queue port without_first)) (keeps_touch (at_queue port without_first) (λ x. refl) itself.path) c d same)
+perform-live test c d same itself alive (Sends port to v) = send-alike c d same itself alive port to v
+perform-live test c d same itself alive (Creates new) = ap (λ x. Yields (Goes x)) (alike (with_new new) (keeps_new new) c d same)
+perform-live test c d same itself alive (Starts path frame) = start-alike c d same path frame
+perform-live test c d same itself alive (Stops path) = ap Yields (stop-told (same_path path (mtc_of test).path) c d same path)
+perform-live test c d same itself alive (Connects one other) = connect-alike c d same one other
+
 apply-live : (test : Test) (c : Going) (itself : ComponentId) → is_terminated_at c itself.path ≡ false → (a : Act)
     → option_map live_outcome (apply test (live_going c) itself a) ≡ option_map live_outcome (apply test c itself a)
 apply-live test c itself alive Waits = refl
 apply-live test c itself alive (Errs why) = refl
-apply-live test c itself alive (Continues own) = ap (λ x. Some (Yields (Goes x))) (settle-alike c itself.path own)
-apply-live test c itself alive (Worsens v own) =
-    ap (λ x. Some (Yields (Goes x))) (alike (λ x. touch x itself.path (with_verdict v)) (keeps_touch (with_verdict v) (λ x. refl) itself.path) (settle (live_going c) itself.path own) (settle c itself.path own) (settle-alike c itself.path own))
-apply-live test c itself alive (Removes port own) =
-    ap (λ x. Some (Yields (Goes x))) (alike (λ x. touch x itself.path (at_queue port without_first)) (keeps_touch (at_queue port without_first) (λ x. refl) itself.path) (settle (live_going c) itself.path own) (settle c itself.path own) (settle-alike c itself.path own))
-apply-live test c itself alive (Sends port to v own) =
-    ap Some (send-alike (settle (live_going c) itself.path own) (settle c itself.path own) (settle-alike c itself.path own) itself
-    (settle-over (live_going c) itself.path own itself.path ∙ over-live c itself.path ∙ alive) port to v)
-apply-live test c itself alive (Creates new own) =
-    ap (λ x. Some (Yields (Goes x))) (alike (with_new new) (keeps_new new) (settle (live_going c) itself.path own) (settle c itself.path own) (settle-alike c itself.path own))
-apply-live test c itself alive (Starts path frame own) = ap Some (start-alike (settle (live_going c) itself.path own) (settle c itself.path own) (settle-alike c itself.path own) path frame)
-apply-live test c itself alive (Stops path own) =
-    ap (λ x. Some (Yields x)) (stop-told (same_path path (mtc_of test).path) (settle (live_going c) itself.path own) (settle c itself.path own) (settle-alike c itself.path own) path)
-apply-live test c itself alive (Connects d e own) = ap Some (connect-alike (settle (live_going c) itself.path own) (settle c itself.path own) (settle-alike c itself.path own) d e)
+apply-live test c itself alive (Requests request own) =
+    ap Some (perform-live test (settle (live_going c) itself.path own) (settle c itself.path own) (settle-alike c itself.path own) itself
+    (settle-over (live_going c) itself.path own itself.path ∙ over-live c itself.path ∙ alive) request)
 
 -- ---- snapshots
 
@@ -318,14 +319,7 @@ waits _ = false
 apply-some : (test : Test) (c d : Going) (itself : ComponentId) (a : Act) → is_some (apply test c itself a) ≡ is_some (apply test d itself a)
 apply-some test c d itself Waits = refl
 apply-some test c d itself (Errs why) = refl
-apply-some test c d itself (Continues own) = refl
-apply-some test c d itself (Worsens v own) = refl
-apply-some test c d itself (Removes port own) = refl
-apply-some test c d itself (Sends port to v own) = refl
-apply-some test c d itself (Creates new own) = refl
-apply-some test c d itself (Starts path frame own) = refl
-apply-some test c d itself (Stops path own) = refl
-apply-some test c d itself (Connects e f own) = refl
+apply-some test c d itself (Requests request own) = refl
 
 running-some : {A : Type 0} (b : Bool) (o p : Option A) → is_some o ≡ is_some p → is_some (if b then o else None) ≡ is_some (if b then p else None)
 running-some true o p e = e

@@ -16,19 +16,19 @@ use Rattle.ttcn_syntax.specs.declared.tree.statement.Conditional.{Conditional}
 use Rattle.ttcn_syntax.specs.declared.tree.statement.Event.{Event}
 use Rattle.ttcn_syntax.specs.declared.tree.statement.Statement.{Statement}
 use Rattle.ttcn_syntax.specs.declared.tree.value.Call.{Call}
-use Rattle.check_expressions.specs.Calls.{altstep_meant, parameters_of}
+use Rattle.check_rules.specs.Calls.{altstep_meant, parameters_of}
 use Rattle.check_scope.specs.Names.{kind_at, module_names}
 use Rattle.semantics.specs.Configurations.{ActiveDefault, Data, Frame}
 use Rattle.semantics.specs.Entries.{Entries, put}
 use Rattle.semantics.specs.Items.{Does, Item, items, items_if_any}
 use Rattle.semantics.specs.Sites.{Site, beginning}
 use Rattle.semantics.specs.Snapshots.{Snapshot, Test, View, reading_in, view_of_arguments}
-use Rattle.ttcn_types.specs.Limits.{longest_chain}
-use Rattle.ttcn_values.specs.Evaluation.{condition_of}
-use Rattle.ttcn_values.specs.Outcomes.{Failure, Outcome, Fails, Unmet, Yields}
-use Rattle.ttcn_values.specs.Readings.{Reading}
-use Rattle.ttcn_values.specs.Templates.{arguments}
-use Rattle.ttcn_values.specs.declared.value.Value.{Value}
+use Rattle.check_rules.specs.Limits.{longest_chain}
+use Rattle.value_types.specs.Evaluation.{condition_of}
+use Rattle.value_types.specs.Outcomes.{Failure, Outcome, Fails, Unmet, Yields}
+use Rattle.value_types.specs.Readings.{Reading}
+use Rattle.value_types.specs.Templates.{arguments}
+use Rattle.value_types.specs.declared.value.Value.{Value}
 
 -- what is done when a branch is taken: the block that comes to stand where the branch was judged, and the frames of the altsteps that lead to the branch, the innermost first
 pub record Way : Type 0 where

@@ -6,12 +6,13 @@ use Rattle.std.specs.declared.cmp.Ordering.{Ordering}
 use Rattle.std.specs.declared.cmp.Ordering.TheVariants.{Less, Greater}
 use Rattle.ttcn_syntax.specs.declared.tree.statement.Verdict.{Verdict}
 use Rattle.ttcn_syntax.specs.declared.tree.statement.Verdict.TheVariants as verdict
-use Rattle.semantics.specs.Entries.{Entries, name_cmp}
+use Rattle.semantics.specs.Entries.{Entries, Identifier, name_cmp}
 use Rattle.semantics.specs.Items.{Item}
-use Rattle.ttcn_values.specs.declared.frame.TimerState.{TimerState}
-use Rattle.ttcn_values.specs.declared.path.Path.{Path}
-use Rattle.ttcn_values.specs.declared.value.ComponentId.{ComponentId}
-use Rattle.ttcn_values.specs.declared.value.Value.{Value}
+pub use Rattle.step_labels.specs.Names.{path_cmp}
+use Rattle.value_types.specs.declared.frame.TimerState.{TimerState}
+use Rattle.value_types.specs.declared.path.Path.{Path}
+use Rattle.value_types.specs.declared.value.ComponentId.{ComponentId}
+use Rattle.value_types.specs.declared.value.Value.{Value}
 
 -- ---- verdicts
 
@@ -78,7 +79,7 @@ pub record Message : Type 0 where
 
 -- a port with the messages that wait at it, the one that came first in front
 abbrev pub Queue : Type 0
-Queue = List ℕ × List Message
+Queue = Identifier × List Message
 
 -- a component: its path and type, its own data, its state, its verdict, and the messages that wait at its ports
 pub record Component : Type 0 where
@@ -99,16 +100,12 @@ path_of component = component.itself.path
 -- a component's port
 pub record End : Type 0 where
   pub component : Path
-  pub port : List ℕ
+  pub port : Identifier
 
 -- two ports that are connected, the lesser one first
 pub record Connection : Type 0 where
   pub one : End
   pub other : End
-
--- paths in their order: number by number, a beginning before its extensions
-abbrev pub path_cmp : Path → Path → Ordering
-path_cmp p q = name_cmp p.numbers q.numbers
 
 -- two paths are equal, number by number
 abbrev pub same_path : Path → Path → Bool

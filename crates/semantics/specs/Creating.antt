@@ -9,20 +9,21 @@ use Rattle.ttcn_syntax.specs.declared.tree.value.Value.{Value}
 use Rattle.check_scope.specs.Names.{kind_at, members_of, module_names, resolved}
 use Rattle.check_scope.specs.declared.types.DataType.{DataType}
 use Rattle.semantics.specs.Configurations.{Component, Created, Data, Frame, Queue}
+use Rattle.semantics.specs.Entries.{Identifier}
 use Rattle.semantics.specs.Snapshots.{Snapshot, Test, facts_of}
 use Rattle.semantics.specs.Storing.{declare, declare_timer, forget}
-use Rattle.ttcn_types.specs.Limits.{longest_chain}
-use Rattle.ttcn_values.specs.Chains.{within_chains}
-use Rattle.ttcn_values.specs.Literals.{value_wanted}
-use Rattle.ttcn_values.specs.Outcomes.{Outcome, Yields, outcome_and_then, outcome_map}
-use Rattle.ttcn_values.specs.Readings.{Reading}
-use Rattle.ttcn_values.specs.declared.path.Path.{Path}
-use Rattle.ttcn_values.specs.declared.value.ComponentId.{ComponentId}
+use Rattle.check_rules.specs.Limits.{longest_chain}
+use Rattle.value_types.specs.Chains.{within_chains}
+use Rattle.value_types.specs.Literals.{value_wanted}
+use Rattle.value_types.specs.Outcomes.{Outcome, Yields, outcome_and_then, outcome_map}
+use Rattle.value_types.specs.Readings.{Reading}
+use Rattle.value_types.specs.declared.path.Path.{Path}
+use Rattle.value_types.specs.declared.value.ComponentId.{ComponentId}
 
 -- ---- ports
 
 -- the names of the ports that a member of a component type declares
-abbrev pub ports_of : Member → List (List ℕ)
+abbrev pub ports_of : Member → List Identifier
 ports_of (member.Ports port_type ports) = ports
 ports_of (member.Constants cs) = []
 ports_of (member.Variables of variables) = []
@@ -49,12 +50,12 @@ declared_in_turn declared [] frame = Yields frame
 declared_in_turn declared (a ∷ others) frame = outcome_and_then (declared_in_turn declared others) (declared frame a)
 
 -- a name with its value of a type
-abbrev pub declared_with : Test → ComponentId → Snapshot → Option DataType → Frame → List ℕ → Value → Outcome Frame
+abbrev pub declared_with : Test → ComponentId → Snapshot → Option DataType → Frame → Identifier → Value → Outcome Frame
 declared_with test itself snapshot of frame name v =
     outcome_map (λ found. declare name found frame) (value_wanted v (reading_of_members test itself snapshot frame) of)
 
 -- a frame behind the declaration of a variable of a type: the name has no value where none is given
-abbrev pub declared_variable : Test → ComponentId → Snapshot → Option DataType → Frame → List ℕ → Option Value → Outcome Frame
+abbrev pub declared_variable : Test → ComponentId → Snapshot → Option DataType → Frame → Identifier → Option Value → Outcome Frame
 declared_variable test itself snapshot of frame name None = Yields (forget name frame)
 declared_variable test itself snapshot of frame name (Some v) = declared_with test itself snapshot of frame name v
 

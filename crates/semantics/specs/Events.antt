@@ -1,5 +1,5 @@
 -- Whether an event has happened in a snapshot, and what taking its branch does (ES 201 873-1, 20.2, 21.3, 22.2 and 23).
-use Rattle.std.specs.Prelude.{ℕ, Bool, true, false, not, List, [], ◌∷◌, ◌++◌, Option, Some, None, bytes_eq, if◌then◌else◌}
+use Rattle.std.specs.Prelude.{Bool, true, false, not, List, [], ◌∷◌, ◌++◌, Option, Some, None, bytes_eq, if◌then◌else◌}
 use Rattle.std.specs.List.{find}
 use Rattle.ttcn_syntax.specs.declared.tree.expression.ComponentRef.{ComponentRef}
 use Rattle.ttcn_syntax.specs.declared.tree.expression.Reference.{Reference}
@@ -9,27 +9,28 @@ use Rattle.ttcn_syntax.specs.declared.tree.statement.PortSelector.{PortSelector}
 use Rattle.ttcn_syntax.specs.declared.tree.statement.PortSelector.TheVariants as selector
 use Rattle.ttcn_syntax.specs.declared.tree.statement.Receive.{Receive}
 use Rattle.ttcn_syntax.specs.declared.tree.template.MessageTemplate.{MessageTemplate}
-use Rattle.check_expressions.specs.Targets.{target_at}
+use Rattle.check_rules.specs.Targets.{target_at}
 use Rattle.check_scope.specs.Names.{Scope}
 use Rattle.check_scope.specs.Typings.{same_type}
 use Rattle.check_scope.specs.declared.types.DataType.{DataType}
 use Rattle.check_scope.specs.declared.types.DataType.TheVariants as type
-use Rattle.check_statements.specs.Messages.{incoming, received_type}
+use Rattle.check_rules.specs.Messages.{incoming, received_type}
 use Rattle.semantics.specs.Branches.{Chance, Judge, Written, Fault, Open, read_by}
 use Rattle.semantics.specs.Configurations.{Data, Message, same_path}
+use Rattle.semantics.specs.Entries.{Identifier}
 use Rattle.semantics.specs.Sites.{Site, scope_at}
 use Rattle.semantics.specs.Snapshots.{Snapshot, Test, is_terminated_in, members_in, mtc_of, others_run, seen_members}
-use Rattle.ttcn_values.specs.Frames.{seen_entry}
-use Rattle.ttcn_values.specs.Matching.{is_match}
-use Rattle.ttcn_values.specs.Outcomes.{DynamicError, Fails, Failure, Outcome, Unmet, Yields, dynamic_error, outcome_and_then, outcome_map, unmet}
-use Rattle.ttcn_values.specs.Readings.{Reading, component_at, component_referred}
-use Rattle.ttcn_values.specs.Templates.{template_wanted}
-use Rattle.ttcn_values.specs.declared.frame.TimerState.{TimerState}
-use Rattle.ttcn_values.specs.declared.frame.TimerState.TheVariants as timer
-use Rattle.ttcn_values.specs.declared.value.ComponentId.{ComponentId}
-use Rattle.ttcn_values.specs.declared.value.Value.{Value, out-Value}
-use Rattle.ttcn_values.specs.declared.value.Value.TheOpen.{Value-F}
-use Rattle.ttcn_values.specs.declared.value.Value.TheVariants as value
+use Rattle.value_types.specs.Frames.{seen_entry}
+use Rattle.value_types.specs.Matching.{is_match}
+use Rattle.value_types.specs.Outcomes.{DynamicError, Fails, Failure, Outcome, Unmet, Yields, dynamic_error, outcome_and_then, outcome_map, unmet}
+use Rattle.value_types.specs.Readings.{Reading, component_at, component_referred}
+use Rattle.value_types.specs.Templates.{template_wanted}
+use Rattle.value_types.specs.declared.frame.TimerState.{TimerState}
+use Rattle.value_types.specs.declared.frame.TimerState.TheVariants as timer
+use Rattle.value_types.specs.declared.value.ComponentId.{ComponentId}
+use Rattle.value_types.specs.declared.value.Value.{Value, out-Value}
+use Rattle.value_types.specs.declared.value.Value.TheOpen.{Value-F}
+use Rattle.value_types.specs.declared.value.Value.TheVariants as value
 
 -- ---- what taking a branch does, beside what it leaves to be done
 
@@ -43,9 +44,9 @@ pub data Effect : Type 0 where
   -- nothing more
   Plain : Effect
   -- the first message of a port is removed, and values are stored
-  Receives : List ℕ → List Redirect → Effect
+  Receives : Identifier → List Redirect → Effect
   -- a timer becomes inactive
-  Elapses : List ℕ → Effect
+  Elapses : Identifier → Effect
 
 -- what comes of judging an event
 pub data Trial : Type 0 where
@@ -69,12 +70,12 @@ tried try (Fails why) = Faulty why
 -- ---- timers and components
 
 -- the state of a timer
-abbrev pub timer_seen : Test → Snapshot → Data → Judge → List ℕ → Option TimerState
+abbrev pub timer_seen : Test → Snapshot → Data → Judge → Identifier → Option TimerState
 timer_seen test snapshot own judge name =
     seen_entry judge.view.timers (seen_members test judge.site (members_in snapshot own)).timers name
 
 -- `t.timeout`
-abbrev pub try_timeout : List ℕ → Option TimerState → Trial
+abbrev pub try_timeout : Identifier → Option TimerState → Trial
 try_timeout name None = Faulty Unmet
 try_timeout name (Some timer.Expired) = Happened (Elapses name)
 try_timeout name (Some timer.Running) = Passed
@@ -151,23 +152,23 @@ template_fits reading of None v = Yields true
 template_fits reading of (Some message) v = outcome_map (λ t. is_match t v) (template_wanted message.template reading (Some of))
 
 -- a receive at a port: where the message matches it has happened, with what its redirects store
-abbrev pub happened_or_passed : Outcome (List Redirect) → List ℕ → Bool → Trial
+abbrev pub happened_or_passed : Outcome (List Redirect) → Identifier → Bool → Trial
 happened_or_passed stored port false = Passed
 happened_or_passed stored port true = tried (λ redirects. Happened (Receives port redirects)) stored
 
 -- a message of the right type in front of a port: the sender first, then the template, which is evaluated only where the sender fits
-abbrev pub try_template : Test → Site → Reading → Receive → List ℕ → Message → DataType → Bool → Trial
+abbrev pub try_template : Test → Site → Reading → Receive → Identifier → Message → DataType → Bool → Trial
 try_template test site reading receive port message of false = Passed
 try_template test site reading receive port message of true =
     tried (happened_or_passed (redirects (scope_at test.definitions site) receive message) port) (template_fits reading of receive.message message.value)
 
 -- the first message of a port, whose type is right: its sender is compared, and then its value is matched
-abbrev pub try_typed : Test → Site → Reading → Receive → List ℕ → Message → DataType → Trial
+abbrev pub try_typed : Test → Site → Reading → Receive → Identifier → Message → DataType → Trial
 try_typed test site reading receive port message of =
     tried (try_template test site reading receive port message of) (from_fits reading receive.from message.sender)
 
 -- whether a message is of a type that a receive takes: any where no template stands
-abbrev pub try_type : Test → Site → Reading → Receive → List ℕ → Message → Option DataType → Option DataType → Option MessageTemplate → Trial
+abbrev pub try_type : Test → Site → Reading → Receive → Identifier → Message → Option DataType → Option DataType → Option MessageTemplate → Trial
 try_type test site reading receive port message wanted None template = Faulty Unmet
 try_type test site reading receive port message wanted (Some found) None = try_typed test site reading receive port message found
 try_type test site reading receive port message None (Some found) (Some template) = Faulty Unmet
@@ -175,7 +176,7 @@ try_type test site reading receive port message (Some wanted) (Some found) (Some
     if same_type wanted found then try_typed test site reading receive port message found else Passed
 
 -- the first message of a port, if there is one
-abbrev pub try_front : Test → Site → Reading → Receive → List ℕ → Option Message → Trial
+abbrev pub try_front : Test → Site → Reading → Receive → Identifier → Option Message → Trial
 try_front test site reading receive port None = Passed
 try_front test site reading receive port (Some message) =
     try_type test site reading receive port message (received_type (scope_at test.definitions site) (incoming (scope_at test.definitions site) receive.port) receive.message)
@@ -187,12 +188,12 @@ or_next Passed next = next
 or_next found next = found
 
 -- `any port`: the ports in their order
-abbrev pub try_fronts : Test → Site → Reading → Receive → List (List ℕ × Option Message) → Trial
+abbrev pub try_fronts : Test → Site → Reading → Receive → List (Identifier × Option Message) → Trial
 try_fronts test site reading receive [] = Passed
 try_fronts test site reading receive (front ∷ fronts) = or_next (try_front test site reading receive front.0 front.1) (try_fronts test site reading receive fronts)
 
 -- a receive at the port that was found in a snapshot; no checked module names one that isn't there
-abbrev pub try_port : Test → Site → Reading → Receive → Option (List ℕ × Option Message) → Trial
+abbrev pub try_port : Test → Site → Reading → Receive → Option (Identifier × Option Message) → Trial
 try_port test site reading receive None = Faulty Unmet
 try_port test site reading receive (Some front) = try_front test site reading receive front.0 front.1
 

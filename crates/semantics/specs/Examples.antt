@@ -27,19 +27,19 @@ use Rattle.semantics.specs.Items.{Doing, Item, Mark, Name, Waiting, Whole, actio
 use Rattle.semantics.specs.Runs.{start}
 use Rattle.semantics.specs.Sites.{Site, beginning, scope_at}
 use Rattle.semantics.specs.Snapshots.{Snapshot, Test, is_terminated_in, last_view, mtc_of, reading_in, snapshot_of}
-use Rattle.semantics.specs.Statements.{Continues, Creates, Stand, Waits, Worsens, act, component_meant_at, may_connect, most, sent_type, sent_value, with_child}
+use Rattle.semantics.specs.Statements.{Continues, Creates, Requests, Stand, Waits, Worsens, act, component_meant_at, may_connect, most, sent_type, sent_value, with_child}
 use Rattle.semantics.specs.Steps.{Expiry, Statement as OfStatement, step}
 use Rattle.semantics.specs.Storing.{with_calls, with_remaining, with_timers, with_values}
 use Rattle.semantics.specs.Taking.{uncovered}
-use Rattle.ttcn_values.specs.Frames.{is_running}
-use Rattle.ttcn_values.specs.Outcomes.{Yields}
-use Rattle.ttcn_values.specs.Readings.{component_referred}
-use Rattle.ttcn_values.specs.declared.frame.TimerState.{TimerState}
-use Rattle.ttcn_values.specs.declared.frame.TimerState.TheVariants as timer
-use Rattle.ttcn_values.specs.declared.path.Path.{Path}
-use Rattle.ttcn_values.specs.declared.value.ComponentId.{ComponentId}
-use Rattle.ttcn_values.specs.declared.value.Value.{Value}
-use Rattle.ttcn_values.specs.declared.value.Value.TheVariants as value
+use Rattle.value_types.specs.Frames.{is_running}
+use Rattle.value_types.specs.Outcomes.{Yields}
+use Rattle.value_types.specs.Readings.{component_referred}
+use Rattle.value_types.specs.declared.frame.TimerState.{TimerState}
+use Rattle.value_types.specs.declared.frame.TimerState.TheVariants as timer
+use Rattle.value_types.specs.declared.path.Path.{Path}
+use Rattle.value_types.specs.declared.value.ComponentId.{ComponentId}
+use Rattle.value_types.specs.declared.value.Value.{Value}
+use Rattle.value_types.specs.declared.value.Value.TheVariants as value
 
 -- a component's data with a frame as the last one, in which this remains
 abbrev pub with_last : Data → Frame → List Frame → List Item → Data
@@ -49,14 +49,14 @@ with_last own frame below remaining = with_calls (with_remaining remaining frame
 abbrev pub SetsVerdict : Type 0
 SetsVerdict = (test : Test) (snapshot : Snapshot) (own : Data) (frame : Frame) (below : List Frame)
     → (site : Site) (s : Statement) (rest : List Item) (v : Verdict) (reasons : List LogItem) → action_of s ≡ Action-F.Setverdict v reasons
-    → act test snapshot (with_last own frame below (Doing site s Whole ∷ rest)) ≡ Worsens v (with_last own frame below rest)
+    → act test snapshot (with_last own frame below (Doing site s Whole ∷ rest)) ≡ Requests (Worsens v) (with_last own frame below rest)
 
 -- a branch with `else`: its block, and the mark behind it
 abbrev pub TakesElse : Type 0
 TakesElse = (test : Test) (snapshot : Snapshot) (own : Data) (frame : Frame) (below : List Frame)
     → (site : Site) (s : Statement) (rest : List Item) (b : Branch) (block : List Statement)
     → action_of s ≡ Action-F.Alt (b ∷ []) → out-Alternative (out-Branch b).alternative ≡ Alternative-F.Else block → nat_lt (length (frame ∷ below)) most ≡ true
-    → act test snapshot (with_last own frame below (Doing site s Whole ∷ rest)) ≡ Continues (with_last own frame below (items test.definitions site block ++ Mark site s ∷ rest))
+    → act test snapshot (with_last own frame below (Doing site s Whole ∷ rest)) ≡ Requests Continues (with_last own frame below (items test.definitions site block ++ Mark site s ∷ rest))
 
 -- an `alt` without branches, and one default with an `else`, where one more frame is allowed: its block in a frame of its own, the mark in the frame with the `alt`
 abbrev pub TakesDefault : Type 0
@@ -65,7 +65,7 @@ TakesDefault = (test : Test) (snapshot : Snapshot) (own : Data) (frame : Frame) 
     → action_of s ≡ Action-F.Alt [] → own.defaults ≡ d ∷ [] → branches_of (kind_at test.definitions d.altstep) ≡ b ∷ [] → out-Alternative (out-Branch b).alternative ≡ Alternative-F.Else block
     → nat_lt (length (frame ∷ frame ∷ below)) most ≡ true
     → act test snapshot (with_last own frame below (Doing site s Whole ∷ rest))
-    ≡ Continues (with_calls (frame_with test.definitions d.altstep d.arguments (items test.definitions (beginning d.altstep) block) ∷ with_remaining (Mark site s ∷ rest) frame ∷ below) own)
+    ≡ Requests Continues (with_calls (frame_with test.definitions d.altstep d.arguments (items test.definitions (beginning d.altstep) block) ∷ with_remaining (Mark site s ∷ rest) frame ∷ below) own)
 
 -- an item is a mark
 abbrev pub is_mark : Item → Bool
@@ -81,21 +81,21 @@ HasNoMark items = list_any is_mark items ≡ false
 abbrev pub Repeats : Type 0
 Repeats = (test : Test) (snapshot : Snapshot) (own : Data) (frame : Frame) (below : List Frame)
     → (site inner : Site) (s r : Statement) (between rest : List Item) → action_of r ≡ Action-F.Repeat → HasNoMark between
-    → act test snapshot (with_last own frame below (Doing inner r Whole ∷ (between ++ Mark site s ∷ rest))) ≡ Continues (with_last own frame below (Doing site s Whole ∷ rest))
+    → act test snapshot (with_last own frame below (Doing inner r Whole ∷ (between ++ Mark site s ∷ rest))) ≡ Requests Continues (with_last own frame below (Doing site s Whole ∷ rest))
 
 -- `repeat` and one more statement, in an `alt` in the block of a branch of another `alt`: the statement is skipped, the inner `alt` is put back, and the mark of the outer one stays
 abbrev pub RepeatsInner : Type 0
 RepeatsInner = (test : Test) (snapshot : Snapshot) (own : Data) (frame : Frame) (below : List Frame)
     → (site inner outer : Site) (s r other around : Statement) (rest : List Item) → action_of r ≡ Action-F.Repeat
     → act test snapshot (with_last own frame below (Doing inner r Whole ∷ Doing inner other Whole ∷ Mark site s ∷ Mark outer around ∷ rest))
-    ≡ Continues (with_last own frame below (Doing site s Whole ∷ Mark outer around ∷ rest))
+    ≡ Requests Continues (with_last own frame below (Doing site s Whole ∷ Mark outer around ∷ rest))
 
 -- `repeat` in the block of an altstep's branch: the altstep's frame goes with what remains in it, what stands in front of the mark below is skipped, and the `alt` is put back in the frame that has its mark
 abbrev pub RepeatsOutside : Type 0
 RepeatsOutside = (test : Test) (snapshot : Snapshot) (own : Data) (frame : Frame) (below : List Frame)
     → (site inner : Site) (s r : Statement) (behind between rest : List Item) (outer : Frame) → action_of r ≡ Action-F.Repeat → HasNoMark behind → HasNoMark between
     → act test snapshot (with_calls (with_remaining (Doing inner r Whole ∷ behind) frame ∷ with_remaining (between ++ Mark site s ∷ rest) outer ∷ below) own)
-    ≡ Continues (with_calls (with_remaining (Doing site s Whole ∷ rest) outer ∷ below) own)
+    ≡ Requests Continues (with_calls (with_remaining (Doing site s Whole ∷ rest) outer ∷ below) own)
 
 -- `c.done` outside of an `alt`, where the component is terminated: it is done and leaves a mark, which goes within the same step (`uncovered`)
 abbrev pub TakesDone : Type 0
@@ -103,7 +103,7 @@ TakesDone = (test : Test) (snapshot : Snapshot) (own : Data) (frame : Frame) (be
     → (site : Site) (s : Statement) (rest : List Item) (reference : ComponentRef) (c : ComponentId) → action_of s ≡ Action-F.«Action::Event» (event.Done reference)
     → component_referred (reading_in test snapshot own site (last_view snapshot frame)) reference ≡ Yields c → is_terminated_in snapshot c.path ≡ true
     → nat_lt (length (frame ∷ below)) most ≡ true
-    → act test snapshot (with_last own frame below (Doing site s Whole ∷ rest)) ≡ Continues (with_last own frame below (Mark site s ∷ rest))
+    → act test snapshot (with_last own frame below (Doing site s Whole ∷ rest)) ≡ Requests Continues (with_last own frame below (Mark site s ∷ rest))
 
 -- `c.done` outside of an `alt`, where the component is not terminated and no default is active: there is no step
 abbrev pub AwaitsDone : Type 0
@@ -121,7 +121,7 @@ CreatesComponent = (test : Test) (snapshot : Snapshot) (own : Data) (frame : Fra
     → component_meant (module_names test.definitions name) ≡ Some at → nat_lt own.children most ≡ true
     → members_of (kind_at test.definitions at) ≡ member.Ports port_type ports ∷ []
     → act test snapshot (with_last own frame below (Doing site s (Name 0) ∷ rest))
-    ≡ Creates (new_component test (record { path = child_of snapshot.itself own.children; component_type = at }) empty_frame)
+    ≡ Requests (Creates (new_component test (record { path = child_of snapshot.itself own.children; component_type = at }) empty_frame))
     (with_child (with_calls (with_values (put v.name (value.Component (record { path = child_of snapshot.itself own.children; component_type = at })) (without v.name frame.values))
     (with_timers (without v.name frame.timers) (with_remaining rest frame)) ∷ below) own))
 

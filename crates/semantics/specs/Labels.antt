@@ -1,30 +1,12 @@
--- The labels of a configuration, and their order (ES 201 873-4).
+-- The enabled labels of a configuration, in the order of labels (ES 201 873-4).
 use Rattle.std.specs.Prelude.{ℕ, ◌+◌, List, [], ◌∷◌, ◌++◌, map, length, is_some, if◌then◌else◌}
 use Rattle.std.specs.List.{filter, flat_map}
-use Rattle.std.specs.Ordering.{nat_cmp, match_ordering}
-use Rattle.std.specs.declared.cmp.Ordering.{Ordering}
-use Rattle.std.specs.declared.cmp.Ordering.TheVariants.{Less, Greater}
-use Rattle.semantics.specs.Configurations.{Component, Configuration, Ended, Frame, Goes, Going, is_running_state, path_cmp, path_of}
-use Rattle.semantics.specs.Entries.{name_cmp}
+use Rattle.semantics.specs.Configurations.{Component, Configuration, Ended, Frame, Goes, Going, is_running_state, path_of}
 use Rattle.semantics.specs.Snapshots.{Test}
 use Rattle.semantics.specs.Steps.{Expiry, Label, Statement, statement_step}
-use Rattle.ttcn_values.specs.Frames.{is_running}
-use Rattle.ttcn_values.specs.declared.path.Path.{Path}
-
--- ---- the order of labels
-
--- expiries at one component: by the number of the frame, then by the timer's name
-abbrev pub expiry_cmp : ℕ → List ℕ → ℕ → List ℕ → Ordering
-expiry_cmp number name other other_name = match_ordering (nat_cmp number other) Less (name_cmp name other_name) Greater
-
--- labels: by the component, then its statement before its timers, then the frame, then the timer's name
-abbrev pub label_cmp : Label → Label → Ordering
-label_cmp (Statement p) (Statement q) = path_cmp p q
-label_cmp (Statement p) (Expiry q number name) = match_ordering (path_cmp p q) Less Less Greater
-label_cmp (Expiry p number name) (Statement q) = match_ordering (path_cmp p q) Less Greater Greater
-label_cmp (Expiry p number name) (Expiry q other other_name) = match_ordering (path_cmp p q) Less (expiry_cmp number name other other_name) Greater
-
--- ---- the labels of a configuration
+pub use Rattle.step_labels.specs.Labels.{expiry_cmp, label_cmp}
+use Rattle.value_types.specs.Frames.{is_running}
+use Rattle.value_types.specs.declared.path.Path.{Path}
 
 -- the expiries of the running timers of a frame
 abbrev pub frame_expiries : Path → ℕ → Frame → List Label

@@ -6,7 +6,7 @@ use Rattle.ttcn_syntax.specs.declared.tree.statement.Verdict.TheVariants as verd
 use Rattle.semantics.specs.Configurations.{Component, Configuration, Connection, Ended, Goes, Going, Terminated, is_terminated_state, path_of, worse}
 use Rattle.semantics.specs.Creating.{empty_frame, new_data}
 use Rattle.semantics.specs.Steps.{is_terminated_at}
-use Rattle.ttcn_values.specs.declared.path.Path.{Path}
+use Rattle.value_types.specs.declared.path.Path.{Path}
 
 -- a terminated component of which only the path is left
 abbrev pub husk : Path → Component

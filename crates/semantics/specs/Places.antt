@@ -11,7 +11,7 @@ use Rattle.semantics.specs.Labels.{labels}
 use Rattle.semantics.specs.Snapshots.{Snapshot, Test, snapshot_of}
 use Rattle.semantics.specs.Statements.{Act, Errs, act, choice_at}
 use Rattle.semantics.specs.Steps.{Expiry, Label, Statement as OfStatement, if_running}
-use Rattle.ttcn_values.specs.declared.path.Path.{Path}
+use Rattle.step_labels.specs.declared.standing.Standing.{Standing}
 
 -- ---- branches
 
@@ -70,12 +70,12 @@ place_of component = if_running component (place_of_frames component.own.calls)
 -- ---- blocked components
 
 -- a component's path with the place at which the component stands, where it stands at one
-abbrev pub with_place : Component → Option Span → List (Path × Span)
+abbrev pub with_place : Component → Option Span → List Standing
 with_place component None = []
-with_place component (Some place) = (path_of component, place) ∷ []
+with_place component (Some place) = record { component = path_of component; place = place } ∷ []
 
 -- the components that run, each with the place of its first remaining statement
-abbrev pub standings : Going → List (Path × Span)
+abbrev pub standings : Going → List Standing
 standings c = flat_map (λ component. with_place component (place_of component)) c.components
 
 -- what was found, where there are no labels
@@ -84,6 +84,6 @@ if_none [] found = found
 if_none (label ∷ others) found = []
 
 -- where no label is enabled, the components that run are blocked
-abbrev pub blocked : Test → Configuration → List (Path × Span)
+abbrev pub blocked : Test → Configuration → List Standing
 blocked test (Ended v) = []
 blocked test (Goes c) = if_none (labels test (Goes c)) (standings c)

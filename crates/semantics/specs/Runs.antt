@@ -13,7 +13,7 @@ use Rattle.semantics.specs.Sites.{beginning}
 use Rattle.semantics.specs.Snapshots.{Snapshot, Test, mtc_of}
 use Rattle.semantics.specs.Steps.{Label, begin, next, settled}
 use Rattle.summary.specs.Graph.{Graph}
-use Rattle.ttcn_values.specs.Outcomes.{Outcome, or_unmet, outcome_and_then, outcome_map}
+use Rattle.value_types.specs.Outcomes.{Outcome, or_unmet, outcome_and_then, outcome_map}
 
 -- ---- the start
 

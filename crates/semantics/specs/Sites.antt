@@ -10,11 +10,12 @@ use Rattle.ttcn_syntax.specs.declared.tree.statement.ForStart.TheVariants as for
 use Rattle.ttcn_syntax.specs.declared.tree.statement.Constants.{Constants}
 use Rattle.ttcn_syntax.specs.declared.tree.statement.Timer.{Timer}
 use Rattle.ttcn_syntax.specs.declared.tree.statement.Variables.{Variables}
-use Rattle.check_expressions.specs.Calls.{component_named, parameters_of, runs_on_of}
+use Rattle.check_rules.specs.Calls.{component_named, parameters_of, runs_on_of}
 use Rattle.check_scope.specs.Names.{Entry, Scope, declaring, kind_at, resolved}
 use Rattle.check_scope.specs.Scopes.{scope_on}
 use Rattle.check_scope.specs.declared.names.Meaning.TheVariants as meaning
-use Rattle.check_statements.specs.Definitions.{with_parameters}
+use Rattle.check_rules.specs.Definitions.{with_parameters}
+use Rattle.semantics.specs.Entries.{Identifier}
 
 -- a place in the behaviour at a position, behind the declarations of these names, the last one first
 pub record Site : Type 0 where
@@ -37,7 +38,7 @@ site_behind site (entry ∷ entries) = site_behind (site_with site entry) entrie
 -- ---- behaviours
 
 -- the name of the component type that a behaviour runs on, where it says so
-abbrev pub component_name : Option DefinitionKind → Option (List ℕ)
+abbrev pub component_name : Option DefinitionKind → Option Identifier
 component_name (Some (kind.Testcase t)) = Some t.runs_on
 component_name other = runs_on_of other
 
@@ -59,7 +60,7 @@ abbrev pub scope_at : List Definition → Site → Scope
 scope_at definitions site = scope_with (behaviour_scope definitions site.behaviour) site.declared
 
 -- a name at a site is the behaviour's own, not the component's: that of a parameter, or declared before
-abbrev pub is_own : List Definition → Site → List ℕ → Bool
+abbrev pub is_own : List Definition → Site → Identifier → Bool
 is_own definitions site name =
     list_any (λ parameter. bytes_eq parameter.name name) (parameters_of (kind_at definitions site.behaviour)) ||
     list_any (λ entry. bytes_eq entry.0 name) site.declared

@@ -4,18 +4,18 @@ use Rattle.std.specs.List.{find, list_any}
 use Rattle.std.specs.Option.{option_map}
 use Rattle.ttcn_syntax.specs.declared.tree.definition.Definition.{Definition}
 use Rattle.semantics.specs.Configurations.{Component, Data, Frame, Going, Message, Queue, State, is_running_state, is_terminated_state, path_of, same_path}
-use Rattle.semantics.specs.Entries.{Entries}
+use Rattle.semantics.specs.Entries.{Entries, Identifier}
 use Rattle.semantics.specs.Sites.{Site, runs_on}
 use Rattle.std.specs.Prelude.{is_some}
-use Rattle.ttcn_types.specs.Limits.{longest_chain}
-use Rattle.ttcn_values.specs.Chains.{within_chains}
-use Rattle.ttcn_values.specs.Frames.{is_running, seen_entry}
-use Rattle.ttcn_values.specs.Outcomes.{or_error, unmet}
-use Rattle.ttcn_values.specs.Readings.{Reading}
-use Rattle.ttcn_values.specs.declared.frame.TimerState.{TimerState}
-use Rattle.ttcn_values.specs.declared.path.Path.{Path}
-use Rattle.ttcn_values.specs.declared.value.ComponentId.{ComponentId}
-use Rattle.ttcn_values.specs.declared.value.Value.{Value}
+use Rattle.check_rules.specs.Limits.{longest_chain}
+use Rattle.value_types.specs.Chains.{within_chains}
+use Rattle.value_types.specs.Frames.{is_running, seen_entry}
+use Rattle.value_types.specs.Outcomes.{or_error, unmet}
+use Rattle.value_types.specs.Readings.{Reading}
+use Rattle.value_types.specs.declared.frame.TimerState.{TimerState}
+use Rattle.value_types.specs.declared.path.Path.{Path}
+use Rattle.value_types.specs.declared.value.ComponentId.{ComponentId}
+use Rattle.value_types.specs.declared.value.Value.{Value}
 
 -- a test case of a module: the module's definitions, and the position of the test case among them
 pub record Test : Type 0 where
@@ -37,7 +37,7 @@ mtc_of test = record { path = record { numbers = [] }; component_type = type_sai
 pub record Snapshot : Type 0 where
   -- the component that takes the snapshot
   pub itself : ComponentId
-  pub fronts : List (List ℕ × Option Message)
+  pub fronts : List (Identifier × Option Message)
   -- the timers of the component's last frame, and those of its type: no others can be read at an `alt`
   pub timers : Entries TimerState
   pub member_timers : Entries TimerState
@@ -49,7 +49,7 @@ front_of [] = None
 front_of (message ∷ messages) = Some message
 
 -- the name of a port with the first message that waits at it
-abbrev pub front_at : Queue → List ℕ × Option Message
+abbrev pub front_at : Queue → Identifier × Option Message
 front_at queue = (queue.0, front_of queue.1)
 
 -- the timers of the last frame

@@ -24,57 +24,63 @@ use Rattle.ttcn_syntax.specs.declared.tree.value.Call.{Call}
 use Rattle.ttcn_syntax.specs.declared.tree.value.Rhs.{Rhs}
 use Rattle.ttcn_syntax.specs.declared.tree.value.Rhs.TheVariants as rhs
 use Rattle.ttcn_syntax.specs.declared.tree.value.Value as written
-use Rattle.check_expressions.specs.Calls.{altstep_meant, behaviour_meant, parameters_of, result_type_of}
-use Rattle.check_expressions.specs.Targets as checked
+use Rattle.check_rules.specs.Calls.{altstep_meant, behaviour_meant, parameters_of, result_type_of}
+use Rattle.check_rules.specs.Targets as checked
 use Rattle.check_scope.specs.Names.{Scope, component_meant, kind_at, module_names, names_on, resolved}
 use Rattle.check_scope.specs.PortTypes.{agrees, types_of_port}
 use Rattle.check_scope.specs.Typings.{type_known}
 use Rattle.check_scope.specs.declared.types.DataType.{DataType}
-use Rattle.check_statements.specs.Messages.{passage_at, port_meant, type_of_message}
+use Rattle.check_rules.specs.Messages.{passage_at, port_meant, type_of_message}
 use Rattle.semantics.specs.Branches.{Judge, Written, frame_with, written_alt, written_defaults}
 use Rattle.semantics.specs.Configurations.{ActiveDefault, Component, Data, End, Frame, same_path}
 use Rattle.semantics.specs.Creating.{child_of, new_component, new_members}
+use Rattle.semantics.specs.Entries.{Identifier}
 use Rattle.semantics.specs.Events.{Choice, Nothing, Refused, Taken, first_choice}
 use Rattle.semantics.specs.Items.{Does, Doing, From, Item, Last, Loop, Mark, Name, Part, Start, Target, Waiting, Whole, action_of, items, items_if_any, site_in_for, start_items}
 use Rattle.semantics.specs.Sites.{Site, beginning, scope_at}
 use Rattle.semantics.specs.Snapshots.{Snapshot, Test, last_view, reading_in}
 use Rattle.semantics.specs.Storing.{declare, declare_timer, forget, going_on, in_last, set_timer, store, target_meant, with_calls}
 use Rattle.semantics.specs.Taking.{port_taken, repeat_alt, taken}
-use Rattle.ttcn_values.specs.Evaluation.{condition_of}
-use Rattle.ttcn_values.specs.Literals.{value_wanted}
-use Rattle.ttcn_values.specs.Matching.{specific_value}
-use Rattle.ttcn_values.specs.Outcomes.{DynamicError, Failure, Fails, Outcome, Unmet, Yields, dynamic_error, outcome_and_then, outcome_map, unmet}
-use Rattle.ttcn_values.specs.Readings.{Reading, component_referred, referred, timer_at}
-use Rattle.ttcn_values.specs.Templates.{arguments, template_wanted}
-use Rattle.ttcn_values.specs.declared.frame.TimerState.TheVariants as timer
-use Rattle.ttcn_values.specs.declared.path.Path.{Path}
-use Rattle.ttcn_values.specs.declared.value.ComponentId.{ComponentId}
-use Rattle.ttcn_values.specs.declared.value.Value.{Value, out-Value}
-use Rattle.ttcn_values.specs.declared.value.Value.TheOpen.{Value-F}
-use Rattle.ttcn_values.specs.declared.value.Value.TheVariants as value
+use Rattle.value_types.specs.Evaluation.{condition_of}
+use Rattle.value_types.specs.Literals.{value_wanted}
+use Rattle.value_types.specs.Matching.{specific_value}
+use Rattle.value_types.specs.Outcomes.{DynamicError, Failure, Fails, Outcome, Unmet, Yields, dynamic_error, outcome_and_then, outcome_map, unmet}
+use Rattle.value_types.specs.Readings.{Reading, component_referred, referred, timer_at}
+use Rattle.value_types.specs.Templates.{arguments, template_wanted}
+use Rattle.value_types.specs.declared.frame.TimerState.TheVariants as timer
+use Rattle.value_types.specs.declared.path.Path.{Path}
+use Rattle.value_types.specs.declared.value.ComponentId.{ComponentId}
+use Rattle.value_types.specs.declared.value.Value.{Value, out-Value}
+use Rattle.value_types.specs.declared.value.Value.TheOpen.{Value-F}
+use Rattle.value_types.specs.declared.value.Value.TheVariants as value
 
--- what a component asks for in its step, with its own data behind the step
-pub data Act : Type 0 where
-  -- nothing: the component has no step
-  Waits : Act
-  -- the step fails
-  Errs : Failure → Act
-  -- nothing beside a change of its own data
-  Continues : Data → Act
+-- what a component asks for among all components, beside the change of its own data
+pub data Request : Type 0 where
+  -- nothing more
+  Continues : Request
   -- the component's verdict gets no better than this
-  Worsens : Verdict → Data → Act
+  Worsens : Verdict → Request
   -- the first message of a port is removed
-  Removes : List ℕ → Data → Act
+  Removes : Identifier → Request
   -- a message is sent from a port, to a component where one is named
-  Sends : List ℕ → Option Path → Value → Data → Act
+  Sends : Identifier → Option Path → Value → Request
   -- a new component
-  Creates : Component → Data → Act
+  Creates : Component → Request
   -- a created component starts with a frame
-  Starts : Path → Frame → Data → Act
+  Starts : Path → Frame → Request
   -- a component stops
-  Stops : Path → Data → Act
+  Stops : Path → Request
   -- two ports are connected
-  Connects : End → End → Data → Act
+  Connects : End → End → Request
+
+-- what a component does in its step
+pub data Act : Type 0 where
+  -- nothing: it has no step
+  Waits : Act
+  -- its step fails
+  Errs : Failure → Act
+  -- it has these data behind its step, and asks for this
+  Requests : Request → Data → Act
 
 -- what comes of what may fail
 abbrev pub acting : {A : Type 0} → (A → Act) → Outcome A → Act
@@ -83,7 +89,7 @@ acting act (Fails why) = Errs why
 
 -- nothing is asked for but a change of the component's own data, which may fail
 abbrev pub continuing : Outcome Data → Act
-continuing = acting Continues
+continuing = acting (Requests Continues)
 
 -- a component has no more children, activations and frames than this
 abbrev pub most : ℕ
@@ -114,7 +120,7 @@ done stand = remaining stand stand.rest
 
 -- nothing is done but that these items remain in the last frame
 abbrev pub go_on : Stand → List Item → Act
-go_on stand items = Continues (remaining stand items)
+go_on stand items = Requests Continues (remaining stand items)
 
 -- ---- calls
 
@@ -189,7 +195,7 @@ new_id stand own at = record { path = child_of stand.snapshot.itself own.childre
 -- a new component, the reference of which is stored
 abbrev pub create : Stand → Target → Data → ComponentId → Act
 create stand target own new =
-    acting (λ members. acting (λ changed. Creates (new_component stand.test new members) (with_child changed)) (store stand.test target (value.Component new) own))
+    acting (λ members. acting (λ changed. Requests (Creates (new_component stand.test new members)) (with_child changed)) (store stand.test target (value.Component new) own))
     (if nat_lt own.children most then new_members stand.test new stand.snapshot else dynamic_error)
 
 -- a `create` of a component of the type at a position, where the name in it means a component type
@@ -214,7 +220,7 @@ act_assignment stand site a =
 -- ---- declarations
 
 -- a name that is declared, as a target
-abbrev pub declared_target : List ℕ → Target
+abbrev pub declared_target : Identifier → Target
 declared_target name = record { own = true; reference = record { name = name; fields = [] }; data_type = None }
 
 -- the data where a name is declared without value
@@ -222,8 +228,8 @@ abbrev pub declared : Stand → (Frame → Frame) → Data
 declared stand change = with_calls (in_last change (done stand).calls) (done stand)
 
 -- the declaration of a variable, with its initial value where one is given
-abbrev pub act_initial : Stand → Site → Option DataType → List ℕ → Option Rhs → Act
-act_initial stand site of name None = Continues (declared stand (forget name))
+abbrev pub act_initial : Stand → Site → Option DataType → Identifier → Option Rhs → Act
+act_initial stand site of name None = Requests Continues (declared stand (forget name))
 act_initial stand site of name (Some right) = assign stand site (declared_target name) of (declared stand (forget name)) right
 
 -- the declaration of one variable of a type
@@ -234,12 +240,12 @@ act_variable stand site of (Some v) = act_initial stand site of v.name v.value
 -- the declaration of one constant of a type: its value is evaluated
 abbrev pub act_constant : Stand → Site → Option DataType → Option Constant → Act
 act_constant stand site of None = Errs Unmet
-act_constant stand site of (Some c) = acting (λ v. Continues (declared stand (declare c.name v))) (value_wanted c.value (reads stand site) of)
+act_constant stand site of (Some c) = acting (λ v. Requests Continues (declared stand (declare c.name v))) (value_wanted c.value (reads stand site) of)
 
 -- the declaration of one timer, which is inactive
 abbrev pub act_timer : Stand → Option Timer → Act
 act_timer stand None = Errs Unmet
-act_timer stand (Some t) = Continues (declared stand (declare_timer t.name))
+act_timer stand (Some t) = Requests Continues (declared stand (declare_timer t.name))
 
 -- the declaration of one name
 abbrev pub act_name : Stand → Site → ℕ → Does → Act
@@ -290,21 +296,21 @@ waits_first _ = false
 
 -- nothing remains: the frame goes. In frame 1 the component terminates, and where a result is waited for it is a dynamic error
 abbrev pub act_end : Stand → List Frame → Act
-act_end stand [] = Stops stand.snapshot.itself.path (with_calls [] stand.own)
-act_end stand (frame ∷ frames) = if waits_first frame.remaining then Errs DynamicError else Continues (with_calls (frame ∷ frames) stand.own)
+act_end stand [] = Requests (Stops stand.snapshot.itself.path) (with_calls [] stand.own)
+act_end stand (frame ∷ frames) = if waits_first frame.remaining then Errs DynamicError else Requests Continues (with_calls (frame ∷ frames) stand.own)
 
 -- a result goes to the target that waits for it, and is dropped where none does
 abbrev pub give_back : Stand → Frame → List Frame → List Item → Option Value → Act
 give_back stand frame frames (Waiting target ∷ items) (Some v) =
     continuing (store stand.test target v (going_on items (with_calls (frame ∷ frames) stand.own)))
 give_back stand frame frames (Waiting target ∷ items) None = Errs Unmet
-give_back stand frame frames (Doing site s part ∷ items) result = Continues (with_calls (frame ∷ frames) stand.own)
-give_back stand frame frames (Mark site s ∷ items) result = Continues (with_calls (frame ∷ frames) stand.own)
-give_back stand frame frames [] result = Continues (with_calls (frame ∷ frames) stand.own)
+give_back stand frame frames (Doing site s part ∷ items) result = Requests Continues (with_calls (frame ∷ frames) stand.own)
+give_back stand frame frames (Mark site s ∷ items) result = Requests Continues (with_calls (frame ∷ frames) stand.own)
+give_back stand frame frames [] result = Requests Continues (with_calls (frame ∷ frames) stand.own)
 
 -- the frame goes, with a result or without
 abbrev pub leave : Stand → List Frame → Option Value → Act
-leave stand [] result = Stops stand.snapshot.itself.path (with_calls [] stand.own)
+leave stand [] result = Requests (Stops stand.snapshot.itself.path) (with_calls [] stand.own)
 leave stand (frame ∷ frames) result = give_back stand frame frames frame.remaining result
 
 -- the type of the result of the behaviour in which a site is
@@ -323,7 +329,7 @@ abbrev pub component_meant_at : Stand → Site → ComponentRef → Outcome Comp
 component_meant_at stand site reference = component_referred (reads stand site) reference
 
 -- the type of a port of a component type, if it has such a port
-abbrev pub port_type : List Definition → ComponentId → List ℕ → Option (Option ℕ)
+abbrev pub port_type : List Definition → ComponentId → Identifier → Option (Option ℕ)
 port_type definitions c port = port_meant (names_on definitions c.component_type port)
 
 -- the types of messages that go through a port
@@ -350,16 +356,16 @@ abbrev pub same_end : End → End → Bool
 same_end d e = same_path d.component e.component && bytes_eq d.port e.port
 
 -- the ports are there, aren't one, and each sends only what the other receives
-abbrev pub may_connect : List Definition → ComponentId → List ℕ → ComponentId → List ℕ → Bool
+abbrev pub may_connect : List Definition → ComponentId → Identifier → ComponentId → Identifier → Bool
 may_connect definitions c p d q =
     suit_each_other definitions (port_type definitions c p) (port_type definitions d q) &&
     not (same_end (record { component = c.path; port = p }) (record { component = d.path; port = q }))
 
 -- the connection of two ports is asked for: a dynamic error where they may not be connected
-abbrev pub ask_connection : Stand → ComponentId → List ℕ → ComponentId → List ℕ → Act
+abbrev pub ask_connection : Stand → ComponentId → Identifier → ComponentId → Identifier → Act
 ask_connection stand c p d q =
     if may_connect stand.test.definitions c p d q
-    then Connects (record { component = c.path; port = p }) (record { component = d.path; port = q }) (done stand)
+    then Requests (Connects (record { component = c.path; port = p }) (record { component = d.path; port = q })) (done stand)
     else Errs DynamicError
 
 -- `connect`: its two components are evaluated, and then the connection of their ports is asked for
@@ -392,7 +398,7 @@ sent_to stand site (Some reference) = outcome_map (λ c. Some c.path) (component
 -- `send`: the value is evaluated first, and then who it is sent to
 abbrev pub act_send : Stand → Site → Send → Act
 act_send stand site send =
-    acting (λ v. acting (λ to. Sends send.port to v (done stand)) (sent_to stand site send.to))
+    acting (λ v. acting (λ to. Requests (Sends send.port to v) (done stand)) (sent_to stand site send.to))
     (sent_value stand site send (sent_type (scope_at stand.test.definitions site) send))
 
 -- ---- starts and stops
@@ -400,17 +406,17 @@ act_send stand site send =
 -- `start` of a function on a component: the component is evaluated first, and then the arguments of the call
 abbrev pub act_start : Stand → Site → ComponentRef → Call → Act
 act_start stand site reference call =
-    acting (λ c. acting (λ frame. Starts c.path frame (done stand)) (frame_of_call stand site call)) (component_meant_at stand site reference)
+    acting (λ c. acting (λ frame. Requests (Starts c.path frame) (done stand)) (frame_of_call stand site call)) (component_meant_at stand site reference)
 
 -- the name in a reference to a component: `self` and `mtc` have none
-abbrev pub name_in : ComponentRef → List ℕ
+abbrev pub name_in : ComponentRef → Identifier
 name_in (component.Named reference) = reference.name
 name_in _ = []
 
 -- `.stop` of a timer that was found, which becomes inactive, or else of a component
 abbrev pub stop_meant : Stand → Site → ComponentRef → Option Bool → Act
-stop_meant stand site reference (Some _) = Continues (set_timer stand.test site (name_in reference) timer.Inactive (done stand))
-stop_meant stand site reference None = acting (λ c. Stops c.path (done stand)) (component_meant_at stand site reference)
+stop_meant stand site reference (Some _) = Requests Continues (set_timer stand.test site (name_in reference) timer.Inactive (done stand))
+stop_meant stand site reference None = acting (λ c. Requests (Stops c.path) (done stand)) (component_meant_at stand site reference)
 
 -- `.stop`, of a timer or a component
 abbrev pub act_stop_of : Stand → Site → ComponentRef → Act
@@ -430,7 +436,7 @@ without_default own _ = unmet
 
 -- `deactivate`: the default that a reference means goes, and without reference all go
 abbrev pub act_deactivate : Stand → Site → Option Reference → Act
-act_deactivate stand site None = Continues (with_defaults [] (done stand))
+act_deactivate stand site None = Requests Continues (with_defaults [] (done stand))
 act_deactivate stand site (Some reference) =
     continuing (outcome_and_then (λ v. without_default (done stand) (out-Value v)) (referred (reads stand site) reference))
 
@@ -450,9 +456,9 @@ choice_at stand site s =
     option_map (choose_from stand) (written_alt stand.test stand.snapshot stand.own (judge_at stand site) (out-Statement s).place (action_of s))
 
 -- a branch was taken: the message that it received is removed from its port, where it received one
-abbrev pub act_port : Option (List ℕ) → Data → Act
-act_port None own = Continues own
-act_port (Some port) own = Removes port own
+abbrev pub act_port : Option Identifier → Data → Act
+act_port None own = Requests Continues own
+act_port (Some port) own = Requests (Removes port) own
 
 -- what comes of the choice at an `alt`: the component waits, the step fails, or the branch is taken
 abbrev pub act_choice : Stand → Site → Statement → Choice → Act
@@ -484,13 +490,13 @@ act_whole stand site s (Action-F.DoWhile block condition) = go_on stand (items s
 act_whole stand site s (Action-F.For start condition step block) =
     go_on stand (start_items stand.test.definitions site s start ++ Doing (site_in_for stand.test.definitions site start) s Loop ∷ stand.rest)
 act_whole stand site s (Action-F.Return v) = act_return stand site v
-act_whole stand site s Action-F.Stop = Stops stand.snapshot.itself.path (done stand)
+act_whole stand site s Action-F.Stop = Requests (Stops stand.snapshot.itself.path) (done stand)
 act_whole stand site s (Action-F.Log logged) = go_on stand stand.rest
-act_whole stand site s (Action-F.Setverdict verdict reasons) = Worsens verdict (done stand)
+act_whole stand site s (Action-F.Setverdict verdict reasons) = Requests (Worsens verdict) (done stand)
 act_whole stand site s (Action-F.Connect one other) = act_connect stand site one other
 act_whole stand site s (Action-F.Send send) = act_send stand site send
 act_whole stand site s (Action-F.StartComponent reference call) = act_start stand site reference call
-act_whole stand site s (Action-F.StartTimer name) = Continues (set_timer stand.test site name timer.Running (done stand))
+act_whole stand site s (Action-F.StartTimer name) = Requests Continues (set_timer stand.test site name timer.Running (done stand))
 act_whole stand site s (Action-F.StopOf reference) = act_stop_of stand site reference
 act_whole stand site s (Action-F.Activate call) = continuing (activated stand site call (done stand))
 act_whole stand site s (Action-F.Deactivate reference) = act_deactivate stand site reference

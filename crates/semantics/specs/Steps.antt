@@ -8,18 +8,20 @@ use Rattle.std.specs.declared.cmp.Ordering.TheVariants.{Less, Greater}
 use Rattle.ttcn_syntax.specs.declared.tree.statement.Verdict.{Verdict}
 use Rattle.ttcn_syntax.specs.declared.tree.statement.Verdict.TheVariants as verdict
 use Rattle.semantics.specs.Configurations.{Component, Configuration, Connection, Created, Data, End, Ended, Frame, Goes, Going, Message, Queue, Running, State, Terminated, component_at, end_cmp, is_running_state, is_terminated_state, overall, path_cmp, path_of, same_path, with_component, worse}
-use Rattle.semantics.specs.Entries.{Entries, put}
+use Rattle.semantics.specs.Entries.{Entries, Identifier, put}
 use Rattle.semantics.specs.Snapshots.{Test, mtc_of, snapshot_of}
-use Rattle.semantics.specs.Statements.{Act, Connects, Continues, Creates, Errs, Removes, Sends, Starts, Stops, Waits, Worsens, act, same_end}
+use Rattle.semantics.specs.Statements.{Act, Connects, Continues, Creates, Errs, Removes, Request, Requests, Sends, Starts, Stops, Waits, Worsens, act, same_end}
 use Rattle.semantics.specs.Storing.{with_calls, with_members, with_timers}
 use Rattle.semantics.specs.Taking.{uncovered}
-use Rattle.ttcn_values.specs.Frames.{entry}
-use Rattle.ttcn_values.specs.Outcomes.{Fails, Outcome, Yields, dynamic_error, outcome_map, unmet}
-use Rattle.ttcn_values.specs.declared.frame.TimerState.{TimerState}
-use Rattle.ttcn_values.specs.declared.frame.TimerState.TheVariants as timer
-use Rattle.ttcn_values.specs.declared.path.Path.{Path}
-use Rattle.ttcn_values.specs.declared.value.ComponentId.{ComponentId}
-use Rattle.ttcn_values.specs.declared.value.Value.{Value}
+pub use Rattle.step_labels.specs.declared.label.Label.{Label}
+pub use Rattle.step_labels.specs.declared.label.Label.TheVariants.{Expiry, Statement}
+use Rattle.value_types.specs.Frames.{entry}
+use Rattle.value_types.specs.Outcomes.{Fails, Outcome, Yields, dynamic_error, outcome_map, unmet}
+use Rattle.value_types.specs.declared.frame.TimerState.{TimerState}
+use Rattle.value_types.specs.declared.frame.TimerState.TheVariants as timer
+use Rattle.value_types.specs.declared.path.Path.{Path}
+use Rattle.value_types.specs.declared.value.ComponentId.{ComponentId}
+use Rattle.value_types.specs.declared.value.Value.{Value}
 
 -- ---- components
 
@@ -36,12 +38,12 @@ abbrev pub with_verdict : Verdict → Component → Component
 with_verdict v component = record { itself = component.itself; own = component.own; state = component.state; verdict = worse component.verdict v; queues = component.queues }
 
 -- the queue of a port with other messages: a component has one queue for a port
-abbrev pub change_queue : List ℕ → (List Message → List Message) → List Queue → List Queue
+abbrev pub change_queue : Identifier → (List Message → List Message) → List Queue → List Queue
 change_queue port change [] = []
 change_queue port change (queue ∷ queues) = if bytes_eq queue.0 port then (queue.0, change queue.1) ∷ queues else queue ∷ change_queue port change queues
 
 -- a change of the messages at a port
-abbrev pub at_queue : List ℕ → (List Message → List Message) → Component → Component
+abbrev pub at_queue : Identifier → (List Message → List Message) → Component → Component
 at_queue port change component = record {
   itself = component.itself;
   own = component.own;
@@ -168,7 +170,7 @@ deliver c message (e ∷ []) = Yields (touch c e.component (at_queue e.port (λ 
 deliver c message (d ∷ e ∷ ends) = dynamic_error
 
 -- a message goes to the one peer that it may go to: a dynamic error where there is none, or more than one
-abbrev pub send : Going → ComponentId → List ℕ → Option Path → Value → Outcome Going
+abbrev pub send : Going → ComponentId → Identifier → Option Path → Value → Outcome Going
 send c sender port to v =
     deliver c (record { value = v; sender = sender }) (filter (addressed to) (peers c (record { component = sender.path; port = port })))
 
@@ -178,49 +180,48 @@ send c sender port to v =
 abbrev pub ending : Outcome Going → Outcome Configuration
 ending = outcome_map Goes
 
--- what a component asks for is done
+-- what a component asks for is done, where its own data are in place
+abbrev pub perform : Test → Going → ComponentId → Request → Outcome Configuration
+perform test c itself Continues = Yields (Goes c)
+perform test c itself (Worsens v) = Yields (Goes (touch c itself.path (with_verdict v)))
+perform test c itself (Removes port) = Yields (Goes (touch c itself.path (at_queue port without_first)))
+perform test c itself (Sends port to v) = ending (send c itself port to v)
+perform test c itself (Creates new) = Yields (Goes (with_new new c))
+perform test c itself (Starts path frame) = ending (start_component c path frame)
+perform test c itself (Stops path) = Yields (stop test c path)
+perform test c itself (Connects d e) = ending (connect c d e)
+
+-- what a component does in its step: its own data change first, and then what it asks for is done among all components
 abbrev pub apply : Test → Going → ComponentId → Act → Option (Outcome Configuration)
 apply test c itself Waits = None
 apply test c itself (Errs why) = Some (Fails why)
-apply test c itself (Continues own) = Some (Yields (Goes (settle c itself.path own)))
-apply test c itself (Worsens v own) = Some (Yields (Goes (touch (settle c itself.path own) itself.path (with_verdict v))))
-apply test c itself (Removes port own) = Some (Yields (Goes (touch (settle c itself.path own) itself.path (at_queue port without_first))))
-apply test c itself (Sends port to v own) = Some (ending (send (settle c itself.path own) itself port to v))
-apply test c itself (Creates new own) = Some (Yields (Goes (with_new new (settle c itself.path own))))
-apply test c itself (Starts path frame own) = Some (ending (start_component (settle c itself.path own) path frame))
-apply test c itself (Stops path own) = Some (Yields (stop test (settle c itself.path own) path))
-apply test c itself (Connects d e own) = Some (ending (connect (settle c itself.path own) d e))
+apply test c itself (Requests request own) = Some (perform test (settle c itself.path own) itself request)
 
 -- ---- timers
 
 -- a running timer expires, and no other
-abbrev pub expire_in : Entries TimerState → List ℕ → Option TimerState → Option (Entries TimerState)
+abbrev pub expire_in : Entries TimerState → Identifier → Option TimerState → Option (Entries TimerState)
 expire_in timers name (Some timer.Running) = Some (put name timer.Expired timers)
 expire_in timers name _ = None
 
 -- a frame in which the timer of a name expires, where it runs
-abbrev pub expired_frame : List ℕ → Frame → Option Frame
+abbrev pub expired_frame : Identifier → Frame → Option Frame
 expired_frame name frame = option_map (λ timers. with_timers timers frame) (expire_in frame.timers name (entry frame.timers name))
 
 -- the frame of a number expires a timer: frames are counted from 1, the last one first in the list
-abbrev pub expired_call : ℕ → List ℕ → List Frame → Option (List Frame)
+abbrev pub expired_call : ℕ → Identifier → List Frame → Option (List Frame)
 expired_call number name [] = None
 expired_call number name (frame ∷ frames) =
     if nat_eq number (length frames + 1) then option_map (λ changed. changed ∷ frames) (expired_frame name frame)
     else option_map (λ changed. frame ∷ changed) (expired_call number name frames)
 
 -- a timer of a frame expires: frame 0 is the component's own
-abbrev pub expired : ℕ → List ℕ → Data → Option Data
+abbrev pub expired : ℕ → Identifier → Data → Option Data
 expired number name own =
     if nat_eq number 0 then option_map (λ members. with_members members own) (expired_frame name own.members)
     else option_map (λ calls. with_calls calls own) (expired_call number name own.calls)
 
 -- ---- steps
-
--- what a step is of: the first remaining statement of a component, or the expiry of a timer of its frame of this number
-pub data Label : Type 0 where
-  Statement : Path → Label
-  Expiry : Path → ℕ → List ℕ → Label
 
 -- what was found, where a component runs
 abbrev pub if_running : {A : Type 0} → Component → Option A → Option A
@@ -235,11 +236,11 @@ abbrev pub exchanged : Data → Component → Component
 exchanged own component = record { itself = component.itself; own = own; state = component.state; verdict = component.verdict; queues = component.queues }
 
 -- the expiry of a timer
-abbrev pub expiry_step : Going → ℕ → List ℕ → Component → Option (Outcome Configuration)
+abbrev pub expiry_step : Going → ℕ → Identifier → Component → Option (Outcome Configuration)
 expiry_step c number name component =
     if_running component (option_map (λ own. Yields (Goes (touch c (path_of component) (exchanged own)))) (expired number name component.own))
 
--- the step of a label in a test case that goes on, where the label is enabled
+-- the step of a label in a test case that goes on, where the label is enabled: a label is of the first remaining statement of a component, or of the expiry of a timer of its frame of this number
 abbrev pub step_in : Test → Going → Label → Option (Outcome Configuration)
 step_in test c (Statement path) = option_and_then (statement_step test c) (component_at c path)
 step_in test c (Expiry path number name) = option_and_then (expiry_step c number name) (component_at c path)

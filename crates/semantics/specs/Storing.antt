@@ -1,21 +1,21 @@
 -- Where values are stored, and timers set: in the last frame, or in frame 0 (ES 201 873-1, 19.1 and 23).
-use Rattle.std.specs.Prelude.{ℕ, Bool, true, false, List, [], ◌∷◌, Option, None}
+use Rattle.std.specs.Prelude.{Bool, true, false, List, [], ◌∷◌, Option, None}
 use Rattle.ttcn_syntax.specs.declared.tree.expression.Reference.{Reference}
 use Rattle.value_assignment.specs.Assignment.{assigned}
-use Rattle.check_expressions.specs.Expressions.{check_meaning}
+use Rattle.check_rules.specs.Expressions.{check_meaning}
 use Rattle.check_scope.specs.Names.{Scope}
 use Rattle.check_scope.specs.Typings.{type_known}
 use Rattle.check_scope.specs.declared.types.DataType.{DataType}
 use Rattle.semantics.specs.Configurations.{Data, Frame}
-use Rattle.semantics.specs.Entries.{Entries, put, without}
+use Rattle.semantics.specs.Entries.{Entries, Identifier, put, without}
 use Rattle.semantics.specs.Items.{Item, Target}
 use Rattle.semantics.specs.Sites.{Site, is_own, scope_at}
 use Rattle.semantics.specs.Snapshots.{Test}
-use Rattle.ttcn_values.specs.Frames.{entry}
-use Rattle.ttcn_values.specs.Outcomes.{Outcome, outcome_map}
-use Rattle.ttcn_values.specs.declared.frame.TimerState.{TimerState}
-use Rattle.ttcn_values.specs.declared.frame.TimerState.TheVariants as timer
-use Rattle.ttcn_values.specs.declared.value.Value.{Value}
+use Rattle.value_types.specs.Frames.{entry}
+use Rattle.value_types.specs.Outcomes.{Outcome, outcome_map}
+use Rattle.value_types.specs.declared.frame.TimerState.{TimerState}
+use Rattle.value_types.specs.declared.frame.TimerState.TheVariants as timer
+use Rattle.value_types.specs.declared.value.Value.{Value}
 
 -- ---- frames
 
@@ -32,15 +32,15 @@ abbrev pub with_timers : Entries TimerState → Frame → Frame
 with_timers timers frame = record { remaining = frame.remaining; values = frame.values; timers = timers }
 
 -- a name is declared, without value: what it had is gone
-abbrev pub forget : List ℕ → Frame → Frame
+abbrev pub forget : Identifier → Frame → Frame
 forget name frame = record { remaining = frame.remaining; values = without name frame.values; timers = without name frame.timers }
 
 -- a name is declared with a value
-abbrev pub declare : List ℕ → Value → Frame → Frame
+abbrev pub declare : Identifier → Value → Frame → Frame
 declare name v frame = record { remaining = frame.remaining; values = put name v frame.values; timers = without name frame.timers }
 
 -- a timer is declared
-abbrev pub declare_timer : List ℕ → Frame → Frame
+abbrev pub declare_timer : Identifier → Frame → Frame
 declare_timer name frame = record { remaining = frame.remaining; values = without name frame.values; timers = put name timer.Inactive frame.timers }
 
 -- ---- data
@@ -85,11 +85,11 @@ store test target v own = outcome_map (λ new. in_frame target.own (λ frame. wi
     (assigned test.definitions target.data_type (entry (values_in target.own own) target.reference.name) target.reference.fields v)
 
 -- the type of what a name stands for
-abbrev pub type_of_name : Scope → List ℕ → Option DataType
+abbrev pub type_of_name : Scope → Identifier → Option DataType
 type_of_name scope name = type_known (check_meaning scope.definitions (scope.names name)).typing
 
 -- the type of a name that has fields behind it: without fields no type is needed
-abbrev pub type_for : List (List ℕ) → Option DataType → Option DataType
+abbrev pub type_for : List Identifier → Option DataType → Option DataType
 type_for [] of = None
 type_for (field ∷ fields) of = of
 
@@ -104,5 +104,5 @@ target_meant test site reference = record {
 -- ---- timers
 
 -- a timer that is declared in this frame, or at the component, is in a state
-abbrev pub set_timer : Test → Site → List ℕ → TimerState → Data → Data
+abbrev pub set_timer : Test → Site → Identifier → TimerState → Data → Data
 set_timer test site name state own = in_frame (is_own test.definitions site name) (λ frame. with_timers (put name state frame.timers) frame) own

@@ -1,15 +1,16 @@
 -- Taking a branch, `repeat`, and marks (ES 201 873-1, 20.2 and 20.3).
-use Rattle.std.specs.Prelude.{ℕ, List, [], ◌∷◌, ◌++◌, Option, Some, None}
+use Rattle.std.specs.Prelude.{List, [], ◌∷◌, ◌++◌, Option, Some, None}
 use Rattle.ttcn_syntax.specs.declared.tree.statement.Statement.{Statement}
 use Rattle.semantics.specs.Branches.{Chance, Way}
 use Rattle.semantics.specs.Configurations.{Data, Frame}
+use Rattle.semantics.specs.Entries.{Identifier}
 use Rattle.semantics.specs.Events.{Effect, Elapses, Plain, Receives, Redirect}
 use Rattle.semantics.specs.Items.{Doing, Item, Mark, Waiting, Whole}
 use Rattle.semantics.specs.Sites.{Site}
 use Rattle.semantics.specs.Snapshots.{Test}
 use Rattle.semantics.specs.Storing.{in_last, set_timer, store, target_meant, with_calls, with_remaining}
-use Rattle.ttcn_values.specs.Outcomes.{Outcome, Yields, outcome_and_then, outcome_map, or_unmet}
-use Rattle.ttcn_values.specs.declared.frame.TimerState.TheVariants as timer
+use Rattle.value_types.specs.Outcomes.{Outcome, Yields, outcome_and_then, outcome_map, or_unmet}
+use Rattle.value_types.specs.declared.frame.TimerState.TheVariants as timer
 
 -- ---- marks
 
@@ -52,7 +53,7 @@ taken test site s rest chance effect own =
     effected test chance.judge.site effect (with_calls (entered site s rest chance.way own.calls) own)
 
 -- the port whose first message a branch removes
-abbrev pub port_taken : Effect → Option (List ℕ)
+abbrev pub port_taken : Effect → Option Identifier
 port_taken Plain = None
 port_taken (Receives port redirects) = Some port
 port_taken (Elapses name) = None

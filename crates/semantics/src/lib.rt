@@ -19,8 +19,8 @@ ghost use Rattle.std.specs.Option.{option_map};
 ghost use Rattle.summary.specs.Exploration.{IsBest};
 ghost use Rattle.summary.specs.Sums.{Join, Observation, sum_of};
 ghost use Rattle.summary.specs.Run.{Run, all_runs, end_of};
-ghost use Rattle.ttcn_values.specs.Outcomes.{outcome_map};
-ghost use Rattle.ttcn_values.specs.declared.path.Path.{Path};
+ghost use Rattle.value_types.specs.Outcomes.{outcome_map};
+ghost use Rattle.value_types.specs.declared.path.Path.{Path};
 
 /// A test case that ended has no step and no label, and its live part is its verdict.
 pub fn ended_test_cases_stand_still()

@@ -4,13 +4,13 @@ use Rattle.std.specs.Option.{option_map}
 use Rattle.ttcn_syntax.specs.declared.tree.statement.Action.TheOpen.{Action-F}
 use Rattle.ttcn_syntax.specs.declared.tree.statement.Statement.{Statement, out-Statement}
 use Rattle.ttcn_syntax.specs.declared.tree.value.Call.{Call}
-use Rattle.check_expressions.specs.Calls.{altstep_meant}
+use Rattle.check_rules.specs.Calls.{altstep_meant}
 use Rattle.check_scope.specs.Names.{module_names}
-use Rattle.step_acts.proofs.Standing.{ways-there}
-use Rattle.step_acts.specs.Asks.{Asks}
-use Rattle.step_acts.specs.internal.Places.{list_at}
-use Rattle.step_acts.specs.internal.Stands.{legend_of, site_of, stand_by}
-use Rattle.step_acts.specs.declared.stand.Stand.{Stand}
+use Rattle.step_forms.proofs.Standing.{ways-there}
+use Rattle.step_forms.specs.Asks.{Asks}
+use Rattle.step_forms.specs.internal.Places.{list_at}
+use Rattle.step_forms.specs.internal.Stands.{legend_of, site_of, stand_by}
+use Rattle.step_forms.specs.declared.stand.Stand.{Stand}
 use Rattle.step_choice.specs.Choices.{Finds, IsWayOf, choice_of}
 use Rattle.semantics.specs.Branches.{Judge, write_altsteps, written_alt, written_call}
 use Rattle.semantics.specs.Events.{Choice}
@@ -24,8 +24,8 @@ use Rattle.config_parts.specs.declared.act.Act.{Act}
 use Rattle.config_parts.specs.declared.frame.Frame.{Frame}
 use Rattle.graph_items.specs.Standing.{part_of}
 use Rattle.ttcn_graph.specs.Ways.{ways_of}
-use Rattle.ttcn_values.specs.declared.fault.Fault.{Fault}
-use Rattle.ttcn_values.specs.declared.fault.Fault.TheVariants.{Dynamic, Memory}
+use Rattle.value_types.specs.declared.fault.Fault.{Fault}
+use Rattle.value_types.specs.declared.fault.Fault.TheVariants.{Dynamic, Memory}
 
 module _ (s : Stand) where
   -- the choice of the rules is that of the last frame

@@ -1,7 +1,7 @@
 -- The step of a component with a last frame, by what remains in it.
 use Rattle.std.proofs.Common.{◌≡◌, sym, subst, List, ◌∷◌, Option, Result, map}
-use Rattle.step_acts.specs.Asks.{Asks}
-use Rattle.step_acts.specs.internal.Places.{behind_first, list_at}
+use Rattle.step_forms.specs.Asks.{Asks}
+use Rattle.step_forms.specs.internal.Places.{behind_first, list_at}
 use Rattle.semantics.specs.Items.{Item}
 use Rattle.semantics.specs.Statements as said
 use Rattle.step_snapshot.specs.Seen.{own_by, seen_by}
@@ -10,7 +10,7 @@ use Rattle.step_snapshot.specs.declared.snapshot.Snapshot.{Snapshot}
 use Rattle.config_parts.specs.Legend.{frame_by}
 use Rattle.config_parts.specs.declared.act.Act.{Act}
 use Rattle.config_parts.specs.declared.frame.Frame.{Frame}
-use Rattle.ttcn_values.specs.declared.fault.Fault.{Fault}
+use Rattle.value_types.specs.declared.fault.Fault.{Fault}
 
 module _ (s : Snapshot) (frame : Frame) (r : Result (Option Act) Fault) (last : (s.component.now).own.calls ≡ frame ∷ behind_first (s.component.now).own.calls) where
   pub first-asks : (remaining : List Item) → list_at s.test.now frame.remaining ≡ remaining

@@ -8,8 +8,8 @@ use Rattle.semantics.specs.Configurations.{Data}
 use Rattle.semantics.specs.Items.{Target}
 use Rattle.semantics.specs.Snapshots.{Test}
 use Rattle.semantics.specs.Storing.{store}
-use Rattle.ttcn_values.specs.Outcomes.{Failure, Fails, Outcome, Yields, outcome_and_then}
-use Rattle.ttcn_values.specs.declared.value.Value.{Value}
+use Rattle.value_types.specs.Outcomes.{Failure, Fails, Outcome, Yields, outcome_and_then}
+use Rattle.value_types.specs.declared.value.Value.{Value}
 
 -- what holds of all holds of one among them
 all-at : {A : Type 0} (P : A → Type 0) (before more : List A) (x : A) → All P (before ++ x ∷ more) → P x

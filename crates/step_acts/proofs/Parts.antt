@@ -1,16 +1,16 @@
 -- Parts of statements, by what code finds of them.
 use Rattle.std.proofs.Common.{◌≡◌, sym, subst, ℕ, Option, Some, None, Result, Err}
 use Rattle.check_scope.specs.declared.types.DataType.{DataType}
-use Rattle.step_acts.specs.Asks.{Asks}
-use Rattle.step_acts.specs.internal.Stands.{legend_of, site_of, stand_by}
-use Rattle.step_acts.specs.declared.stand.Stand.{Stand}
+use Rattle.step_forms.specs.Asks.{Asks}
+use Rattle.step_forms.specs.internal.Stands.{legend_of, site_of, stand_by}
+use Rattle.step_forms.specs.declared.stand.Stand.{Stand}
 use Rattle.semantics.specs.Items.{Does, action_of}
 use Rattle.semantics.specs.Statements as said
 use Rattle.config_parts.specs.declared.act.Act.{Act}
 use Rattle.ttcn_syntax.specs.declared.tree.statement.Constant.{Constant}
 use Rattle.ttcn_syntax.specs.declared.tree.statement.Variable.{Variable}
-use Rattle.ttcn_values.specs.declared.fault.Fault.{Fault}
-use Rattle.ttcn_values.specs.declared.fault.Fault.TheVariants.{Dynamic}
+use Rattle.value_types.specs.declared.fault.Fault.{Fault}
+use Rattle.value_types.specs.declared.fault.Fault.TheVariants.{Dynamic}
 
 module _ (s : Stand) (r : Result (Option Act) Fault) where
   pub variable-asks : (of found : Option DataType) (o : Option Variable) (v : Variable) → o ≡ Some v → found ≡ of → Asks (legend_of s) (said.act_initial (stand_by s) (site_of s) found v.name v.value) r

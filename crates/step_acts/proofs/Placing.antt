@@ -3,10 +3,10 @@ use Rattle.std.proofs.Common.{◌≡◌, List, ◌∷◌, map, refl, sym, ap, su
 use Rattle.ttcn_syntax.specs.declared.place.Span.{Span}
 use Rattle.std.specs.Prelude.{IfOk}
 use Rattle.step_acts.proofs.Choosing.{choice-there}
-use Rattle.step_acts.specs.Asks.{Asks, IsFault}
-use Rattle.step_acts.specs.internal.Places.{behind_first, list_at}
-use Rattle.step_acts.specs.internal.Stands.{site_of, stand_by}
-use Rattle.step_acts.specs.declared.stand.Stand.{Stand}
+use Rattle.step_forms.specs.Asks.{Asks, IsFault}
+use Rattle.step_forms.specs.internal.Places.{behind_first, list_at}
+use Rattle.step_forms.specs.internal.Stands.{site_of, stand_by}
+use Rattle.step_forms.specs.declared.stand.Stand.{Stand}
 use Rattle.step_choice.specs.Choices.{choice_of}
 use Rattle.semantics.specs.Events.{Choice}
 use Rattle.semantics.specs.Items.{Item}
@@ -21,31 +21,16 @@ use Rattle.semantics.specs.Statements as said
 use Rattle.config_parts.specs.Acts.{act_by}
 use Rattle.config_parts.specs.Legend.{Legend}
 use Rattle.config_parts.specs.declared.act.Act.{Act}
-use Rattle.config_parts.specs.declared.act.Act.TheVariants as act
-use Rattle.ttcn_values.specs.declared.fault.Fault.{Fault}
-use Rattle.ttcn_values.specs.declared.fault.Fault.TheVariants.{Dynamic, Memory}
+use Rattle.value_types.specs.declared.fault.Fault.{Fault}
+use Rattle.value_types.specs.declared.fault.Fault.TheVariants.{Dynamic, Memory}
 
 no_place : (asked : said.Act) → unless_fault asked None ≡ None
 no_place said.Waits = refl
 no_place (said.Errs why) = refl
-no_place (said.Continues own) = refl
-no_place (said.Worsens v own) = refl
-no_place (said.Removes port own) = refl
-no_place (said.Sends port to v own) = refl
-no_place (said.Creates new own) = refl
-no_place (said.Starts path frame own) = refl
-no_place (said.Stops path own) = refl
-no_place (said.Connects d e own) = refl
+no_place (said.Requests request own) = refl
 
 act_place : (legend : Legend) (a : Act) (place : Option Span) → unless_fault (act_by legend a) place ≡ place
-act_place legend (act.Continues own) place = refl
-act_place legend (act.Worsens v own) place = refl
-act_place legend (act.Removes port own) place = refl
-act_place legend (act.Sends port to v own) place = refl
-act_place legend (act.Creates new own) place = refl
-act_place legend (act.Starts path frame own) place = refl
-act_place legend (act.Stops path own) place = refl
-act_place legend (act.Connects d e own) place = refl
+act_place legend act place = refl
 
 -- where no branch is chosen, none is taken
 pub none_taken : (asked : said.Act) (place : Option Span) → place ≡ None → None ≡ unless_fault asked place
@@ -58,14 +43,7 @@ asked_place legend asked (Some a) place asks = sym (ap (λ b. unless_fault b pla
 pub fault_place : (asked : said.Act) (place : Option Span) → IsFault asked → None ≡ unless_fault asked place
 fault_place said.Waits place is = absurd is
 fault_place (said.Errs why) place is = refl
-fault_place (said.Continues own) place is = absurd is
-fault_place (said.Worsens v own) place is = absurd is
-fault_place (said.Removes port own) place is = absurd is
-fault_place (said.Sends port to v own) place is = absurd is
-fault_place (said.Creates new own) place is = absurd is
-fault_place (said.Starts path frame own) place is = absurd is
-fault_place (said.Stops path own) place is = absurd is
-fault_place (said.Connects d e own) place is = absurd is
+fault_place (said.Requests request own) place is = absurd is
 
 -- what is chosen in the words of choices is what is chosen in those of statements
 pub chosen-place : (s : Stand) (r : Result (Option Span) AllocError)

@@ -13,7 +13,7 @@ use Rattle.semantics.specs.Snapshots.{Test}
 use Rattle.semantics.specs.Statements as said
 use Rattle.semantics.specs.Storing.{in_last, store, target_meant, with_calls, with_remaining}
 use Rattle.semantics.specs.Taking.{effected, entered, marked, port_taken, store_all, taken}
-use Rattle.ttcn_values.specs.Outcomes.{Fails, Outcome, Yields, outcome_and_then}
+use Rattle.value_types.specs.Outcomes.{Fails, Outcome, Yields, outcome_and_then}
 
 and-then-as : {A B : Type 0} (f g : A → Outcome B) (o : Outcome A) → ((a : A) → f a ≡ g a) → outcome_and_then f o ≡ outcome_and_then g o
 and-then-as f g (Yields a) h = h a
@@ -31,11 +31,11 @@ stored-as test site (r ∷ rs) own =
 -- the effect of a branch is what code keeps of it
 effect-as : (test : Test) (site : Site) (effect : Effect) (own : Data)
     → effected_by test (deed_of test site effect) own ≡ said.acting (said.act_port (port_taken effect)) (outcome_and_then limited (effected test site effect own))
-effect-as test site Plain own = acting-as said.Continues (said.act_port None) (limited own) (λ d. refl)
+effect-as test site Plain own = acting-as (said.Requests said.Continues) (said.act_port None) (limited own) (λ d. refl)
 effect-as test site (Receives port redirects) own =
-    ap (λ o. said.acting (said.Removes port) (outcome_and_then limited o)) (stored-as test site redirects own)
-    ∙ acting-as (said.Removes port) (said.act_port (Some port)) (outcome_and_then limited (store_all test site redirects own)) (λ d. refl)
-effect-as test site (Elapses name) own = acting-as said.Continues (said.act_port None) (outcome_and_then limited (effected test site (Elapses name) own)) (λ d. refl)
+    ap (λ o. said.acting (said.Requests (said.Removes port)) (outcome_and_then limited o)) (stored-as test site redirects own)
+    ∙ acting-as (said.Requests (said.Removes port)) (said.act_port (Some port)) (outcome_and_then limited (store_all test site redirects own)) (λ d. refl)
+effect-as test site (Elapses name) own = acting-as (said.Requests said.Continues) (said.act_port None) (outcome_and_then limited (effected test site (Elapses name) own)) (λ d. refl)
 
 pub takes : (test : Test) (site : Site) (s : Statement) (rest : List Item) (chance : Chance) (effect : Effect) (own behind : Data) (deed : Deed) (frames : List Frame) (items : List Item)
     → deed ≡ deed_of test chance.judge.site effect → frames ≡ chance.way.frames → items ≡ marked site s rest chance.way → behind ≡ entered_all frames items own

@@ -1,5 +1,1 @@
-pub mod Marks
-pub mod Places
-pub mod Ports
-pub mod Stands
 pub mod Takings

@@ -1,8 +1,8 @@
 //! What is chosen where a component stands at an `alt`, or at what stands for one (ES 201 873-1, 20.2).
 ghost use Rattle.std.specs.Prelude.{◌≡◌, IfOk, IfSome, Some};
-ghost use Rattle.check_expressions.specs.Calls.{altstep_meant};
+ghost use Rattle.check_rules.specs.Calls.{altstep_meant};
 ghost use Rattle.check_scope.specs.Names.{module_names};
-ghost use Rattle.step_acts.specs.internal.Stands.{site_of};
+ghost use Rattle.step_forms.specs.internal.Stands.{site_of};
 ghost use Rattle.step_choice.specs.Choices.{Chooses};
 ghost use Rattle.step_choice.specs.Deeds.{HasKnownNames};
 ghost use Rattle.semantics.specs.Items as rules;
@@ -10,12 +10,12 @@ ghost use Rattle.graph_items.specs.Standing.{part_of};
 ghost use Rattle.ttcn_graph.specs.internal.Drawing.{Does};
 ghost use Rattle.ttcn_syntax.specs.declared.tree.statement.Action.TheVariants as form;
 
-use crate::facts::awaited;
-use crate::stand::Stand;
 use std::alloc::Global;
 use step_choice::{Taken, choose_alt, choose_call, choose_event};
+use step_forms::facts::awaited;
+use step_forms::stand::Stand;
 use ttcn_syntax::{Branch, Call, Event};
-use ttcn_values::Fault;
+use value_types::Fault;
 
 /// What a component chooses at a call of the altstep at a position, which is an `alt` of its own.
 pub(crate) fn chosen_at_call<'t, 'a>(

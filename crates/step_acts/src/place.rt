@@ -1,8 +1,8 @@
 //! The branch that a component's step takes (ES 201 873-1, 20.2).
 ghost use Rattle.std.specs.Prelude.{◌≡◌, ◌∷◌, IfOk, Some};
-ghost use Rattle.step_acts.specs.Asks.{Asks};
-ghost use Rattle.step_acts.specs.internal.Places.{behind_first};
-ghost use Rattle.step_acts.specs.internal.Stands.{site_of, stand_by};
+ghost use Rattle.step_forms.specs.Asks.{Asks};
+ghost use Rattle.step_forms.specs.internal.Places.{behind_first};
+ghost use Rattle.step_forms.specs.internal.Stands.{site_of, stand_by};
 ghost use Rattle.step_choice.specs.Choices.{Chooses, choice_of};
 ghost use Rattle.semantics.specs.Items as rules;
 ghost use Rattle.semantics.specs.Places.{place_chosen, place_in_frames, place_in_list, unless_fault};
@@ -15,18 +15,18 @@ ghost use Rattle.config_parts.specs.Legend.{Legend};
 ghost use Rattle.graph_items.specs.Standing.{part_of};
 ghost use Rattle.ttcn_syntax.specs.declared.tree.statement.Statement.{Statement as AStatement};
 
-use crate::call::altstep_called;
 use crate::choice::{chosen_at_alt, chosen_at_call, chosen_at_event};
-use crate::position::first_at;
-use crate::stand::Stand;
 use crate::step::act_at;
 use config_parts::{Act, Frame};
 use std::alloc::{AllocError, Global};
 use step_choice::Taken;
+use step_forms::call::altstep_called;
+use step_forms::position::first_at;
+use step_forms::stand::Stand;
 use step_snapshot::Snapshot;
 use ttcn_graph::{First, Part};
 use ttcn_syntax::{Action, Span};
-use ttcn_values::Fault;
+use value_types::Fault;
 
 /// The place of the branch that is chosen, if one is.
 fn place_of(chosen: Result<Option<Taken<'_, '_>>, Fault>) -> Result<Option<Span>, AllocError>

@@ -1,11 +1,11 @@
 //! The step of a component, by what stands first in its last frame.
 ghost use Rattle.std.specs.Prelude.{◌≡◌, ◌∷◌, ℕ, List, Option, Some, IfSome, length, slice_get};
-ghost use Rattle.check_expressions.specs.Calls.{altstep_meant};
+ghost use Rattle.check_rules.specs.Calls.{altstep_meant};
 ghost use Rattle.check_scope.specs.Names.{module_names};
 ghost use Rattle.check_scope.specs.declared.types.DataType.{DataType as ADataType};
-ghost use Rattle.step_acts.specs.Asks.{Asks, AsksWithin, uncovered_act};
-ghost use Rattle.step_acts.specs.internal.Places.{behind_first, list_at};
-ghost use Rattle.step_acts.specs.internal.Stands.{legend_of, site_of, stand_by};
+ghost use Rattle.step_forms.specs.Asks.{Asks, AsksWithin, uncovered_act};
+ghost use Rattle.step_forms.specs.internal.Places.{behind_first, list_at};
+ghost use Rattle.step_forms.specs.internal.Stands.{legend_of, site_of, stand_by};
 ghost use Rattle.semantics.specs.Items as rules;
 ghost use Rattle.semantics.specs.Items.{action_of};
 ghost use Rattle.semantics.specs.Statements as said;
@@ -21,28 +21,28 @@ ghost use Rattle.ttcn_graph.specs.Ways.{ways_of, ways_of_assignment, ways_of_var
 ghost use Rattle.ttcn_graph.specs.internal.Drawing.{Does};
 ghost use Rattle.ttcn_syntax.specs.declared.tree.statement.Action.TheVariants as form;
 
-use crate::assign::{act_assignment, act_constant, act_timer, act_variable};
-use crate::call::{altstep_called, call_function};
-use crate::condition::{act_if, act_loop};
-use crate::connect::act_connect;
-use crate::end::{act_end, act_return};
-use crate::facts::{awaited, declared_type, goal, is_own, sent_type};
-use crate::marks::uncover;
-use crate::position::{first_at, go_on};
-use crate::send::{act_send, act_start, act_stop_of, act_timer_state};
-use crate::simple::{act_activate, act_deactivate, act_repeat, act_stop, act_verdict};
-use crate::stand::Stand;
 use crate::waiting::act_choice;
 use config_parts::{Act, Frame};
 use std::alloc::Global;
 use step_choice::{choose_alt, choose_call, choose_event};
+use step_forms::assign::{act_assignment, act_constant, act_timer, act_variable};
+use step_forms::call::{altstep_called, call_function};
+use step_forms::condition::{act_if, act_loop};
+use step_forms::connect::act_connect;
+use step_forms::end::{act_end, act_return};
+use step_forms::facts::{awaited, declared_type, goal, is_own, sent_type};
+use step_forms::marks::uncover;
+use step_forms::position::{first_at, go_on};
+use step_forms::send::{act_send, act_start, act_stop_of, act_timer_state};
+use step_forms::simple::{act_activate, act_deactivate, act_repeat, act_stop, act_verdict};
+use step_forms::stand::Stand;
 use step_snapshot::{Snapshot, TestCase};
 use ttcn_graph::{First, Part};
 use ttcn_syntax::{
     Action, Assignment, Branch, Call, ComponentRef, Constant, Event, ForStart, Name, PortRef, Send,
     Timer, Variable,
 };
-use ttcn_values::{Fault, TimerState};
+use value_types::{Fault, TimerState};
 
 // ---- statements that are, or stand for, an `alt`
 
@@ -436,15 +436,10 @@ fn uncover_act(alloc: Global, test: &TestCase<'_>, act: Act) -> Act
     ensures asked { act_by (legend_by test.now) result ≡ uncovered_act (act_by (legend_by test.now) act) }
     ensures within { IsActWithin (extent_of test.now) act → IsActWithin (extent_of test.now) result }
 {
-    match act {
-        Act::Continues(own) => Act::Continues(uncover(alloc, test, own)),
-        Act::Worsens(verdict, own) => Act::Worsens(verdict, uncover(alloc, test, own)),
-        Act::Removes(port, own) => Act::Removes(port, uncover(alloc, test, own)),
-        Act::Sends(port, to, value, own) => Act::Sends(port, to, value, uncover(alloc, test, own)),
-        Act::Creates(new, own) => Act::Creates(new, uncover(alloc, test, own)),
-        Act::Starts(path, frame, own) => Act::Starts(path, frame, uncover(alloc, test, own)),
-        Act::Stops(path, own) => Act::Stops(path, uncover(alloc, test, own)),
-        Act::Connects(one, other, own) => Act::Connects(one, other, uncover(alloc, test, own)),
+    let Act { request, own } = act;
+    Act {
+        request,
+        own: uncover(alloc, test, own),
     }
 }
 

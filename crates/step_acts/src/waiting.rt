@@ -1,9 +1,9 @@
 //! Steps at an `alt` (ES 201 873-1, 20.2).
 ghost use Rattle.std.specs.Prelude.{◌≡◌, length, map, IfOk, IfSome, Ok, is_some, slice_get, true};
 ghost use Rattle.std.specs.List.{All};
-ghost use Rattle.step_acts.specs.Asks.{Asks, AsksWithin};
-ghost use Rattle.step_acts.specs.internal.Places.{list_at};
-ghost use Rattle.step_acts.specs.internal.Stands.{legend_of, site_of, stand_by};
+ghost use Rattle.step_forms.specs.Asks.{Asks, AsksWithin};
+ghost use Rattle.step_forms.specs.internal.Places.{list_at};
+ghost use Rattle.step_forms.specs.internal.Stands.{legend_of, site_of, stand_by};
 ghost use Rattle.step_acts.specs.internal.Takings.{IsTakenAt, effected_by, limited, stored_all};
 ghost use Rattle.step_choice.specs.Choices.{Chooses, IsTaken, IsWayOf};
 ghost use Rattle.step_choice.specs.Deeds as deeds;
@@ -19,17 +19,17 @@ ghost use Rattle.config_parts.specs.Legend.{data_by};
 ghost use Rattle.config_parts.specs.Views.{IsWithin};
 ghost use Rattle.graph_items.specs.Standing.{part_of};
 ghost use Rattle.ttcn_graph.specs.Ways.{ways_of};
-ghost use Rattle.ttcn_values.specs.Outcomes.{GivesBy};
+ghost use Rattle.value_types.specs.Outcomes.{GivesBy};
 
-use crate::stand::Stand;
-use crate::storing::{set_timer, store_at};
-use config_parts::{Act, Data};
+use config_parts::{Act, Data, Request};
 use std::alloc::Global;
 use step_choice::{Deed, Stored, Taken};
 use step_data::{enter_all, limit_frames};
+use step_forms::stand::Stand;
+use step_forms::storing::{set_timer, store_at};
 use step_snapshot::TestCase;
 use ttcn_syntax::Name;
-use ttcn_values::{Fault, Slot, TimerState};
+use value_types::{Fault, Slot, TimerState};
 
 /// Values go to targets, one after the other.
 fn store_all(
@@ -53,11 +53,14 @@ fn store_all(
 /// The component goes on with these data, if they have not too many frames.
 fn act_limited(test: &TestCase<'_>, own: Data) -> Result<Option<Act>, Fault>
     requires { IsWithin (extent_of test.now) own }
-    ensures asks { Asks (legend_by test.now) (said.acting said.Continues (limited (data_by (legend_by test.now) own))) result }
+    ensures asks { Asks (legend_by test.now) (said.acting (said.Requests said.Continues) (limited (data_by (legend_by test.now) own))) result }
     ensures within { AsksWithin (extent_of test.now) result }
 {
     let own = limit_frames(own)?;
-    Ok(Some(Act::Continues(own)))
+    Ok(Some(Act {
+        request: Request::Continues,
+        own,
+    }))
 }
 
 /// A timer elapses.
@@ -92,7 +95,10 @@ fn receive(
 {
     let own = store_all(alloc, test, stored, own)?;
     let own = limit_frames(own)?;
-    Ok(Some(Act::Removes(port, own)))
+    Ok(Some(Act {
+        request: Request::Removes(port),
+        own,
+    }))
 }
 
 /// What taking a branch does beside what it leaves to be done.

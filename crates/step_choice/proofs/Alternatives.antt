@@ -10,7 +10,7 @@ use Rattle.ttcn_syntax.specs.declared.tree.statement.Conditional.{Conditional}
 use Rattle.ttcn_syntax.specs.declared.tree.statement.Event.{Event}
 use Rattle.ttcn_syntax.specs.declared.tree.statement.Statement.{Statement}
 use Rattle.ttcn_syntax.specs.declared.tree.value.Call.{Call}
-use Rattle.check_expressions.specs.Calls.{altstep_meant}
+use Rattle.check_rules.specs.Calls.{altstep_meant}
 use Rattle.check_scope.specs.Names.{module_names}
 use Rattle.semantics.specs.Branches.{behind_guard, guard_holds, open_branch, written_alternative, written_call}
 use Rattle.semantics.specs.Items.{items, items_if_any}
@@ -24,7 +24,7 @@ use Rattle.step_snapshot.specs.declared.snapshot.Snapshot.{Snapshot}
 use Rattle.config_parts.specs.declared.frame.Cells.{Cells}
 use Rattle.graph_sites.specs.Facts.{EventFacts, alternative_facts, branch_facts, event_facts}
 use Rattle.ttcn_graph.specs.Ways.{items_of_alternative, items_of_branch}
-use Rattle.ttcn_values.specs.declared.fault.Fault.{Fault}
+use Rattle.value_types.specs.declared.fault.Fault.{Fault}
 
 -- a branch has this alternative
 abbrev pub Has : Branch → Alternative → Type 0

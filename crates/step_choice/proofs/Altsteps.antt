@@ -8,7 +8,7 @@ use Rattle.ttcn_syntax.specs.declared.tree.definition.Altstep.{Altstep}
 use Rattle.ttcn_syntax.specs.declared.tree.definition.DefinitionKind.{DefinitionKind}
 use Rattle.ttcn_syntax.specs.declared.tree.definition.DefinitionKind.TheVariants as kind
 use Rattle.ttcn_syntax.specs.declared.tree.statement.Branch.{Branch}
-use Rattle.check_expressions.specs.Calls.{parameters_of}
+use Rattle.check_rules.specs.Calls.{parameters_of}
 use Rattle.check_scope.specs.Names.{kind_at}
 use Rattle.semantics.specs.Branches.{Judge, argument_values, branches_of, judge_in, through}
 use Rattle.semantics.specs.Events as events
@@ -32,10 +32,10 @@ use Rattle.config_parts.specs.declared.frame.Cells.{Cells}
 use Rattle.graph_names.specs.Known.{names_of_branch, names_of_kind}
 use Rattle.ttcn_graph.specs.Graphs.{beginnings}
 use Rattle.ttcn_graph.specs.Ways.{items_of_branch}
-use Rattle.ttcn_values.specs.Outcomes.{Failure, Unmet}
-use Rattle.ttcn_values.specs.declared.fault.Fault.{Fault}
-use Rattle.ttcn_values.specs.declared.fault.Fault.TheVariants.{Dynamic, Memory}
-use Rattle.ttcn_values.specs.declared.value.Value.{Value}
+use Rattle.value_types.specs.Outcomes.{Failure, Unmet}
+use Rattle.value_types.specs.declared.fault.Fault.{Fault}
+use Rattle.value_types.specs.declared.fault.Fault.TheVariants.{Dynamic, Memory}
+use Rattle.value_types.specs.declared.value.Value.{Value}
 
 -- the choice among branches of the altstep at a position, from a call with these arguments
 abbrev pub first_from_call : Snapshot → ℕ → ℕ → List Value → List Item → List Branch → Choice

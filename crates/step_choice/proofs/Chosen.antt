@@ -8,7 +8,7 @@ use Rattle.ttcn_syntax.specs.declared.tree.statement.Branch.{Branch}
 use Rattle.ttcn_syntax.specs.declared.tree.statement.Event.{Event}
 use Rattle.ttcn_syntax.specs.declared.tree.statement.Statement.{Statement, out-Statement}
 use Rattle.ttcn_syntax.specs.declared.tree.value.Call.{Call}
-use Rattle.check_expressions.specs.Calls.{altstep_meant}
+use Rattle.check_rules.specs.Calls.{altstep_meant}
 use Rattle.check_scope.specs.Names.{module_names}
 use Rattle.semantics.specs.Branches.{Judge, Written, open_branch, written_alt, written_branch, written_call, written_defaults}
 use Rattle.semantics.specs.Events.{first_choice}
@@ -29,8 +29,8 @@ use Rattle.step_snapshot.specs.declared.snapshot.Snapshot.{Snapshot}
 use Rattle.config_parts.specs.Views.{view_by}
 use Rattle.config_parts.specs.declared.frame.Cells.{Cells}
 use Rattle.ttcn_graph.specs.Ways.{for_whole, items_of_branch, ways_of, ways_of_call, ways_of_part}
-use Rattle.ttcn_types.specs.Limits.{longest_chain}
-use Rattle.ttcn_values.specs.declared.fault.Fault.{Fault}
+use Rattle.check_rules.specs.Limits.{longest_chain}
+use Rattle.value_types.specs.declared.fault.Fault.{Fault}
 
 -- ---- ways
 

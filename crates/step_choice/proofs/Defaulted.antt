@@ -12,8 +12,8 @@ use Rattle.step_snapshot.specs.Seen.{own_by, seen_by}
 use Rattle.step_snapshot.specs.declared.snapshot.Snapshot.{Snapshot}
 use Rattle.config_parts.specs.Legend.{default_by}
 use Rattle.config_parts.specs.declared.frame.ActiveDefault.{ActiveDefault}
-use Rattle.ttcn_values.specs.Outcomes.{Yields}
-use Rattle.ttcn_values.specs.declared.value.Value.{Value}
+use Rattle.value_types.specs.Outcomes.{Yields}
+use Rattle.value_types.specs.declared.value.Value.{Value}
 
 -- the choice among the branches of the altstep at a position, as those of a default
 abbrev pub first_of_default : Snapshot → ℕ → ℕ → List Value → Choice

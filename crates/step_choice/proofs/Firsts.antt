@@ -8,7 +8,7 @@ use Rattle.semantics.specs.Events.{Choice, Effect, Faulty, Happened, Passed, Ref
 use Rattle.semantics.specs.Items.{Item}
 use Rattle.semantics.specs.Snapshots.{Snapshot, Test}
 use Rattle.step_choice.specs.internal.Later.{chance_through, choice_through, or_later}
-use Rattle.ttcn_values.specs.declared.value.Value.{Value}
+use Rattle.value_types.specs.declared.value.Value.{Value}
 
 -- ---- one part behind the other
 

@@ -8,9 +8,9 @@ use Rattle.step_choice.specs.Choices.{Finds, IsTaken}
 use Rattle.step_choice.specs.declared.taken.Taken.{Taken}
 use Rattle.step_choice.specs.internal.Later.{or_later}
 use Rattle.step_snapshot.specs.declared.snapshot.Snapshot.{Snapshot}
-use Rattle.ttcn_values.specs.Outcomes.{Failure, Outcome, Fails, Yields, Gives}
-use Rattle.ttcn_values.specs.declared.fault.Fault.{Fault}
-use Rattle.ttcn_values.specs.declared.fault.Fault.TheVariants.{Dynamic, Memory}
+use Rattle.value_types.specs.Outcomes.{Failure, Outcome, Fails, Yields, Gives}
+use Rattle.value_types.specs.declared.fault.Fault.{Fault}
+use Rattle.value_types.specs.declared.fault.Fault.TheVariants.{Dynamic, Memory}
 
 -- the same choice
 pub same-choice : (s : Snapshot) (P : ℕ → List Item → Type 0) (one other : Choice) (result : Result (Option Taken) Fault) → other ≡ one → Finds s P one result → Finds s P other result

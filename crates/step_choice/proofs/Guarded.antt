@@ -24,10 +24,10 @@ use Rattle.step_choice.specs.internal.Judged.{Is, Tries, altstep_of, below, firs
 use Rattle.step_snapshot.specs.Seen.{own_by, seen_by}
 use Rattle.step_snapshot.specs.declared.snapshot.Snapshot.{Snapshot}
 use Rattle.config_parts.specs.declared.frame.Frame.{Frame}
-use Rattle.ttcn_values.specs.Outcomes.{Failure, Fails, Gives, Outcome, Unmet, Yields}
-use Rattle.ttcn_values.specs.declared.fault.Fault.{Fault}
-use Rattle.ttcn_values.specs.declared.fault.Fault.TheVariants.{Dynamic, Memory}
-use Rattle.ttcn_values.specs.declared.value.Value.{Value}
+use Rattle.value_types.specs.Outcomes.{Failure, Fails, Gives, Outcome, Unmet, Yields}
+use Rattle.value_types.specs.declared.fault.Fault.{Fault}
+use Rattle.value_types.specs.declared.fault.Fault.TheVariants.{Dynamic, Memory}
+use Rattle.value_types.specs.declared.value.Value.{Value}
 
 -- ---- guards
 

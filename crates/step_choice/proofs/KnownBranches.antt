@@ -14,7 +14,7 @@ use Rattle.ttcn_syntax.specs.declared.tree.statement.Conditional.{Conditional}
 use Rattle.ttcn_syntax.specs.declared.tree.statement.Event.{Event}
 use Rattle.ttcn_syntax.specs.declared.tree.statement.Statement.{Statement, out-Statement}
 use Rattle.ttcn_syntax.specs.declared.tree.value.Call.{Call}
-use Rattle.check_expressions.specs.Calls.{altstep_meant, parameters_of}
+use Rattle.check_rules.specs.Calls.{altstep_meant, parameters_of}
 use Rattle.check_scope.specs.Names.{kind_at, module_names}
 use Rattle.semantics.specs.Branches.{Chance, Fault, Judge, Open, Written, Writing, behind_guard, branches_of, guard_holds, judge_in, open_branch, read_by, through, write_altsteps, written_alt, written_alternative, written_branch, written_call, written_default, written_defaults, written_with, written_within}
 use Rattle.semantics.specs.Configurations.{ActiveDefault, Data}
@@ -34,11 +34,11 @@ use Rattle.step_snapshot.specs.Slots.{NoneIsMissing}
 use Rattle.step_snapshot.specs.Tests.{legend_by}
 use Rattle.step_snapshot.specs.declared.snapshot.Snapshot.{Snapshot}
 use Rattle.graph_names.specs.Known.{names_of_alternative, names_of_branch, names_of_event, names_of_kind}
-use Rattle.ttcn_types.specs.Limits.{longest_chain}
-use Rattle.ttcn_values.specs.Outcomes.{Fails, Outcome, Unmet, Yields}
-use Rattle.ttcn_values.specs.Templates.{arguments}
-use Rattle.ttcn_values.specs.declared.fault.Fault as faults
-use Rattle.ttcn_values.specs.declared.value.Value.{Value}
+use Rattle.check_rules.specs.Limits.{longest_chain}
+use Rattle.value_types.specs.Outcomes.{Fails, Outcome, Unmet, Yields}
+use Rattle.value_types.specs.Templates.{arguments}
+use Rattle.value_types.specs.declared.fault.Fault as faults
+use Rattle.value_types.specs.declared.value.Value.{Value}
 
 -- ---- branches that are written out
 

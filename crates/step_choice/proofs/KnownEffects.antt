@@ -11,7 +11,7 @@ use Rattle.ttcn_syntax.specs.declared.tree.statement.PortSelector.{PortSelector}
 use Rattle.ttcn_syntax.specs.declared.tree.statement.PortSelector.TheVariants as selector
 use Rattle.ttcn_syntax.specs.declared.tree.statement.Receive.{Receive}
 use Rattle.ttcn_syntax.specs.declared.tree.template.MessageTemplate.{MessageTemplate}
-use Rattle.check_expressions.specs.Targets.{target_at}
+use Rattle.check_rules.specs.Targets.{target_at}
 use Rattle.check_scope.specs.Names.{Scope}
 use Rattle.check_scope.specs.Typings.{same_type}
 use Rattle.check_scope.specs.declared.types.DataType.{DataType}
@@ -28,13 +28,13 @@ use Rattle.step_choice.specs.declared.taken.Stored.{Stored}
 use Rattle.step_snapshot.specs.Slots.{IsKnown, NoneIsMissing}
 use Rattle.config_parts.specs.Legend.{Legend}
 use Rattle.graph_names.specs.Known.{names_of_event, names_of_reference}
-use Rattle.ttcn_values.specs.Outcomes.{DynamicError, Fails, Outcome, Yields, dynamic_error, outcome_map}
-use Rattle.ttcn_values.specs.Readings.{Reading, component_referred}
-use Rattle.ttcn_values.specs.declared.frame.TimerState.{TimerState}
-use Rattle.ttcn_values.specs.declared.frame.TimerState.TheVariants as timer
-use Rattle.ttcn_values.specs.declared.value.ComponentId.{ComponentId}
-use Rattle.ttcn_values.specs.declared.value.Value.{Value}
-use Rattle.ttcn_values.specs.declared.value.Value.TheVariants as value
+use Rattle.value_types.specs.Outcomes.{DynamicError, Fails, Outcome, Yields, dynamic_error, outcome_map}
+use Rattle.value_types.specs.Readings.{Reading, component_referred}
+use Rattle.value_types.specs.declared.frame.TimerState.{TimerState}
+use Rattle.value_types.specs.declared.frame.TimerState.TheVariants as timer
+use Rattle.value_types.specs.declared.value.ComponentId.{ComponentId}
+use Rattle.value_types.specs.declared.value.Value.{Value}
+use Rattle.value_types.specs.declared.value.Value.TheVariants as value
 
 -- ---- names
 

@@ -5,7 +5,6 @@ pub mod Tried
 pub mod Chosen
 pub mod Guarded
 pub mod Received
-pub mod Argued
 pub mod Ported
 pub mod Through
 pub mod Choosing

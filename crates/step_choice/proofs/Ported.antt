@@ -9,7 +9,7 @@ use Rattle.semantics.specs.Snapshots.{Test, front_at, front_of}
 use Rattle.config_parts.specs.Legend.{Legend, message_by, queue_by}
 use Rattle.config_parts.specs.declared.component.Message.{Message}
 use Rattle.config_parts.specs.declared.component.Queue.{Queue}
-use Rattle.ttcn_values.specs.Readings.{Reading}
+use Rattle.value_types.specs.Readings.{Reading}
 
 pub front-there : (messages : List Message) (m : Message) → Some m ≡ slice_get messages 0 → front_of (map message_by messages) ≡ Some (message_by m)
 front-there [] m is = absurd (let e = is in cc)

@@ -17,10 +17,10 @@ use Rattle.step_choice.specs.declared.taken.Deed.TheVariants as code
 use Rattle.step_choice.specs.declared.taken.Stored.{Stored}
 use Rattle.step_choice.specs.internal.Judged.{Stores, Tries, names_of, test_of, type_fits}
 use Rattle.step_snapshot.specs.declared.snapshot.Snapshot.{Snapshot}
-use Rattle.ttcn_values.specs.Outcomes.{Fails, Outcome, Yields}
-use Rattle.ttcn_values.specs.Readings.{Reading}
-use Rattle.ttcn_values.specs.declared.fault.Fault.{Fault}
-use Rattle.ttcn_values.specs.declared.fault.Fault.TheVariants.{Dynamic, Memory}
+use Rattle.value_types.specs.Outcomes.{Fails, Outcome, Yields}
+use Rattle.value_types.specs.Readings.{Reading}
+use Rattle.value_types.specs.declared.fault.Fault.{Fault}
+use Rattle.value_types.specs.declared.fault.Fault.TheVariants.{Dynamic, Memory}
 
 -- ---- what is stored
 

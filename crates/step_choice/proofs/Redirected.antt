@@ -12,10 +12,10 @@ use Rattle.step_choice.specs.declared.taken.Stored.{Stored}
 use Rattle.graph_items.specs.Standing.{target_of}
 use Rattle.graph_sites.specs.Facts.{goal_at, goal_by, goal_if_any}
 use Rattle.graph_sites.specs.declared.facts.Goal.{Goal}
-use Rattle.ttcn_values.specs.Outcomes.{DynamicError, Fails, Outcome, Yields, outcome_map}
-use Rattle.ttcn_values.specs.declared.value.ComponentId.{ComponentId}
-use Rattle.ttcn_values.specs.declared.value.Value.{Value}
-use Rattle.ttcn_values.specs.declared.value.Value.TheVariants as value
+use Rattle.value_types.specs.Outcomes.{DynamicError, Fails, Outcome, Yields, outcome_map}
+use Rattle.value_types.specs.declared.value.ComponentId.{ComponentId}
+use Rattle.value_types.specs.declared.value.Value.{Value}
+use Rattle.value_types.specs.declared.value.Value.TheVariants as value
 
 -- what goes to targets at a site, as the rules have it
 abbrev pub AreStored : Test → Site → List (Target × Value) → List Redirect → Type 0

@@ -22,8 +22,8 @@ use Rattle.config_parts.specs.Views.{HasSlotsWithin, IsFrameWithin, view_by}
 use Rattle.config_parts.specs.declared.frame.Cells.{Cells}
 use Rattle.config_parts.specs.declared.frame.Frame.{Frame}
 use Rattle.ttcn_graph.specs.Graphs.{IsAt, beginnings_at}
-use Rattle.ttcn_values.specs.declared.frame.TimerState.{TimerState}
-use Rattle.ttcn_values.specs.declared.value.Value.{Value}
+use Rattle.value_types.specs.declared.frame.TimerState.{TimerState}
+use Rattle.value_types.specs.declared.value.Value.{Value}
 
 -- the frame of an altstep
 abbrev frame-of : List Item → Entries Value → Entries TimerState → configurations.Frame

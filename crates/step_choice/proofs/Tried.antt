@@ -6,9 +6,9 @@ use Rattle.semantics.specs.Sites.{Site}
 use Rattle.step_choice.specs.declared.taken.Deed.{Deed}
 use Rattle.step_choice.specs.internal.Judged.{Tries, deed_if}
 use Rattle.step_snapshot.specs.declared.snapshot.Snapshot.{Snapshot}
-use Rattle.ttcn_values.specs.Outcomes.{Failure, Fails, Gives, Outcome, Yields}
-use Rattle.ttcn_values.specs.declared.fault.Fault.{Fault}
-use Rattle.ttcn_values.specs.declared.fault.Fault.TheVariants.{Dynamic, Memory}
+use Rattle.value_types.specs.Outcomes.{Failure, Fails, Gives, Outcome, Yields}
+use Rattle.value_types.specs.declared.fault.Fault.{Fault}
+use Rattle.value_types.specs.declared.fault.Fault.TheVariants.{Dynamic, Memory}
 
 -- the same trial
 pub same-trial : (s : Snapshot) (site : Site) (one other : Trial) (result : Result (Option Deed) Fault) → other ≡ one → Tries s site one result → Tries s site other result

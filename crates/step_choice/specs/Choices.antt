@@ -23,9 +23,9 @@ use Rattle.config_parts.specs.Legend.{frame_by}
 use Rattle.config_parts.specs.Views.{IsFrameWithin}
 use Rattle.config_parts.specs.declared.frame.Frame.{Frame}
 use Rattle.ttcn_graph.specs.Ways.{ways_of}
-use Rattle.ttcn_values.specs.Outcomes.{Failure}
-use Rattle.ttcn_values.specs.declared.fault.Fault.{Fault}
-use Rattle.ttcn_values.specs.declared.fault.Fault.TheVariants.{Dynamic, Memory}
+use Rattle.value_types.specs.Outcomes.{Failure}
+use Rattle.value_types.specs.declared.fault.Fault.{Fault}
+use Rattle.value_types.specs.declared.fault.Fault.TheVariants.{Dynamic, Memory}
 
 -- ---- choices
 

@@ -13,7 +13,7 @@ use Rattle.step_choice.specs.declared.taken.Stored as code_stored
 use Rattle.step_snapshot.specs.Slots.{IsKnown}
 use Rattle.config_parts.specs.Legend.{Legend}
 use Rattle.graph_items.specs.Standing.{target_of}
-use Rattle.ttcn_values.specs.declared.value.Value.{Value}
+use Rattle.value_types.specs.declared.value.Value.{Value}
 
 -- what taking a branch does beside what it leaves to be done, with its redirects as targets
 pub data Deed : Type 0 where

@@ -2,7 +2,7 @@
 ghost use Rattle.std.specs.Prelude.{◌≡◌, ◌∷◌, [], IsSome, List, Some, length, map};
 ghost use Rattle.std.specs.List.{flat_map, slice_get};
 ghost use Rattle.std.specs.Option.{option_map};
-ghost use Rattle.check_expressions.specs.Calls.{altstep_meant};
+ghost use Rattle.check_rules.specs.Calls.{altstep_meant};
 ghost use Rattle.check_scope.specs.Names.{kind_at, module_names};
 ghost use Rattle.step_choice.specs.Choices.{Finds, IsTaken};
 ghost use Rattle.step_choice.specs.internal.Judged.{Is, IsAmong, altstep_of, below, first_of, judge_of, reads, test_of};
@@ -20,19 +20,20 @@ ghost use Rattle.config_parts.specs.Views.{HasSlotsWithin, view_by};
 ghost use Rattle.graph_sites.specs.Facts.{altstep_facts, branch_facts, event_by, event_facts};
 ghost use Rattle.ttcn_graph.specs.Graphs.{beginnings_at};
 ghost use Rattle.ttcn_graph.specs.Ways.{items_of_branch};
-ghost use Rattle.ttcn_values.specs.Outcomes.{Gives, Yields};
-ghost use Rattle.ttcn_values.specs.declared.value.Value.{Value as AValue};
+ghost use Rattle.value_types.specs.Outcomes.{Gives, Yields};
+ghost use Rattle.value_types.specs.declared.value.Value.{Value as AValue};
 
-use crate::arguments::{argument_cells, call_arguments};
+use crate::arguments::call_arguments;
 use crate::event::try_event;
 use crate::taken::{Deed, Taken};
 use check_scope::names::Meaning;
 use config_parts::{Cells, Frame};
 use std::alloc::Global;
-use step_snapshot::{Snapshot, TestCase};
+use step_snapshot::{Snapshot, TestCase, argument_cells};
 use ttcn_graph::EventFacts;
 use ttcn_syntax::{Alternative, Altstep, Branch, Call, DefinitionKind, Event, Expr, Seq, Span};
-use ttcn_values::{Fault, Value, eval_condition};
+use ttcn_values::eval_condition;
+use value_types::{Fault, Value};
 
 /// A branch that is taken, without the frames of altsteps.
 fn taken<'t, 'a>(alloc: Global, place: Span, way: usize, deed: Deed<'t, 'a>) -> Taken<'t, 'a>

@@ -1,7 +1,7 @@
 //! What a component chooses at an `alt`, or at what stands for one (ES 201 873-1, 20.2 and 20.5).
 ghost use Rattle.std.specs.Prelude.{◌≡◌, [], IfOk, IfSome, Some, length, map};
 ghost use Rattle.std.specs.List.{flat_map};
-ghost use Rattle.check_expressions.specs.Calls.{altstep_meant};
+ghost use Rattle.check_rules.specs.Calls.{altstep_meant};
 ghost use Rattle.check_scope.specs.Names.{module_names};
 ghost use Rattle.step_choice.specs.Choices.{Chooses, Finds};
 ghost use Rattle.step_choice.specs.Deeds.{HasKnownNames};
@@ -14,7 +14,7 @@ ghost use Rattle.graph_sites.specs.Facts.{branch_facts, event_by, event_facts};
 ghost use Rattle.graph_names.specs.Known.{names_of_branch, names_of_event};
 ghost use Rattle.ttcn_graph.specs.internal.Drawing.{Does};
 ghost use Rattle.ttcn_syntax.specs.declared.tree.statement.Action.TheVariants as form;
-ghost use Rattle.ttcn_types.specs.Limits as limits;
+ghost use Rattle.check_rules.specs.Limits as limits;
 
 use crate::altstep::{choose_altstep, choose_branches, choose_called, choose_open};
 use crate::taken::Taken;
@@ -23,7 +23,7 @@ use std::alloc::Global;
 use step_snapshot::Snapshot;
 use ttcn_graph::EventFacts;
 use ttcn_syntax::{Branch, Call, Event, Statement};
-use ttcn_values::Fault;
+use value_types::Fault;
 
 /// From a branch of an `alt`, or a default, altsteps call each other in chains of so many at most.
 fn longest_chain() -> usize

@@ -8,7 +8,7 @@ ghost use Rattle.semantics.specs.Snapshots.{View, reading_in};
 ghost use Rattle.step_snapshot.specs.Seen.{own_by, seen_by};
 ghost use Rattle.config_parts.specs.Views.{HasSlotsWithin};
 ghost use Rattle.graph_sites.specs.Facts.{event_by, event_facts};
-ghost use Rattle.ttcn_values.specs.Frames.{reading};
+ghost use Rattle.value_types.specs.Frames.{reading};
 
 use crate::receive::try_receive;
 use crate::taken::Deed;
@@ -17,7 +17,8 @@ use std::alloc::Global;
 use step_snapshot::Snapshot;
 use ttcn_graph::EventFacts;
 use ttcn_syntax::{ComponentRef, Event, Name};
-use ttcn_values::{Fault, Frame, TimerState, eval_component};
+use ttcn_values::eval_component;
+use value_types::{Fault, Frame, TimerState};
 
 /// An event that happens where something is true, and does nothing more.
 fn happened_if<'t, 'a>(truth: bool) -> Option<Deed<'t, 'a>>

@@ -9,6 +9,5 @@ mod receive;
 mod redirect;
 mod taken;
 
-pub use arguments::argument_cells;
 pub use choose::{choose_alt, choose_call, choose_event};
 pub use taken::{Deed, Stored, Taken};

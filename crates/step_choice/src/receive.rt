@@ -9,8 +9,8 @@ ghost use Rattle.step_snapshot.specs.Seen.{seen_by};
 ghost use Rattle.config_parts.specs.Legend.{message_by};
 ghost use Rattle.graph_sites.specs.Facts.{event_by, event_facts};
 ghost use Rattle.ttcn_syntax.specs.declared.tree.statement.Event.TheVariants as event;
-ghost use Rattle.ttcn_values.specs.Frames.{reading};
-ghost use Rattle.ttcn_values.specs.Outcomes.{Gives};
+ghost use Rattle.value_types.specs.Frames.{reading};
+ghost use Rattle.value_types.specs.Outcomes.{Gives};
 
 use crate::redirect::redirects;
 use crate::taken::Deed;
@@ -20,9 +20,8 @@ use std::alloc::Global;
 use step_snapshot::Snapshot;
 use ttcn_graph::EventFacts;
 use ttcn_syntax::{ComponentRef, MessageTemplate, Name, PortSelector, Receive};
-use ttcn_values::{
-    ComponentId, Fault, Frame, Slot, Value, eval_component_reference, eval_template, matches,
-};
+use ttcn_values::{eval_component_reference, eval_template, matches};
+use value_types::{ComponentId, Fault, Frame, Slot, Value};
 
 /// The type of a value by itself.
 fn type_of(value: &Value) -> Option<DataType>

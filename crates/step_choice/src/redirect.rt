@@ -17,7 +17,7 @@ use check_scope::types::DataType;
 use config_parts::Message;
 use std::alloc::{AllocError, Global};
 use ttcn_graph::{EventFacts, Goal};
-use ttcn_values::{ComponentId, Fault, Value};
+use value_types::{ComponentId, Fault, Value};
 
 /// The sender of a message goes to a target of its component's type alone.
 fn fits_sender(sender: &ComponentId, wanted: Option<DataType>) -> bool

@@ -2,7 +2,7 @@
 use config_parts::Frame;
 use ttcn_graph::Target;
 use ttcn_syntax::{Name, Seq, Span};
-use ttcn_values::{Slot, Value};
+use value_types::{Slot, Value};
 
 /// A value that goes to a target.
 #[derive(Drop)]

@@ -6,8 +6,8 @@ use Rattle.std.specs.Option.{option_map}
 use Rattle.semantics.specs.Configurations.{Running, State, is_running_state, same_path}
 use Rattle.semantics.specs.Runs.{first_snapshot}
 use Rattle.semantics.specs.Snapshots.{Test, holds, mtc_of, runs_in}
-use Rattle.ttcn_values.specs.declared.path.Path.{Path}
-use Rattle.ttcn_values.specs.declared.value.ComponentId.{ComponentId}
+use Rattle.value_types.specs.declared.path.Path.{Path}
+use Rattle.value_types.specs.declared.value.ComponentId.{ComponentId}
 
 numbers-alike : (a b : List ℕ) → bytes_eq a b ≡ bytes_eq b a
 numbers-alike [] [] = refl

@@ -19,16 +19,16 @@ use Rattle.config_parts.specs.Legend.{IsLegend, Legend, frame_with}
 use Rattle.config_parts.specs.internal.Stored.{declare, declare_timer, forget, no_cells}
 use Rattle.config_parts.proofs.Stored.{declare-alike, forget-alike, timer-declared}
 use Rattle.ttcn_syntax.specs.declared.tree.value.Value.{Value as WrittenValue}
-use Rattle.ttcn_values.specs.Literals.{value_wanted}
-use Rattle.ttcn_values.specs.Outcomes.{Failure, Fails, Yields, outcome_map}
-use Rattle.ttcn_values.specs.Readings.{Reading}
-use Rattle.ttcn_values.specs.declared.value.ComponentId.{ComponentId}
+use Rattle.value_types.specs.Literals.{value_wanted}
+use Rattle.value_types.specs.Outcomes.{Failure, Fails, Yields, outcome_map}
+use Rattle.value_types.specs.Readings.{Reading}
+use Rattle.value_types.specs.declared.value.ComponentId.{ComponentId}
 use Rattle.graph_names.specs.Known.{names_of_kind, names_of_member}
 use Rattle.ttcn_syntax.specs.declared.tree.definition.DefinitionKind.{DefinitionKind}
 use Rattle.ttcn_syntax.specs.declared.tree.definition.DefinitionKind.TheVariants as kind
 use Rattle.ttcn_syntax.specs.declared.tree.definition.Member.{Member}
-use Rattle.ttcn_values.specs.declared.frame.TimerState.{TimerState}
-use Rattle.ttcn_values.specs.declared.value.Value.{Value}
+use Rattle.value_types.specs.declared.frame.TimerState.{TimerState}
+use Rattle.value_types.specs.declared.value.Value.{Value}
 
 -- no names are within all
 pub none-within : (size : ℕ) (cells : Cells) → cells ≡ no_cells → HasSlotsWithin size cells

@@ -5,9 +5,9 @@ use Rattle.std.proofs.lemmas.List.{drop_all}
 use Rattle.std.specs.Result.{IsErrAnd}
 use Rattle.semantics.specs.Configurations.{Frame}
 use Rattle.semantics.specs.Creating.{declared_in_turn}
-use Rattle.ttcn_values.proofs.Faults.{given_by, handed_on_by}
-use Rattle.ttcn_values.specs.Outcomes.{Failure, Fails, GivesBy, Outcome, Yields, outcome_and_then}
-use Rattle.ttcn_values.specs.declared.fault.Fault.{Fault}
+use Rattle.value_types.proofs.Faults.{given_by, handed_on_by}
+use Rattle.value_types.specs.Outcomes.{Failure, Fails, GivesBy, Outcome, Yields, outcome_and_then}
+use Rattle.value_types.specs.declared.fault.Fault.{Fault}
 
 -- the first so many give this frame
 abbrev pub HaveTurned : {A : Type 0} → (Frame → A → Outcome Frame) → List A → Frame → ℕ → Frame → Type 0

@@ -8,11 +8,11 @@ use Rattle.semantics.specs.Snapshots.{Snapshot, Test, runs_in}
 use Rattle.step_snapshot.specs.Tests.{legend_by, test_by}
 use Rattle.config_parts.specs.Legend.{Legend, frame_with}
 use Rattle.config_parts.specs.declared.frame.Cells.{Cells}
-use Rattle.ttcn_values.specs.Outcomes.{GivesBy, Outcome}
-use Rattle.ttcn_values.specs.contracts.path.PathPartialEq.TheImpl as equality
-use Rattle.ttcn_values.specs.declared.fault.Fault.{Fault}
-use Rattle.ttcn_values.specs.declared.path.Path.{Path}
-use Rattle.ttcn_values.specs.declared.value.ComponentId.{ComponentId}
+use Rattle.value_types.specs.Outcomes.{GivesBy, Outcome}
+use Rattle.value_types.specs.contracts.path.PathPartialEq.TheImpl as equality
+use Rattle.value_types.specs.declared.fault.Fault.{Fault}
+use Rattle.value_types.specs.declared.path.Path.{Path}
+use Rattle.value_types.specs.declared.value.ComponentId.{ComponentId}
 
 -- these are the components that run in a snapshot
 abbrev pub RunIn : List (Bor Path) → Snapshot → Type 0

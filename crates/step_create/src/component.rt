@@ -10,7 +10,7 @@ use config_parts::{Cells, Component, Data, Shared, State};
 use std::alloc::{AllocError, Global};
 use step_snapshot::TestCase;
 use ttcn_syntax::{Seq, Verdict};
-use ttcn_values::ComponentId;
+use value_types::ComponentId;
 
 /// A new component with these names in frame 0, which is created and doesn't run yet.
 pub fn new_component(

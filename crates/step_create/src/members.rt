@@ -10,16 +10,17 @@ ghost use Rattle.step_snapshot.specs.Slots.{IsKnown, NoneIsMissing};
 ghost use Rattle.step_snapshot.specs.Tests.{test_by};
 ghost use Rattle.config_parts.specs.Views.{HasSlotsWithin};
 ghost use Rattle.graph_names.specs.Known.{names_of_member};
-ghost use Rattle.ttcn_values.specs.Frames.{reading};
-ghost use Rattle.ttcn_values.specs.Outcomes.{Yields};
+ghost use Rattle.value_types.specs.Frames.{reading};
+ghost use Rattle.value_types.specs.Outcomes.{Yields};
 
 use crate::types::declarations_of;
+use check_rules::DataType;
 use config_parts::{Cells, frame_of};
 use std::alloc::{AllocError, Global};
 use step_snapshot::TestCase;
 use ttcn_syntax::{Constant, Member, MemberVariable, Name, Timer, TypeName, Value as WrittenValue};
-use ttcn_types::DataType;
-use ttcn_values::{ComponentId, Fault, Frame, Path, Slot, eval_value};
+use ttcn_values::eval_value;
+use value_types::{ComponentId, Fault, Frame, Path, Slot};
 
 /// What makes a new component: the test case, the component's path and type, and the components that run.
 #[derive(Drop)]

@@ -11,7 +11,7 @@ ghost use Rattle.semantics.specs.Snapshots.{mtc_of};
 ghost use Rattle.step_snapshot.specs.Tests.{extent_of, legend_by, test_by};
 ghost use Rattle.config_parts.specs.Legend.{component_by, config_by, frame_with};
 ghost use Rattle.config_parts.specs.Views.{HasSlotsWithin, IsConfigWithin, IsWithin};
-ghost use Rattle.ttcn_values.specs.Outcomes.{GivesBy};
+ghost use Rattle.value_types.specs.Outcomes.{GivesBy};
 
 use crate::component::new_component;
 use crate::members::Maker;
@@ -19,7 +19,7 @@ use config_parts::{Cells, Component, Config, Frame, Going, Shared, State, TryClo
 use std::alloc::{AllocError, Global};
 use step_snapshot::TestCase;
 use ttcn_syntax::{DefinitionKind, Seq, Verdict};
-use ttcn_values::Fault;
+use value_types::Fault;
 
 /// The position of what the test case does.
 fn body_of(test: &TestCase<'_>) -> Option<usize>

@@ -11,11 +11,11 @@ use Rattle.config_parts.specs.declared.frame.ActiveDefault.{ActiveDefault}
 use Rattle.config_parts.specs.declared.frame.Data.{Data}
 use Rattle.config_parts.specs.declared.frame.Frame.{Frame}
 use Rattle.config_parts.proofs.Named.{same-name}
-use Rattle.ttcn_values.specs.Frames.{entry}
-use Rattle.ttcn_values.specs.Outcomes.{Fails, Gives, GivesBy, Outcome, Yields, outcome_map}
-use Rattle.ttcn_values.specs.declared.fault.Fault.{Fault}
-use Rattle.ttcn_values.specs.declared.fault.Fault.TheVariants.{Dynamic, Memory}
-use Rattle.ttcn_values.specs.declared.value.Value.{Value}
+use Rattle.value_types.specs.Frames.{entry}
+use Rattle.value_types.specs.Outcomes.{Fails, Gives, GivesBy, Outcome, Yields, outcome_map}
+use Rattle.value_types.specs.declared.fault.Fault.{Fault}
+use Rattle.value_types.specs.declared.fault.Fault.TheVariants.{Dynamic, Memory}
+use Rattle.value_types.specs.declared.value.Value.{Value}
 
 -- ---- defaults
 

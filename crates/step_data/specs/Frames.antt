@@ -5,8 +5,8 @@ use Rattle.semantics.specs.Configurations.{Data, Frame}
 use Rattle.semantics.specs.Items.{Item}
 use Rattle.semantics.specs.Statements.{activate, most, with_defaults}
 use Rattle.semantics.specs.Storing.{in_last, with_calls, with_remaining}
-use Rattle.ttcn_values.specs.Outcomes.{Outcome, Yields, dynamic_error}
-use Rattle.ttcn_values.specs.declared.value.Value.{Value}
+use Rattle.value_types.specs.Outcomes.{Outcome, Yields, dynamic_error}
+use Rattle.value_types.specs.declared.value.Value.{Value}
 
 -- frames above those that are there, where these items remain in the last of these
 abbrev pub entered_all : List Frame → List Item → Data → Data

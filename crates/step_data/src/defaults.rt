@@ -5,13 +5,13 @@ ghost use Rattle.step_data.specs.Frames.{activated, deactivated};
 ghost use Rattle.semantics.specs.Statements as rules;
 ghost use Rattle.config_parts.specs.Legend.{Legend, data_by};
 ghost use Rattle.config_parts.specs.Views.{Extent, IsWithin};
-ghost use Rattle.ttcn_values.specs.Outcomes.{GivesBy};
+ghost use Rattle.value_types.specs.Outcomes.{GivesBy};
 
 use config_parts::{ActiveDefault, Data};
 use std::alloc::Global;
 use std::mem;
 use ttcn_syntax::Seq;
-use ttcn_values::{Fault, Value};
+use value_types::{Fault, Value};
 
 /// An altstep is activated with arguments. Too many activations are a dynamic error.
 pub fn activate(

@@ -5,13 +5,13 @@ ghost use Rattle.semantics.specs.Statements as rules;
 ghost use Rattle.step_data.specs.Frames.{entered_all, left};
 ghost use Rattle.config_parts.specs.Legend.{Legend, data_by, frame_by};
 ghost use Rattle.config_parts.specs.Views.{Extent, IsFrameWithin, IsWithin};
-ghost use Rattle.ttcn_values.specs.Outcomes.{Answers, GivesBy};
+ghost use Rattle.value_types.specs.Outcomes.{Answers, GivesBy};
 
 use config_parts::{Data, Frame};
 use std::alloc::{AllocError, Global};
 use std::mem;
 use ttcn_syntax::Seq;
-use ttcn_values::Fault;
+use value_types::Fault;
 
 /// A component has at most so many frames, frame 0 among them.
 const MOST_FRAMES: usize = 4294967295;

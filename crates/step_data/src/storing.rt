@@ -6,14 +6,14 @@ ghost use Rattle.semantics.specs.Storing as rules;
 ghost use Rattle.step_data.specs.internal.Held.{held_in, value_at};
 ghost use Rattle.config_parts.specs.Legend.{IsLegend, Legend, data_by};
 ghost use Rattle.config_parts.specs.Views.{Extent, IsWithin};
-ghost use Rattle.ttcn_values.specs.Outcomes.{GivesBy};
+ghost use Rattle.value_types.specs.Outcomes.{GivesBy};
 
+use check_rules::{DataType, Definitions};
 use config_parts::Data;
 use std::alloc::{AllocError, Global};
 use ttcn_syntax::Name;
-use ttcn_types::{DataType, Definitions};
-use ttcn_values::{Fault, Slot, Value};
 use value_assignment::assign;
+use value_types::{Fault, Slot, Value};
 
 /// What the entries say of a slot.
 fn value_of(entries: &[(Slot, Value)], slot: Slot) -> Option<&Value>

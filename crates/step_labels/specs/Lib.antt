@@ -1,1 +1,3 @@
+pub mod Names
 pub mod Labels
+pub mod Standings

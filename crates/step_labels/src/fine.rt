@@ -1,6 +1,6 @@
 //! Labels of fine runs, in which a component's snapshot and its choice by that snapshot are two steps.
 use crate::label::Label;
-use ttcn_values::Path;
+use value_types::Path;
 
 /// What a fine step is of.
 #[derive(Debug, Drop, PartialEq, Eq)]

@@ -1,40 +1,26 @@
 //! Labels of steps.
-ghost use Rattle.std.specs.Prelude.{◌≡◌, IfOk};
-ghost use Rattle.step_labels.specs.Labels.{label_by};
-ghost use Rattle.step_labels.specs.contracts.label.LabelOrd.TheImpl as order;
-ghost use Rattle.step_labels.specs.declared.label.Label.{Label as ALabel};
-ghost use Rattle.semantics.specs.Labels.{label_cmp};
+ghost use Rattle.std.specs.Prelude.{◌≡◌, Some, IfOk, refl};
+ghost use Rattle.std.specs.Cmp.{eq_by_cmp_equiv, partial_equiv_from_equiv};
+ghost use Rattle.std.specs.Ordering.{eq_by_cmp};
+ghost use Rattle.step_labels.specs.Labels.{label_cmp, label_partial, label_total};
 
 use std::alloc::{AllocError, Global};
-use ttcn_syntax::{Name, Seq};
+use std::cmp::Ordering;
+use ttcn_syntax::Name;
+use value_types::Path;
 
-/// The expiry of a timer of a component's frame of a number. Frame 0 is the component's own.
-#[derive(Debug, Drop, PartialEq, Eq, PartialOrd, Ord, Hash)]
-pub struct Expiry {
-    pub frame: u32,
-    pub timer: Name,
-}
-
-/// What a step is of: the first remaining statement of a component, or the expiry of one of its timers. Labels are ordered
-/// by the component's path, then the statement before expiries, then by the frame, then by the timer's name.
-#[derive(Debug, Drop, PartialEq, Eq, PartialOrd, Ord, Hash)]
-pub struct Label {
-    /// The numbers of the component's path. Those of the MTC are none.
-    pub component: Seq<u32>,
-    /// The timer that expires, if it is not the component's statement.
-    pub expiry: Option<Expiry>,
-}
-
-impl Expiry {
-    /// A copy in memory of its own.
-    pub fn try_clone(&self, alloc: Global) -> Result<Expiry, AllocError>
-        ensures { IfOk result (λ copy. copy ≡ self.now) }
-    {
-        Ok(Expiry {
-            frame: self.frame,
-            timer: self.timer.try_clone(alloc)?,
-        })
-    }
+/// What a step is of. Labels are ordered by the component, then the statement before expiries, then by the frame, then by the
+/// timer's name.
+#[derive(Debug, Drop)]
+pub enum Label {
+    /// The first remaining statement of the component with this path.
+    Statement(Path),
+    /// The expiry of a timer of a component's frame of this number. Frame 0 is the component's own.
+    Expiry {
+        component: Path,
+        frame: u32,
+        timer: Name,
+    },
 }
 
 impl Label {
@@ -42,19 +28,82 @@ impl Label {
     pub fn try_clone(&self, alloc: Global) -> Result<Label, AllocError>
         ensures { IfOk result (λ copy. copy ≡ self.now) }
     {
-        let component = Vec::from_slice(alloc, self.component.as_slice())?;
-        let expiry = match &self.expiry {
-            Some(expiry) => Some(expiry.try_clone(alloc)?),
-            None => None,
-        };
-        Ok(Label {
-            component: Seq::from_vec(component),
-            expiry,
-        })
+        match self {
+            Label::Statement(component) => Ok(Label::Statement(component.try_clone(alloc)?)),
+            Label::Expiry {
+                component,
+                frame,
+                timer,
+            } => Ok(Label::Expiry {
+                component: component.try_clone(alloc)?,
+                frame: *frame,
+                timer: timer.try_clone(alloc)?,
+            }),
+        }
     }
 }
 
-/// Labels stand in the order of the rules.
-pub fn labels_are_ordered()
-    ensures { (one other : ALabel) → (order.ghosts).cmp one other ≡ label_cmp (label_by one) (label_by other) }
-{}
+impl PartialEq for Label {
+    ghost eq = { eq_by_cmp label_cmp };
+
+    ghost laws = { partial_equiv_from_equiv (eq_by_cmp_equiv label_total) };
+
+    fn eq(&self, other: &Label) -> bool {
+        self.cmp(other).is_eq()
+    }
+}
+
+impl Eq for Label {
+    ghost laws = { eq_by_cmp_equiv label_total };
+}
+
+impl PartialOrd for Label {
+    ghost partial_cmp = { λ k l. Some (label_cmp k l) };
+
+    ghost laws = { label_partial };
+
+    fn partial_cmp(&self, other: &Label) -> Option<Ordering> {
+        Some(self.cmp(other))
+    }
+}
+
+impl Ord for Label {
+    ghost cmp = { label_cmp };
+
+    ghost total = { label_total };
+
+    ghost matches_partial_cmp = { λ k l. refl };
+
+    ghost matches_eq = { λ k l. refl };
+
+    fn cmp(&self, other: &Label) -> Ordering {
+        match (self, other) {
+            (Label::Statement(one), Label::Statement(other)) => one.numbers.cmp(&other.numbers),
+            (Label::Statement(one), Label::Expiry { component, .. }) => {
+                one.numbers.cmp(&component.numbers).then(Ordering::Less)
+            }
+            (Label::Expiry { component, .. }, Label::Statement(other)) => {
+                component
+                    .numbers
+                    .cmp(&other.numbers)
+                    .then(Ordering::Greater)
+            }
+            (
+                Label::Expiry {
+                    component,
+                    frame,
+                    timer,
+                },
+                Label::Expiry {
+                    component: other,
+                    frame: other_frame,
+                    timer: other_timer,
+                },
+            ) => component
+                .numbers
+                .cmp(&other.numbers)
+                .then_with(|| frame.cmp(other_frame))
+                .then_with(|| timer.cmp(other_timer)),
+        }
+    }
+}

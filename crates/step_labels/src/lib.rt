@@ -1,8 +1,10 @@
-//! Labels of steps, and runs of labels (ES 201 873-4).
+//! Labels of steps, runs of labels, and where components stand (ES 201 873-4).
 #![tactic(auto)]
 
 mod fine;
 mod label;
+mod standing;
 
 pub use fine::FineLabel;
-pub use label::{Expiry, Label, labels_are_ordered};
+pub use label::Label;
+pub use standing::Standing;

@@ -9,8 +9,8 @@ use Rattle.semantics.specs.Snapshots.{front_at, holds}
 use Rattle.config_parts.specs.Legend.{Legend, component_by, entries_by, queue_by, state_by}
 use Rattle.config_parts.specs.declared.component.Component.{Component}
 use Rattle.config_parts.specs.declared.component.Queue.{Queue}
-use Rattle.ttcn_values.specs.Frames.{entry}
-use Rattle.ttcn_values.specs.declared.path.Path.{Path}
+use Rattle.value_types.specs.Frames.{entry}
+use Rattle.value_types.specs.declared.path.Path.{Path}
 
 either : {A B : Type 0} (f : A → B) (b : Bool) (a : A) (others : Option A) → option_map f (cond b (Some a) others) ≡ cond b (Some (f a)) (option_map f others)
 either f true a others = refl

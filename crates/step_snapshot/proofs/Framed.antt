@@ -9,8 +9,8 @@ use Rattle.step_snapshot.specs.declared.snapshot.Snapshot.{Snapshot}
 use Rattle.config_parts.specs.Views.{HasSlotsWithin, view_by}
 use Rattle.config_parts.specs.declared.frame.Cells.{Cells}
 use Rattle.config_parts.specs.internal.Stored.{no_cells}
-use Rattle.ttcn_values.specs.declared.frame.TimerState.{TimerState}
-use Rattle.ttcn_values.specs.declared.value.Value.{Value}
+use Rattle.value_types.specs.declared.frame.TimerState.{TimerState}
+use Rattle.value_types.specs.declared.value.Value.{Value}
 
 -- no names are within all
 pub none-within : (size : ℕ) (cells : Cells) → cells ≡ no_cells → HasSlotsWithin size cells

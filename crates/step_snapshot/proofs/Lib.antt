@@ -3,3 +3,4 @@ pub mod Beyond
 pub mod Entries
 pub mod Framed
 pub mod Named
+pub mod Argued

@@ -1,3 +1,4 @@
 pub mod Slots
 pub mod Tests
 pub mod Seen
+pub mod internal

@@ -11,15 +11,15 @@ ghost use Rattle.step_snapshot.specs.Seen.{own_by, seen_by};
 ghost use Rattle.step_snapshot.specs.Tests.{legend_by, test_by};
 ghost use Rattle.config_parts.specs.Legend.{queue_by, state_by};
 ghost use Rattle.config_parts.specs.Views.{HasSlotsWithin, view_by};
-ghost use Rattle.ttcn_values.specs.Frames.{entry, reading, seen_entry};
+ghost use Rattle.value_types.specs.Frames.{entry, reading, seen_entry};
 
 use crate::snapshot::Snapshot;
 use crate::test_case::TestCase;
-use check_expressions::call::runs_on_of;
+use check_rules::runs_on_of;
 use check_scope::names::Meaning;
 use config_parts::{Cells, Component, Queue, State, frame_of, names_make_legends};
 use ttcn_syntax::{DefinitionKind, Name};
-use ttcn_values::{Frame, Path, Slot, TimerState};
+use value_types::{Frame, Path, Slot, TimerState};
 
 /// The name of the component type that a behaviour runs on, where it says so.
 fn component_name<'a>(kind: Option<&'a DefinitionKind>) -> Option<&'a Name>

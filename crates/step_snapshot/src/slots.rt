@@ -10,7 +10,7 @@ ghost use Rattle.config_parts.specs.Names.{name_of};
 use crate::test_case::TestCase;
 use config_parts::names_make_legends;
 use ttcn_syntax::Name;
-use ttcn_values::Slot;
+use value_types::Slot;
 
 /// Whether each of these is a zero.
 fn are_zero(bytes: &[u8]) -> bool

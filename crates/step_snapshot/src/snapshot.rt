@@ -5,12 +5,12 @@ ghost use Rattle.semantics.specs.Snapshots.{runs_in, snapshot_of};
 ghost use Rattle.step_snapshot.specs.Tests.{extent_of, legend_by};
 ghost use Rattle.config_parts.specs.Legend.{component_by, going_by};
 ghost use Rattle.config_parts.specs.Views.{IsWithin};
-ghost use Rattle.ttcn_values.specs.contracts.path.PathPartialEq.TheImpl as equality;
-ghost use Rattle.ttcn_values.specs.declared.path.Path.{Path as APath};
+ghost use Rattle.value_types.specs.contracts.path.PathPartialEq.TheImpl as equality;
+ghost use Rattle.value_types.specs.declared.path.Path.{Path as APath};
 
 use crate::test_case::TestCase;
 use config_parts::{Component, Going};
-use ttcn_values::Path;
+use value_types::Path;
 
 /// A component, the configuration in which it makes its step, and the components that run there.
 pub struct Snapshot<'t, 'a> {

@@ -5,13 +5,13 @@ ghost use Rattle.semantics.specs.Snapshots.{mtc_of};
 ghost use Rattle.step_snapshot.specs.Slots.{NoneIsMissing};
 ghost use Rattle.config_parts.specs.internal.Stored.{no_cells};
 ghost use Rattle.graph_names.specs.Known.{names_of, names_of_kind};
-ghost use Rattle.ttcn_types.specs.Rules.{AreWellTyped};
+ghost use Rattle.check_rules.specs.Rules.{AreWellTyped};
 
+use check_rules::Definitions;
 use config_parts::Cells;
 use graph_numbers::Names;
 use ttcn_graph::Graphs;
-use ttcn_types::Definitions;
-use ttcn_values::ComponentId;
+use value_types::ComponentId;
 
 /// A test case, with all that its steps need of its module, which breaks no rule.
 pub struct TestCase<'a> {

@@ -14,7 +14,7 @@ use Rattle.ttcn_syntax.specs.declared.tree.statement.Statement.{Statement}
 use Rattle.ttcn_syntax.specs.declared.tree.statement.Variable.{Variable}
 use Rattle.ttcn_syntax.specs.declared.tree.value.Rhs.{Rhs}
 use Rattle.ttcn_syntax.specs.declared.tree.value.Rhs.TheVariants as rhs
-use Rattle.check_expressions.specs.Calls.{altstep_meant}
+use Rattle.check_rules.specs.Calls.{altstep_meant}
 use Rattle.check_scope.specs.Names.{module_names}
 use Rattle.semantics.specs.Items.{Does, Doing, From, Item, Last, Loop, Mark, Name, Part, Start, Target, Waiting, Whole, action_of, items, items_if_any, site_in_for, start_items}
 use Rattle.semantics.specs.Sites.{Site}

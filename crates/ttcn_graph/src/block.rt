@@ -3,7 +3,7 @@ ghost use Rattle.std.specs.Prelude.{◌≡◌, ◌<◌, ◌∷◌, [], ◌++◌,
 ghost use Rattle.ttcn_syntax.specs.declared.tree.statement.Action.TheVariants as form;
 ghost use Rattle.semantics.specs.Items as rules;
 ghost use Rattle.semantics.specs.Sites as sites;
-ghost use Rattle.check_expressions.specs.Calls.{altstep_meant};
+ghost use Rattle.check_rules.specs.Calls.{altstep_meant};
 ghost use Rattle.check_scope.specs.Names.{module_names};
 ghost use Rattle.graph_items.specs.Standing.{part_of};
 ghost use Rattle.ttcn_graph.specs.Drafts.{AreDrawn, IsDrawn, at_site};

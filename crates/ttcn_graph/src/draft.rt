@@ -1,8 +1,8 @@
 //! Graphs that are being drawn.
 ghost use Rattle.std.specs.Prelude.{◌≡◌, ◌<◌, ◌∷◌, [], length, map, get_or, is_some, nat_eq, slice_get, IfOk, IfNone, IfSome, OnOk};
-ghost use Rattle.check_expressions.specs.Calls.{altstep_meant};
+ghost use Rattle.check_rules.specs.Calls.{altstep_meant};
 ghost use Rattle.check_scope.specs.Names.{module_names, names_on, resolved};
-ghost use Rattle.check_statements.specs.Messages.{port_meant};
+ghost use Rattle.check_rules.specs.Messages.{port_meant};
 ghost use Rattle.graph_numbers.specs.Lists.{AreDifferent};
 ghost use Rattle.semantics.specs.Items as rules;
 ghost use Rattle.semantics.specs.Sites as sites;

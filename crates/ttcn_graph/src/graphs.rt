@@ -2,7 +2,7 @@
 ghost use Rattle.std.specs.Prelude.{◌≡◌, ℕ, ◌<◌, [], length, map, get_or, nat_eq, slice_get, IfOk, IfNone, IfSome, None};
 ghost use Rattle.std.specs.Option.{option_map};
 ghost use Rattle.check_scope.specs.Names.{kind_at, names_on};
-ghost use Rattle.check_statements.specs.Messages.{port_meant};
+ghost use Rattle.check_rules.specs.Messages.{port_meant};
 ghost use Rattle.graph_numbers.specs.Lists.{AreDifferent};
 ghost use Rattle.ttcn_graph.specs.Drafts.{AreDrawn, at_site};
 ghost use Rattle.semantics.specs.Branches.{branches_of};
@@ -16,6 +16,7 @@ ghost use Rattle.ttcn_graph.specs.Ways.{ways_of};
 use crate::block::{draw_block, draw_branches};
 use crate::draft::{Draft, way_in};
 use crate::known::all_names;
+use check_rules::Program;
 use check_scope::scope::kind_at;
 use graph_items::First;
 use graph_names::Names;
@@ -23,7 +24,6 @@ use graph_sites::{EventFacts, Facts};
 use std::alloc::{AllocError, Global};
 use std::marker::Model;
 use ttcn_syntax::{Branch, Definition, DefinitionKind, Name, Seq, Statement};
-use ttcn_types::Program;
 
 /// The graphs of a module. A contract sees the lists that positions stand for, and where they lead.
 pub struct Graphs<'a> {

@@ -2,15 +2,15 @@
 use Rattle.std.proofs.Common.{◌≡◌, ℕ, Bool, true, false, ◌&&◌, List, [], ◌∷◌, map, slice_get, Option, Some, None, refl, sym, ap, ◌∙◌}
 use Rattle.std.proofs.lemmas.Option.{same_Some}
 use Rattle.laws_fine.specs.Fine.{begins_with_alt, is_at_alt, is_found, is_of_alt, stands_at_alt}
-use Rattle.step_labels.specs.Labels.{label_with}
-use Rattle.step_labels.specs.declared.label.Expiry.{Expiry as AnExpiry}
 use Rattle.semantics.specs.Configurations.{is_running_state}
 use Rattle.semantics.specs.Snapshots.{Test}
+use Rattle.semantics.specs.Steps.{Expiry, Label, Statement}
 use Rattle.config_parts.specs.Legend.{Legend, component_by, frame_by, going_by, state_by}
 use Rattle.config_parts.specs.declared.component.Component.{Component}
 use Rattle.config_parts.specs.declared.config.Going.{Going}
 use Rattle.config_parts.specs.declared.frame.Frame.{Frame}
 use Rattle.ttcn_step.proofs.Found.{Searched, said-found}
+use Rattle.value_types.specs.declared.path.Path.{Path}
 
 -- ---- the last frame
 
@@ -32,15 +32,15 @@ stands-not l test x rests = ap (λ r. r && is_at_alt test (map (frame_by l) x.ow
 
 -- ---- labels
 
-module _ (l : Legend) (test : Test) (going : Going) (numbers : List ℕ) (e : Option AnExpiry) where
-  abbrev IsOf : Option AnExpiry → Bool
-  IsOf o = is_of_alt test (going_by l going) (label_with numbers o)
+module _ (l : Legend) (test : Test) (going : Going) (label : Label) where
+  abbrev IsOf : Label → Bool
+  IsOf k = is_of_alt test (going_by l going) k
 
-  pub expiry-not : (expires : AnExpiry) → e ≡ Some expires → false ≡ IsOf e
-  expiry-not expires is = sym (ap IsOf is)
+  pub expiry-not : (path : Path) (number : ℕ) (name : List ℕ) → label ≡ Expiry path number name → false ≡ IsOf label
+  expiry-not path number name is = sym (ap IsOf is)
 
-  pub missing-not : e ≡ None → Searched numbers going.components ≡ None → false ≡ IsOf e
-  missing-not is none = sym (ap IsOf is ∙ ap (is_found (stands_at_alt test)) (said-found l test going numbers None none))
+  pub missing-not : (path : Path) → label ≡ Statement path → Searched path.numbers going.components ≡ None → false ≡ IsOf label
+  missing-not path is none = sym (ap IsOf is ∙ ap (is_found (stands_at_alt test)) (said-found l test going path None none))
 
-  pub found-of : (x : Component) (b : Bool) → e ≡ None → Searched numbers going.components ≡ Some x → b ≡ stands_at_alt test (component_by l x) → b ≡ IsOf e
-  found-of x b is found stands = stands ∙ sym (ap IsOf is ∙ ap (is_found (stands_at_alt test)) (said-found l test going numbers (Some x) found))
+  pub found-of : (path : Path) (x : Component) (b : Bool) → label ≡ Statement path → Searched path.numbers going.components ≡ Some x → b ≡ stands_at_alt test (component_by l x) → b ≡ IsOf label
+  found-of path x b is found stands = stands ∙ sym (ap IsOf is ∙ ap (is_found (stands_at_alt test)) (said-found l test going path (Some x) found))

@@ -3,19 +3,19 @@ use Rattle.std.proofs.Common.{◌≡◌, ℕ, Bool, true, List, Option, Some, No
 use Rattle.std.specs.Option.{option_and_then}
 use Rattle.std.specs.declared.alloc.AllocError.{AllocError}
 use Rattle.ttcn_syntax.specs.declared.place.Span.{Span}
-use Rattle.step_labels.specs.Labels.{label_with}
-use Rattle.step_labels.specs.declared.label.Expiry.{Expiry as AnExpiry}
 use Rattle.semantics.specs.Configurations as rules
 use Rattle.semantics.specs.Configurations.{is_running_state}
 use Rattle.semantics.specs.Places.{branch_in, branch_of_component, place_in_frames, unless_fault}
 use Rattle.semantics.specs.Snapshots.{Test, snapshot_of}
 use Rattle.semantics.specs.Statements.{act}
+use Rattle.semantics.specs.Steps.{Expiry, Label, Statement}
 use Rattle.step_snapshot.specs.Tests.{legend_by, test_by}
 use Rattle.step_snapshot.specs.declared.test_case.TestCase.{TestCase}
 use Rattle.config_parts.specs.Legend.{Legend, component_by, going_by}
 use Rattle.config_parts.specs.declared.component.Component.{Component}
 use Rattle.config_parts.specs.declared.config.Going.{Going}
 use Rattle.ttcn_step.proofs.Found.{Searched, said-found}
+use Rattle.value_types.specs.declared.path.Path.{Path}
 
 -- ---- of a component that runs
 
@@ -44,18 +44,18 @@ branch-taken t test g going x component r same also its runs is =
 
 -- ---- of a label
 
-module _ (legend : Legend) (test : Test) (going : Going) (numbers : List ℕ) (e : Option AnExpiry) where
-  abbrev Branch : Option AnExpiry → Option Span
-  Branch o = branch_in test (going_by legend going) (label_with numbers o)
+module _ (legend : Legend) (test : Test) (going : Going) (label : Label) where
+  abbrev Branch : Label → Option Span
+  Branch k = branch_in test (going_by legend going) k
 
-  pub expiry-takes-none : (expires : AnExpiry) → e ≡ Some expires → None ≡ Branch e
-  expiry-takes-none expires is = sym (ap Branch is)
+  pub expiry-takes-none : (path : Path) (number : ℕ) (name : List ℕ) → label ≡ Expiry path number name → None ≡ Branch label
+  expiry-takes-none path number name is = sym (ap Branch is)
 
-  pub missing-takes-none : e ≡ None → Searched numbers going.components ≡ None → None ≡ Branch e
-  missing-takes-none is none = sym (ap Branch is ∙ ap (option_and_then (branch_of_component test (going_by legend going))) (said-found legend test going numbers None none))
+  pub missing-takes-none : (path : Path) → label ≡ Statement path → Searched path.numbers going.components ≡ None → None ≡ Branch label
+  missing-takes-none path is none = sym (ap Branch is ∙ ap (option_and_then (branch_of_component test (going_by legend going))) (said-found legend test going path None none))
 
-  pub found-takes : (x : Component) (r : Result (Option Span) AllocError) → e ≡ None → Searched numbers going.components ≡ Some x
-      → IfOk r (λ place. place ≡ branch_of_component test (going_by legend going) (component_by legend x)) → IfOk r (λ place. place ≡ Branch e)
-  found-takes x r is found taken =
+  pub found-takes : (path : Path) (x : Component) (r : Result (Option Span) AllocError) → label ≡ Statement path → Searched path.numbers going.components ≡ Some x
+      → IfOk r (λ place. place ≡ branch_of_component test (going_by legend going) (component_by legend x)) → IfOk r (λ place. place ≡ Branch label)
+  found-takes path x r is found taken =
       subst (λ (to : Option Span). IfOk r (λ place. place ≡ to))
-      (sym (ap Branch is ∙ ap (option_and_then (branch_of_component test (going_by legend going))) (said-found legend test going numbers (Some x) found))) taken
+      (sym (ap Branch is ∙ ap (option_and_then (branch_of_component test (going_by legend going))) (said-found legend test going path (Some x) found))) taken

@@ -15,6 +15,7 @@ use Rattle.config_parts.specs.declared.config.Going.{Going}
 use Rattle.config_parts.specs.declared.frame.Frame.{Frame}
 use Rattle.ttcn_step.proofs.Found.{Searched, said-found}
 use Rattle.ttcn_step.specs.Choosing.{TakesNone}
+use Rattle.value_types.specs.declared.path.Path.{Path}
 
 -- in the last frame nothing stands at which a branch may be taken
 abbrev pub TakesNoneIn : Legend → List Frame → Type 0
@@ -42,8 +43,8 @@ abbrev pub TakesNoneAt : Legend → Option Component → Type 0
 TakesNoneAt legend None = Unit {0}
 TakesNoneAt legend (Some x) = TakesNoneIn legend x.own.calls
 
-pub none-of-path : (legend : Legend) (test : Test) (going : Going) (path : List ℕ) (o : Option Component) → Searched path going.components ≡ o → TakesNoneAt legend o
-    → branch_in test (going_by legend going) (OfStatement (record { numbers = path })) ≡ None
+pub none-of-path : (legend : Legend) (test : Test) (going : Going) (path : Path) (o : Option Component) → Searched path.numbers going.components ≡ o → TakesNoneAt legend o
+    → branch_in test (going_by legend going) (OfStatement path) ≡ None
 none-of-path legend test going path None found none =
     ap (option_and_then (branch_of_component test (going_by legend going))) (said-found legend test going path None found)
 none-of-path legend test going path (Some x) found none =

@@ -3,16 +3,15 @@ use Rattle.std.proofs.Common.{◌≡◌, List, Option, Some, None, option_map, r
 use Rattle.ttcn_syntax.specs.declared.tree.statement.Verdict.TheVariants as verdict
 use Rattle.laws_fine.specs.Fates.{Faults, Lapses, Takes, fate_of}
 use Rattle.laws_fine.specs.Holding.{act_of, act_then, follow}
-use Rattle.step_acts.specs.Asks.{IsFault, uncovered_act}
+use Rattle.step_forms.specs.Asks.{IsFault, uncovered_act}
 use Rattle.semantics.specs.Configurations as rules
 use Rattle.semantics.specs.Configurations.{component_at}
 use Rattle.semantics.specs.Snapshots.{Test}
-use Rattle.semantics.specs.Statements.{Act, Connects, Continues, Creates, Errs, Removes, Sends, Starts, Stops, Waits, Worsens}
+use Rattle.semantics.specs.Statements.{Act, Errs, Requests, Waits}
 use Rattle.semantics.specs.Steps.{Label, apply, settled}
 use Rattle.config_parts.specs.Acts.{act_by}
 use Rattle.config_parts.specs.Legend.{Legend, component_by, config_by, going_by}
 use Rattle.config_parts.specs.declared.act.Act.{Act as Kept}
-use Rattle.config_parts.specs.declared.act.Act.TheVariants as kept
 use Rattle.config_parts.specs.declared.component.Component.{Component}
 use Rattle.config_parts.specs.declared.config.Config.{Config}
 use Rattle.ttcn_step.proofs.FineSteps.{follow-ended}
@@ -21,31 +20,17 @@ use Rattle.ttcn_step.proofs.Steps.{apply-uncovered}
 use Rattle.ttcn_step.specs.declared.fine.Stored.{Stored}
 use Rattle.ttcn_step.specs.internal.Fine.{held_by}
 use Rattle.ttcn_step.specs.internal.Steps.{IsBehind}
-use Rattle.ttcn_values.specs.declared.value.ComponentId.{ComponentId}
+use Rattle.value_types.specs.declared.value.ComponentId.{ComponentId}
 
 -- ---- fates
 
 pub uncovered-fate : (a : Act) → fate_of (uncovered_act a) ≡ fate_of a
 uncovered-fate Waits = refl
 uncovered-fate (Errs why) = refl
-uncovered-fate (Continues own) = refl
-uncovered-fate (Worsens v own) = refl
-uncovered-fate (Removes port own) = refl
-uncovered-fate (Sends port to v own) = refl
-uncovered-fate (Creates new own) = refl
-uncovered-fate (Starts path frame own) = refl
-uncovered-fate (Stops path own) = refl
-uncovered-fate (Connects d e own) = refl
+uncovered-fate (Requests request own) = refl
 
 kept-fate : (l : Legend) (a : Kept) → Takes ≡ fate_of (act_by l a)
-kept-fate l (kept.Continues own) = refl
-kept-fate l (kept.Worsens v own) = refl
-kept-fate l (kept.Removes port own) = refl
-kept-fate l (kept.Sends port to v own) = refl
-kept-fate l (kept.Creates new own) = refl
-kept-fate l (kept.Starts path frame own) = refl
-kept-fate l (kept.Stops path own) = refl
-kept-fate l (kept.Connects one other own) = refl
+kept-fate l a = refl
 
 -- ---- what is answered
 
@@ -71,14 +56,7 @@ module _ (test : Test) (c : rules.Going) (itself : ComponentId) (since : List La
 fault-ends : (test : Test) (c : rules.Going) (itself : ComponentId) (a : Act) → IsFault (uncovered_act a) → option_map settled (apply test c itself a) ≡ Some (rules.Ended verdict.Error)
 fault-ends test c itself Waits is = absurd is
 fault-ends test c itself (Errs why) is = refl
-fault-ends test c itself (Continues own) is = absurd is
-fault-ends test c itself (Worsens v own) is = absurd is
-fault-ends test c itself (Removes port own) is = absurd is
-fault-ends test c itself (Sends port to v own) is = absurd is
-fault-ends test c itself (Creates new own) is = absurd is
-fault-ends test c itself (Starts path frame own) is = absurd is
-fault-ends test c itself (Stops path own) is = absurd is
-fault-ends test c itself (Connects d e own) is = absurd is
+fault-ends test c itself (Requests request own) is = absurd is
 
 pub fault-chosen : (test : Test) (c : rules.Going) (itself : ComponentId) (since : List Label) (a : Act) → IsFault (uncovered_act a) → Some (rules.Ended verdict.Error) ≡ Chosen test c itself since a
 fault-chosen test c itself since a is = sym (ap (option_map (follow test since)) (fault-ends test c itself a is) ∙ ap Some (follow-ended test since verdict.Error))
@@ -86,17 +64,10 @@ fault-chosen test c itself since a is = sym (ap (option_map (follow test since))
 pub fault-fate : (a : Act) → IsFault (uncovered_act a) → Faults ≡ fate_of a
 fault-fate Waits is = absurd is
 fault-fate (Errs why) is = refl
-fault-fate (Continues own) is = absurd is
-fault-fate (Worsens v own) is = absurd is
-fault-fate (Removes port own) is = absurd is
-fault-fate (Sends port to v own) is = absurd is
-fault-fate (Creates new own) is = absurd is
-fault-fate (Starts path frame own) is = absurd is
-fault-fate (Stops path own) is = absurd is
-fault-fate (Connects d e own) is = absurd is
+fault-fate (Requests request own) is = absurd is
 
 -- ---- what was asked for
 
 pub then-found : (l : Legend) (test : Test) (entry : Stored) (o : Option Component) → Searched entry.path.numbers entry.taken.components ≡ o
     → act_then test (held_by l entry) ≡ act_of test (going_by l entry.taken) (option_map (component_by l) o)
-then-found l test entry o found = ap (act_of test (going_by l entry.taken)) (said-found l test entry.taken entry.path.numbers o found)
+then-found l test entry o found = ap (act_of test (going_by l entry.taken)) (said-found l test entry.taken entry.path o found)

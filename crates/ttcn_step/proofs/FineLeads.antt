@@ -6,7 +6,6 @@ use Rattle.std.proofs.lemmas.List.Elements.{All-cons, All-filter}
 use Rattle.laws_fine.specs.Fates.{Lapses, fate_of}
 use Rattle.laws_fine.specs.Fine.{Choose, Plain, Snap, is_of_alt, stands_at_alt}
 use Rattle.laws_fine.specs.Holding.{Held, Holding, act_then, follow, held_at, hold_behind, hold_choose, hold_chosen, hold_fate, hold_next, hold_snap, noted, still_held, without_held}
-use Rattle.step_labels.specs.Labels.{label_by}
 use Rattle.laws_steps.proofs.Found.{found-each}
 use Rattle.semantics.specs.Configurations as rules
 use Rattle.semantics.specs.Configurations.{component_at}
@@ -22,8 +21,8 @@ use Rattle.ttcn_step.proofs.Found.{Searched, said-found}
 use Rattle.ttcn_step.specs.Machines.{Fits, Machine, legend, said}
 use Rattle.ttcn_step.specs.declared.fine.Stored.{Stored}
 use Rattle.ttcn_step.specs.internal.Fine.{IsWell, held_by, holding_of, still}
-use Rattle.ttcn_values.specs.Outcomes.{Outcome}
-use Rattle.ttcn_values.specs.declared.path.Path.{Path}
+use Rattle.value_types.specs.Outcomes.{Outcome}
+use Rattle.value_types.specs.declared.path.Path.{Path}
 
 -- the entry of a path
 abbrev pub Entry : List Stored → List ℕ → Option Stored
@@ -52,7 +51,7 @@ module _ (machine : Machine) (going : Going) (stored : List Stored) (p : Path) w
   Snapped x = hold_snap machine.test C Kept p (component_by (legend machine) x)
 
   there : (o : Option Component) → Searched p.numbers going.components ≡ o → component_at C p ≡ option_map (component_by (legend machine)) o
-  there o found = said-found (legend machine) machine.test going p.numbers o found
+  there o found = said-found (legend machine) machine.test going p o found
 
   pub snap-missing : Searched p.numbers going.components ≡ None → hold_next machine.test Now (Snap p) ≡ None
   snap-missing found = ap (option_and_then (hold_snap machine.test C Kept p)) (there None found)
@@ -185,7 +184,7 @@ pub snapped-is : (machine : Machine) (going : Going) (stored items : List Stored
 snapped-is machine going stored items p entry made path taken since =
     ap (λ q. new q (going_by (legend machine) going) []) (sym path)
     ∙ ap (λ g. new entry.path (going_by (legend machine) g) []) (sym taken)
-    ∙ ap (λ ls. new entry.path (going_by (legend machine) entry.taken) (map label_by ls)) (sym since)
+    ∙ ap (λ ls. new entry.path (going_by (legend machine) entry.taken) ls) (sym since)
     ∙ ap (holding_of machine (config.Going going)) (sym made)
   where
     new : Path → rules.Going → List Label → Holding

@@ -24,8 +24,8 @@ use Rattle.ttcn_step.specs.FrameLimit.{AllKeepFrameLimit}
 use Rattle.ttcn_step.specs.Machines.{Fits, Machine, extent, legend, said}
 use Rattle.ttcn_step.specs.declared.fine.Stored.{Stored}
 use Rattle.ttcn_step.specs.internal.Fine.{found_runs, held_by, runs, still}
-use Rattle.ttcn_values.specs.declared.path.Path.{Path}
-use Rattle.ttcn_values.specs.declared.value.ComponentId.{ComponentId}
+use Rattle.value_types.specs.declared.path.Path.{Path}
+use Rattle.value_types.specs.declared.value.ComponentId.{ComponentId}
 
 -- ---- what is found
 

@@ -3,7 +3,7 @@ use Rattle.std.proofs.Common.{lit<, ◌≡◌, ℕ, ◌<◌, arith, Bool, true, 
 use Rattle.std.proofs.lemmas.Bool.{ltb-true}
 use Rattle.value_assignment.specs.Assignment.{assigned}
 use Rattle.ttcn_syntax.specs.declared.tree.statement.Statement.{Statement}
-use Rattle.check_expressions.specs.Calls.{parameters_of}
+use Rattle.check_rules.specs.Calls.{parameters_of}
 use Rattle.check_scope.specs.Names.{kind_at}
 use Rattle.laws_steps.proofs.Acting.{Keeps, act-asks, end-asks, part-asks}
 use Rattle.laws_steps.proofs.Found.{some-of}
@@ -13,17 +13,17 @@ use Rattle.semantics.specs.Entries.{put}
 use Rattle.semantics.specs.Items.{Item, Part, Target, Waiting, items}
 use Rattle.semantics.specs.Sites.{Site, is_own}
 use Rattle.semantics.specs.Snapshots.{Snapshot, Test}
-use Rattle.semantics.specs.Statements.{Act, Connects, Continues, Creates, Errs, Removes, Sends, Stand, Starts, Stops, Waits, Worsens, act, declared, done, most, new_id, reads}
+use Rattle.semantics.specs.Statements.{Act, Creates, Errs, Request, Requests, Stand, Waits, act, declared, done, most, new_id, reads}
 use Rattle.semantics.specs.Storing.{declare, declare_timer, forget, going_on, in_frame, in_last, set_timer, store, values_in, with_calls, with_remaining, with_timers, with_values}
 use Rattle.semantics.specs.Taking.{uncovered, without_marks, from_mark, repeat_in, repeated}
 use Rattle.ttcn_step.specs.FrameLimit.{KeepsFrameLimit}
-use Rattle.ttcn_values.specs.Literals.{value_wanted}
-use Rattle.ttcn_values.specs.Outcomes.{IfYields}
-use Rattle.ttcn_values.specs.Templates.{arguments}
-use Rattle.ttcn_values.specs.Frames.{entry}
-use Rattle.ttcn_values.specs.declared.frame.TimerState.{TimerState}
-use Rattle.ttcn_values.specs.declared.value.Value.{Value}
-use Rattle.ttcn_values.specs.declared.value.Value.TheVariants as value
+use Rattle.value_types.specs.Literals.{value_wanted}
+use Rattle.value_types.specs.Outcomes.{IfYields}
+use Rattle.value_types.specs.Templates.{arguments}
+use Rattle.value_types.specs.Frames.{entry}
+use Rattle.value_types.specs.declared.frame.TimerState.{TimerState}
+use Rattle.value_types.specs.declared.value.Value.{Value}
+use Rattle.value_types.specs.declared.value.Value.TheVariants as value
 
 -- ---- lists of frames
 
@@ -58,18 +58,16 @@ set-timer-kept test site name state own is = in-frame-kept (is_own test.definiti
 
 -- ---- what is asked for
 
+-- a new component that is asked for has no more frames than the limit
+abbrev pub BringsWithinLimit : Request → Type 0
+BringsWithinLimit (Creates new) = KeepsFrameLimit new.own
+BringsWithinLimit _ = Unit {0}
+
 -- a component has no more frames than the limit behind its step, and so has a new one
 abbrev pub AsksWithinLimit : Act → Type 0
 AsksWithinLimit Waits = Unit {0}
 AsksWithinLimit (Errs why) = Unit {0}
-AsksWithinLimit (Continues own) = KeepsFrameLimit own
-AsksWithinLimit (Worsens v own) = KeepsFrameLimit own
-AsksWithinLimit (Removes port own) = KeepsFrameLimit own
-AsksWithinLimit (Sends port to v own) = KeepsFrameLimit own
-AsksWithinLimit (Creates new own) = KeepsFrameLimit new.own × KeepsFrameLimit own
-AsksWithinLimit (Starts path frame own) = KeepsFrameLimit own
-AsksWithinLimit (Stops path own) = KeepsFrameLimit own
-AsksWithinLimit (Connects d e own) = KeepsFrameLimit own
+AsksWithinLimit (Requests request own) = BringsWithinLimit request × KeepsFrameLimit own
 
 -- ---- `repeat`
 
@@ -120,19 +118,19 @@ module _ (stand : Stand) (own : KeepsFrameLimit stand.own) (below : length stand
     takes = λ chance effect changed whole chosen taken fits. ltb-true (length changed.calls) most fits;
     fails = λ why. tt;
     waits = λ whole is. tt;
-    continues = λ changed is. is;
-    worsens = λ v reasons whole e. done-kept;
-    removes = λ port changed is. is;
-    sends = λ send v to of meant. done-kept;
+    continues = λ changed is. (tt, is);
+    worsens = λ v reasons whole e. (tt, done-kept);
+    removes = λ port changed is. (tt, is);
+    sends = λ send v to of meant. (tt, done-kept);
     creates = λ target changed at members stored is made stores. (
       none-kept,
       yields-is KeepsFrameLimit (store stand.test target (value.Component (new_id stand changed at)) changed) stored stores (store-kept stand.test target (value.Component (new_id stand changed at)) changed is),
     );
-    starts = λ reference c frame meant begun. done-kept;
-    stops_itself = done-kept;
-    stops_last = λ under. none-kept;
-    stops = λ reference c meant. done-kept;
-    connects = λ one other c d first second may. done-kept;
+    starts = λ reference c frame meant begun. (tt, done-kept);
+    stops_itself = (tt, done-kept);
+    stops_last = λ under. (tt, none-kept);
+    stops = λ reference c meant. (tt, done-kept);
+    connects = λ one other c d first second may. (tt, done-kept);
   }
 
 -- ---- steps of a component
@@ -145,8 +143,8 @@ pub asked-kept : (test : Test) (snapshot : Snapshot) (own : Data) → KeepsFrame
 asked-kept test snapshot own is =
     act-asks test snapshot own AsksWithinLimit (λ why. tt)
     (λ frame below calls nothing.
-    end-asks (record { test = test; snapshot = snapshot; own = own; frame = frame; below = below; rest = [] }) AsksWithinLimit (λ why. tt) (λ under. none-kept)
-    (λ last frames under. subst (λ fs. length fs < most) under (under-kept frame below calls)) below refl)
+    end-asks (record { test = test; snapshot = snapshot; own = own; frame = frame; below = below; rest = [] }) AsksWithinLimit (λ why. tt) (λ under. (tt, none-kept))
+    (λ last frames under. (tt, subst (λ fs. length fs < most) under (under-kept frame below calls))) below refl)
     (λ frame below site s part rest calls first.
     let stand : Stand = record { test = test; snapshot = snapshot; own = own; frame = frame; below = below; rest = rest } in
     part-asks stand site s part AsksWithinLimit KeepsFrameLimit KeepsFrameLimit KeepsFrameLimit (λ v. Unit {0}) (λ f. Unit {0}) (keeps stand is (under-kept frame below calls) site s part))

@@ -10,12 +10,12 @@ use Rattle.std.proofs.lemmas.List.{length-map}
 use Rattle.semantics.specs.Configurations.{Component, Configuration, Data, Ended, Frame, Goes, Going, component_at, path_of, same_path}
 use Rattle.semantics.specs.Runs.{mtc_with, start}
 use Rattle.semantics.specs.Snapshots.{Snapshot, Test, snapshot_of}
-use Rattle.semantics.specs.Statements.{Act, Connects, Continues, Creates, Errs, Removes, Sends, Starts, Stops, Waits, Worsens, act, most}
+use Rattle.semantics.specs.Statements.{Act, Errs, Requests, Waits, act, most}
 use Rattle.semantics.specs.Steps.{Label, apply, exchanged, expired, next, settled}
 use Rattle.ttcn_step.proofs.FrameLimits.{AsksWithinLimit, asked-kept, uncovered-kept}
 use Rattle.ttcn_step.specs.FrameLimit.{AllKeepFrameLimit, KeepsFrameLimit}
-use Rattle.ttcn_values.specs.declared.path.Path.{Path}
-use Rattle.ttcn_values.specs.declared.value.ComponentId.{ComponentId}
+use Rattle.value_types.specs.declared.path.Path.{Path}
+use Rattle.value_types.specs.declared.value.ComponentId.{ComponentId}
 
 abbrev IsKept : Component → Type 0
 IsKept component = KeepsFrameLimit component.own
@@ -28,14 +28,7 @@ AreKept c = All IsKept c.components
 owns : (asked : Act) → AsksWithinLimit asked → OwnHas KeepsFrameLimit asked
 owns Waits is = tt
 owns (Errs why) is = tt
-owns (Continues own) is = is
-owns (Worsens v own) is = is
-owns (Removes port own) is = is
-owns (Sends port to v own) is = is
-owns (Creates new own) is = is.1
-owns (Starts path frame own) is = is
-owns (Stops path own) is = is
-owns (Connects d e own) is = is
+owns (Requests request own) is = is.1
 
 one-kept : 1 < most
 one-kept = lit< tt

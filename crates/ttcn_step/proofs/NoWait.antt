@@ -9,7 +9,7 @@ use Rattle.check_scope.specs.Names.{kind_at}
 use Rattle.semantics.specs.Items.{Does, Part, Doing, Whole, action_of}
 use Rattle.semantics.specs.Sites.{Site}
 use Rattle.semantics.specs.Snapshots.{Snapshot, Test, snapshot_of}
-use Rattle.semantics.specs.Statements.{Act, act, choose_from, Connects, Continues, Creates, Errs, judge_at, reads, Removes, Sends, Stand, Starts, Stops, Waits, Worsens}
+use Rattle.semantics.specs.Statements.{Act, Errs, Requests, Stand, Waits, act, choose_from, judge_at, reads}
 use Rattle.semantics.specs.Steps.{apply}
 use Rattle.semantics.specs.Storing.{going_on, store, with_calls}
 use Rattle.config_parts.specs.Legend.{Legend, component_by, frame_by}
@@ -17,27 +17,20 @@ use Rattle.config_parts.specs.declared.component.Component.{Component}
 use Rattle.config_parts.specs.declared.frame.Frame as declared
 use Rattle.laws_steps.proofs.Acting.{Keeps, act-asks, end-asks, part-asks}
 use Rattle.laws_steps.proofs.Outcomes.{any-each, any-yields}
-use Rattle.check_expressions.specs.Calls.{parameters_of}
+use Rattle.check_rules.specs.Calls.{parameters_of}
 use Rattle.semantics.specs.Branches.{Judge, Written, written_alt}
 use Rattle.semantics.specs.Events.{Choice, Nothing}
 use Rattle.ttcn_syntax.specs.declared.place.Span.{Span}
-use Rattle.ttcn_values.specs.Templates.{arguments}
+use Rattle.value_types.specs.Templates.{arguments}
 use Rattle.ttcn_step.specs.internal.Plain.{HasStep, IsPlain, IsPlainFirst}
-use Rattle.ttcn_values.specs.Literals.{value_wanted}
-use Rattle.ttcn_values.specs.declared.value.ComponentId.{ComponentId}
+use Rattle.value_types.specs.Literals.{value_wanted}
+use Rattle.value_types.specs.declared.value.ComponentId.{ComponentId}
 
 -- something is asked for, or the step fails
 abbrev Steps : Act → Type 0
 Steps Waits = ⊥
 Steps (Errs why) = Unit {0}
-Steps (Continues own) = Unit {0}
-Steps (Worsens v own) = Unit {0}
-Steps (Removes port own) = Unit {0}
-Steps (Sends port to v own) = Unit {0}
-Steps (Creates new own) = Unit {0}
-Steps (Starts path frame own) = Unit {0}
-Steps (Stops path own) = Unit {0}
-Steps (Connects d e own) = Unit {0}
+Steps (Requests request own) = Unit {0}
 
 -- ---- parts of statements
 
@@ -113,14 +106,7 @@ asked-steps test snapshot own plain =
 steps-apply : (test : Test) (c : rules.Going) (itself : ComponentId) (asked : Act) → Steps asked → is_some (apply test c itself asked) ≡ true
 steps-apply test c itself Waits steps = absurd steps
 steps-apply test c itself (Errs why) steps = refl
-steps-apply test c itself (Continues own) steps = refl
-steps-apply test c itself (Worsens v own) steps = refl
-steps-apply test c itself (Removes port own) steps = refl
-steps-apply test c itself (Sends port to v own) steps = refl
-steps-apply test c itself (Creates new own) steps = refl
-steps-apply test c itself (Starts path frame own) steps = refl
-steps-apply test c itself (Stops path own) steps = refl
-steps-apply test c itself (Connects d e own) steps = refl
+steps-apply test c itself (Requests request own) steps = refl
 
 -- ---- components of the code
 

@@ -1,11 +1,9 @@
 -- What single steps answer.
 use Rattle.std.proofs.Common.{◌≡◌, ℕ, Bool, true, false, List, Option, Some, None, Result, Ok, Err, IfOk, option_map, sym, ap, subst, ◌∙◌}
 use Rattle.ttcn_syntax.specs.declared.tree.statement.Verdict.TheVariants as verdict
-use Rattle.step_labels.specs.Labels.{label_with}
-use Rattle.step_labels.specs.declared.label.Expiry.{Expiry as AnExpiry}
 use Rattle.semantics.specs.Configurations as rules
 use Rattle.semantics.specs.Snapshots.{Test}
-use Rattle.semantics.specs.Steps.{Expiry, Label, apply, settled, statement_step, step_in}
+use Rattle.semantics.specs.Steps.{Label, Statement, apply, settled, statement_step, step_in}
 use Rattle.config_parts.specs.Acts.{DoesStep, HasPathsInOrder, Leads, act_by}
 use Rattle.config_parts.specs.Legend.{Legend, component_by, config_by, going_by}
 use Rattle.config_parts.specs.declared.act.Act.{Act as Kept}
@@ -13,13 +11,14 @@ use Rattle.config_parts.specs.declared.component.Component.{Component}
 use Rattle.config_parts.specs.declared.config.Config.{Config}
 use Rattle.config_parts.specs.declared.config.Config.TheVariants as config
 use Rattle.config_parts.specs.declared.config.Going.{Going}
-use Rattle.ttcn_step.proofs.Found.{Searched, found-path, found-step, missing-step}
+use Rattle.ttcn_step.proofs.Found.{Searched, found-step, missing-step}
 use Rattle.ttcn_step.proofs.Steps.{behind-failure}
 use Rattle.ttcn_step.specs.internal.Steps.{IsBehind}
-use Rattle.ttcn_values.specs.Outcomes.{Outcome, Yields}
-use Rattle.ttcn_values.specs.declared.fault.Fault.{Fault}
-use Rattle.ttcn_values.specs.declared.fault.Fault.TheVariants.{Dynamic}
-use Rattle.ttcn_values.specs.declared.value.ComponentId.{ComponentId}
+use Rattle.value_types.specs.Outcomes.{Outcome, Yields}
+use Rattle.value_types.specs.declared.fault.Fault.{Fault}
+use Rattle.value_types.specs.declared.fault.Fault.TheVariants.{Dynamic}
+use Rattle.value_types.specs.declared.path.Path.{Path}
+use Rattle.value_types.specs.declared.value.ComponentId.{ComponentId}
 
 -- ---- results
 
@@ -69,21 +68,17 @@ module _ (legend : Legend) (test : Test) (copy going : Going) (same : copy ≡ g
 
 -- ---- labels
 
-module _ (legend : Legend) (test : Test) (going : Going) (numbers : List ℕ) (e : Option AnExpiry) where
+module _ (legend : Legend) (test : Test) (going : Going) (label : Label) where
   abbrev pub Stepped : Option Config → Type 0
-  Stepped after = IsBehind legend (step_in test (going_by legend going) (label_with numbers e)) after
+  Stepped after = IsBehind legend (step_in test (going_by legend going) label) after
 
-  pub behind-missing : Searched numbers going.components ≡ None → Stepped None
-  behind-missing none = sym (ap (option_map settled) (missing-step legend test going numbers e none))
+  pub behind-missing : (path : Path) → label ≡ Statement path → Searched path.numbers going.components ≡ None → Stepped None
+  behind-missing path is none = sym (ap (option_map settled) (ap (step_in test (going_by legend going)) is ∙ missing-step legend test going path none))
 
-  pub behind-statement : (x : Component) → Searched numbers going.components ≡ Some x → e ≡ None → (after : Option Config)
+  pub behind-statement : (path : Path) (x : Component) → label ≡ Statement path → Searched path.numbers going.components ≡ Some x → (after : Option Config)
       → IsBehind legend (statement_step test (going_by legend going) (component_by legend x)) after → Stepped after
-  behind-statement x found is after behind =
-      behind ∙ ap (option_map settled) (sym (found-step legend test going numbers x found) ∙ ap (λ o. step_in test (going_by legend going) (label_with numbers o)) (sym is))
+  behind-statement path x is found after behind =
+      behind ∙ sym (ap (option_map settled) (ap (step_in test (going_by legend going)) is ∙ found-step legend test going path x found))
 
-  pub behind-expiry : (x : Component) (expires : AnExpiry) → Searched numbers going.components ≡ Some x → e ≡ Some expires → (after : Option Config)
-      → IsBehind legend (step_in test (going_by legend going) (Expiry x.itself.path expires.frame expires.timer)) after → Stepped after
-  behind-expiry x expires found is after behind =
-      behind
-      ∙ ap (option_map settled) (ap (λ p. step_in test (going_by legend going) (Expiry p expires.frame expires.timer)) (found-path numbers going.components x found)
-      ∙ ap (λ o. step_in test (going_by legend going) (label_with numbers o)) (sym is))
+  pub behind-same : (other : Label) → label ≡ other → (after : Option Config) → IsBehind legend (step_in test (going_by legend going) other) after → Stepped after
+  behind-same other is after behind = behind ∙ ap (λ k. option_map settled (step_in test (going_by legend going) k)) (sym is)

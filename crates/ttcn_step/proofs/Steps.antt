@@ -4,24 +4,24 @@ use Rattle.std.specs.Prelude.{AllPairs}
 use Rattle.std.specs.declared.cmp.Ordering.TheVariants.{Less}
 use Rattle.std.proofs.lemmas.List.{get_or-map, length-map}
 use Rattle.ttcn_syntax.specs.declared.tree.statement.Verdict.TheVariants as verdict
-use Rattle.step_acts.specs.Asks.{uncovered_act}
+use Rattle.step_forms.specs.Asks.{uncovered_act}
 use Rattle.laws_order.proofs.Unmarked.{none-uncovered, uncovered-none}
 use Rattle.semantics.proofs.Pairs.{pairs-map}
 use Rattle.semantics.specs.Configurations as rules
 use Rattle.semantics.specs.Configurations.{is_running_state, path_cmp, path_of}
 use Rattle.semantics.specs.Order.{IsOrdered}
 use Rattle.semantics.specs.Snapshots.{Test, snapshot_of}
-use Rattle.semantics.specs.Statements.{Act, Connects, Continues, Creates, Errs, Removes, Sends, Starts, Stops, Waits, Worsens, act}
-use Rattle.semantics.specs.Steps.{apply, connect, ending, send, settle, settled, start_component, statement_step, stop, touch, with_new, with_verdict, at_queue, without_first}
+use Rattle.semantics.specs.Statements.{Act, Errs, Requests, Waits, act}
+use Rattle.semantics.specs.Steps.{apply, perform, settle, settled, statement_step, touch}
 use Rattle.semantics.specs.Taking.{uncovered}
 use Rattle.config_parts.specs.Acts.{HasPathsInOrder, IsFailing, IsUncovered, act_by}
 use Rattle.config_parts.specs.Legend.{Legend, component_by, going_by}
 use Rattle.config_parts.specs.declared.act.Act.{Act as Kept}
 use Rattle.config_parts.specs.declared.component.Component.{Component}
 use Rattle.config_parts.specs.declared.config.Going.{Going}
-use Rattle.ttcn_values.specs.Outcomes.{Fails, Outcome, Yields}
-use Rattle.ttcn_values.specs.declared.path.Path.{Path}
-use Rattle.ttcn_values.specs.declared.value.ComponentId.{ComponentId}
+use Rattle.value_types.specs.Outcomes.{Fails, Outcome, Yields}
+use Rattle.value_types.specs.declared.path.Path.{Path}
+use Rattle.value_types.specs.declared.value.ComponentId.{ComponentId}
 
 -- ---- paths
 
@@ -50,14 +50,7 @@ uncovered-twice own = uncovered-none (uncovered own) (uncovered own).calls refl 
 pub is-uncovered : (asked : Act) → IsUncovered (uncovered_act asked)
 is-uncovered Waits = refl
 is-uncovered (Errs why) = refl
-is-uncovered (Continues own) = ap Some (uncovered-twice own)
-is-uncovered (Worsens v own) = ap Some (uncovered-twice own)
-is-uncovered (Removes port own) = ap Some (uncovered-twice own)
-is-uncovered (Sends port to v own) = ap Some (uncovered-twice own)
-is-uncovered (Creates new own) = ap Some (uncovered-twice own)
-is-uncovered (Starts path frame own) = ap Some (uncovered-twice own)
-is-uncovered (Stops path own) = ap Some (uncovered-twice own)
-is-uncovered (Connects d e own) = ap Some (uncovered-twice own)
+is-uncovered (Requests request own) = ap Some (uncovered-twice own)
 
 settle-uncovered : (c : rules.Going) (path : Path) (own : rules.Data) → settle c path (uncovered own) ≡ settle c path own
 settle-uncovered c path own =
@@ -67,14 +60,7 @@ settle-uncovered c path own =
 pub apply-uncovered : (test : Test) (c : rules.Going) (itself : ComponentId) (asked : Act) → apply test c itself (uncovered_act asked) ≡ apply test c itself asked
 apply-uncovered test c itself Waits = refl
 apply-uncovered test c itself (Errs why) = refl
-apply-uncovered test c itself (Continues own) = ap (λ d. Some (Yields (rules.Goes d))) (settle-uncovered c itself.path own)
-apply-uncovered test c itself (Worsens v own) = ap (λ d. Some (Yields (rules.Goes (touch d itself.path (with_verdict v))))) (settle-uncovered c itself.path own)
-apply-uncovered test c itself (Removes port own) = ap (λ d. Some (Yields (rules.Goes (touch d itself.path (at_queue port without_first))))) (settle-uncovered c itself.path own)
-apply-uncovered test c itself (Sends port to v own) = ap (λ d. Some (ending (send d itself port to v))) (settle-uncovered c itself.path own)
-apply-uncovered test c itself (Creates new own) = ap (λ d. Some (Yields (rules.Goes (with_new new d)))) (settle-uncovered c itself.path own)
-apply-uncovered test c itself (Starts path frame own) = ap (λ d. Some (ending (start_component d path frame))) (settle-uncovered c itself.path own)
-apply-uncovered test c itself (Stops path own) = ap (λ d. Some (Yields (stop test d path))) (settle-uncovered c itself.path own)
-apply-uncovered test c itself (Connects d e own) = ap (λ g. Some (ending (connect g d e))) (settle-uncovered c itself.path own)
+apply-uncovered test c itself (Requests request own) = ap (λ d. Some (perform test d itself request)) (settle-uncovered c itself.path own)
 
 -- ---- what calls answer
 

@@ -17,10 +17,8 @@ use Rattle.semantics.specs.Steps.{Label, Statement, statement_step}
 use Rattle.config_parts.specs.Legend.{Legend, component_by}
 use Rattle.config_parts.specs.declared.component.Component.{Component}
 use Rattle.ttcn_step.proofs.Listed.{grown, parts_of}
-use Rattle.ttcn_step.specs.Standing.{standing_by, standing_of}
-use Rattle.ttcn_step.specs.declared.standing.Standing.{Standing}
-use Rattle.ttcn_syntax.specs.declared.place.Span.{Span}
-use Rattle.ttcn_values.specs.declared.path.Path.{Path}
+use Rattle.ttcn_step.specs.Standing.{standing_of}
+use Rattle.step_labels.specs.declared.standing.Standing.{Standing}
 
 -- where nothing is made of an element, what is made of those behind it is what is made of it and them
 pub passed : {X Y : Type 0} (F : List X → List Y) (xs : List X) (i : ℕ) (x : X) (part all : List Y) → i < length xs → x ≡ get_or xs i x
@@ -70,19 +68,19 @@ some-enabled (label ∷ found) standing some = refl
 
 -- ---- lists that are tested to be empty
 
-empties-list : {X Y : Type 0} (f : X → Y) (items : List X) → true ≡ (length items == 0) → map f items ≡ []
-empties-list f [] none = refl
-empties-list f (x ∷ items) none = absurd (suc-ne-zero (length items) (eqb-true (length (x ∷ items)) 0 (sym none)))
+empties-list : {X : Type 0} (items : List X) → true ≡ (length items == 0) → items ≡ []
+empties-list [] none = refl
+empties-list (x ∷ items) none = absurd (suc-ne-zero (length items) (eqb-true (length (x ∷ items)) 0 (sym none)))
 
-fills-list : {X Y : Type 0} (f : X → Y) (items : List X) → false ≡ (length items == 0) → ¬ (map f items ≡ [])
-fills-list f [] some none = true≢false (sym some)
-fills-list f (x ∷ items) some none = cc
+fills-list : {X : Type 0} (items : List X) → false ≡ (length items == 0) → ¬ (items ≡ [])
+fills-list [] some none = true≢false (sym some)
+fills-list (x ∷ items) some none = cc
 
-pub empties : {X Y : Type 0} (f : X → Y) (items : List X) (n : ℕ) → n ≡ length items → true ≡ (n == 0) → map f items ≡ []
-empties f items n is none = empties-list f items (none ∙ ap (λ (m : ℕ). m == 0) is)
+pub empties : {X : Type 0} (items : List X) (n : ℕ) → n ≡ length items → true ≡ (n == 0) → items ≡ []
+empties items n is none = empties-list items (none ∙ ap (λ (m : ℕ). m == 0) is)
 
-pub fills : {X Y : Type 0} (f : X → Y) (items : List X) (n : ℕ) → n ≡ length items → false ≡ (n == 0) → ¬ (map f items ≡ [])
-fills f items n is some = fills-list f items (some ∙ ap (λ (m : ℕ). m == 0) is)
+pub fills : {X : Type 0} (items : List X) (n : ℕ) → n ≡ length items → false ≡ (n == 0) → ¬ (items ≡ [])
+fills items n is some = fills-list items (some ∙ ap (λ (m : ℕ). m == 0) is)
 
 -- ---- blocked components
 
@@ -93,8 +91,8 @@ module _ (test : Test) where
   standing-blocked (Goes c) none = sym (none-enabled (labels test (Goes c)) (standings c) none)
 
   pub blocked-stuck : (c : Configuration) (r : Result (Vec Standing Global) AllocError) → labels test c ≡ []
-      → IfOk r (λ found. map standing_by found.items ≡ standing_of c) → IfOk r (λ found. map standing_by found.items ≡ blocked test c)
-  blocked-stuck c r none is = subst (λ (to : List (Path × Span)). IfOk r (λ found. map standing_by found.items ≡ to)) (standing-blocked c none) is
+      → IfOk r (λ found. found.items ≡ standing_of c) → IfOk r (λ found. found.items ≡ blocked test c)
+  blocked-stuck c r none is = subst (λ (to : List Standing). IfOk r (λ found. found.items ≡ to)) (standing-blocked c none) is
 
   -- where one is, none is blocked
   pub none-blocked : (c : Configuration) → ¬ (labels test c ≡ []) → [] ≡ blocked test c

@@ -4,10 +4,7 @@ use Rattle.std.specs.List.{All, AllPairs, Contains, cons_option, find, flat_map}
 use Rattle.std.specs.Option.{option_and_then}
 use Rattle.std.specs.declared.cmp.Ordering.TheVariants.{Less, Equal}
 use Rattle.std.proofs.lemmas.List.Elements.{All-cons, All-head, All-nil, All-tail, All-contains_itself, filter_map-append}
-use Rattle.std.proofs.lemmas.List.{map_push}
 use Rattle.std.proofs.lemmas.Slice.Eq.{bytes_eq-Decides}
-use Rattle.step_labels.specs.Labels.{label_by}
-use Rattle.step_labels.specs.declared.label.Label.{Label as Kept}
 use Rattle.semantics.proofs.LabelOrder.{names-alike}
 use Rattle.semantics.proofs.Pairs.{All-both, All-more, pairs-head, pairs-tail}
 use Rattle.semantics.specs.Configurations as rules
@@ -139,9 +136,9 @@ map-map f g [] = refl
 map-map f g (x ∷ xs) = ap (λ ys. g (f x) ∷ ys) (map-map f g xs)
 
 -- the labels among successors
-pub labels-of-pairs : (machine : Machine) (found : List Successor) (pairs : List (Label × rules.Configuration)) (labels : List Label) → pairs_by machine found ≡ pairs → map (λ p. p.0) pairs ≡ labels → map (λ (s : Successor). label_by s.label) found ≡ labels
+pub labels-of-pairs : (machine : Machine) (found : List Successor) (pairs : List (Label × rules.Configuration)) (labels : List Label) → pairs_by machine found ≡ pairs → map (λ p. p.0) pairs ≡ labels → map (λ (s : Successor). s.label) found ≡ labels
 labels-of-pairs machine found pairs labels e f =
-    sym (map-map (λ (s : Successor). (label_by s.label, said machine s.config)) (λ (p : Label × rules.Configuration). p.0) found) ∙ ap (map (λ (p : Label × rules.Configuration). p.0)) e ∙ f
+    sym (map-map (λ (s : Successor). (s.label, said machine s.config)) (λ (p : Label × rules.Configuration). p.0) found) ∙ ap (map (λ (p : Label × rules.Configuration). p.0)) e ∙ f
 
 all-unmapped : {A B : Type 0} (P : B → Type 0) (f : A → B) (xs : List A) → All P (map f xs) → All (λ a. P (f a)) xs
 all-unmapped P f [] all = All-nil (λ a. P (f a))
@@ -150,43 +147,42 @@ all-unmapped P f (x ∷ xs) all = All-cons (λ a. P (f a)) x xs (All-head P (f x
 pub leads-of-pairs : (machine : Machine) (config : Config) (found : List Successor) (pairs : List (Label × rules.Configuration)) → pairs_by machine found ≡ pairs
     → All (λ p. next machine.test (said machine config) p.0 ≡ Some p.1) pairs → All (IsSuccessor machine config) found
 leads-of-pairs machine config found pairs e all =
-    all-unmapped (λ (p : Label × rules.Configuration). next machine.test (said machine config) p.0 ≡ Some p.1) (λ (s : Successor). (label_by s.label, said machine s.config)) found
+    all-unmapped (λ (p : Label × rules.Configuration). next machine.test (said machine config) p.0 ≡ Some p.1) (λ (s : Successor). (s.label, said machine s.config)) found
     (subst (All (λ p. next machine.test (said machine config) p.0 ≡ Some p.1)) (sym e) all)
 
 -- ---- one label more
 
 -- one label more among others
-pub leads-more : (test : Test) (c : rules.Configuration) (before : List Kept) (label : Kept) (found grown : List (Label × rules.Configuration)) → grown ≡ found ++ leads test c (label_by label ∷ [])
-    → found ≡ leads test c (map label_by before) → grown ≡ leads test c (map label_by (before ++ label ∷ []))
+pub leads-more : (test : Test) (c : rules.Configuration) (before : List Label) (label : Label) (found grown : List (Label × rules.Configuration)) → grown ≡ found ++ leads test c (label ∷ [])
+    → found ≡ leads test c before → grown ≡ leads test c (before ++ label ∷ [])
 leads-more test c before label found grown more holds =
-    more ∙ ap (λ xs. xs ++ leads test c (label_by label ∷ [])) holds
-    ∙ sym (ap (leads test c) (map_push label_by before label) ∙ filter_map-append (lead test c) (map label_by before) (label_by label ∷ []))
+    more ∙ ap (λ xs. xs ++ leads test c (label ∷ [])) holds ∙ sym (filter_map-append (lead test c) before (label ∷ []))
 
 -- ---- all successors
 
-module _ (machine : Machine) (going : Going) (kept : List Kept) (ordered : StandsInOrder (said machine (config.Going going))) (same : map label_by kept ≡ candidates (going_by (legend machine) going)) where
+module _ (machine : Machine) (going : Going) (kept : List Label) (ordered : StandsInOrder (said machine (config.Going going))) (same : kept ≡ candidates (going_by (legend machine) going)) where
   abbrev Found : rules.Configuration
   Found = rules.Goes (going_by (legend machine) going)
 
   -- those among the candidates are those among the labels
-  all-pairs : (found : List Successor) → pairs_by machine found ≡ leads machine.test Found (map label_by kept) → pairs_by machine found ≡ leads machine.test Found (labels machine.test Found)
+  all-pairs : (found : List Successor) → pairs_by machine found ≡ leads machine.test Found kept → pairs_by machine found ≡ leads machine.test Found (labels machine.test Found)
   all-pairs found pairs = pairs ∙ ap (leads machine.test Found) same ∙ candidates-lead machine.test (going_by (legend machine) going) ordered.ordered
 
-  found-labels : (found : List Successor) → pairs_by machine found ≡ leads machine.test Found (map label_by kept) → map (λ (s : Successor). label_by s.label) found ≡ labels machine.test Found
+  found-labels : (found : List Successor) → pairs_by machine found ≡ leads machine.test Found kept → map (λ (s : Successor). s.label) found ≡ labels machine.test Found
   found-labels found pairs =
       labels-of-pairs machine found (leads machine.test Found (labels machine.test Found)) (labels machine.test Found) (all-pairs found pairs) (labels-lead-there machine.test Found ordered).0
 
-  found-leads : (found : List Successor) → pairs_by machine found ≡ leads machine.test Found (map label_by kept) → All (IsSuccessor machine (config.Going going)) found
+  found-leads : (found : List Successor) → pairs_by machine found ≡ leads machine.test Found kept → All (IsSuccessor machine (config.Going going)) found
   found-leads found pairs =
       leads-of-pairs machine (config.Going going) found (leads machine.test Found (labels machine.test Found)) (all-pairs found pairs) (labels-lead-there machine.test Found ordered).1
 
-  pub successors-labelled : {G E : Type 0} (all : Config) (result : Result (Vec Successor G) E) → all ≡ config.Going going → IfOk result (λ found. pairs_by machine found.items ≡ leads machine.test Found (map label_by kept))
-      → IfOk result (λ found. map (λ (s : Successor). label_by s.label) found.items ≡ labels machine.test (said machine all))
+  pub successors-labelled : {G E : Type 0} (all : Config) (result : Result (Vec Successor G) E) → all ≡ config.Going going → IfOk result (λ found. pairs_by machine found.items ≡ leads machine.test Found kept)
+      → IfOk result (λ found. map (λ (s : Successor). s.label) found.items ≡ labels machine.test (said machine all))
   successors-labelled all (Ok found) is pairs =
-      subst (λ (d : Config). map (λ (s : Successor). label_by s.label) found.items ≡ labels machine.test (said machine d)) (sym is) (found-labels found.items pairs)
+      subst (λ (d : Config). map (λ (s : Successor). s.label) found.items ≡ labels machine.test (said machine d)) (sym is) (found-labels found.items pairs)
   successors-labelled all (Err e) is pairs = tt
 
-  pub successors-lead : {G E : Type 0} (all : Config) (result : Result (Vec Successor G) E) → all ≡ config.Going going → IfOk result (λ found. pairs_by machine found.items ≡ leads machine.test Found (map label_by kept))
+  pub successors-lead : {G E : Type 0} (all : Config) (result : Result (Vec Successor G) E) → all ≡ config.Going going → IfOk result (λ found. pairs_by machine found.items ≡ leads machine.test Found kept)
       → IfOk result (λ found. All (IsSuccessor machine all) found.items)
   successors-lead all (Ok found) is pairs = subst (λ (d : Config). All (IsSuccessor machine d) found.items) (sym is) (found-leads found.items pairs)
   successors-lead all (Err e) is pairs = tt

@@ -1,6 +1,5 @@
 -- What calls of a machine answer.
 use Rattle.std.specs.Prelude.{◌≡◌, ℕ, Option, Some, None, Result, Ok, Err}
-use Rattle.step_labels.specs.Labels.{label_by}
 use Rattle.semantics.specs.Configurations as rules
 use Rattle.semantics.specs.Steps as steps
 use Rattle.config_parts.specs.declared.config.Config.{Config}
@@ -25,4 +24,4 @@ Ends machine run (Err replay.Memory) = Unit {0}
 
 -- a label leads from a configuration to another
 abbrev pub IsSuccessor : Machine → Config → Successor → Type 0
-IsSuccessor machine config s = steps.next machine.test (said machine config) (label_by s.label) ≡ Some (said machine s.config)
+IsSuccessor machine config s = steps.next machine.test (said machine config) s.label ≡ Some (said machine s.config)

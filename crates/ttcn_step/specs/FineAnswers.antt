@@ -1,20 +1,15 @@
 -- What calls of a machine answer of fine runs.
-use Rattle.std.specs.Prelude.{◌≡◌, ◌≤◌, ℕ, List, [], length, map, Result, Ok, Err}
+use Rattle.std.specs.Prelude.{◌≡◌, ◌≤◌, ℕ, List, [], length, Result, Ok, Err}
 use Rattle.std.specs.declared.alloc.Global.{Global}
 use Rattle.std.specs.declared.vec.Vec.{Vec}
 use Rattle.ttcn_syntax.specs.declared.tree.statement.Verdict.{Verdict}
 use Rattle.laws_fine.specs.Doubling.{doubled}
 use Rattle.laws_fine.specs.Fates.{coarse}
-use Rattle.laws_fine.specs.Fine as fine
-use Rattle.laws_fine.specs.Fine.{Fine, fine_replay}
-use Rattle.step_labels.specs.Labels.{label_by}
-use Rattle.step_labels.specs.declared.fine.FineLabel.{FineLabel}
-use Rattle.step_labels.specs.declared.label.Label as kept
+use Rattle.laws_fine.specs.Fine.{Fine, FineLabel, fine_replay}
 use Rattle.semantics.specs.Configurations.{Configuration, Ended, Goes}
 use Rattle.semantics.specs.Runs.{replay}
 use Rattle.semantics.specs.Snapshots.{Test}
 use Rattle.semantics.specs.Steps.{Label}
-use Rattle.ttcn_step.specs.FineLabels.{fine_label_by}
 use Rattle.ttcn_step.specs.Machines.{Machine}
 use Rattle.ttcn_step.specs.declared.error.CoarsenError.{CoarsenError}
 use Rattle.ttcn_step.specs.declared.error.CoarsenError.TheVariants as coarsen
@@ -32,14 +27,14 @@ LeadTo P (Ok f) = P f.now
 LeadTo P (Err number) = ⊥
 
 -- a call gives the run that fine labels stand for where they end the test case, or the number of the first that can't follow, or says that the test case hasn't ended, unless memory was refused
-abbrev pub Coarsens : Machine → List fine.FineLabel → Result (Vec kept.Label Global) CoarsenError → Type 0
-Coarsens machine labels (Ok run) = LeadTo HasEnded (fine_replay machine.test labels) × (map label_by run.items ≡ coarse machine.test labels)
+abbrev pub Coarsens : Machine → List FineLabel → Result (Vec Label Global) CoarsenError → Type 0
+Coarsens machine labels (Ok run) = LeadTo HasEnded (fine_replay machine.test labels) × (run.items ≡ coarse machine.test labels)
 Coarsens machine labels (Err (coarsen.NotFine number)) = fine_replay machine.test labels ≡ Err number
 Coarsens machine labels (Err coarsen.NotEnded) = LeadTo (λ c. ¬ HasEnded c) (fine_replay machine.test labels)
 Coarsens machine labels (Err coarsen.Memory) = Unit {0}
 
 -- a run ends as fine labels do, and is no longer
-pub record StandsFor (test : Test) (labels : List fine.FineLabel) (run : List Label) : Type 0 where
+pub record StandsFor (test : Test) (labels : List FineLabel) (run : List Label) : Type 0 where
   pub verdict : Verdict
   pub behind : Fine
   pub leads : fine_replay test labels ≡ Ok behind
@@ -54,12 +49,12 @@ HasLed (Err number) = ⊥
 
 -- a call gives the doubling of a run, or the number of its first label that is not enabled, unless memory was refused
 abbrev pub Doubles : Machine → List Label → Result (Vec FineLabel Global) ReplayError → Type 0
-Doubles machine run (Ok labels) = HasLed (replay machine.test run) × (map fine_label_by labels.items ≡ doubled machine.test run)
+Doubles machine run (Ok labels) = HasLed (replay machine.test run) × (labels.items ≡ doubled machine.test run)
 Doubles machine run (Err (replay_error.NotEnabled number)) = replay machine.test run ≡ Err number
 Doubles machine run (Err replay_error.Memory) = Unit {0}
 
 -- fine labels follow each other to where a run leads, leave no snapshot, and stand for this run
-pub record IsDoubling (test : Test) (run : List Label) (labels : List fine.FineLabel) : Type 0 where
+pub record IsDoubling (test : Test) (run : List Label) (labels : List FineLabel) : Type 0 where
   pub end : Configuration
   pub replays : replay test run ≡ Ok end
   pub leads : fine_replay test labels ≡ Ok (record { now = end; stored = [] })

@@ -1,7 +1,6 @@
 pub mod Answers
 pub mod Choosing
 pub mod FineAnswers
-pub mod FineLabels
 pub mod FrameLimit
 pub mod Machines
 pub mod Standing

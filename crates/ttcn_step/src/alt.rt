@@ -1,11 +1,10 @@
 //! Whether a component stands at an `alt`, or at what stands for one (ES 201 873-1, 20.2).
 ghost use Rattle.std.specs.Prelude.{◌≡◌, ◌∷◌, [], List, get_or, is_some};
-ghost use Rattle.check_expressions.specs.Calls.{altstep_meant};
+ghost use Rattle.check_rules.specs.Calls.{altstep_meant};
 ghost use Rattle.check_scope.specs.Names.{module_names};
 ghost use Rattle.laws_fine.specs.Fine as fine;
 ghost use Rattle.graph_items.specs.Begun.{item_at};
 ghost use Rattle.graph_items.specs.Standing.{part_of};
-ghost use Rattle.step_labels.specs.Labels.{label_by};
 ghost use Rattle.semantics.specs.Items.{Doing, Item, action_of};
 ghost use Rattle.semantics.specs.Sites.{Site};
 ghost use Rattle.step_snapshot.specs.Tests.{legend_by, test_by};
@@ -98,13 +97,13 @@ pub(crate) fn stands_at_alt(test: &TestCase<'_>, component: &Component) -> bool
 
 /// Whether a label is the statement of an `alt`.
 pub(crate) fn is_of_alt(test: &TestCase<'_>, going: &Going, label: &Label) -> bool
-    ensures { result ≡ fine.is_of_alt (test_by test.now) (going_by (legend_by test.now) going.now) (label_by label.now) }
+    ensures { result ≡ fine.is_of_alt (test_by test.now) (going_by (legend_by test.now) going.now) label.now }
 {
-    match &label.expiry {
-        Some(_) => false,
-        None => match component_of(going.components.as_slice(), &label.component) {
+    match label {
+        Label::Statement(path) => match component_of(going.components.as_slice(), &path.numbers) {
             Some(component) => stands_at_alt(test, component),
             None => false,
         },
+        Label::Expiry { .. } => false,
     }
 }

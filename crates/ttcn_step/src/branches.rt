@@ -1,6 +1,5 @@
 //! The branches that steps take (ES 201 873-1, 20.2).
 ghost use Rattle.std.specs.Prelude.{◌≡◌, IfOk};
-ghost use Rattle.step_labels.specs.Labels.{label_by};
 ghost use Rattle.semantics.specs.Places as rules;
 ghost use Rattle.step_snapshot.specs.Tests.{extent_of, legend_by, test_by};
 ghost use Rattle.config_parts.specs.Acts.{HasPathsInOrder};
@@ -51,14 +50,14 @@ fn branch_in(
     label: &Label,
 ) -> Result<Option<Span>, AllocError>
     requires { Fits (machine_of test.now) (config.Going going.now) }
-    ensures { IfOk result (λ place. place ≡ rules.branch_in (test_by test.now) (going_by (legend_by test.now) going.now) (label_by label.now)) }
+    ensures { IfOk result (λ place. place ≡ rules.branch_in (test_by test.now) (going_by (legend_by test.now) going.now) label.now) }
 {
-    match &label.expiry {
-        Some(_) => Ok(None),
-        None => match component_of(going.components.as_slice(), &label.component) {
+    match label {
+        Label::Statement(path) => match component_of(going.components.as_slice(), &path.numbers) {
             Some(component) => branch_of(alloc, test, going, component),
             None => Ok(None),
         },
+        Label::Expiry { .. } => Ok(None),
     }
 }
 
@@ -70,7 +69,7 @@ pub(crate) fn branch(
     label: &Label,
 ) -> Result<Option<Span>, AllocError>
     requires { Fits (machine_of test.now) config.now }
-    ensures { IfOk result (λ place. place ≡ rules.branch_of (test_by test.now) (said (machine_of test.now) config.now) (label_by label.now)) }
+    ensures { IfOk result (λ place. place ≡ rules.branch_of (test_by test.now) (said (machine_of test.now) config.now) label.now) }
 {
     match config {
         Config::Ended(_) => Ok(None),

@@ -1,10 +1,8 @@
 //! The runs that fine runs stand for (ES 201 873-1, 20.2).
 ghost use Rattle.std.specs.Prelude.{◌≡◌, IfOk, IfSome, MatchOption, map};
 ghost use Rattle.laws_fine.specs.Gathering.{first_by, first_told, gathered};
-ghost use Rattle.step_labels.specs.Labels.{label_by};
 ghost use Rattle.step_snapshot.specs.Tests.{test_by};
 ghost use Rattle.ttcn_step.specs.FineAnswers.{Coarsens};
-ghost use Rattle.ttcn_step.specs.FineLabels.{fine_label_by};
 ghost use Rattle.ttcn_step.specs.Machines.{machine_of};
 ghost use Rattle.ttcn_step.specs.internal.Fine as spec;
 ghost use Rattle.ttcn_step.specs.internal.Fine.{fate_by, told_by};
@@ -18,7 +16,7 @@ use config_parts::Config;
 use std::alloc::{AllocError, Global};
 use step_labels::{FineLabel, Label};
 use step_snapshot::TestCase;
-use ttcn_values::Path;
+use value_types::Path;
 
 /// A fine label, with what came of the choice where it is one.
 #[derive(Drop)]
@@ -40,7 +38,7 @@ fn follow<'a>(
     test: &TestCase<'_>,
     labels: &'a [FineLabel],
 ) -> Result<Followed<'a>, CoarsenError>
-    ensures { Follows (machine_of test.now) (map fine_label_by labels.now) result }
+    ensures { Follows (machine_of test.now) labels.now result }
 {
     let now = start(alloc, test)?;
     let mut fine = Fine {
@@ -87,7 +85,7 @@ fn first_told(path: &Path, told: &[Told<'_>]) -> Fate
 
 /// The labels that fine labels stand for. A choice moves to the place of its snapshot.
 fn gather(alloc: Global, told: &[Told<'_>]) -> Result<Vec<Label>, AllocError>
-    ensures { IfOk result (λ run. map label_by run.items ≡ gathered (map told_by told.now)) }
+    ensures { IfOk result (λ run. run.items ≡ gathered (map told_by told.now)) }
 {
     let mut run = Vec::new(alloc);
     for place in 0..told.len() {
@@ -114,7 +112,7 @@ pub(crate) fn coarsen(
     test: &TestCase<'_>,
     labels: &[FineLabel],
 ) -> Result<Vec<Label>, CoarsenError>
-    ensures { Coarsens (machine_of test.now) (map fine_label_by labels.now) result }
+    ensures { Coarsens (machine_of test.now) labels.now result }
 {
     test.breaks_no_rule();
     let Followed { fine, told } = follow(alloc, test, labels)?;

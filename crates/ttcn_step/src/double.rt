@@ -1,10 +1,9 @@
 //! Runs as fine runs: each step at an `alt` becomes a snapshot and the choice by it (ES 201 873-1, 20.2).
-ghost use Rattle.std.specs.Prelude.{◌≡◌, ◌++◌, [], IfOk, OnOk, map};
+ghost use Rattle.std.specs.Prelude.{◌≡◌, ◌++◌, [], MatchOption, OnOk, false, true};
 ghost use Rattle.laws_fine.specs.Doubling.{doubled_label, is_alt_in};
-ghost use Rattle.step_labels.specs.Labels.{label_by};
+ghost use Rattle.semantics.specs.Steps.{Statement};
 ghost use Rattle.step_snapshot.specs.Tests.{test_by};
 ghost use Rattle.ttcn_step.specs.FineAnswers.{Doubles};
-ghost use Rattle.ttcn_step.specs.FineLabels.{fine_label_by};
 ghost use Rattle.ttcn_step.specs.Machines.{machine_of, said};
 
 use crate::alt::is_of_alt;
@@ -15,12 +14,11 @@ use config_parts::Config;
 use std::alloc::{AllocError, Global};
 use step_labels::{FineLabel, Label};
 use step_snapshot::TestCase;
-use ttcn_syntax::Seq;
-use ttcn_values::Path;
+use value_types::Path;
 
 /// Whether a label is the statement of an `alt`.
 fn is_alt_in(test: &TestCase<'_>, config: &Config, label: &Label) -> bool
-    ensures { result ≡ is_alt_in (test_by test.now) (said (machine_of test.now) config.now) (label_by label.now) }
+    ensures { result ≡ is_alt_in (test_by test.now) (said (machine_of test.now) config.now) label.now }
 {
     match config {
         Config::Ended(_) => false,
@@ -28,14 +26,21 @@ fn is_alt_in(test: &TestCase<'_>, config: &Config, label: &Label) -> bool
     }
 }
 
-/// A path of its own with these numbers.
-fn path_of(alloc: Global, numbers: &Seq<u32>) -> Result<Path, AllocError>
-    ensures { IfOk result (λ path. path.numbers ≡ numbers.now) }
+/// The component whose statement a label is of, if that is an `alt`.
+fn alt_of<'b>(test: &TestCase<'_>, config: &Config, label: &'b Label) -> Option<&'b Path>
+    ensures { MatchOption result (is_alt_in (test_by test.now) (said (machine_of test.now) config.now) label.now ≡ false)
+        (λ path. (label.now ≡ Statement path.now) × (is_alt_in (test_by test.now) (said (machine_of test.now) config.now) label.now ≡ true)) }
 {
-    let numbers = Vec::from_slice(alloc, numbers.as_slice())?;
-    Ok(Path {
-        numbers: Seq::from_vec(numbers),
-    })
+    match label {
+        Label::Statement(path) => {
+            if is_alt_in(test, config, label) {
+                Some(path)
+            } else {
+                None
+            }
+        }
+        Label::Expiry { .. } => None,
+    }
 }
 
 /// The fine labels of a label.
@@ -46,17 +51,15 @@ fn push_doubled(
     label: &Label,
     labels: &mut Vec<FineLabel>,
 ) -> Result<(), AllocError>
-    ensures { OnOk result (map fine_label_by labels.new.items ≡ map fine_label_by labels.old.items
-        ++ doubled_label (is_alt_in (test_by test.now) (said (machine_of test.now) config.now) (label_by label.now)) (label_by label.now) []) }
+    ensures { OnOk result (labels.new.items ≡ labels.old.items
+        ++ doubled_label (is_alt_in (test_by test.now) (said (machine_of test.now) config.now) label.now) label.now []) }
 {
-    if is_alt_in(test, config, label) {
-        let snap = path_of(alloc, &label.component)?;
-        labels.push(FineLabel::Snap(snap))?;
-        let choose = path_of(alloc, &label.component)?;
-        labels.push(FineLabel::Choose(choose))?;
-    } else {
-        let label = label.try_clone(alloc)?;
-        labels.push(FineLabel::Plain(label))?;
+    match alt_of(test, config, label) {
+        Some(path) => {
+            labels.push(FineLabel::Snap(path.try_clone(alloc)?))?;
+            labels.push(FineLabel::Choose(path.try_clone(alloc)?))?;
+        }
+        None => labels.push(FineLabel::Plain(label.try_clone(alloc)?))?,
     }
     Ok(())
 }
@@ -67,7 +70,7 @@ pub(crate) fn double(
     test: &TestCase<'_>,
     run: &[Label],
 ) -> Result<Vec<FineLabel>, ReplayError>
-    ensures { Doubles (machine_of test.now) (map label_by run.now) result }
+    ensures { Doubles (machine_of test.now) run.now result }
 {
     let mut config = start(alloc, test)?;
     let mut labels = Vec::new(alloc);

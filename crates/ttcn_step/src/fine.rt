@@ -5,12 +5,10 @@ ghost use Rattle.std.specs.Option.{option_map};
 ghost use Rattle.laws_fine.specs.Fates as fates;
 ghost use Rattle.laws_fine.specs.Fine as rules;
 ghost use Rattle.laws_fine.specs.Holding as holding;
-ghost use Rattle.step_labels.specs.Labels.{label_by};
 ghost use Rattle.semantics.specs.Steps as steps;
 ghost use Rattle.step_snapshot.specs.Tests.{legend_by, test_by};
 ghost use Rattle.config_parts.specs.Legend.{Legend, going_by};
 ghost use Rattle.config_parts.specs.declared.config.Config.TheVariants as config;
-ghost use Rattle.ttcn_step.specs.FineLabels.{fine_label_by};
 ghost use Rattle.ttcn_step.specs.Machines.{Fits, machine_of, said};
 ghost use Rattle.ttcn_step.specs.internal.Fine as spec;
 ghost use Rattle.ttcn_step.specs.internal.Fine.{fate_by, held_by};
@@ -23,7 +21,7 @@ use std::alloc::{AllocError, Global};
 use step_labels::{FineLabel, Label};
 use step_snapshot::TestCase;
 use ttcn_syntax::{Seq, Verdict};
-use ttcn_values::{ComponentId, Fault, Path};
+use value_types::{ComponentId, Fault, Path};
 
 /// A snapshot by which a component has still to choose.
 #[derive(Drop)]
@@ -117,19 +115,21 @@ fn behind(now: Config, stored: Vec<Stored>) -> Fine
 
 /// The stored snapshot behind the step of a label: the expiry of a timer of its component is noted.
 fn note(alloc: Global, label: &Label, entry: Stored) -> Result<Stored, AllocError>
-    ensures noted { (legend : Legend) → IfOk result (λ new. held_by legend new ≡ holding.noted (label_by label.now) (held_by legend entry)) }
+    ensures noted { (legend : Legend) → IfOk result (λ new. held_by legend new ≡ holding.noted label.now (held_by legend entry)) }
     ensures taken { IfOk result (λ new. new.taken ≡ entry.taken) }
 {
     let mut entry = entry;
-    if label.expiry.is_some() && entry.path.numbers == label.component {
-        entry.since.push(label.try_clone(alloc)?)?;
+    if let Label::Expiry { component, .. } = label {
+        if entry.path.numbers == component.numbers {
+            entry.since.push(label.try_clone(alloc)?)?;
+        }
     }
     Ok(entry)
 }
 
 /// The stored snapshots behind the step of a label.
 fn note_all(alloc: Global, label: &Label, stored: Vec<Stored>) -> Result<Vec<Stored>, AllocError>
-    ensures noted { (legend : Legend) → IfOk result (λ all. map (held_by legend) all.items ≡ map (holding.noted (label_by label.now)) (map (held_by legend) stored.items)) }
+    ensures noted { (legend : Legend) → IfOk result (λ all. map (held_by legend) all.items ≡ map (holding.noted label.now) (map (held_by legend) stored.items)) }
     ensures taken { IfOk result (λ all. map (λ entry. entry.taken) all.items ≡ map (λ entry. entry.taken) stored.items) }
 {
     let mut all = Vec::new(alloc);
@@ -149,7 +149,7 @@ fn after(
     label: &Label,
 ) -> Result<Config, AllocError>
     requires { Fits (machine_of test.now) config }
-    ensures after { IfOk result (λ after. said (machine_of test.now) after ≡ holding.after_label (test_by test.now) (said (machine_of test.now) config) (label_by label.now)) }
+    ensures after { IfOk result (λ after. said (machine_of test.now) after ≡ holding.after_label (test_by test.now) (said (machine_of test.now) config) label.now) }
     ensures fits { IfOk result (Fits (machine_of test.now)) }
 {
     match next(alloc, test, &config, label) {
@@ -167,7 +167,7 @@ fn follow(
     labels: &[Label],
 ) -> Result<Config, AllocError>
     requires { Fits (machine_of test.now) from }
-    ensures follows { IfOk result (λ end. said (machine_of test.now) end ≡ holding.follow (test_by test.now) (map label_by labels.now) (said (machine_of test.now) from)) }
+    ensures follows { IfOk result (λ end. said (machine_of test.now) end ≡ holding.follow (test_by test.now) labels.now (said (machine_of test.now) from)) }
     ensures fits { IfOk result (Fits (machine_of test.now)) }
 {
     let mut config = from;
@@ -312,7 +312,7 @@ fn step_plainly(
     label: &Label,
 ) -> Result<Option<FineStep>, AllocError>
     requires { spec.IsWell (machine_of test.now) (config.Going going) stored.items }
-    ensures leads { IfOk result (spec.Leads (machine_of test.now) (config.Going going) stored.items (rules.Plain (label_by label.now))) }
+    ensures leads { IfOk result (spec.Leads (machine_of test.now) (config.Going going) stored.items (rules.Plain label.now)) }
     ensures well { IfOk result (λ found. IfSome found (spec.IsWellBehind (machine_of test.now))) }
 {
     if is_of_alt(test, &going, label) {
@@ -336,7 +336,7 @@ pub(crate) fn fine_step(
     label: &FineLabel,
 ) -> Result<Option<FineStep>, AllocError>
     requires { spec.IsWell (machine_of test.now) fine.now fine.stored.items }
-    ensures leads { IfOk result (spec.Leads (machine_of test.now) fine.now fine.stored.items (fine_label_by label.now)) }
+    ensures leads { IfOk result (spec.Leads (machine_of test.now) fine.now fine.stored.items label.now) }
     ensures well { IfOk result (λ found. IfSome found (spec.IsWellBehind (machine_of test.now))) }
 {
     let Fine { now, stored } = fine;

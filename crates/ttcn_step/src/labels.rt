@@ -1,7 +1,6 @@
 //! The labels of a configuration (ES 201 873-4).
 ghost use Rattle.std.specs.Prelude.{◌≡◌, ◌↔◌, ◌<◌, ◌++◌, [], IfOk, IsTrue, OnOk, length, map, true};
 ghost use Rattle.std.specs.List.{All};
-ghost use Rattle.step_labels.specs.Labels.{label_by};
 ghost use Rattle.semantics.specs.Configurations as rules;
 ghost use Rattle.semantics.specs.Labels as said_labels;
 ghost use Rattle.semantics.specs.Statements.{most};
@@ -13,16 +12,16 @@ ghost use Rattle.config_parts.specs.Views.{HasSlotsWithin, IsFrameWithin, IsWith
 ghost use Rattle.config_parts.specs.declared.config.Config.TheVariants as config;
 ghost use Rattle.ttcn_step.specs.Machines.{Fits, machine_of, said};
 ghost use Rattle.ttcn_step.specs.internal.Steps as spec;
-ghost use Rattle.ttcn_values.specs.Frames.{is_running};
+ghost use Rattle.value_types.specs.Frames.{is_running};
 
 use crate::plain::stands_at_plain;
 use crate::step::{has_step, is_running, slots_are_ordered};
 use config_parts::{Cells, Component, Config, Frame, Going};
 use std::alloc::{AllocError, Global};
-use step_labels::{Expiry, Label};
+use step_labels::Label;
 use step_snapshot::TestCase;
 use ttcn_syntax::Name;
-use ttcn_values::{Path, Slot, TimerState};
+use value_types::{Path, Slot, TimerState};
 
 /// The name of a slot.
 fn name_of(alloc: Global, test: &TestCase<'_>, slot: Slot) -> Result<Name, AllocError>
@@ -35,13 +34,9 @@ fn name_of(alloc: Global, test: &TestCase<'_>, slot: Slot) -> Result<Name, Alloc
 
 /// The label of a component's statement.
 pub(crate) fn statement_label(alloc: Global, path: &Path) -> Result<Label, AllocError>
-    ensures { IfOk result (λ label. label_by label ≡ steps.Statement path.now) }
+    ensures { IfOk result (λ label. label ≡ steps.Statement path.now) }
 {
-    let path = path.try_clone(alloc)?;
-    Ok(Label {
-        component: path.numbers,
-        expiry: None,
-    })
+    Ok(Label::Statement(path.try_clone(alloc)?))
 }
 
 /// The label of the expiry of a timer.
@@ -53,13 +48,12 @@ fn expiry_label(
     slot: Slot,
 ) -> Result<Label, AllocError>
     requires { slot < length test.now.names }
-    ensures { IfOk result (λ label. label_by label ≡ steps.Expiry path.now frame ((legend_by test.now).names slot)) }
+    ensures { IfOk result (λ label. label ≡ steps.Expiry path.now frame ((legend_by test.now).names slot)) }
 {
-    let path = path.try_clone(alloc)?;
-    let timer = name_of(alloc, test, slot)?;
-    Ok(Label {
-        component: path.numbers,
-        expiry: Some(Expiry { frame, timer }),
+    Ok(Label::Expiry {
+        component: path.try_clone(alloc)?,
+        frame,
+        timer: name_of(alloc, test, slot)?,
     })
 }
 
@@ -79,7 +73,7 @@ fn push_frame(
     labels: &mut Vec<Label>,
 ) -> Result<(), AllocError>
     requires { HasSlotsWithin (length test.now.names) cells.now }
-    ensures { OnOk result (map label_by labels.new.items ≡ map label_by labels.old.items ++ said_labels.frame_expiries path.now frame (frame_with (legend_by test.now) [] cells.now)) }
+    ensures { OnOk result (labels.new.items ≡ labels.old.items ++ said_labels.frame_expiries path.now frame (frame_with (legend_by test.now) [] cells.now)) }
 {
     for timer in cells.timers.as_slice() {
         if runs(timer.1) {
@@ -99,7 +93,7 @@ fn push_calls(
 ) -> Result<(), AllocError>
     requires limit { length calls.now < most }
     requires within { All (IsFrameWithin (extent_of test.now)) calls.now }
-    ensures { OnOk result (map label_by labels.new.items ≡ map label_by labels.old.items ++ said_labels.call_expiries path.now (map (frame_by (legend_by test.now)) calls.now)) }
+    ensures { OnOk result (labels.new.items ≡ labels.old.items ++ said_labels.call_expiries path.now (map (frame_by (legend_by test.now)) calls.now)) }
 {
     for below in 0..calls.len() {
         let cells = &calls[calls.len() - 1 - below].cells;
@@ -117,7 +111,7 @@ fn push_expiries(
 ) -> Result<(), AllocError>
     requires limit { length component.now.own.calls < most }
     requires within { IsWithin (extent_of test.now) component.now.own }
-    ensures { OnOk result (map label_by labels.new.items ≡ map label_by labels.old.items ++ said_labels.expiries (component_by (legend_by test.now) component.now)) }
+    ensures { OnOk result (labels.new.items ≡ labels.old.items ++ said_labels.expiries (component_by (legend_by test.now) component.now)) }
 {
     let path = &component.itself.path;
     push_frame(alloc, test, path, 0, &component.own.members, labels)?;
@@ -135,7 +129,7 @@ fn push_component(
     requires ordered { HasPathsInOrder going.now }
     requires limit { length component.now.own.calls < most }
     requires within { IsWithin (extent_of test.now) component.now.own }
-    ensures { OnOk result (map label_by labels.new.items ≡ map label_by labels.old.items ++ said_labels.labels_of_component (test_by test.now) (going_by (legend_by test.now) going.now) (component_by (legend_by test.now) component.now)) }
+    ensures { OnOk result (labels.new.items ≡ labels.old.items ++ said_labels.labels_of_component (test_by test.now) (going_by (legend_by test.now) going.now) (component_by (legend_by test.now) component.now)) }
 {
     if !is_running(component.state) {
         return Ok(());
@@ -149,7 +143,7 @@ fn push_component(
 /// The enabled labels of a configuration that goes on.
 fn labels_of(alloc: Global, test: &TestCase<'_>, going: &Going) -> Result<Vec<Label>, AllocError>
     requires { Fits (machine_of test.now) (config.Going going.now) }
-    ensures { IfOk result (λ found. map label_by found.items ≡ said_labels.labels (test_by test.now) (rules.Goes (going_by (legend_by test.now) going.now))) }
+    ensures { IfOk result (λ found. found.items ≡ said_labels.labels (test_by test.now) (rules.Goes (going_by (legend_by test.now) going.now))) }
 {
     let mut labels = Vec::new(alloc);
     for component in going.components.as_slice() {
@@ -165,7 +159,7 @@ pub(crate) fn labels(
     config: &Config,
 ) -> Result<Vec<Label>, AllocError>
     requires { Fits (machine_of test.now) config.now }
-    ensures { IfOk result (λ found. map label_by found.items ≡ said_labels.labels (test_by test.now) (said (machine_of test.now) config.now)) }
+    ensures { IfOk result (λ found. found.items ≡ said_labels.labels (test_by test.now) (said (machine_of test.now) config.now)) }
 {
     match config {
         Config::Ended(_) => Ok(Vec::new(alloc)),
@@ -183,7 +177,7 @@ fn labels_at(
     requires ordered { HasPathsInOrder going.now }
     requires limit { length component.now.own.calls < most }
     requires within { IsWithin (extent_of test.now) component.now.own }
-    ensures { IfOk result (λ found. map label_by found.items ≡ said_labels.labels_of_component (test_by test.now) (going_by (legend_by test.now) going.now) (component_by (legend_by test.now) component.now)) }
+    ensures { IfOk result (λ found. found.items ≡ said_labels.labels_of_component (test_by test.now) (going_by (legend_by test.now) going.now) (component_by (legend_by test.now) component.now)) }
 {
     let mut labels = Vec::new(alloc);
     push_component(alloc, test, going, component, &mut labels)?;
@@ -244,7 +238,7 @@ pub(crate) fn push_candidates(
 ) -> Result<(), AllocError>
     requires limit { length component.now.own.calls < most }
     requires within { IsWithin (extent_of test.now) component.now.own }
-    ensures { OnOk result (map label_by labels.new.items ≡ map label_by labels.old.items ++ spec.candidates_of (component_by (legend_by test.now) component.now)) }
+    ensures { OnOk result (labels.new.items ≡ labels.old.items ++ spec.candidates_of (component_by (legend_by test.now) component.now)) }
 {
     if !is_running(component.state) {
         return Ok(());

@@ -2,7 +2,6 @@
 ghost use Rattle.std.specs.Prelude.{◌≡◌, ◌↔◌, [], false, get_or, IfOk, IsTrue, map};
 ghost use Rattle.std.specs.List.{All};
 ghost use Rattle.graph_numbers.specs.Lists.{AreDifferent};
-ghost use Rattle.step_labels.specs.Labels.{label_by};
 ghost use Rattle.semantics.specs.Labels as rules;
 ghost use Rattle.semantics.specs.Places.{blocked, branch_of};
 ghost use Rattle.semantics.specs.Runs as runs;
@@ -11,24 +10,22 @@ ghost use Rattle.config_parts.specs.Names.{AreInOrder};
 ghost use Rattle.ttcn_step.specs.Answers.{Ends, IsSuccessor, Leads};
 ghost use Rattle.ttcn_step.specs.Choosing.{TakesNone};
 ghost use Rattle.ttcn_step.specs.FineAnswers.{Coarsens, Doubles, IsDoubling, StandsFor};
-ghost use Rattle.ttcn_step.specs.FineLabels.{fine_label_by};
 ghost use Rattle.ttcn_step.specs.Machines.{Fits, said};
-ghost use Rattle.ttcn_step.specs.Standing.{standing_by, standing_of};
-ghost use Rattle.ttcn_types.specs.Rules.{AreWellTyped};
+ghost use Rattle.ttcn_step.specs.Standing.{standing_of};
+ghost use Rattle.check_rules.specs.Rules.{AreWellTyped};
 
 use crate::error::{CoarsenError, ReplayError, StepError};
-use crate::standing::Standing;
 use crate::successor::Successor;
 use crate::{
     branches, coarsen, double, labels, places, plain, replay, start, step, successors, testcases,
 };
+use check_rules::{Program, TestId};
 use config_parts::Config;
 use std::alloc::{AllocError, Global};
 use std::marker::Model;
-use step_labels::{FineLabel, Label};
+use step_labels::{FineLabel, Label, Standing};
 use step_snapshot::TestCase;
 use ttcn_syntax::Span;
-use ttcn_types::{Program, TestId};
 
 /// What runs a test case of a module that breaks no rule. A contract sees the test case, the lists that positions stand for,
 /// and the names that have slots.
@@ -99,7 +96,7 @@ impl<'a> Machine<'a> {
     /// The enabled labels of a configuration, ascending.
     pub fn labels(&self, alloc: Global, config: &Config) -> Result<Vec<Label>, AllocError>
         requires { Fits self.now config.now }
-        ensures { IfOk result (λ found. map label_by found.items ≡ rules.labels self.now.test (said self.now config.now)) }
+        ensures { IfOk result (λ found. found.items ≡ rules.labels self.now.test (said self.now config.now)) }
     {
         labels::labels(alloc, &self.test, config)
     }
@@ -107,7 +104,7 @@ impl<'a> Machine<'a> {
     /// The configuration to which a label leads.
     pub fn next(&self, alloc: Global, config: &Config, label: &Label) -> Result<Config, StepError>
         requires { Fits self.now config.now }
-        ensures leads { Leads self.now (steps.next self.now.test (said self.now config.now) (label_by label.now)) result }
+        ensures leads { Leads self.now (steps.next self.now.test (said self.now config.now) label.now) result }
         ensures fits { IfOk result (Fits self.now) }
     {
         step::next(alloc, &self.test, config, label)
@@ -117,7 +114,7 @@ impl<'a> Machine<'a> {
     /// evaluated twice.
     pub fn successors(&self, alloc: Global, config: &Config) -> Result<Vec<Successor>, AllocError>
         requires { Fits self.now config.now }
-        ensures labels { IfOk result (λ found. map (λ s. label_by s.label) found.items ≡ rules.labels self.now.test (said self.now config.now)) }
+        ensures labels { IfOk result (λ found. map (λ s. s.label) found.items ≡ rules.labels self.now.test (said self.now config.now)) }
         ensures leads { IfOk result (λ found. All (IsSuccessor self.now config.now) found.items) }
         ensures fits { IfOk result (λ found. All (λ s. Fits self.now s.config) found.items) }
     {
@@ -126,7 +123,7 @@ impl<'a> Machine<'a> {
 
     /// The configuration in which a run ends, or the number of its first label that is not enabled where it stands.
     pub fn replay(&self, alloc: Global, run: &[Label]) -> Result<Config, ReplayError>
-        ensures ends { Ends self.now (runs.replay self.now.test (map label_by run.now)) result }
+        ensures ends { Ends self.now (runs.replay self.now.test run.now) result }
         ensures fits { IfOk result (Fits self.now) }
     {
         replay::replay(alloc, &self.test, run)
@@ -136,8 +133,8 @@ impl<'a> Machine<'a> {
     /// snapshot, other snapshots and choices go, and so does all behind a fault. Refused is the number of the first label that
     /// can't follow, and a fine run that does not end the test case.
     pub fn coarsen(&self, alloc: Global, labels: &[FineLabel]) -> Result<Vec<Label>, CoarsenError>
-        ensures coarsens { Coarsens self.now (map fine_label_by labels.now) result }
-        ensures runs { IfOk result (λ run. StandsFor self.now.test (map fine_label_by labels.now) (map label_by run.items)) }
+        ensures coarsens { Coarsens self.now labels.now result }
+        ensures runs { IfOk result (λ run. StandsFor self.now.test labels.now run.items) }
     {
         self.test.breaks_no_rule();
         coarsen::coarsen(alloc, &self.test, labels)
@@ -146,8 +143,8 @@ impl<'a> Machine<'a> {
     /// The doubling of a run: each step at an `alt` becomes a snapshot and the choice by it. Refused is the number of the first
     /// label that is not enabled where it stands.
     pub fn double(&self, alloc: Global, run: &[Label]) -> Result<Vec<FineLabel>, ReplayError>
-        ensures doubles { Doubles self.now (map label_by run.now) result }
-        ensures fine { IfOk result (λ labels. IsDoubling self.now.test (map label_by run.now) (map fine_label_by labels.items)) }
+        ensures doubles { Doubles self.now run.now result }
+        ensures fine { IfOk result (λ labels. IsDoubling self.now.test run.now labels.items) }
     {
         double::double(alloc, &self.test, run)
     }
@@ -160,7 +157,7 @@ impl<'a> Machine<'a> {
         label: &Label,
     ) -> Result<Option<Span>, AllocError>
         requires { Fits self.now config.now }
-        ensures { IfOk result (λ place. place ≡ branch_of self.now.test (said self.now config.now) (label_by label.now)) }
+        ensures { IfOk result (λ place. place ≡ branch_of self.now.test (said self.now config.now) label.now) }
     {
         branches::branch(alloc, &self.test, config, label)
     }
@@ -183,7 +180,7 @@ impl<'a> Machine<'a> {
 
     /// The components that run, each with the place of its first remaining statement.
     pub fn standings(&self, alloc: Global, config: &Config) -> Result<Vec<Standing>, AllocError>
-        ensures { IfOk result (λ found. map standing_by found.items ≡ standing_of (said self.now config.now)) }
+        ensures { IfOk result (λ found. found.items ≡ standing_of (said self.now config.now)) }
     {
         places::standings(alloc, &self.test, config)
     }
@@ -192,7 +189,7 @@ impl<'a> Machine<'a> {
     /// statement.
     pub fn blocked(&self, alloc: Global, config: &Config) -> Result<Vec<Standing>, AllocError>
         requires { Fits self.now config.now }
-        ensures { IfOk result (λ found. map standing_by found.items ≡ blocked self.now.test (said self.now config.now)) }
+        ensures { IfOk result (λ found. found.items ≡ blocked self.now.test (said self.now config.now)) }
     {
         places::blocked(alloc, &self.test, config)
     }

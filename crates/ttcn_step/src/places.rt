@@ -7,13 +7,13 @@ ghost use Rattle.step_snapshot.specs.Tests.{legend_by, test_by};
 ghost use Rattle.config_parts.specs.Legend.{component_by, frame_by, going_by};
 ghost use Rattle.graph_items.specs.Begun.{item_at};
 ghost use Rattle.ttcn_step.specs.Machines.{Fits, machine_of, said};
-ghost use Rattle.ttcn_step.specs.Standing.{standing_by, standing_of};
+ghost use Rattle.ttcn_step.specs.Standing.{standing_of};
 
 use crate::labels::is_stuck;
-use crate::standing::Standing;
 use crate::step::is_running;
 use config_parts::{Component, Config, Frame, Going};
 use std::alloc::{AllocError, Global};
+use step_labels::Standing;
 use step_snapshot::TestCase;
 use ttcn_graph::First;
 use ttcn_syntax::Span;
@@ -70,7 +70,7 @@ fn push_standing(
     component: &Component,
     found: &mut Vec<Standing>,
 ) -> Result<(), AllocError>
-    ensures { OnOk result (map standing_by found.new.items ≡ map standing_by found.old.items ++ rules.with_place (component_by (legend_by test.now) component.now) (rules.place_of (component_by (legend_by test.now) component.now))) }
+    ensures { OnOk result (found.new.items ≡ found.old.items ++ rules.with_place (component_by (legend_by test.now) component.now) (rules.place_of (component_by (legend_by test.now) component.now))) }
 {
     if let Some(place) = place_of(test, component) {
         let component = component.itself.path.try_clone(alloc)?;
@@ -85,7 +85,7 @@ fn standing_in(
     test: &TestCase<'_>,
     going: &Going,
 ) -> Result<Vec<Standing>, AllocError>
-    ensures { IfOk result (λ found. map standing_by found.items ≡ rules.standings (going_by (legend_by test.now) going.now)) }
+    ensures { IfOk result (λ found. found.items ≡ rules.standings (going_by (legend_by test.now) going.now)) }
 {
     let mut found = Vec::new(alloc);
     for component in going.components.as_slice() {
@@ -100,7 +100,7 @@ pub(crate) fn standings(
     test: &TestCase<'_>,
     config: &Config,
 ) -> Result<Vec<Standing>, AllocError>
-    ensures { IfOk result (λ found. map standing_by found.items ≡ standing_of (said (machine_of test.now) config.now)) }
+    ensures { IfOk result (λ found. found.items ≡ standing_of (said (machine_of test.now) config.now)) }
 {
     match config {
         Config::Ended(_) => Ok(Vec::new(alloc)),
@@ -115,7 +115,7 @@ pub(crate) fn blocked(
     config: &Config,
 ) -> Result<Vec<Standing>, AllocError>
     requires { Fits (machine_of test.now) config.now }
-    ensures { IfOk result (λ found. map standing_by found.items ≡ rules.blocked (test_by test.now) (said (machine_of test.now) config.now)) }
+    ensures { IfOk result (λ found. found.items ≡ rules.blocked (test_by test.now) (said (machine_of test.now) config.now)) }
 {
     if is_stuck(alloc, test, config)? {
         standings(alloc, test, config)

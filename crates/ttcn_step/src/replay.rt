@@ -1,6 +1,5 @@
 //! Runs of labels (ES 201 873-4).
-ghost use Rattle.std.specs.Prelude.{◌≡◌, ◌+◌, ◌<◌, ◌^◌, IfOk, map};
-ghost use Rattle.step_labels.specs.Labels.{label_by};
+ghost use Rattle.std.specs.Prelude.{◌≡◌, ◌+◌, ◌<◌, ◌^◌, IfOk};
 ghost use Rattle.semantics.specs.Runs as runs;
 ghost use Rattle.semantics.specs.Steps as steps;
 ghost use Rattle.step_snapshot.specs.Tests.{test_by};
@@ -25,7 +24,7 @@ pub(crate) fn follow(
     number: usize,
 ) -> Result<Config, ReplayError>
     requires { Fits (machine_of test.now) config.now }
-    ensures follows { spec.Follows (machine_of test.now) number (steps.next (test_by test.now) (said (machine_of test.now) config.now) (label_by label.now)) result }
+    ensures follows { spec.Follows (machine_of test.now) number (steps.next (test_by test.now) (said (machine_of test.now) config.now) label.now) result }
     ensures fits { IfOk result (Fits (machine_of test.now)) }
 {
     match next(alloc, test, config, label) {
@@ -41,7 +40,7 @@ pub(crate) fn replay(
     test: &TestCase<'_>,
     run: &[Label],
 ) -> Result<Config, ReplayError>
-    ensures ends { Ends (machine_of test.now) (runs.replay (test_by test.now) (map label_by run.now)) result }
+    ensures ends { Ends (machine_of test.now) (runs.replay (test_by test.now) run.now) result }
     ensures fits { IfOk result (Fits (machine_of test.now)) }
 {
     let mut config = start(alloc, test)?;

@@ -2,8 +2,7 @@
 ghost use Rattle.std.specs.Prelude.{◌≡◌, ◌<◌, ℕ, IfOk, IfSome, Some, bytes_eq, is_some, length};
 ghost use Rattle.std.specs.List.{find};
 ghost use Rattle.std.specs.Option.{option_map};
-ghost use Rattle.step_acts.specs.Asks.{Asks, AsksWithin, uncovered_act};
-ghost use Rattle.step_labels.specs.Labels.{label_by};
+ghost use Rattle.step_forms.specs.Asks.{Asks, AsksWithin, uncovered_act};
 ghost use Rattle.semantics.specs.Configurations as rules;
 ghost use Rattle.semantics.specs.Snapshots.{Test};
 ghost use Rattle.semantics.specs.Steps as steps;
@@ -21,10 +20,10 @@ use crate::plain::stands_at_plain;
 use config_parts::{Act, Component, Config, Going, State, TryClone, names_make_legends};
 use std::alloc::{AllocError, Global};
 use step_acts::act;
-use step_labels::{Expiry, Label};
+use step_labels::Label;
 use step_snapshot::{Snapshot, TestCase};
-use ttcn_syntax::{Seq, Verdict};
-use ttcn_values::{ComponentId, Fault, Path, Slot};
+use ttcn_syntax::{Name, Seq, Verdict};
+use value_types::{ComponentId, Fault, Path, Slot};
 
 /// Slots are in the order of their names, and stand for them.
 pub(crate) fn slots_are_ordered(test: &TestCase<'_>)
@@ -182,16 +181,17 @@ fn expiry_named(
     test: &TestCase<'_>,
     going: &Going,
     path: &Path,
-    expires: &Expiry,
+    frame: u32,
+    timer: &Name,
 ) -> Result<Option<Config>, AllocError>
     requires ordered { HasPathsInOrder going.now }
     requires all { AreAllWithin (extent_of test.now) going.now.components }
-    ensures behind { IfOk result (spec.IsBehind (legend_by test.now) (steps.step_in (test_by test.now) (going_by (legend_by test.now) going.now) (steps.Expiry path.now expires.now.frame expires.now.timer))) }
+    ensures behind { IfOk result (spec.IsBehind (legend_by test.now) (steps.step_in (test_by test.now) (going_by (legend_by test.now) going.now) (steps.Expiry path.now frame timer.now))) }
     ensures within { IfOk result (λ after. IfSome after (IsConfigWithin (extent_of test.now))) }
 {
     slots_are_ordered(test);
-    match test.slot(&expires.timer) {
-        Some(slot) => expiry(alloc, test, going, path, expires.frame, slot),
+    match test.slot(timer) {
+        Some(slot) => expiry(alloc, test, going, path, frame, slot),
         None => Ok(None),
     }
 }
@@ -204,15 +204,19 @@ pub(crate) fn step(
     label: &Label,
 ) -> Result<Option<Config>, AllocError>
     requires { Fits (machine_of test.now) (config.Going going.now) }
-    ensures behind { IfOk result (λ after. option_map (said (machine_of test.now)) after ≡ steps.next (test_by test.now) (rules.Goes (going_by (legend_by test.now) going.now)) (label_by label.now)) }
+    ensures behind { IfOk result (λ after. option_map (said (machine_of test.now)) after ≡ steps.next (test_by test.now) (rules.Goes (going_by (legend_by test.now) going.now)) label.now) }
     ensures fits { IfOk result (λ after. IfSome after (Fits (machine_of test.now))) }
 {
-    let Some(component) = component_of(going.components.as_slice(), &label.component) else {
-        return Ok(None);
-    };
-    match &label.expiry {
-        None => statement(alloc, test, going, component),
-        Some(expires) => expiry_named(alloc, test, going, &component.itself.path, expires),
+    match label {
+        Label::Statement(path) => match component_of(going.components.as_slice(), &path.numbers) {
+            Some(component) => statement(alloc, test, going, component),
+            None => Ok(None),
+        },
+        Label::Expiry {
+            component,
+            frame,
+            timer,
+        } => expiry_named(alloc, test, going, component, *frame, timer),
     }
 }
 
@@ -224,7 +228,7 @@ pub(crate) fn next(
     label: &Label,
 ) -> Result<Config, StepError>
     requires { Fits (machine_of test.now) config.now }
-    ensures leads { Leads (machine_of test.now) (steps.next (test_by test.now) (said (machine_of test.now) config.now) (label_by label.now)) result }
+    ensures leads { Leads (machine_of test.now) (steps.next (test_by test.now) (said (machine_of test.now) config.now) label.now) result }
     ensures fits { IfOk result (Fits (machine_of test.now)) }
 {
     match config {

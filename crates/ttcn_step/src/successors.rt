@@ -1,7 +1,6 @@
 //! Where the enabled labels of a configuration lead (ES 201 873-4).
 ghost use Rattle.std.specs.Prelude.{◌≡◌, ◌++◌, ◌∷◌, [], IfOk, OnOk, map};
 ghost use Rattle.std.specs.List.{All};
-ghost use Rattle.step_labels.specs.Labels.{label_by};
 ghost use Rattle.semantics.specs.Configurations as rules;
 ghost use Rattle.semantics.specs.Labels as said_labels;
 ghost use Rattle.step_snapshot.specs.Tests.{legend_by, test_by};
@@ -23,7 +22,7 @@ use step_snapshot::TestCase;
 /// The labels that a configuration may have.
 fn candidates(alloc: Global, test: &TestCase<'_>, going: &Going) -> Result<Vec<Label>, AllocError>
     requires { Fits (machine_of test.now) (config.Going going.now) }
-    ensures { IfOk result (λ found. map label_by found.items ≡ spec.candidates (going_by (legend_by test.now) going.now)) }
+    ensures { IfOk result (λ found. found.items ≡ spec.candidates (going_by (legend_by test.now) going.now)) }
 {
     let mut labels = Vec::new(alloc);
     for component in going.components.as_slice() {
@@ -41,7 +40,7 @@ fn push_successor(
     found: &mut Vec<Successor>,
 ) -> Result<(), AllocError>
     requires { Fits (machine_of test.now) (config.Going going.now) }
-    ensures pairs { OnOk result (pairs.pairs_by (machine_of test.now) found.new.items ≡ pairs.pairs_by (machine_of test.now) found.old.items ++ spec.leads (test_by test.now) (rules.Goes (going_by (legend_by test.now) going.now)) (label_by label ∷ [])) }
+    ensures pairs { OnOk result (pairs.pairs_by (machine_of test.now) found.new.items ≡ pairs.pairs_by (machine_of test.now) found.old.items ++ spec.leads (test_by test.now) (rules.Goes (going_by (legend_by test.now) going.now)) (label ∷ [])) }
     ensures fits { All (λ s. Fits (machine_of test.now) s.config) found.old.items → OnOk result (All (λ s. Fits (machine_of test.now) s.config) found.new.items) }
 {
     if let Some(config) = step(alloc, test, going, &label)? {
@@ -58,7 +57,7 @@ fn successors_among(
     labels: Vec<Label>,
 ) -> Result<Vec<Successor>, AllocError>
     requires { Fits (machine_of test.now) (config.Going going.now) }
-    ensures pairs { IfOk result (λ found. pairs.pairs_by (machine_of test.now) found.items ≡ spec.leads (test_by test.now) (rules.Goes (going_by (legend_by test.now) going.now)) (map label_by labels.items)) }
+    ensures pairs { IfOk result (λ found. pairs.pairs_by (machine_of test.now) found.items ≡ spec.leads (test_by test.now) (rules.Goes (going_by (legend_by test.now) going.now)) labels.items) }
     ensures fits { IfOk result (λ found. All (λ s. Fits (machine_of test.now) s.config) found.items) }
 {
     let mut found = Vec::new(alloc);
@@ -75,7 +74,7 @@ pub(crate) fn successors(
     config: &Config,
 ) -> Result<Vec<Successor>, AllocError>
     requires { Fits (machine_of test.now) config.now }
-    ensures labels { IfOk result (λ found. map (λ s. label_by s.label) found.items ≡ said_labels.labels (test_by test.now) (said (machine_of test.now) config.now)) }
+    ensures labels { IfOk result (λ found. map (λ s. s.label) found.items ≡ said_labels.labels (test_by test.now) (said (machine_of test.now) config.now)) }
     ensures leads { IfOk result (λ found. All (IsSuccessor (machine_of test.now) config.now) found.items) }
     ensures fits { IfOk result (λ found. All (λ s. Fits (machine_of test.now) s.config) found.items) }
 {

@@ -8,15 +8,14 @@ ghost use Rattle.step_snapshot.specs.Slots.{NoneIsMissing};
 ghost use Rattle.step_snapshot.specs.Tests.{test_by};
 ghost use Rattle.graph_names.specs.Known.{names_of, names_of_kind};
 
-use check_expressions::call::runs_on_of;
+use check_rules::{Definitions, Meaning, Program, runs_on_of};
 use config_parts::Cells;
 use graph_numbers::Names;
 use std::alloc::{AllocError, Global};
 use step_snapshot::TestCase;
 use ttcn_graph::{Graphs, compile};
 use ttcn_syntax::{DefinitionKind, Name, Seq};
-use ttcn_types::{Definitions, Meaning, Program};
-use ttcn_values::{ComponentId, Path};
+use value_types::{ComponentId, Path};
 
 /// The name of the component type that a behaviour runs on, where it says so.
 fn component_name<'a>(kind: Option<&'a DefinitionKind>) -> Option<&'a Name>

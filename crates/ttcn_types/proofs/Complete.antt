@@ -19,10 +19,10 @@ use Rattle.ttcn_syntax.specs.declared.tree.statement.Constant.{Constant}
 use Rattle.ttcn_syntax.specs.declared.tree.statement.Statement.{Statement}
 use Rattle.ttcn_syntax.specs.declared.tree.value.TypeName.{TypeName}
 use Rattle.ttcn_syntax.specs.declared.tree.value.TypeName.TheVariants as type_name
-use Rattle.check_expressions.specs.Calls.{altstep_meant}
+use Rattle.check_rules.specs.Calls.{altstep_meant}
 use Rattle.check_scope.specs.Names.{constant_entries, entries_at, entries_from, module_names, resolved, type_meant}
-use Rattle.ttcn_types.specs.Parts.{all_of, braced, field_part, alternative_parts, altstep_part, altstep_parts, altsteps, branch_parts, part_of_field, record_parts, records}
-use Rattle.ttcn_types.proofs.Meanings.{EachMeans, IfMeans, means-append, means-listed}
+use Rattle.check_rules.specs.Parts.{all_of, braced, field_part, alternative_parts, altstep_part, altstep_parts, altsteps, branch_parts, part_of_field, record_parts, records}
+use Rattle.check_rules.proofs.Meanings.{EachMeans, IfMeans, means-append, means-listed}
 use Rattle.check_scope.specs.declared.names.Meaning.{Meaning}
 use Rattle.check_scope.specs.declared.names.Meaning.TheVariants as meaning
 

@@ -6,11 +6,11 @@ use Rattle.std.specs.List.{Contains}
 use Rattle.ttcn_syntax.specs.declared.tree.definition.Definition.{Definition}
 use Rattle.check_scope.specs.internal.Checking.{both, least, lesser_of}
 use Rattle.check_scope.specs.Scopes.{check_module_names, module_scope}
-use Rattle.check_statements.specs.Definitions.{check_definitions}
+use Rattle.check_rules.specs.Definitions.{check_definitions}
 use Rattle.check_scope.specs.Names.{Scope}
 use Rattle.check_scope.specs.Numbers.{lesser, number_of}
-use Rattle.ttcn_types.specs.Rules.{Breaks}
-use Rattle.ttcn_types.specs.Rules.Breaks.{site, in_itself, circle, altstep_circle, record_size, size, altstep_size}
+use Rattle.check_rules.specs.Rules.{Breaks}
+use Rattle.check_rules.specs.Rules.Breaks.{site, in_itself, circle, altstep_circle, record_size, size, altstep_size}
 use Rattle.ttcn_types.specs.internal.Surveys.{BreaksBySurvey, BreaksInAltsteps, BreaksInRecords, BreaksWritten, IsLeastWhere}
 use Rattle.ttcn_types.specs.internal.Surveys.BreaksAmong.{in_circle, too_large}
 use Rattle.check_scope.specs.declared.broken.Broken.{Broken}

@@ -1,13 +1,10 @@
 pub mod Beside
-pub mod ByBytes
 pub mod Complete
 pub mod LeastWhere
 pub mod Listing
-pub mod Meanings
 pub mod Numbered
 pub mod Sums
 pub mod Surrounded
 pub mod SurveyLemmas
 pub mod Tallies
-pub mod TestCaseLemmas
 pub mod WrittenOut

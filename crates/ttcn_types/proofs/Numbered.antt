@@ -7,11 +7,11 @@ use Rattle.ttcn_syntax.specs.declared.tree.definition.DefinitionKind.TheVariants
 use Rattle.ttcn_syntax.specs.declared.tree.definition.Enumerator.{Enumerator}
 use Rattle.ttcn_syntax.specs.declared.tree.definition.Parameter.{Parameter}
 use Rattle.ttcn_syntax.specs.declared.tree.statement.Constant.{Constant}
-use Rattle.ttcn_types.proofs.Meanings.{EachMeans, IfMeans, means-append, means-listed, means-or}
+use Rattle.check_rules.proofs.Meanings.{EachMeans, IfMeans, means-append, means-listed, means-or}
 use Rattle.check_scope.specs.Scopes.{module_scope}
-use Rattle.check_statements.specs.Definitions.{parameter_entry, with_parameters}
+use Rattle.check_rules.specs.Definitions.{parameter_entry, with_parameters}
 use Rattle.check_scope.specs.Names.{Entry, Scope, constant_entries, declaring, entries_at, entries_from, listed, module_names}
-use Rattle.ttcn_types.specs.Parts.{how_many, how_many_in, number_at}
+use Rattle.check_rules.specs.Parts.{how_many, how_many_in, number_at}
 use Rattle.check_scope.specs.declared.names.Meaning.{Meaning}
 use Rattle.check_scope.specs.declared.names.Meaning.TheVariants as meaning
 

@@ -2,7 +2,7 @@
 use Rattle.std.proofs.Common.{◌≡◌, ◌≤◌, ℕ, zero, suc, ◌+◌, ◌<◌, List, [], ◌∷◌, ◌++◌, length, get_or, take, drop, refl, sym, ap, ◌∙◌, add-zero, zero-add, add_assoc, append_assoc}
 use Rattle.std.proofs.lemmas.List.{append-nil, drop_all}
 use Rattle.ttcn_syntax.specs.declared.tree.definition.Definition.{Definition}
-use Rattle.ttcn_types.specs.Parts.{how_many, how_many_in, number_at}
+use Rattle.check_rules.specs.Parts.{how_many, how_many_in, number_at}
 use Rattle.check_scope.proofs.Lookups.{drop-next}
 
 -- at each definition a number and how many come before it

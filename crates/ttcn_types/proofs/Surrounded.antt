@@ -4,7 +4,7 @@ use Rattle.std.specs.Option.{option_or}
 use Rattle.check_scope.specs.declared.names.Meaning.{Meaning}
 use Rattle.check_scope.specs.declared.names.Meaning.TheVariants as meaning
 use Rattle.check_scope.specs.declared.types.DataType.{DataType}
-use Rattle.ttcn_types.proofs.Meanings.{IfMeans}
+use Rattle.check_rules.proofs.Meanings.{IfMeans}
 use Rattle.ttcn_types.proofs.Numbered.{HasNumber, names-numbered}
 use Rattle.ttcn_types.specs.internal.Numbering.{IsNumbered, NoConstants}
 use Rattle.ttcn_syntax.specs.declared.tree.definition.Definition.{Definition}

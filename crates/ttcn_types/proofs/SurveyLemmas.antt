@@ -8,8 +8,8 @@ use Rattle.check_survey.specs.declared.findings.Findings.TheVariants.{Circle, Si
 use Rattle.check_survey.specs.declared.thing.Thing.{Thing}
 use Rattle.check_survey.proofs.Chains.{chain_head, weigh_within}
 use Rattle.check_scope.specs.Numbers.{number_of}
-use Rattle.ttcn_types.specs.Limits.{longest_chain}
-use Rattle.ttcn_types.specs.Rules.{AreTooLarge}
+use Rattle.check_rules.specs.Limits.{longest_chain}
+use Rattle.check_rules.specs.Rules.{AreTooLarge}
 use Rattle.ttcn_types.specs.internal.Surveys.{BreaksAmong, IsLeastWhere}
 use Rattle.ttcn_types.specs.internal.Surveys.BreaksAmong.{in_circle, too_large}
 use Rattle.check_scope.specs.declared.rule.Rule.{Rule}

@@ -10,7 +10,7 @@ use Rattle.check_survey.specs.Things.{largest, tally}
 use Rattle.check_survey.specs.declared.thing.Thing.{Thing}
 use Rattle.ttcn_types.proofs.Complete.{Below}
 use Rattle.ttcn_types.proofs.LeastWhere.{where_same}
-use Rattle.ttcn_types.specs.Limits.{longest_chain}
+use Rattle.check_rules.specs.Limits.{longest_chain}
 use Rattle.ttcn_types.specs.internal.Surveys.{BreaksAmong, IsLeastWhere}
 use Rattle.ttcn_types.specs.internal.Surveys.BreaksAmong.{in_circle, too_large}
 

@@ -28,13 +28,13 @@ use Rattle.ttcn_syntax.specs.declared.tree.value.Value.{Value}
 use Rattle.ttcn_syntax.specs.declared.tree.value.Value.TheFolds.{fold-roll-FieldValue, fold-roll-Value, ind-Value, map-FieldValue, map-Value}
 use Rattle.ttcn_syntax.specs.declared.tree.value.Value.TheOpen.{FieldValue-F, Value-F}
 use Rattle.ttcn_types.proofs.Complete.{Below, all-below, braced-below, nothing-below, one-below}
-use Rattle.ttcn_types.proofs.Meanings.{IfMeans}
+use Rattle.check_rules.proofs.Meanings.{IfMeans}
 use Rattle.ttcn_types.proofs.Numbered.{AreNumbered, HasNumber, module-numbered, parameters-numbered}
 use Rattle.check_scope.specs.Scopes.{module_scope}
-use Rattle.check_statements.specs.Definitions.{with_parameters}
+use Rattle.check_rules.specs.Definitions.{with_parameters}
 use Rattle.check_scope.specs.Names.{Scope}
-use Rattle.ttcn_types.specs.Parts.{all_of, body_parts_step, call_parts, constant_parts, expression_parts, expression_parts_step, field_template_parts, field_template_parts_step, field_value_parts, field_value_parts_step, how_many, how_many_in, link_parts, link_parts_step, number_at, of_bound, of_component, of_meaning, of_name, of_template, parts, template_parts, template_parts_step, value_parts, value_parts_step, things_at, things_from, constants_and_templates}
-use Rattle.check_expressions.specs.Templates.{bare_name, template_by_name, template_meant}
+use Rattle.check_rules.specs.Parts.{all_of, body_parts_step, call_parts, constant_parts, expression_parts, expression_parts_step, field_template_parts, field_template_parts_step, field_value_parts, field_value_parts_step, how_many, how_many_in, link_parts, link_parts_step, number_at, of_bound, of_component, of_meaning, of_name, of_template, parts, template_parts, template_parts_step, value_parts, value_parts_step, things_at, things_from, constants_and_templates}
+use Rattle.check_rules.specs.Templates.{bare_name, template_by_name, template_meant}
 use Rattle.check_scope.specs.declared.names.Meaning.{Meaning}
 use Rattle.check_scope.specs.declared.names.Meaning.TheVariants as meaning
 

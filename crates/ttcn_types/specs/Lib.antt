@@ -1,5 +1,2 @@
-pub mod Limits
-pub mod Parts
-pub mod Programs
-pub mod Rules
+pub mod Refusals
 pub mod internal

@@ -3,12 +3,13 @@ ghost use Rattle.std.specs.Prelude.{◌≡◌, ◌<◌, ◌≤◌, length, IfErr
 ghost use Rattle.check_survey.specs.Graphs.{AreComplete};
 ghost use Rattle.check_scope.specs.internal.Checking.{least_in};
 ghost use Rattle.check_scope.specs.Numbers.{number_of};
-ghost use Rattle.ttcn_types.specs.Rules.{AreWellTyped, Breaks, IsRefusal};
+ghost use Rattle.check_rules.specs.Rules.{AreWellTyped, Breaks};
+ghost use Rattle.ttcn_types.specs.Refusals.{IsRefusal};
 ghost use Rattle.ttcn_types.specs.internal.Surveys.{BreaksAmong, BreaksBySurvey, BreaksInAltsteps, BreaksInRecords, BreaksWritten, IsLeastWhere, rule_of};
 
 use crate::error::CheckError;
 use crate::parts::{altsteps, constants_and_templates, records};
-use crate::program::Program;
+use check_rules::Program;
 use check_scope::least::Least;
 use check_scope::rule::Rule;
 use check_scope::scope::Scope;

@@ -1,7 +1,7 @@
 //! What records, constants, templates and altsteps refer to, and of how many parts they are.
 ghost use Rattle.std.specs.Prelude.{◌≡◌, IfOk, OnOk, map};
 ghost use Rattle.check_survey.specs.Things.{add, tally};
-ghost use Rattle.ttcn_types.specs.Parts as spec;
+ghost use Rattle.check_rules.specs.Parts as spec;
 
 mod numbers;
 mod surroundings;

@@ -8,11 +8,11 @@ use Rattle.std.proofs.lemmas.Slice.Zip.{get_or-zip, length-zip}
 use Rattle.std.specs.List.{zip}
 use Rattle.std.proofs.Math.Seq.{drop-append_seam, take-append_seam}
 use mathlib.Core.Path.{fun_ext}
-use Rattle.ttcn_values.specs.Outcomes.{Fails, Outcome, Yields, each, outcome_and_then, outcome_map, unmet, value_in}
+use Rattle.value_types.specs.Outcomes.{Fails, Outcome, Yields, each, outcome_and_then, outcome_map, unmet, value_in}
 use Rattle.ttcn_values.specs.internal.Building.{Build, after_step, after_steps, alone, last_as, one_after, with_more}
-use Rattle.ttcn_values.specs.Readings.{Reading}
+use Rattle.value_types.specs.Readings.{Reading}
 use Rattle.ttcn_values.specs.declared.reader.Step.{Step}
-use Rattle.ttcn_values.specs.declared.template.Template.{Template}
+use Rattle.value_types.specs.declared.template.Template.{Template}
 
 take-one : {A : Type 0} (l : List A) (i : ℕ) (d : A) → i < length l → take (i + 1) l ≡ take i l ++ get_or l i d ∷ []
 take-one l i d within = (take_at_read l i d within).1

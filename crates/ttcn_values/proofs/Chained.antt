@@ -7,11 +7,11 @@ use Rattle.ttcn_syntax.specs.declared.tree.expression.Expr.{Expr}
 use Rattle.ttcn_syntax.specs.declared.tree.expression.Expr.TheFolds.{fold-roll-Expr}
 use Rattle.ttcn_syntax.specs.declared.tree.expression.Expr.TheOpen.{Expr-F}
 use Rattle.ttcn_syntax.specs.declared.tree.expression.Expr.TheVariants as expr
-use Rattle.ttcn_values.proofs.Lists.{drop-next}
-use Rattle.ttcn_values.specs.Evaluation.{Evaluation, after, expression_step, joined, link, link_step, value_of}
-use Rattle.ttcn_values.specs.Outcomes.{Failure, Fails, Outcome, Yields}
-use Rattle.ttcn_values.specs.Readings.{Reading}
-use Rattle.ttcn_values.specs.declared.value.Value.{Value}
+use Rattle.value_types.proofs.Lists.{drop-next}
+use Rattle.value_types.specs.Evaluation.{Evaluation, after, expression_step, joined, link, link_step, value_of}
+use Rattle.value_types.specs.Outcomes.{Failure, Fails, Outcome, Yields}
+use Rattle.value_types.specs.Readings.{Reading}
+use Rattle.value_types.specs.declared.value.Value.{Value}
 
 module _ (reading : Reading) where
   pub after-failure : (why : Failure) (links : List (Operator × Evaluation)) → after reading (Fails why) links ≡ Fails why

@@ -2,8 +2,8 @@
 use Rattle.std.proofs.Common.{◌≡◌, ◌≤◌, ℕ, ◌+◌, ◌<◌, List, [], ◌∷◌, ◌++◌, map, length, get_or, drop, if◌then◌else◌, nat_eq, eq-eqb, map-id, arith, refl, sym, ap, ◌∙◌}
 use Rattle.std.proofs.lemmas.List.{append-nil, append_assoc, drop_all}
 use Rattle.std.specs.List.{zip}
-use Rattle.ttcn_values.proofs.Lists.{drop-next}
-use Rattle.ttcn_values.specs.Outcomes.{Failure, Fails, Outcome, Yields, each, outcome_map, unmet}
+use Rattle.value_types.proofs.Lists.{drop-next}
+use Rattle.value_types.specs.Outcomes.{Failure, Fails, Outcome, Yields, each, outcome_map, unmet}
 
 -- what is given already, and what is to come
 abbrev pub behind : {A : Type 0} → List A → List (Outcome A) → Outcome (List A)

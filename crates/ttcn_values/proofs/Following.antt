@@ -2,13 +2,13 @@
 use Rattle.std.proofs.Common.{◌≡◌, ◌≤◌, ℕ, ◌+◌, ◌<◌, List, [], ◌∷◌, length, get_or, drop, Option, Some, None, refl, sym, ap, ◌∙◌}
 use Rattle.std.proofs.lemmas.List.{drop_all}
 use Rattle.ttcn_syntax.specs.declared.tree.definition.Definition.{Definition}
-use Rattle.ttcn_values.proofs.Lists.{drop-next}
-use Rattle.ttcn_values.proofs.Outcomes.{yields_from}
-use Rattle.ttcn_values.specs.Outcomes.{Failure, Fails, Outcome, Yields, outcome_and_then, value_in}
-use Rattle.ttcn_values.specs.Readings.{along, field, last_presence}
-use Rattle.ttcn_values.specs.Values.{record_in, record_of}
-use Rattle.ttcn_values.specs.declared.value.Value.{Value}
-use Rattle.ttcn_values.specs.declared.value.Value.TheVariants as value
+use Rattle.value_types.proofs.Lists.{drop-next}
+use Rattle.value_types.proofs.Outcomes.{yields_from}
+use Rattle.value_types.specs.Outcomes.{Failure, Fails, Outcome, Yields, outcome_and_then, value_in}
+use Rattle.value_types.specs.Readings.{along, field, last_presence}
+use Rattle.value_types.specs.Values.{record_in, record_of}
+use Rattle.value_types.specs.declared.value.Value.{Value}
+use Rattle.value_types.specs.declared.value.Value.TheVariants as value
 
 -- what a record is
 pub record_of_record : (at : ℕ) (fields : List (Option Value)) → record_of (value.Record at fields) ≡ Some (at, fields)

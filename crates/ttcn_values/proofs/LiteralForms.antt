@@ -13,12 +13,12 @@ use Rattle.ttcn_syntax.specs.declared.tree.value.Value.TheOpen.{Value-F}
 use Rattle.ttcn_syntax.specs.declared.tree.value.Value.TheVariants as form
 use Rattle.check_scope.specs.Names.{fields_at}
 use Rattle.check_scope.specs.declared.types.DataType.{DataType}
-use Rattle.ttcn_values.specs.Evaluation.{value_of}
-use Rattle.ttcn_values.specs.Literals.{Wanted, by_name, element, element_named, field_value, field_value_step, given_by_name, in_order, record_at, type_of_field, value_step, value_wanted, wanted_record}
-use Rattle.ttcn_values.specs.Outcomes.{Failure, Fails, Outcome, Yields, each, outcome_map, unmet}
-use Rattle.ttcn_values.specs.Readings.{Reading}
-use Rattle.ttcn_values.specs.declared.value.Value as values
-use Rattle.ttcn_values.specs.declared.value.Value.TheVariants as value
+use Rattle.value_types.specs.Evaluation.{value_of}
+use Rattle.value_types.specs.Literals.{Wanted, by_name, element, element_named, field_value, field_value_step, given_by_name, in_order, record_at, type_of_field, value_step, value_wanted, wanted_record}
+use Rattle.value_types.specs.Outcomes.{Failure, Fails, Outcome, Yields, each, outcome_map, unmet}
+use Rattle.value_types.specs.Readings.{Reading}
+use Rattle.value_types.specs.declared.value.Value as values
+use Rattle.value_types.specs.declared.value.Value.TheVariants as value
 
 module _ (reading : Reading) (wanted : Option DataType) where
   pub wanted_expr : (e : Expr) → value_wanted (form.Expr e) reading wanted ≡ value_of e reading

@@ -2,13 +2,13 @@
 use Rattle.std.proofs.Common.{◌≡◌, ◌≢◌, false, not, ◌&&◌, ◌||◌, List, [], ◌∷◌, map, length, suc, Option, refl, sym, ap, ◌∙◌}
 use Rattle.std.proofs.lemmas.Bool.{and_right}
 use Rattle.std.specs.List.{list_any}
-use Rattle.ttcn_values.specs.Matching.{Matcher, is_match, is_match_of_pattern, match_fields, matches_field, pattern_step, template_step}
-use Rattle.ttcn_values.specs.Values.{is_omit}
-use Rattle.ttcn_values.specs.declared.template.Pattern.TheFolds.{fold-roll-Pattern}
-use Rattle.ttcn_values.specs.declared.template.Pattern.TheOpen.{Pattern-F}
-use Rattle.ttcn_values.specs.declared.template.Pattern.TheVariants as form
-use Rattle.ttcn_values.specs.declared.template.Template.{Template}
-use Rattle.ttcn_values.specs.declared.value.Value.{Value}
+use Rattle.value_types.specs.Matching.{Matcher, is_match, is_match_of_pattern, match_fields, matches_field, pattern_step, template_step}
+use Rattle.value_types.specs.Values.{is_omit}
+use Rattle.value_types.specs.declared.template.Pattern.TheFolds.{fold-roll-Pattern}
+use Rattle.value_types.specs.declared.template.Pattern.TheOpen.{Pattern-F}
+use Rattle.value_types.specs.declared.template.Pattern.TheVariants as form
+use Rattle.value_types.specs.declared.template.Template.{Template}
+use Rattle.value_types.specs.declared.value.Value.{Value}
 
 -- ---- fields of another number
 

@@ -8,17 +8,17 @@ use Rattle.std.specs.Result.{IsErrAnd}
 use Rattle.ttcn_syntax.specs.declared.tree.definition.Field.{Field}
 use Rattle.ttcn_values.proofs.BuildingLemmas.{AreSoMany, each-many, last_behind, mapped_at, one_after_assoc, steps-more}
 use Rattle.ttcn_values.specs.internal.Building.{Build, Builds, Plans, after_step, after_steps, alone, last_as, one_after, with_more}
-use Rattle.ttcn_values.specs.Outcomes.{Fails, Gives, GivesBy, Outcome, Yields, each, outcome_and_then, outcome_map, unmet, value_in}
-use Rattle.ttcn_values.specs.Readings.{Reading}
-use Rattle.ttcn_values.specs.Templates.{Wanted, element, in_order, plain, record_at, with_ifpresent}
-use Rattle.ttcn_values.specs.declared.fault.Fault.{Fault}
-use Rattle.ttcn_values.specs.declared.fault.Fault.TheVariants.{Dynamic, Memory}
+use Rattle.value_types.specs.Outcomes.{Fails, Gives, GivesBy, Outcome, Yields, each, outcome_and_then, outcome_map, unmet, value_in}
+use Rattle.value_types.specs.Readings.{Reading}
+use Rattle.value_types.specs.Templates.{Wanted, element, in_order, plain, record_at, with_ifpresent}
+use Rattle.value_types.specs.declared.fault.Fault.{Fault}
+use Rattle.value_types.specs.declared.fault.Fault.TheVariants.{Dynamic, Memory}
 use Rattle.ttcn_values.specs.declared.reader.Step.{Step}
 use Rattle.ttcn_values.specs.declared.reader.Step.TheVariants as step
-use Rattle.ttcn_values.specs.declared.template.Pattern.{Pattern}
-use Rattle.ttcn_values.specs.declared.template.Pattern.TheVariants as pattern
-use Rattle.ttcn_values.specs.declared.template.Template.{Template}
-use Rattle.ttcn_values.specs.declared.value.Value.{Value}
+use Rattle.value_types.specs.declared.template.Pattern.{Pattern}
+use Rattle.value_types.specs.declared.template.Pattern.TheVariants as pattern
+use Rattle.value_types.specs.declared.template.Template.{Template}
+use Rattle.value_types.specs.declared.value.Value.{Value}
 
 -- ---- faults
 

@@ -6,17 +6,17 @@ use Rattle.ttcn_syntax.specs.declared.tree.definition.Parameter.{Parameter}
 use Rattle.ttcn_syntax.specs.declared.tree.definition.TemplateDefinition.{TemplateDefinition}
 use Rattle.ttcn_syntax.specs.declared.tree.template.Template as body
 use Rattle.ttcn_syntax.specs.declared.tree.value.Value as written
-use Rattle.check_expressions.specs.Calls.{parameters_of}
+use Rattle.check_rules.specs.Calls.{parameters_of}
 use Rattle.check_scope.specs.Names.{kind_at, module_names, resolved, template_at, template_of}
 use Rattle.check_scope.specs.declared.types.DataType.{DataType}
-use Rattle.ttcn_values.specs.Chains.{given_to, template_value, with_names, within_chains}
-use Rattle.ttcn_values.specs.Frames.{facts}
+use Rattle.value_types.specs.Chains.{given_to, template_value, with_names, within_chains}
+use Rattle.value_types.specs.Frames.{facts}
 use Rattle.ttcn_values.specs.internal.Readers.{read_by, seen_by}
-use Rattle.ttcn_values.specs.Outcomes.{Outcome, outcome_and_then}
-use Rattle.ttcn_values.specs.Templates.{arguments, template_called, template_wanted}
+use Rattle.value_types.specs.Outcomes.{Outcome, outcome_and_then}
+use Rattle.value_types.specs.Templates.{arguments, template_called, template_wanted}
 use Rattle.ttcn_values.specs.declared.reader.Reader.{Reader}
-use Rattle.ttcn_values.specs.declared.template.Template.{Template}
-use Rattle.ttcn_values.specs.declared.value.Value.{Value}
+use Rattle.value_types.specs.declared.template.Template.{Template}
+use Rattle.value_types.specs.declared.value.Value.{Value}
 
 parameters_in : (k : Option DefinitionKind) (t : TemplateDefinition) → template_of k ≡ Some t → parameters_of k ≡ t.parameters
 parameters_in (Some (kind.Template s)) t is = let same : s ≡ t = cc is in ap (λ (d : TemplateDefinition). d.parameters) same

@@ -13,14 +13,14 @@ use Rattle.ttcn_syntax.specs.declared.tree.template.TemplateBody.TheVariants as 
 use Rattle.check_scope.specs.Names.{module_names, resolved}
 use Rattle.check_scope.specs.declared.types.DataType.{DataType}
 use Rattle.ttcn_values.proofs.Each.{if_as_long}
-use Rattle.ttcn_values.proofs.Lists.{find_among}
+use Rattle.value_types.proofs.Lists.{find_among}
 use Rattle.ttcn_values.specs.internal.Readers.{read_by}
-use Rattle.ttcn_values.specs.Outcomes.{Outcome, Yields, each, outcome_map, unmet}
-use Rattle.ttcn_values.specs.Readings.{Reading}
-use Rattle.ttcn_values.specs.Templates.{Wanted, body_step, body_wanted, element, element_named, field_template, field_template_step, in_order, parts_of, plain, template_step, template_wanted, with_ifpresent}
+use Rattle.value_types.specs.Outcomes.{Outcome, Yields, each, outcome_map, unmet}
+use Rattle.value_types.specs.Readings.{Reading}
+use Rattle.value_types.specs.Templates.{Wanted, body_step, body_wanted, element, element_named, field_template, field_template_step, in_order, parts_of, plain, template_step, template_wanted, with_ifpresent}
 use Rattle.ttcn_values.specs.declared.reader.Reader.{Reader}
-use Rattle.ttcn_values.specs.declared.template.Pattern.TheVariants as pattern
-use Rattle.ttcn_values.specs.declared.template.Template.{Template as Found}
+use Rattle.value_types.specs.declared.template.Pattern.TheVariants as pattern
+use Rattle.value_types.specs.declared.template.Template.{Template as Found}
 
 abbrev Part : Type 0
 Part = List ℕ × Wanted

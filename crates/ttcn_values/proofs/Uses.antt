@@ -2,13 +2,13 @@
 use Rattle.std.proofs.Common.{◌≡◌, ℕ, List, [], ◌∷◌, Result, Ok, Err, refl, sym, ap, subst, ◌∙◌}
 use Rattle.ttcn_syntax.specs.declared.tree.definition.Definition.{Definition}
 use Rattle.ttcn_values.specs.internal.Readers.{taken_for}
-use Rattle.ttcn_values.specs.Outcomes.{Failure, Fails, Gives, Outcome, Yields, value_in}
-use Rattle.ttcn_values.specs.Readings.{along}
-use Rattle.ttcn_values.specs.declared.fault.Fault.{Fault}
-use Rattle.ttcn_values.specs.declared.fault.Fault.TheVariants.{Dynamic, Memory}
+use Rattle.value_types.specs.Outcomes.{Failure, Fails, Gives, Outcome, Yields, value_in}
+use Rattle.value_types.specs.Readings.{along}
+use Rattle.value_types.specs.declared.fault.Fault.{Fault}
+use Rattle.value_types.specs.declared.fault.Fault.TheVariants.{Dynamic, Memory}
 use Rattle.ttcn_values.specs.declared.reader.Use.{Use}
 use Rattle.ttcn_values.specs.declared.reader.Use.TheVariants as use_form
-use Rattle.ttcn_values.specs.declared.value.Value.{Value}
+use Rattle.value_types.specs.declared.value.Value.{Value}
 
 along-failure : (definitions : List Definition) (fields : List (List ℕ)) (why : Failure) → along definitions fields (Fails why) ≡ Fails why
 along-failure definitions [] why = refl

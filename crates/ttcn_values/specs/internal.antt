@@ -1,3 +1,2 @@
 pub mod Building
 pub mod Readers
-pub mod Slots

@@ -1,21 +1,21 @@
 //! What expressions, values and templates of the text give (ES 201 873-1, sections 7 and 15).
 ghost use Rattle.std.specs.Prelude.{◌≡◌};
-ghost use Rattle.ttcn_values.specs.Evaluation.{condition_of, value_of};
-ghost use Rattle.ttcn_values.specs.Frames.{reading};
+ghost use Rattle.value_types.specs.Evaluation.{condition_of, value_of};
+ghost use Rattle.value_types.specs.Frames.{reading};
 ghost use Rattle.ttcn_values.specs.internal.Readers.{KnowsConstants, read_by};
-ghost use Rattle.ttcn_values.specs.Literals.{value_wanted};
-ghost use Rattle.ttcn_values.specs.Outcomes.{Gives};
-ghost use Rattle.ttcn_values.specs.Readings.{component_at, component_referred, referred, timer_at};
-ghost use Rattle.ttcn_values.specs.Templates.{arguments, template_wanted};
+ghost use Rattle.value_types.specs.Literals.{value_wanted};
+ghost use Rattle.value_types.specs.Outcomes.{Gives};
+ghost use Rattle.value_types.specs.Readings.{component_at, component_referred, referred, timer_at};
+ghost use Rattle.value_types.specs.Templates.{arguments, template_wanted};
 
 use crate::reader::{Reader, Use, Visible};
 use crate::{ComponentId, Fault, Frame, Template, Value};
+use check_rules::DataType;
 use std::alloc::Global;
 use ttcn_syntax::{
     ComponentRef, Expr, Parameter, Reference, Seq, Template as WrittenTemplate,
     Value as WrittenValue,
 };
-use ttcn_types::DataType;
 
 /// Constants and templates of a program refer to each other in chains of at most so many.
 const LONGEST_CHAIN: usize = 200;
@@ -43,7 +43,7 @@ pub fn eval(alloc: Global, expr: &Expr, frame: &Frame<'_>) -> Result<Value, Faul
 }
 
 /// Whether a condition is true, or its dynamic error.
-#[tactic(auto, using(crate::proofs::Outcomes::outcome_forms))]
+#[tactic(auto, using(value_types::proofs::Outcomes::outcome_forms))]
 pub fn eval_condition(alloc: Global, condition: &Expr, frame: &Frame<'_>) -> Result<bool, Fault>
     ensures { Gives (condition_of condition.now (reading frame.now)) result }
 {
@@ -76,7 +76,7 @@ pub fn eval_component_reference(
 }
 
 /// The component that a reference refers to, or its dynamic error: `null` refers to none.
-#[tactic(auto, using(crate::proofs::Outcomes::outcome_forms))]
+#[tactic(auto, using(value_types::proofs::Outcomes::outcome_forms))]
 pub fn eval_component(
     alloc: Global,
     component: &ComponentRef,

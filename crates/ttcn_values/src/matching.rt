@@ -1,8 +1,8 @@
 //! When a template matches a value (ES 201 873-1, section 15 and annex B).
 ghost use Rattle.std.specs.Prelude.{◌≡◌, map};
 ghost use Rattle.std.specs.List.{list_any};
-ghost use Rattle.ttcn_values.specs.Matching.{in_range, is_match, is_match_of_pattern, match_fields};
-ghost use Rattle.ttcn_values.specs.Values.{integer};
+ghost use Rattle.value_types.specs.Matching.{in_range, is_match, is_match_of_pattern, match_fields};
+ghost use Rattle.value_types.specs.Values.{integer};
 
 use crate::{Pattern, Template, Value};
 

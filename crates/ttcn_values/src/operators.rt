@@ -1,8 +1,8 @@
 //! What the operators give (ES 201 873-1, section 7.1).
 ghost use Rattle.std.specs.Prelude.{◌≡◌, pos};
 ghost use Rattle.value_arithmetic.specs.Integers.{within};
-ghost use Rattle.ttcn_values.specs.Operations.{applied, compared, decides, fitting, logical, negated, ordered, under_sign};
-ghost use Rattle.ttcn_values.specs.Outcomes.{Answers, Gives};
+ghost use Rattle.value_types.specs.Operations.{applied, compared, decides, fitting, logical, negated, ordered, under_sign};
+ghost use Rattle.value_types.specs.Outcomes.{Answers, Gives};
 
 use crate::{Fault, Value};
 use ttcn_syntax::{Operator, Sign};

@@ -15,7 +15,8 @@ use Rattle.ttcn_parse.specs.Refused.{IsRead, IsRefused}
 use Rattle.ttcn_parse.specs.ParseError.{ParseError}
 use Rattle.ttcn_parse.specs.ParseError.TheVariants as reading
 use Rattle.check_scope.specs.Numbers.{number_of}
-use Rattle.ttcn_types.specs.Rules.{AreWellTyped, IsLeast, IsRefusal}
+use Rattle.check_rules.specs.Rules.{AreWellTyped, IsLeast}
+use Rattle.ttcn_types.specs.Refusals.{IsRefusal}
 use Rattle.ttcn_types.specs.declared.error.CheckError.{CheckError}
 use Rattle.ttcn_types.specs.declared.error.CheckError.TheVariants as typing
 use Rattle.check_scope.specs.declared.rule.Rule.{Rule}

@@ -7,7 +7,6 @@ use Rattle.config_parts.specs.declared.config.Config.{Config}
 use Rattle.report.specs.Runs.{ReadsRun, TellsError, lines_of}
 use Rattle.report.specs.declared.run.RunError.{RunError}
 use Rattle.report.specs.declared.run.RunError.TheVariants as listing
-use Rattle.step_labels.specs.Labels.{label_by}
 use Rattle.step_labels.specs.declared.label.Label.{Label}
 use Rattle.semantics.specs.Runs.{replay}
 use Rattle.semantics.specs.Snapshots.{Test}
@@ -34,11 +33,11 @@ listing_answers text name run test (listing.BadLabel line) is bad = inr (named i
 listing_answers text name run test listing.Memory is bad = inl refl
 
 pub replay_answers : (text name run : List ℕ) (machine : Machine) (labels : List Label) (e : ReplayError) → IsTestOf text name machine.test → ReadsRun (lines_of run) labels
-    → Ends machine (replay machine.test (map label_by labels)) (Err e) → Answers text name run (replay_fault e)
+    → Ends machine (replay machine.test labels) (Err e) → Answers text name run (replay_fault e)
 replay_answers text name run machine labels (replaying.NotEnabled number) is reads ends = inr (named is (not_enabled labels reads ends))
 replay_answers text name run machine labels replaying.Memory is reads ends = inl refl
 
 pub end_answers : (text name run : List ℕ) (machine : Machine) (labels : List Label) (config : Config) (bytes : Vec ℕ Global) → IsTestOf text name machine.test
-    → ReadsRun (lines_of run) labels → Ends machine (replay machine.test (map label_by labels)) (Ok config) → bytes.items ≡ replayed_text machine.test labels (said machine config)
+    → ReadsRun (lines_of run) labels → Ends machine (replay machine.test labels) (Ok config) → bytes.items ≡ replayed_text machine.test labels (said machine config)
     → (◌≡◌ {A = Answer} (Ok bytes) (Err fault.Memory)) ⊎ IsReplay text name run (Ok bytes)
 end_answers text name run machine labels config bytes is reads ends told = inr (named is (replayed labels (said machine config) reads ends told))

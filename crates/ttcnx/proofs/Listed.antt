@@ -15,8 +15,8 @@ use Rattle.semantics.specs.Snapshots.{Test}
 use Rattle.ttcn_syntax.specs.declared.tree.definition.Module.{Module}
 use Rattle.ttcn_syntax.specs.declared.tree.statement.Verdict.{Verdict}
 use Rattle.ttcn_syntax.specs.declared.tree.statement.Verdict.TheVariants as verdict
-use Rattle.ttcn_types.specs.Programs.{test_case_named}
-use Rattle.ttcn_types.specs.Rules.{AreWellTyped}
+use Rattle.check_rules.specs.Programs.{test_case_named}
+use Rattle.check_rules.specs.Rules.{AreWellTyped}
 use Rattle.ttcnx.specs.Named.{IsTestOf}
 use Rattle.ttcnx.specs.Tells.{Lists, TellsOfRuns, all_verdicts, labels_in, outcome_of, outcomes_of}
 

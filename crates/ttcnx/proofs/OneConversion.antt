@@ -6,12 +6,10 @@ use Rattle.laws_fine.specs.Fates.{coarse}
 use Rattle.laws_fine.specs.Fine.{Fine, fine_replay}
 use Rattle.report.proofs.Lines.{fine_run_has_no_bad, fine_run_same, first_bad_fine_same, first_bad_same, run_has_no_bad, run_same}
 use Rattle.report.specs.Runs.{ReadsFineRun, lines_of}
-use Rattle.step_labels.specs.Labels.{label_by}
 use Rattle.step_labels.specs.declared.fine.FineLabel.{FineLabel}
 use Rattle.semantics.specs.Configurations.{Configuration}
 use Rattle.semantics.specs.Snapshots.{Test}
 use Rattle.ttcn_step.specs.FineAnswers.{HasEnded, LeadTo}
-use Rattle.ttcn_step.specs.FineLabels.{fine_label_by}
 use Rattle.ttcnx.proofs.OneAnswer.{not_both, one_reason, one_test}
 use Rattle.ttcnx.proofs.OneReplay.{err_is, one_end}
 use Rattle.ttcnx.specs.Converted.{HasOneConversion, IsCoarsened, IsConverted, IsDoubled, OfFineRun, OfPlainRun, bad_fine_label, bad_plain_label, coarsened, doubling, fine_lines, label_lines, not_ended, not_fine, stopped, with_test, without_test}
@@ -30,7 +28,7 @@ both-lead P Q (Err number) one other apart = one
 
 module _ (test : Test) (run : List ℕ) where
   abbrev Leads : List FineLabel → Result Fine ℕ
-  Leads labels = fine_replay test (map fine_label_by labels)
+  Leads labels = fine_replay test labels
 
   same-labels : (labels others : List FineLabel) → ReadsFineRun (lines_of run) labels → ReadsFineRun (lines_of run) others → Leads labels ≡ Leads others
   same-labels labels others reads also = ap Leads (fine_run_same (lines_of run) labels others reads also)
@@ -59,7 +57,7 @@ module _ (test : Test) (run : List ℕ) where
   one_of_fine a b (coarsened labels reads done told) (not_ended others also goes) =
       absurd (both-lead HasEnded (λ c. ¬ HasEnded c) (Leads others) (subst (LeadTo HasEnded) (same-labels labels others reads also) done) goes (λ c ended on. on ended))
   one_of_fine a b (coarsened labels reads done told) (coarsened others also too told_too) =
-      told ∙ ap (λ ls. label_lines (coarse test (map fine_label_by ls))) (fine_run_same (lines_of run) labels others reads also) ∙ sym told_too
+      told ∙ ap (λ ls. label_lines (coarse test ls)) (fine_run_same (lines_of run) labels others reads also) ∙ sym told_too
 
   one_of_plain : (a b : Answer) → OfPlainRun run test a → OfPlainRun run test b → SameReplay a b
   one_of_plain a b (bad_plain_label {number = m} bad) (bad_plain_label {number = n} also) = ap fault.BadLabel (first_bad_same (lines_of run) m n bad also)
@@ -74,7 +72,7 @@ module _ (test : Test) (run : List ℕ) where
   one_of_plain a b (doubling {c = c} labels reads ends told) (stopped {number = n} others also too) =
       let same = one_end test run labels others (Ok c) (Err n) reads also ends too in cc
   one_of_plain a b (doubling labels reads ends told) (doubling others also too told_too) =
-      told ∙ ap (λ ls. fine_lines (doubled test (map label_by ls))) (run_same (lines_of run) labels others reads also) ∙ sym told_too
+      told ∙ ap (λ ls. fine_lines (doubled test ls)) (run_same (lines_of run) labels others reads also) ∙ sym told_too
 
 -- ---- texts and names
 

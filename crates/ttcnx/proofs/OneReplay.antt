@@ -3,7 +3,6 @@ use Rattle.std.proofs.Common.{◌≡◌, ℕ, List, sym, ap, subst, ◌∙◌}
 use Rattle.std.specs.Prelude.{Result, Ok, Err, map}
 use Rattle.report.proofs.Lines.{first_bad_same, run_has_no_bad, run_same}
 use Rattle.report.specs.Runs.{ReadsRun, lines_of}
-use Rattle.step_labels.specs.Labels.{label_by}
 use Rattle.step_labels.specs.declared.label.Label.{Label}
 use Rattle.semantics.specs.Configurations.{Configuration}
 use Rattle.semantics.specs.Runs.{replay}
@@ -23,9 +22,9 @@ err_is {A = A} {E = E} {a = a} h =
 module _ (test : Test) (run : List ℕ) where
   -- labels that were read from one file lead to one end
   pub one_end : (labels others : List Label) (a b : Result Configuration ℕ) → ReadsRun (lines_of run) labels → ReadsRun (lines_of run) others
-      → replay test (map label_by labels) ≡ a → replay test (map label_by others) ≡ b → a ≡ b
+      → replay test labels ≡ a → replay test others ≡ b → a ≡ b
   one_end labels others a b reads also ends too =
-      sym ends ∙ ap (λ labels. replay test (map label_by labels)) (run_same (lines_of run) labels others reads also) ∙ too
+      sym ends ∙ ap (replay test) (run_same (lines_of run) labels others reads also) ∙ too
 
   one_of_run : (a b : Answer) → OfRun test run a → OfRun test run b → SameReplay a b
   one_of_run a b (bad_label {number = m} bad) (bad_label {number = n} also) = ap fault.BadLabel (first_bad_same (lines_of run) m n bad also)

@@ -25,24 +25,20 @@ use Rattle.report.specs.Json.{json_text, label_json, list_of, outcome_json, plac
 use Rattle.report.specs.Texts.{blocked_line, branch_line, header_text, line, outcome_text, report_text, step_line, word_of, yes_or_no}
 use Rattle.report.specs.declared.report.Outcome.{Outcome}
 use Rattle.report.specs.declared.report.Report.{Report}
-use Rattle.report.specs.declared.report.Standing.{Standing}
 use Rattle.serde_json.specs.Data.{Data, array, boolean, member, no_members, number, object, string, unsigned}
 use Rattle.serde_json.specs.View.{items_of}
 use Rattle.serde_json.specs.Written.{compact_text}
-use Rattle.step_labels.specs.Labels.{label_by, label_with}
-use Rattle.step_labels.specs.declared.label.Expiry.{Expiry}
+use Rattle.step_labels.specs.Labels.{label_total}
+use Rattle.step_labels.specs.Standings.{place_total, standing_total}
 use Rattle.step_labels.specs.declared.label.Label.{Label}
+use Rattle.step_labels.specs.declared.standing.Standing.{Standing}
 use Rattle.semantics.specs.Configurations.{badness}
 use Rattle.semantics.specs.Labels.{label_cmp}
 use Rattle.semantics.specs.Runs.{graph_of}
 use Rattle.semantics.specs.Snapshots.{Test}
-use Rattle.semantics.specs.Steps as rules
 use Rattle.ttcn_syntax.specs.declared.place.Span.{Span}
 use Rattle.ttcn_syntax.specs.declared.tree.statement.Verdict.{Verdict}
-use Rattle.ttcn_values.specs.declared.path.Path.{Path}
-use Rattle.ttcnx.specs.Tells.{Tells, all_verdicts, labels_in, outcome_of, standing_in}
-use Rattle.ttcnx_runs.specs.Labels.{label_total}
-use Rattle.ttcnx_runs.specs.Orders.{place_total, standing_total}
+use Rattle.ttcnx.specs.Tells.{Tells, all_verdicts, labels_in, outcome_of}
 
 -- ---- a mark has one best run
 
@@ -59,49 +55,13 @@ module _ {C L : Type 0} (g : Graph C L) (cmp : L → L → Ordering) (total : Is
   one_best : (n mark : ℕ) (r s : Run L) → IsBest g cmp n mark r → IsBest g cmp n mark s → r ≡ s
   one_best n mark r s a b = same_run r s (a.least s b.has) (b.least r a.has)
 
--- ---- labels and standings are known by what they stand for
-
-numbers_of : rules.Label → List ℕ
-numbers_of (rules.Statement path) = path.numbers
-numbers_of (rules.Expiry path frame timer) = path.numbers
-
-expiry_of : rules.Label → Option Expiry
-expiry_of (rules.Statement path) = None
-expiry_of (rules.Expiry path frame timer) = Some (record { frame = frame; timer = timer })
-
-label_of : rules.Label → Label
-label_of label = record { component = numbers_of label; expiry = expiry_of label }
-
-read_back : (numbers : List ℕ) (expiry : Option Expiry) → label_of (label_with numbers expiry) ≡ record { component = numbers; expiry = expiry }
-unfolding label_of numbers_of expiry_of
-read_back numbers None = refl
-read_back numbers (Some expiry) = refl
-
-labels_back : (labels : List Label) → map label_of (map label_by labels) ≡ labels
-labels_back [] = refl
-labels_back (label ∷ labels) = λ i. read_back label.component label.expiry i ∷ labels_back labels i
-
-labels_alike : (labels others : List Label) → map label_by labels ≡ map label_by others → labels ≡ others
-labels_alike labels others e = sym (labels_back labels) ∙ ap (map label_of) e ∙ labels_back others
-
-standing_of : Path × Span → Standing
-standing_of pair = record { component = pair.0; place = pair.1 }
-
-standings_back : (standings : List Standing) → map standing_of (map standing_in standings) ≡ standings
-unfolding standing_of
-standings_back [] = refl
-standings_back (standing ∷ standings) = λ i. standing ∷ standings_back standings i
-
-standings_alike : (standings others : List Standing) → map standing_in standings ≡ map standing_in others → standings ≡ others
-standings_alike standings others e = sym (standings_back standings) ∙ ap (map standing_of) e ∙ standings_back others
-
 -- ---- a set has one ascending list
 
 place_coded : Coded Span
 place_coded = code_by (ℕ × ℕ) (coded× coded_ℕ coded_ℕ) (λ p. (p.line, p.column)) (λ q. record { line = q.0; column = q.1 }) (λ p. refl)
 
-path_coded : Coded Path
-path_coded = code_by (List ℕ) (coded_list coded_ℕ) (λ p. p.numbers) (λ q. record { numbers = q }) (λ p. refl)
+standing_coded : Coded Standing
+standing_coded = code_by (List ℕ × Span) (coded× (coded_list coded_ℕ) place_coded) (λ s. (s.component.numbers, s.place)) (λ q. record { component = record { numbers = q.0 }; place = q.1 }) (λ s. refl)
 
 module _ {K : Type 0} (coded : Coded K) {cmp : K → K → Ordering} (total : IsTotalOrder cmp) where
   one_list : (keys others : List K) → from_list keys ≡ from_list others → Ascends cmp keys → Ascends cmp others → keys ≡ others
@@ -111,9 +71,9 @@ module _ (test : Test) (n : ℕ) where
   branches_alike : (places others : List Span) → AreBranches test n places → AreBranches test n others → places ≡ others
   branches_alike places others h k = one_list place_coded place_total places others (h.summed ∙ sym k.summed) h.ascend k.ascend
 
-  blocked_alike : (standings others : List (Path × Span)) → AreBlocked test n standings → AreBlocked test n others → standings ≡ others
+  blocked_alike : (standings others : List Standing) → AreBlocked test n standings → AreBlocked test n others → standings ≡ others
   blocked_alike standings others h k =
-      one_list (coded× path_coded place_coded) standing_total standings others (h.summed ∙ sym k.summed) h.ascend k.ascend
+      one_list standing_coded standing_total standings others (h.summed ∙ sym k.summed) h.ascend k.ascend
 
 -- ---- a report has one text
 
@@ -157,7 +117,7 @@ module _ (test : Test) (n : ℕ) where
   best_alike verdict (Some a) None h k = absurd (k h.0 h.1.has)
   best_alike verdict (Some a) (Some b) h k =
       let same = one_best (graph_of test) label_cmp label_total n (badness verdict) h.0 k.0 h.1 k.1 in
-      let labels : a.items ≡ b.items = labels_alike a.items b.items (h.2 ∙ ap labels_of same ∙ sym k.2) in
+      let labels : a.items ≡ b.items = h.2 ∙ ap labels_of same ∙ sym k.2 in
       ap (text_of_run verdict) labels
 
 header_of : List ℕ → ℕ → ℕ → Bool → List ℕ
@@ -203,7 +163,7 @@ module _ (test : Test) (n : ℕ) where
   best_alike_as_json verdict (Some a) None h k = absurd (k h.0 h.1.has)
   best_alike_as_json verdict (Some a) (Some b) h k =
       let same = one_best (graph_of test) label_cmp label_total n (badness verdict) h.0 k.0 h.1 k.1 in
-      let labels : a.items ≡ b.items = labels_alike a.items b.items (h.2 ∙ ap labels_of same ∙ sym k.2) in
+      let labels : a.items ≡ b.items = h.2 ∙ ap labels_of same ∙ sym k.2 in
       ap (λ items. Some (json_of_run verdict items)) labels
 
 mapped-cons : (f : Outcome → Data) (o : Option Outcome) (rest : List Outcome) → map f (cons_option o rest) ≡ cons_option (option_map f o) (map f rest)
@@ -250,8 +210,7 @@ one_report test name plan a b h k =
     (λ verdict. best_alike test plan.steps verdict ((h.runs).run_of verdict) ((k.runs).run_of verdict) ((h.runs).best verdict) ((k.runs).best verdict)) all_verdicts
     ∙ sym (told_each (k.runs).run_of all_verdicts) ∙ ap (λ items. flat_map outcome_text items) (sym (k.runs).outcomes) in
     let branches = branches_alike test plan.steps a.branches.items b.branches.items (h.runs).branches (k.runs).branches in
-    let blocked = standings_alike a.blocked.items b.blocked.items
-    (blocked_alike test plan.steps (map standing_in a.blocked.items) (map standing_in b.blocked.items) (h.runs).blocked (k.runs).blocked) in
+    let blocked = blocked_alike test plan.steps a.blocked.items b.blocked.items (h.runs).blocked (k.runs).blocked in
     let as_json : map outcome_json a.outcomes.items ≡ map outcome_json b.outcomes.items =
     ap (map outcome_json) (h.runs).outcomes
     ∙ outcomes_alike outcome_json (λ verdict. outcome_of verdict ((h.runs).run_of verdict)) (λ verdict. outcome_of verdict ((k.runs).run_of verdict))

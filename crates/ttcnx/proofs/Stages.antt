@@ -14,7 +14,7 @@ use Rattle.ttcn_syntax.specs.Cut.{Stops, at_fault, past_gap, past_token, no_piec
 use Rattle.ttcn_syntax.specs.Limits.{longest_text}
 use Rattle.ttcn_syntax.specs.declared.error.LexError.{LexError}
 use Rattle.ttcn_syntax.specs.declared.tree.definition.Module.{Module}
-use Rattle.ttcn_types.specs.Programs.{test_case_named}
+use Rattle.check_rules.specs.Programs.{test_case_named}
 use Rattle.ttcn_syntax.specs.declared.error.LexError.TheVariants as lexical
 use Rattle.ttcnx.specs.Answer.{Answer, IsAnswer, lacking, named, too_many}
 use Rattle.ttcnx.specs.Checked.{IsRefusedWith}

@@ -1,5 +1,5 @@
 -- What a report tells, from what was found.
-use Rattle.std.proofs.Common.{◌≡◌, ◌≤◌, ℕ, Bool, List, map, sym, subst, ◌∙◌}
+use Rattle.std.proofs.Common.{◌≡◌, ◌≤◌, ℕ, Bool, List, sym, subst, ◌∙◌}
 use Rattle.std.specs.Prelude.{◌↔◌, IsTrue, string_bytes}
 use Rattle.std.specs.List.{filter_map, zip}
 use Rattle.search_layer.specs.declared.plan.Plan.{Plan}
@@ -8,11 +8,10 @@ use Rattle.ttcnx_runs.specs.declared.exploration.Exploration.{Exploration}
 use Rattle.laws_live.specs.Parts.{CountsParts, IsCompleteByParts}
 use Rattle.report.specs.declared.report.Report.{Report}
 use Rattle.semantics.specs.Snapshots.{Test}
-use Rattle.ttcn_step.specs.Standing.{standing_by}
+use Rattle.step_labels.specs.declared.standing.Standing.{Standing}
 use Rattle.ttcn_syntax.specs.declared.place.Span.{Span}
-use Rattle.ttcn_values.specs.declared.path.Path.{Path}
 use Rattle.ttcnx.proofs.Outcomes.{kept, outcomes_of-kept}
-use Rattle.ttcnx.specs.Tells.{Tells, TellsOfRuns, all_verdicts, outcome_of, standing_in}
+use Rattle.ttcnx.specs.Tells.{Tells, TellsOfRuns, all_verdicts, outcome_of}
 
 -- a report is made of what was found
 pub record IsMadeOf (found : Exploration) (report : Report) : Type 0 where
@@ -20,7 +19,7 @@ pub record IsMadeOf (found : Exploration) (report : Report) : Type 0 where
   pub complete : report.complete ≡ found.complete
   pub outcomes : report.outcomes.items ≡ filter_map (λ pair. outcome_of pair.0 pair.1) (zip all_verdicts found.best.items)
   pub branches : report.branches.items ≡ found.branches.items
-  pub blocked : map standing_in report.blocked.items ≡ map standing_by found.blocked.items
+  pub blocked : report.blocked.items ≡ found.blocked.items
 
 pub tells_of_runs : (test : Test) (n : ℕ) (found : Exploration) (report : Report) → IsMadeOf found report → AreFound test n found → TellsOfRuns test n report
 tells_of_runs test n found report made are = record {
@@ -29,7 +28,7 @@ tells_of_runs test n found report made are = record {
   best = are.best;
   outcomes = made.outcomes ∙ outcomes_of-kept found.best.items are.eight;
   branches = subst (λ (places : List Span). AreBranches test n places) (sym made.branches) are.branches;
-  blocked = subst (λ (standings : List (Path × Span)). AreBlocked test n standings) (sym made.blocked) are.blocked;
+  blocked = subst (λ (standings : List Standing). AreBlocked test n standings) (sym made.blocked) are.blocked;
 }
 
 pub tells : (test : Test) (name : List ℕ) (plan : Plan) (found : Exploration) (report : Report) → IsMadeOf found report

@@ -4,8 +4,8 @@ use Rattle.check_scope.specs.Names.{kind_at}
 use Rattle.semantics.specs.Runs.{testcase_body}
 use Rattle.semantics.specs.Snapshots.{Test}
 use Rattle.ttcn_syntax.specs.declared.tree.definition.Module.{Module}
-use Rattle.ttcn_types.proofs.TestCaseLemmas.{named-at}
-use Rattle.ttcn_types.specs.Programs.{IsTestCaseAt, test_case_named}
+use Rattle.check_rules.proofs.TestCaseLemmas.{named-at}
+use Rattle.check_rules.specs.Programs.{IsTestCaseAt, test_case_named}
 use Rattle.ttcnx.proofs.Listed.{well-typed}
 use Rattle.ttcnx.specs.Named.{IsTestOf}
 use Rattle.laws_types.proofs.Running.{stays_well_typed}

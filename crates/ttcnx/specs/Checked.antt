@@ -10,7 +10,7 @@ use Rattle.ttcn_syntax.specs.declared.tree.definition.Module.{Module}
 use Rattle.ttcn_parse.specs.Groups.{IsTooDeep}
 use Rattle.ttcn_parse.specs.LeftOut.{HasLeftOut}
 use Rattle.ttcn_parse.specs.Refused.{IsRead, IsUnread}
-use Rattle.ttcn_types.specs.Rules.{AreWellTyped, IsLeast}
+use Rattle.check_rules.specs.Rules.{AreWellTyped, IsLeast}
 use Rattle.check_scope.specs.declared.rule.Rule.{Rule}
 use Rattle.ttcnx.specs.Fault.{SameFault, lexical_fault}
 use Rattle.ttcnx.specs.declared.fault.Fault.{Fault}

@@ -3,7 +3,7 @@ use Rattle.std.specs.Prelude.{◌≡◌, ℕ, List, Option, Some, None}
 use Rattle.std.specs.Option.{option_map}
 use Rattle.semantics.specs.Snapshots.{Test}
 use Rattle.ttcn_syntax.specs.declared.tree.definition.Module.{Module}
-use Rattle.ttcn_types.specs.Programs.{test_case_named}
+use Rattle.check_rules.specs.Programs.{test_case_named}
 use Rattle.ttcnx.specs.Checked.{IsRefusedWith, IsTextOf}
 use Rattle.ttcnx.specs.declared.fault.Fault.{Fault}
 use Rattle.ttcnx.specs.declared.fault.Fault.TheVariants as fault

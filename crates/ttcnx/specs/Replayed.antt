@@ -1,18 +1,16 @@
 -- What is answered for a text, the name of a test case and a run file, unless an allocation fails. Stage by stage: the text and
 -- its module, the lines of the run file, their labels.
-use Rattle.std.specs.Prelude.{◌≡◌, ℕ, List, [], ◌∷◌, ◌++◌, codes, length, map, Result, Ok, Err}
+use Rattle.std.specs.Prelude.{◌≡◌, ℕ, List, [], ◌∷◌, ◌++◌, codes, length, Result, Ok, Err}
 use Rattle.std.specs.Fmt.{decimal}
 use Rattle.std.specs.declared.alloc.Global.{Global}
 use Rattle.std.specs.declared.vec.Vec.{Vec}
 use Rattle.report.specs.Runs.{IsFirstBad, ReadsRun, lines_of}
 use Rattle.report.specs.Texts.{line, word_of}
-use Rattle.step_labels.specs.Labels.{label_by}
 use Rattle.step_labels.specs.declared.label.Label.{Label}
 use Rattle.semantics.specs.Configurations.{Configuration, Ended, Goes}
 use Rattle.semantics.specs.Labels.{labels}
 use Rattle.semantics.specs.Runs.{replay}
 use Rattle.semantics.specs.Snapshots.{Test}
-use Rattle.semantics.specs.Steps as rules
 use Rattle.ttcnx.specs.Fault.{SameFault}
 use Rattle.ttcnx.specs.Named.{HasNoTest, IsTestOf}
 use Rattle.ttcnx.specs.declared.fault.Fault.{Fault}
@@ -23,7 +21,7 @@ abbrev pub Answer : Type 0
 Answer = Result (Vec ℕ Global) Fault
 
 -- whether some label is enabled
-abbrev pub open_or_blocked : List rules.Label → List ℕ
+abbrev pub open_or_blocked : List Label → List ℕ
 open_or_blocked [] = codes "blocked"
 open_or_blocked (label ∷ others) = codes "open"
 
@@ -41,10 +39,10 @@ pub data OfRun (test : Test) (run : List ℕ) : Answer → Type 0 where
   -- some line is no label: the first such line
   bad_label : {number : ℕ} → IsFirstBad (lines_of run) number → OfRun test run (Err (fault.BadLabel number))
   -- all lines are labels, and one is not enabled where it stands: the first such label
-  not_enabled : {number : ℕ} (labels : List Label) → ReadsRun (lines_of run) labels → replay test (map label_by labels) ≡ Err number
+  not_enabled : {number : ℕ} (labels : List Label) → ReadsRun (lines_of run) labels → replay test labels ≡ Err number
       → OfRun test run (Err (fault.NotEnabled number))
   -- all lines are labels, and each is enabled where it stands: where they lead
-  replayed : {text : Vec ℕ Global} (labels : List Label) (c : Configuration) → ReadsRun (lines_of run) labels → replay test (map label_by labels) ≡ Ok c
+  replayed : {text : Vec ℕ Global} (labels : List Label) (c : Configuration) → ReadsRun (lines_of run) labels → replay test labels ≡ Ok c
       → text.items ≡ replayed_text test labels c → OfRun test run (Ok text)
 
 -- what is answered

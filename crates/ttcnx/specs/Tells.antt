@@ -4,10 +4,8 @@ use Rattle.std.specs.List.{filter_map}
 use Rattle.std.specs.Option.{option_map}
 use Rattle.std.specs.declared.alloc.Global.{Global}
 use Rattle.std.specs.declared.vec.Vec.{Vec}
-use Rattle.ttcn_syntax.specs.declared.place.Span.{Span}
 use Rattle.ttcn_syntax.specs.declared.tree.statement.Verdict.{Verdict}
 use Rattle.ttcn_syntax.specs.declared.tree.statement.Verdict.TheVariants as verdict
-use Rattle.ttcn_values.specs.declared.path.Path.{Path}
 use Rattle.semantics.specs.Snapshots.{Test}
 use Rattle.step_labels.specs.declared.label.Label.{Label}
 use Rattle.laws_live.specs.Parts.{CountsParts, IsCompleteByParts}
@@ -15,7 +13,6 @@ use Rattle.search_layer.specs.declared.plan.Plan.{Plan}
 use Rattle.ttcnx_runs.specs.Found.{AreBlocked, AreBranches, IsBestRun}
 use Rattle.report.specs.declared.report.Outcome.{Outcome}
 use Rattle.report.specs.declared.report.Report.{Report}
-use Rattle.report.specs.declared.report.Standing.{Standing}
 
 -- all verdicts, from the best on
 abbrev pub all_verdicts : List Verdict
@@ -34,10 +31,6 @@ outcomes_of run_of = filter_map (λ verdict. outcome_of verdict (run_of verdict)
 abbrev pub labels_in : Option (Vec Label Global) → Option (List Label)
 labels_in run = option_map (λ run. run.items) run
 
--- a component and the place where it stands
-abbrev pub standing_in : Standing → Path × Span
-standing_in standing = (standing.component, standing.place)
-
 -- the report is true of the runs of at most n steps: how many configurations with different live parts they reach, for each
 -- verdict that a run ends with the least of the shortest such runs, the branches that are taken, and the components that are
 -- blocked
@@ -47,7 +40,7 @@ pub record TellsOfRuns (test : Test) (n : ℕ) (report : Report) : Type 0 where
   pub best : (verdict : Verdict) → IsBestRun test n verdict (labels_in (run_of verdict))
   pub outcomes : report.outcomes.items ≡ outcomes_of run_of
   pub branches : AreBranches test n report.branches.items
-  pub blocked : AreBlocked test n (map standing_in report.blocked.items)
+  pub blocked : AreBlocked test n report.blocked.items
 
 -- the report lists a verdict
 abbrev pub Lists : Report → Verdict → Type 0

@@ -5,10 +5,11 @@ ghost use Rattle.ttcnx.specs.Checked.{HasOneJudgement, IsAccepted, IsRefusedWith
 ghost use Rattle.ttcnx.specs.Fault.{lexical_fault};
 
 use crate::fault::Fault;
+use check_rules::Program;
 use std::alloc::Global;
 use ttcn_parse::parse;
 use ttcn_syntax::{LexError, lex};
-use ttcn_types::{Program, check};
+use ttcn_types::check;
 
 /// The well-typed module that a text is of. Refusals come in the order of the work: the text and its tokens, the tree, the
 /// rules; of these the least that is broken.

@@ -2,6 +2,7 @@
 ghost use Rattle.std.specs.Prelude.{◌≡◌, Some, IfOk, string_bytes};
 ghost use Rattle.ttcnx.specs.Fault.{fault_text, refusal_text, status_of};
 
+use check_rules::Rule;
 use explore::ExploreError;
 use report::{PlaceText, RunError};
 use std::alloc::{AllocError, AllocFailed, Global};
@@ -9,7 +10,7 @@ use std::fmt;
 use ttcn_parse::ParseError;
 use ttcn_step::{CoarsenError, ReplayError};
 use ttcn_syntax::{LexError, Span};
-use ttcn_types::{CheckError, Rule};
+use ttcn_types::CheckError;
 
 /// Why a text is no module.
 #[derive(Clone, Copy, Debug, PartialEq, Eq)]

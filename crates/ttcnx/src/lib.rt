@@ -10,12 +10,12 @@ mod stream;
 mod testcase;
 
 pub use check::{check_answer, check_text};
+pub use check_rules::Rule;
 pub use convert::{coarsen_text, double_text};
 pub use fault::{Fault, Refusal, fault_line, status};
 pub use replay::replay_text;
 pub use report::{Outcome, Report, Standing, to_json, to_text};
 pub use run::run_text;
 pub use stream::{StreamFault, run_stream};
-pub use ttcn_types::Rule;
 pub use ttcnx_command_line::{Line, LineError, read_line};
 pub use ttcnx_streams::Counted;

@@ -3,7 +3,6 @@ ghost use Rattle.std.specs.Prelude.{◌≡◌, ◌<◌, ◌⊎◌, ◌++◌, cod
 ghost use Rattle.std.specs.Fmt.{decimal};
 ghost use Rattle.ttcn_step.specs.Machines.{Fits, said};
 ghost use Rattle.report.specs.Texts.{line};
-ghost use Rattle.step_labels.specs.Labels.{label_by};
 ghost use Rattle.semantics.specs.Snapshots.{Test};
 ghost use Rattle.ttcn_syntax.specs.Limits.{longest_text};
 ghost use Rattle.ttcnx.specs.Fault.{lexical_fault};
@@ -88,7 +87,7 @@ fn ending_of(alloc: Global, machine: &Machine<'_>, config: &Config) -> Result<St
 
 /// Whether some label is enabled.
 fn open_or_blocked(labels: &[Label]) -> &'static str
-    ensures { result.now ≡ open_or_blocked (map label_by labels.now) }
+    ensures { result.now ≡ open_or_blocked labels.now }
 {
     match labels {
         [] => "blocked",

@@ -1,22 +1,21 @@
 //! From the text of a module to the report on one of its test cases.
-ghost use Rattle.std.specs.Prelude.{◌≡◌, ℕ, ◌<◌, ◌≤◌, ◌⊎◌, ◌↔◌, length, Err, IfOk, IsErrOf, IsTrue, map, string_bytes};
+ghost use Rattle.std.specs.Prelude.{◌≡◌, ℕ, ◌<◌, ◌≤◌, ◌⊎◌, ◌↔◌, length, Err, IfOk, IsErrOf, IsTrue, string_bytes};
 ghost use Rattle.std.specs.List.{filter_map, zip};
 ghost use Rattle.laws_fine.specs.Verdicts.{EndsFinelyWith, EndsWith};
 ghost use Rattle.search_layer.specs.Limits.{IsWithinLimits};
 ghost use Rattle.semantics.specs.Snapshots.{Test};
-ghost use Rattle.ttcn_step.specs.Standing.{standing_by};
 ghost use Rattle.ttcn_syntax.specs.Limits.{longest_text};
 ghost use Rattle.ttcn_syntax.specs.declared.tree.statement.Verdict as tree;
 ghost use Rattle.ttcnx.specs.Answer.{HasOneAnswer, IsAnswer};
 ghost use Rattle.ttcnx.specs.Fault.{lexical_fault};
 ghost use Rattle.ttcnx.specs.Named.{IsTestOf};
-ghost use Rattle.ttcnx.specs.Tells.{Lists, TellsOfRuns, all_verdicts, outcome_of, standing_in};
+ghost use Rattle.ttcnx.specs.Tells.{Lists, TellsOfRuns, all_verdicts, outcome_of};
 ghost use Rattle.laws_types.specs.Runs.{StaysWellTyped};
 
 use crate::fault::Fault;
 use crate::testcase::testcase_of;
 use explore::{Gate, Plan};
-use report::{Outcome, Report, Standing};
+use report::{Outcome, Report};
 use std::alloc::{AllocError, Global};
 use std::thread::Threads;
 use step_labels::Label;
@@ -89,7 +88,7 @@ fn report_of(
     ensures outcomes { IfOk result (λ report. report.outcomes.items
         ≡ filter_map (λ pair. outcome_of pair.0 pair.1) (zip all_verdicts found.best.items)) }
     ensures branches { IfOk result (λ report. report.branches.items ≡ found.branches.items) }
-    ensures blocked { IfOk result (λ report. map standing_in report.blocked.items ≡ map standing_by found.blocked.items) }
+    ensures blocked { IfOk result (λ report. report.blocked.items ≡ found.blocked.items) }
 {
     let Exploration {
         configurations,
@@ -105,7 +104,7 @@ fn report_of(
         complete,
         outcomes: outcomes_of(alloc, best)?,
         branches,
-        blocked: standings_of(alloc, blocked)?,
+        blocked,
     })
 }
 
@@ -125,19 +124,4 @@ fn outcome_of(verdict: Verdict, run: Option<Vec<Label>>) -> Option<Outcome>
     ensures { result ≡ outcome_of verdict run }
 {
     Some(Outcome { verdict, run: run? })
-}
-
-/// The blocked components, as a report has them.
-fn standings_of(
-    alloc: Global,
-    blocked: Vec<ttcn_step::Standing>,
-) -> Result<Vec<Standing>, AllocError>
-    ensures { IfOk result (λ standings. map standing_in standings.items ≡ map standing_by blocked.items) }
-{
-    let mut standings = Vec::new(alloc);
-    for standing in blocked {
-        let ttcn_step::Standing { component, place } = standing;
-        standings.push(Standing { component, place })?;
-    }
-    Ok(standings)
 }

@@ -6,9 +6,9 @@ ghost use Rattle.ttcnx.specs.Named.{HasNoTest, IsTestOf};
 
 use crate::check::program_of;
 use crate::fault::Fault;
+use check_rules::{Program, TestId};
 use std::alloc::Global;
 use ttcn_syntax::LexError;
-use ttcn_types::{Program, TestId};
 
 /// The test case of this name, with the module that has it. Refusals come in the order of the work: the text, its tokens, its
 /// module, the name.

@@ -1,6 +1,5 @@
 -- What a search over live parts answers is true of the runs, on whole configurations.
-use Rattle.std.proofs.Common.{◌≡◌, ℕ, ◌<◌, ◌≤◌, map, length, subst, sym, ap, ◌∙◌}
-use lib.ListN.{length-map}
+use Rattle.std.proofs.Common.{◌≡◌, ℕ, ◌<◌, ◌≤◌, length, subst, sym, ap, ◌∙◌}
 use Rattle.std.specs.Prelude.{◌↔◌, IsTrue, Ok, Err}
 use Rattle.explore.specs.Best.{AreBest}
 use Rattle.search_layer.specs.Limits.{IsWithinLimits}
@@ -15,7 +14,6 @@ use Rattle.ttcnx_runs.proofs.Sums.{blocked_found, branches_found}
 use Rattle.ttcnx_runs.specs.Found.{AreFound, place_cmp, run_kept, standing_cmp}
 use Rattle.ttcnx_runs.specs.declared.exploration.Exploration.{Exploration}
 use Rattle.ttcnx_runs.specs.internal.Explored.{IsExplored}
-use Rattle.ttcnx_runs.specs.internal.Kept.{labels_by, labels_in}
 use Rattle.ttcnx_runs.specs.internal.Sums.{blocked_of, branches_of}
 use Rattle.laws_live.proofs.SameRuns.{same_complete, same_counts}
 use Rattle.laws_live.specs.Parts.{CountsParts, IsCompleteByParts}
@@ -27,23 +25,22 @@ use Rattle.semantics.specs.Places.{blocked, branch_of}
 use Rattle.semantics.specs.Snapshots.{Test}
 use Rattle.semantics.specs.Steps.{Label}
 use Rattle.summary.specs.Exploration.{Counts, IsComplete}
-use Rattle.ttcn_step.specs.Standing.{standing_by}
+use Rattle.step_labels.specs.declared.standing.Standing.{Standing}
 use Rattle.ttcn_syntax.specs.declared.place.Span.{Span}
-use Rattle.ttcn_values.specs.declared.path.Path.{Path}
 
 -- what a search over live parts answers
 abbrev pub Searched : Type 0
-Searched = Answer (Shown Span (Path × Span)) Label
+Searched = Answer (Shown Span Standing) Label
 
 -- what is found is made of the answer
 pub record IsMadeOf (found : Exploration) (answer : Searched) : Type 0 where
   pub configurations : found.configurations ≡ answer.count
   pub complete : found.complete ≡ answer.complete
-  pub best : map labels_by found.best.items ≡ map labels_in answer.best.items
+  pub best : found.best.items ≡ answer.best.items
   pub branches : from_list found.branches.items ≡ answer.summary.second.first.places
   pub ascending : Ascends place_cmp found.branches.items
-  pub blocked : from_list (map standing_by found.blocked.items) ≡ answer.summary.second.second.components
-  pub in_order : Ascends standing_cmp (map standing_by found.blocked.items)
+  pub blocked : from_list found.blocked.items ≡ answer.summary.second.second.components
+  pub in_order : Ascends standing_cmp found.blocked.items
 
 -- the answer is that of the runs of at most n steps
 pub record AreSummed (test : Test) (n : ℕ) (answer : Searched) : Type 0 where
@@ -66,10 +63,10 @@ module _ (test : Test) where
     pub are_found : (n : ℕ) → AreSummed test n answer → AreBest (canonical_graph test) label_cmp n answer.best.items → AreFound test n found
     are_found n summed best = record {
       configurations = counted n summed.counts;
-      eight = sym (length-map found.best.items labels_by) ∙ ap length made.best ∙ length-map answer.best.items labels_in ∙ best.eight;
-      best = λ v. best_run test n v found.best.items answer.best.items made.best best;
+      eight = ap length made.best ∙ best.eight;
+      best = λ v. best_run test n v found.best.items (subst (AreBest (canonical_graph test) label_cmp n) (sym made.best) best);
       branches = branches_found test n answer.summary.second.first.places summed.branches found.branches.items made.branches made.ascending;
-      blocked = blocked_found test n answer.summary.second.second.components summed.blocked (map standing_by found.blocked.items) made.blocked made.in_order;
+      blocked = blocked_found test n answer.summary.second.second.components summed.blocked found.blocked.items made.blocked made.in_order;
     }
 
     pub found_later : (n bound : ℕ) → n ≤ bound → AreFound test n found → AreSummed test bound answer → AreFound test bound found
@@ -78,7 +75,7 @@ module _ (test : Test) where
       eight = is.eight;
       best = λ v. best_later test n bound le found.configurations is.configurations (counted bound summed.counts) v (run_kept found v) (is.best v);
       branches = branches_found test bound answer.summary.second.first.places summed.branches found.branches.items made.branches made.ascending;
-      blocked = blocked_found test bound answer.summary.second.second.components summed.blocked (map standing_by found.blocked.items) made.blocked made.in_order;
+      blocked = blocked_found test bound answer.summary.second.second.components summed.blocked found.blocked.items made.blocked made.in_order;
     }
 
     -- what was found, as the answer of an exploration

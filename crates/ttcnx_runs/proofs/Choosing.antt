@@ -3,14 +3,13 @@ use Rattle.std.specs.Prelude.{◌↔◌, IsTrue, not}
 use Rattle.std.proofs.Common.{◌≡◌, ℕ, Bool, true, false, true≢false, List, [], ◌∷◌, get_or, Option, Some, None, is_some, refl, sym, ap, subst, ◌∙◌}
 use Rattle.std.specs.Option.{option_and_then}
 use Rattle.std.proofs.lemmas.Option.{none-some, same_Some}
-use Rattle.step_labels.specs.Labels.{label_with}
-use Rattle.step_labels.specs.declared.label.Expiry.{Expiry}
 use Rattle.semantics.specs.Configurations.{Configuration, Ended, Goes}
 use Rattle.semantics.proofs.LiveTheorem.{labels_live}
 use Rattle.semantics.specs.Labels.{labels}
 use Rattle.semantics.specs.LiveParts.{live_part}
 use Rattle.semantics.specs.Places.{blocked, branch_of, standings}
 use Rattle.semantics.specs.Snapshots.{Test}
+use Rattle.semantics.specs.Steps.{Expiry, Statement}
 use Rattle.ttcnx_runs.specs.Going.{GoesOn}
 use Rattle.config_packed.specs.Packs.{first_position, position_in}
 use Rattle.config_parts.specs.declared.component.Component.{Component}
@@ -23,18 +22,14 @@ use Rattle.ttcn_step.proofs.Found.{Searched}
 use Rattle.ttcn_step.proofs.Stuck.{some-enabled}
 use Rattle.ttcn_step.specs.Choosing.{TakesNone}
 use Rattle.ttcn_step.specs.Machines.{Machine, legend, said}
+use Rattle.value_types.specs.declared.path.Path.{Path}
 
 -- ---- branches
 
--- what isn't there is none
-pub no-expiry : (o : Option Expiry) → is_some o ≡ false → o ≡ None
-no-expiry None is = refl
-no-expiry (Some e) is = absurd (true≢false is)
-
 -- an expiry takes no branch
-pub expiry-none : (test : Test) (c : Configuration) (path : List ℕ) (expiry : Option Expiry) (e : Expiry) → expiry ≡ Some e → branch_of test c (label_with path expiry) ≡ None
-expiry-none test (Ended v) path expiry e is = refl
-expiry-none test (Goes c) path expiry e is = ap (λ o. branch_of test (Goes c) (label_with path o)) is
+pub expiry-none : (test : Test) (c : Configuration) (path : Path) (number : ℕ) (name : List ℕ) → branch_of test c (Expiry path number name) ≡ None
+expiry-none test (Ended v) path number name = refl
+expiry-none test (Goes c) path number name = refl
 
 -- where nothing is known of a position, or nothing may be chosen there
 TakesNoneFrom : Machine → Option ℕ → Type 0
@@ -50,24 +45,21 @@ at-path : (machine : Machine) (o : Option Component) → TakesNoneFrom machine (
 at-path machine None none = tt
 at-path machine (Some x) none = in-frames machine x.own.calls none
 
-statement-none : (machine : Machine) (c : Config) (path : List ℕ) → TakesNoneFrom machine (position_in c path) → branch_of machine.test (said machine c) (label_with path None) ≡ None
+statement-none : (machine : Machine) (c : Config) (path : Path) → TakesNoneFrom machine (position_in c path.numbers) → branch_of machine.test (said machine c) (Statement path) ≡ None
 statement-none machine (config.Ended v) path none = refl
 statement-none machine (config.Going going) path none =
-    none-of-path (legend machine) machine.test going path (Searched path going.components) refl (at-path machine (Searched path going.components) none)
+    none-of-path (legend machine) machine.test going path (Searched path.numbers going.components) refl (at-path machine (Searched path.numbers going.components) none)
 
 -- a component that isn't there, or has no frames, takes no branch
-pub no-position : (machine : Machine) (c : Config) (path : List ℕ) (expiry : Option Expiry) → expiry ≡ None → position_in c path ≡ None
-    → branch_of machine.test (said machine c) (label_with path expiry) ≡ None
+pub no-position : (machine : Machine) (c : Config) (path : Path) → position_in c path.numbers ≡ None → branch_of machine.test (said machine c) (Statement path) ≡ None
 unfolding TakesNoneFrom
-no-position machine c path expiry is none =
-    ap (λ o. branch_of machine.test (said machine c) (label_with path o)) is ∙ statement-none machine c path (subst (TakesNoneFrom machine) (sym none) (tt))
+no-position machine c path none = statement-none machine c path (subst (TakesNoneFrom machine) (sym none) (tt))
 
 -- a component takes no branch where nothing may be chosen at the position of its last frame
-pub no-choice : (machine : Machine) (c : Config) (path : List ℕ) (expiry : Option Expiry) (position : ℕ) → expiry ≡ None → position_in c path ≡ Some position
-    → TakesNone (get_or machine.lists position []) → branch_of machine.test (said machine c) (label_with path expiry) ≡ None
+pub no-choice : (machine : Machine) (c : Config) (path : Path) (position : ℕ) → position_in c path.numbers ≡ Some position → TakesNone (get_or machine.lists position [])
+    → branch_of machine.test (said machine c) (Statement path) ≡ None
 unfolding TakesNoneFrom
-no-choice machine c path expiry position is at none =
-    ap (λ o. branch_of machine.test (said machine c) (label_with path o)) is ∙ statement-none machine c path (subst (TakesNoneFrom machine) (sym at) none)
+no-choice machine c path position at none = statement-none machine c path (subst (TakesNoneFrom machine) (sym at) none)
 
 -- ---- blocked components
 

@@ -2,7 +2,6 @@
 use Rattle.std.proofs.Common.{◌≡◌, List, [], ◌∷◌, map, refl, sym, ap, subst, ◌∙◌}
 use Rattle.std.specs.List.{All}
 use Rattle.std.proofs.lemmas.List.Elements.{All-head, All-tail}
-use Rattle.step_labels.specs.Labels.{label_by}
 use Rattle.semantics.specs.Canonical.{canonical_graph}
 use Rattle.semantics.specs.Configurations.{Configuration}
 use Rattle.semantics.specs.Labels.{labels}
@@ -15,22 +14,22 @@ use Rattle.ttcn_step.specs.Machines.{Machine, said}
 use Rattle.ttcn_step.specs.declared.successor.Successor.{Successor}
 
 module _ (machine : Machine) (config : Config) where
-  leads-on : (s : Successor) → IsSuccessor machine config s → live_part (said machine s.config) ≡ (canonical_graph machine.test).after (said machine config) (label_by s.label)
+  leads-on : (s : Successor) → IsSuccessor machine config s → live_part (said machine s.config) ≡ (canonical_graph machine.test).after (said machine config) s.label
   leads-on s is = sym (ap (λ o. live_part (option_elim (said machine config) (λ d. d) o)) is)
 
   pairs-lead : (found : List Successor) → All (IsSuccessor machine config) found
-      → map (λ s. (label_by s.label, live_part (said machine s.config))) found ≡ with_after (canonical_graph machine.test) (said machine config) (map (λ s. label_by s.label) found)
+      → map (λ s. (s.label, live_part (said machine s.config))) found ≡ with_after (canonical_graph machine.test) (said machine config) (map (λ s. s.label) found)
   pairs-lead [] all = refl
   pairs-lead (s ∷ found) all = λ i.
-      (label_by s.label, leads-on s (All-head (IsSuccessor machine config) s found all) i) ∷ pairs-lead found (All-tail (IsSuccessor machine config) s found all) i
+      (s.label, leads-on s (All-head (IsSuccessor machine config) s found all) i) ∷ pairs-lead found (All-tail (IsSuccessor machine config) s found all) i
 
 -- the enabled labels of a configuration, each with the live part to which it leads
 pub successors-lead : (m machine : Machine) → m ≡ machine → (config : Config) (state : Configuration) → said machine config ≡ state → (found : List Successor)
-    → map (λ s. label_by s.label) found ≡ labels m.test (said m config) → All (IsSuccessor m config) found
-    → map (λ s. (label_by s.label, live_part (said machine s.config))) found ≡ with_after (canonical_graph machine.test) state (labels machine.test state)
+    → map (λ s. s.label) found ≡ labels m.test (said m config) → All (IsSuccessor m config) found
+    → map (λ s. (s.label, live_part (said machine s.config))) found ≡ with_after (canonical_graph machine.test) state (labels machine.test state)
 successors-lead m machine same config state is found enabled leads =
     let all = subst (λ (n : Machine). All (IsSuccessor n config) found) same leads in
-    let here = subst (λ (n : Machine). map (λ s. label_by s.label) found ≡ labels n.test (said n config)) same enabled in
+    let here = subst (λ (n : Machine). map (λ s. s.label) found ≡ labels n.test (said n config)) same enabled in
     pairs-lead machine config found all
     ∙ ap (with_after (canonical_graph machine.test) (said machine config)) here
     ∙ ap (λ s. with_after (canonical_graph machine.test) s (labels machine.test s)) is

@@ -5,7 +5,6 @@ use Rattle.std.proofs.lemmas.Bool.{cases_lt}
 use Rattle.ttcnx_runs.specs.Found.{IsBestRun}
 use Rattle.laws_live.proofs.Counting.{no_longer}
 use Rattle.laws_live.specs.Parts.{CountsParts, IsPartReached}
-use Rattle.step_labels.specs.declared.label.Label as code
 use Rattle.semantics.proofs.LiveTheorem.{mark_live}
 use Rattle.semantics.specs.Configurations.{Configuration, badness}
 use Rattle.semantics.specs.Labels.{label_cmp}
@@ -67,6 +66,6 @@ module _ (test : Test) (n m : ℕ) (le : n ≤ m) where
       least other has (inl longer) = inl (inl (let short = (best.has).short in omega (arith, short, longer)))
       least other has (inr short) = best.least other (record { is_run = has.is_run; short = short; marked = has.marked })
 
-  pub best_later : (count : ℕ) → CountsParts test n count → CountsParts test m count → (v : Verdict) (labels : Option (List code.Label)) → IsBestRun test n v labels → IsBestRun test m v labels
+  pub best_later : (count : ℕ) → CountsParts test n count → CountsParts test m count → (v : Verdict) (labels : Option (List Label)) → IsBestRun test n v labels → IsBestRun test m v labels
   best_later count counts more v None none = marked-later count (badness v) counts more none
   best_later count counts more v (Some labels) best = (best.0, least-later (badness v) best.0 best.1, best.2)

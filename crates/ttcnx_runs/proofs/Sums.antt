@@ -11,7 +11,7 @@ use Rattle.semantics.proofs.CanonicalRuns.{sums_alike}
 use Rattle.semantics.specs.Canonical.{canonical_graph}
 use Rattle.semantics.specs.Places.{blocked, branch_of}
 use Rattle.semantics.specs.Snapshots.{Test}
-use Rattle.ttcn_values.specs.declared.path.Path.{Path}
+use Rattle.step_labels.specs.declared.standing.Standing.{Standing}
 
 module _ (test : Test) (n : ℕ) where
   pub branches_found : (set : KeySet Span) → set ≡ branches_of (canonical_graph test) (branch_of test) n → (places : List Span) → from_list places ≡ set
@@ -21,7 +21,7 @@ module _ (test : Test) (n : ℕ) where
     ascend = ascend;
   }
 
-  pub blocked_found : (set : KeySet (Path × Span)) → set ≡ blocked_of (canonical_graph test) (blocked test) n → (standings : List (Path × Span)) → from_list standings ≡ set
+  pub blocked_found : (set : KeySet Standing) → set ≡ blocked_of (canonical_graph test) (blocked test) n → (standings : List Standing) → from_list standings ≡ set
       → Ascends standing_cmp standings → AreBlocked test n standings
   blocked_found set is standings same ascend = record {
     summed = same ∙ is ∙ sums_alike test union_join (blocked_reading test from_list empty) (blocked_seen test from_list empty) n;

@@ -3,7 +3,7 @@ use Rattle.std.proofs.Common.{◌≡◌, ℕ, Bool, true, true≢false, ◌&&◌
 use Rattle.std.proofs.lemmas.Bool.{and_parts}
 use Rattle.syntax_equality.specs.Equality.{IsOne, list_one, number_one}
 use Rattle.syntax_equality.specs.Parts.{verdict_one}
-use Rattle.ttcn_values.specs.Values.{equal}
+use Rattle.value_types.specs.Values.{equal}
 use Rattle.config_parts.specs.contracts.component.ComponentPartialEq.TheImpl as components
 use Rattle.config_parts.specs.contracts.component.MessagePartialEq.TheImpl as messages
 use Rattle.config_parts.specs.contracts.component.QueuePartialEq.TheImpl as queues

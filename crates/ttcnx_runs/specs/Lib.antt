@@ -4,9 +4,7 @@ pub mod CodeEquality
 pub mod Codes
 pub mod CodesBack
 pub mod Going
-pub mod Labels
 pub mod Laws
-pub mod Orders
 pub mod Runs
 pub mod Schemes
 pub mod States

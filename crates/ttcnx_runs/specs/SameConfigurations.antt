@@ -6,15 +6,15 @@ use Rattle.std.specs.Cmp.Lexicographic.{nat_list_eq_equiv, pointwise}
 use Rattle.ttcn_syntax.specs.contracts.tree.statement.VerdictEq.TheImpl.Laws as verdict_laws
 use Rattle.ttcn_syntax.specs.contracts.tree.statement.VerdictPartialEq.TheImpl as verdicts
 use Rattle.ttcn_syntax.specs.declared.tree.statement.Verdict.{Verdict}
-use Rattle.ttcn_values.proofs.Equality.{equal_values}
-use Rattle.ttcn_values.specs.Values.{equal}
-use Rattle.ttcn_values.specs.contracts.frame.TimerState.{the_type as timer_type}
-use Rattle.ttcn_values.specs.contracts.frame.TimerStateEq.TheImpl.Laws as timer_laws
-use Rattle.ttcn_values.specs.contracts.frame.TimerStatePartialEq.TheImpl as timers
-use Rattle.ttcn_values.specs.declared.frame.TimerState.{TimerState}
-use Rattle.ttcn_values.specs.declared.path.Path.{Path}
-use Rattle.ttcn_values.specs.declared.value.ComponentId.{ComponentId}
-use Rattle.ttcn_values.specs.declared.value.Value.{Value}
+use Rattle.value_types.proofs.Equality.{equal_values}
+use Rattle.value_types.specs.Values.{equal}
+use Rattle.value_types.specs.contracts.frame.TimerState.{the_type as timer_type}
+use Rattle.value_types.specs.contracts.frame.TimerStateEq.TheImpl.Laws as timer_laws
+use Rattle.value_types.specs.contracts.frame.TimerStatePartialEq.TheImpl as timers
+use Rattle.value_types.specs.declared.frame.TimerState.{TimerState}
+use Rattle.value_types.specs.declared.path.Path.{Path}
+use Rattle.value_types.specs.declared.value.ComponentId.{ComponentId}
+use Rattle.value_types.specs.declared.value.Value.{Value}
 use Rattle.syntax_equality.specs.Equality.{list_one, name_one, number_one}
 use Rattle.syntax_equality.specs.Parts.{verdict_one}
 use Rattle.semantics.specs.Configurations.{ActiveDefault, Component, Configuration, Connection, Created, Data, End, Ended, Frame, Goes, Going, Message, Queue, Running, State, Terminated, same_path}

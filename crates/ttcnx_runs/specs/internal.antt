@@ -1,3 +1,2 @@
 pub mod Explored
-pub mod Kept
 pub mod Sums

@@ -1,29 +1,26 @@
 //! All runs of a test case up to a bound (ES 201 873-4).
-ghost use Rattle.std.specs.Prelude.{◌≡◌, ◌↔◌, ℕ, ◌<◌, ◌≤◌, IfOk, IsErrOf, IsTrue, OnOk, map};
+ghost use Rattle.std.specs.Prelude.{◌≡◌, ◌↔◌, ℕ, ◌<◌, ◌≤◌, IfOk, IsErrOf, IsTrue, OnOk};
 ghost use Rattle.search_layer.specs.Limits.{IsWithinLimits};
 ghost use Rattle.ttcnx_runs.specs.Found.{AreFound, place_cmp, standing_cmp};
 ghost use Rattle.ttcnx_runs.specs.internal.Explored.{IsExplored};
-ghost use Rattle.ttcnx_runs.specs.internal.Kept.{labels_by, labels_in};
 ghost use Rattle.summary.specs.Ascent.{Ascends};
 ghost use Rattle.summary.specs.KeySet.{from_list};
-ghost use Rattle.step_labels.specs.Labels.{label_by};
 ghost use Rattle.laws_live.specs.Parts.{CountsParts, IsCompleteByParts};
-ghost use Rattle.ttcn_step.specs.Standing.{standing_by};
 
 use crate::search::search;
-use crate::{BlockedComponent, BranchPlace, Runs, Scheme, StepLabel};
+use crate::{BranchPlace, Runs, Scheme};
 use explore::{Answer, ExploreError, Gate, Plan};
 use std::alloc::{AllocError, Global};
 use std::marker::Brand;
 use std::thread::Threads;
-use step_labels::Label;
+use step_labels::{Label, Standing};
 use summary::{Blocked, Both, Branches, OrderedSet, Verdicts};
-use ttcn_step::{Machine, Standing};
+use ttcn_step::Machine;
 use ttcn_syntax::Span;
 
 /// What is summed up over all runs: the verdicts with which they end, the branches that are taken, and the components that
 /// are blocked.
-type Shown = Both<Verdicts, Both<Branches<BranchPlace>, Blocked<BlockedComponent>>>;
+type Shown = Both<Verdicts, Both<Branches<BranchPlace>, Blocked<Standing>>>;
 
 /// What was found.
 #[derive(Drop)]
@@ -83,14 +80,14 @@ fn explore_within<K: Scheme + Send + Sync, G: Gate, R: Threads + Sync>(
 }
 
 /// What an answer of the search tells.
-fn found_by(alloc: Global, answer: Answer<Shown, StepLabel>) -> Result<Exploration, AllocError>
+fn found_by(alloc: Global, answer: Answer<Shown, Label>) -> Result<Exploration, AllocError>
     ensures configurations { IfOk result (λ found. found.configurations ≡ answer.count) }
     ensures complete { IfOk result (λ found. found.complete ≡ answer.complete) }
-    ensures best { IfOk result (λ found. map labels_by found.best.items ≡ map labels_in answer.best.items) }
+    ensures best { IfOk result (λ found. found.best.items ≡ answer.best.items) }
     ensures branches { IfOk result (λ found. from_list found.branches.items ≡ answer.summary.second.first.places) }
     ensures ascending { IfOk result (λ found. Ascends place_cmp found.branches.items) }
-    ensures blocked { IfOk result (λ found. from_list (map standing_by found.blocked.items) ≡ answer.summary.second.second.components) }
-    ensures in_order { IfOk result (λ found. Ascends standing_cmp (map standing_by found.blocked.items)) }
+    ensures blocked { IfOk result (λ found. from_list found.blocked.items ≡ answer.summary.second.second.components) }
+    ensures in_order { IfOk result (λ found. Ascends standing_cmp found.blocked.items) }
 {
     let Answer {
         summary,
@@ -98,7 +95,6 @@ fn found_by(alloc: Global, answer: Answer<Shown, StepLabel>) -> Result<Explorati
         complete,
         best,
     } = answer;
-    let best = runs_of(alloc, best)?;
     let branches = places_of(alloc, &summary.second.first.places)?;
     let blocked = standings_of(alloc, &summary.second.second.components)?;
     Ok(Exploration {
@@ -108,41 +104,6 @@ fn found_by(alloc: Global, answer: Answer<Shown, StepLabel>) -> Result<Explorati
         branches,
         blocked,
     })
-}
-
-/// The labels of a run.
-fn run_of(alloc: Global, run: Vec<StepLabel>) -> Result<Vec<Label>, AllocError>
-    ensures { IfOk result (λ labels. map label_by labels.items ≡ run.items) }
-{
-    let mut labels = Vec::with_capacity(alloc, run.len())?;
-    for label in run {
-        labels.push(label.into_label())?;
-    }
-    Ok(labels)
-}
-
-/// The labels of a run, where there is one.
-fn run_if_any(alloc: Global, run: Option<Vec<StepLabel>>) -> Result<Option<Vec<Label>>, AllocError>
-    ensures { IfOk result (λ found. labels_by found ≡ labels_in run) }
-{
-    match run {
-        None => Ok(None),
-        Some(run) => Ok(Some(run_of(alloc, run)?)),
-    }
-}
-
-/// The labels of runs.
-fn runs_of(
-    alloc: Global,
-    best: Vec<Option<Vec<StepLabel>>>,
-) -> Result<Vec<Option<Vec<Label>>>, AllocError>
-    ensures { IfOk result (λ runs. map labels_by runs.items ≡ map labels_in best.items) }
-{
-    let mut runs = Vec::with_capacity(alloc, best.len())?;
-    for run in best {
-        runs.push(run_if_any(alloc, run)?)?;
-    }
-    Ok(runs)
 }
 
 /// The places of a set of branches, ascending.
@@ -158,20 +119,13 @@ fn places_of(alloc: Global, set: &OrderedSet<BranchPlace>) -> Result<Vec<Span>, 
 }
 
 /// The components of a set, each with the place where it stands, ascending.
-fn standings_of(
-    alloc: Global,
-    set: &OrderedSet<BlockedComponent>,
-) -> Result<Vec<Standing>, AllocError>
-    ensures keys { IfOk result (λ standings. from_list (map standing_by standings.items) ≡ set.now) }
-    ensures ascend { IfOk result (λ standings. Ascends standing_cmp (map standing_by standings.items)) }
+fn standings_of(alloc: Global, set: &OrderedSet<Standing>) -> Result<Vec<Standing>, AllocError>
+    ensures keys { IfOk result (λ standings. from_list standings.items ≡ set.now) }
+    ensures ascend { IfOk result (λ standings. Ascends standing_cmp standings.items) }
 {
     let mut standings = Vec::new(alloc);
     for key in set.as_slice() {
-        let component = key.component().try_clone(alloc)?;
-        standings.push(Standing {
-            component,
-            place: key.place(),
-        })?;
+        standings.push(key.try_clone(alloc)?)?;
     }
     Ok(standings)
 }

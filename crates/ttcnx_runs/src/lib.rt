@@ -4,7 +4,6 @@
 pub mod equality;
 mod exploration;
 mod keys;
-mod label;
 mod laws;
 mod places;
 mod runs;
@@ -13,8 +12,7 @@ mod search;
 mod state;
 
 pub use exploration::{Exploration, explore_runs};
-pub use keys::{BlockedComponent, BranchPlace};
-pub use label::StepLabel;
+pub use keys::BranchPlace;
 pub use laws::canonical_forms_are_equal_for_equal_live_parts;
 pub use runs::Runs;
 pub use scheme::Scheme;

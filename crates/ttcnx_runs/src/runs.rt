@@ -1,7 +1,6 @@
 //! The runs of a test case, as a system.
 ghost use Rattle.std.specs.Prelude.{◌≡◌, IfOk, Contains, map};
 ghost use Rattle.std.specs.List.{All};
-ghost use Rattle.step_labels.specs.Labels.{label_by};
 ghost use Rattle.ttcnx_runs.specs.Laws.{after-fits, ascending, first-fits, marks-below};
 ghost use Rattle.ttcnx_runs.specs.Runs.{FitsRuns};
 ghost use Rattle.ttcnx_runs.specs.Schemes.{IsMachine};
@@ -13,7 +12,6 @@ ghost use Rattle.config_parts.specs.Legend.{config_by};
 ghost use Rattle.config_parts.specs.Views.{IsConfigWithin};
 ghost use Rattle.ttcn_step.specs.Machines.{Fits, extent, legend, said};
 
-use crate::label::StepLabel;
 use crate::scheme::Scheme;
 use crate::state::State;
 use std::alloc::{AllocError, Global};
@@ -76,31 +74,20 @@ fn state_of<K: Scheme>(
     })
 }
 
-/// Labels, as the search has them.
-fn step_labels(alloc: Global, labels: Vec<Label>) -> Result<Vec<StepLabel>, AllocError>
-    ensures { IfOk result (λ found. found.items ≡ map label_by labels.items) }
-{
-    let mut found = Vec::with_capacity(alloc, labels.len())?;
-    for label in labels {
-        found.push(StepLabel::new(label))?;
-    }
-    Ok(found)
-}
-
 /// Enabled labels, each with the state to which it leads.
 fn pairs_of<K: Scheme>(
     alloc: Global,
     machine: &Machine<'_>,
     found: Vec<Successor>,
-) -> Result<Vec<(StepLabel, State<K>)>, AllocError>
+) -> Result<Vec<(Label, State<K>)>, AllocError>
     requires is { machine.now ≡ K.machine }
     requires fits { All (λ s. Fits machine.now s.config) found.items }
-    ensures { IfOk result (λ pairs. pairs.items ≡ map (λ s. (label_by s.label, live_part (said K.machine s.config))) found.items) }
+    ensures { IfOk result (λ pairs. pairs.items ≡ map (λ s. (s.label, live_part (said K.machine s.config))) found.items) }
 {
     let mut pairs = Vec::with_capacity(alloc, found.len())?;
     for Successor { label, config } in found {
         let after = state_of(alloc, machine, config)?;
-        pairs.push((StepLabel::new(label), after))?;
+        pairs.push((label, after))?;
     }
     Ok(pairs)
 }
@@ -108,7 +95,7 @@ fn pairs_of<K: Scheme>(
 impl<'t, 'a, K: Scheme + Send + Sync> System for Runs<'t, 'a, K> {
     type State = State<K>;
 
-    type Label = StepLabel;
+    type Label = Label;
 
     ghost graph = { λ _. canonical_graph K.machine.test };
 
@@ -119,20 +106,14 @@ impl<'t, 'a, K: Scheme + Send + Sync> System for Runs<'t, 'a, K> {
         state_of(alloc, self.machine, config)
     }
 
-    fn labels(&self, alloc: Global, state: &State<K>) -> Result<Vec<StepLabel>, AllocError> {
+    fn labels(&self, alloc: Global, state: &State<K>) -> Result<Vec<Label>, AllocError> {
         let config = unpack(alloc, &state.packed)?;
-        let labels = self.machine.labels(alloc, &config)?;
-        step_labels(alloc, labels)
+        self.machine.labels(alloc, &config)
     }
 
-    fn next(
-        &self,
-        alloc: Global,
-        state: &State<K>,
-        label: &StepLabel,
-    ) -> Result<State<K>, AllocError> {
+    fn next(&self, alloc: Global, state: &State<K>, label: &Label) -> Result<State<K>, AllocError> {
         let config = unpack(alloc, &state.packed)?;
-        match self.machine.next(alloc, &config, label.as_label()) {
+        match self.machine.next(alloc, &config, label) {
             Ok(after) => state_of(alloc, self.machine, after),
             Err(_) => Err(AllocError),
         }
@@ -142,13 +123,13 @@ impl<'t, 'a, K: Scheme + Send + Sync> System for Runs<'t, 'a, K> {
         &self,
         alloc: Global,
         state: &State<K>,
-    ) -> Result<Vec<(StepLabel, State<K>)>, AllocError> {
+    ) -> Result<Vec<(Label, State<K>)>, AllocError> {
         let config = unpack(alloc, &state.packed)?;
         let found = self.machine.successors(alloc, &config)?;
         pairs_of(alloc, self.machine, found)
     }
 
-    fn copy(&self, alloc: Global, label: &StepLabel) -> Result<StepLabel, AllocError> {
+    fn copy(&self, alloc: Global, label: &Label) -> Result<Label, AllocError> {
         label.try_clone(alloc)
     }
 

@@ -23,7 +23,7 @@ impl<K: Scheme> Model for State<K> {
     ghost use Rattle.ttcn_syntax.specs.contracts.tree.statement.Statement as statement;
     ghost use Rattle.ttcn_syntax.specs.contracts.tree.template.Template as template;
     ghost use Rattle.ttcn_syntax.specs.contracts.tree.value.Value as tree_value;
-    ghost use Rattle.ttcn_values.specs.contracts.value.Value as value;
+    ghost use Rattle.value_types.specs.contracts.value.Value as value;
     ghost use Rattle.ttcnx_runs.specs.Going.{GoesOn};
     ghost use Rattle.ttcnx_runs.specs.Schemes.{IsMachine};
     ghost use Rattle.semantics.specs.Configurations as rules;

@@ -7,11 +7,11 @@ use Rattle.check_scope.specs.Names.{fields_at, module_names, resolved}
 use Rattle.check_scope.specs.declared.types.DataType.{DataType}
 use Rattle.check_scope.specs.declared.types.DataType.TheVariants as type
 use Rattle.value_assignment.specs.declared.record.Gap.{Gap}
-use Rattle.ttcn_values.specs.Outcomes.{Outcome, or_unmet, outcome_and_then, outcome_map, unmet}
-use Rattle.ttcn_values.specs.Outcomes.Outcome.{Yields}
-use Rattle.ttcn_values.specs.Values.{is_omit, record_of}
-use Rattle.ttcn_values.specs.declared.value.Value.{Value}
-use Rattle.ttcn_values.specs.declared.value.Value.TheVariants as value
+use Rattle.value_types.specs.Outcomes.{Outcome, or_unmet, outcome_and_then, outcome_map, unmet}
+use Rattle.value_types.specs.Outcomes.Outcome.{Yields}
+use Rattle.value_types.specs.Values.{is_omit, record_of}
+use Rattle.value_types.specs.declared.value.Value.{Value}
+use Rattle.value_types.specs.declared.value.Value.TheVariants as value
 
 -- the position of a record's type, and its fields in order: a field may have no value
 abbrev pub Record : Type 0

@@ -4,13 +4,13 @@
 mod record;
 
 ghost use Rattle.value_assignment.specs.Assignment.{assigned};
-ghost use Rattle.ttcn_values.specs.Outcomes.{Gives};
+ghost use Rattle.value_types.specs.Outcomes.{Gives};
 
+use check_rules::{DataType, Definitions};
 use record::gap_for;
 use std::alloc::Global;
 use ttcn_syntax::Name;
-use ttcn_types::{DataType, Definitions};
-use ttcn_values::{Fault, Value};
+use value_types::{Fault, Value};
 
 /// What a name holds after an assignment to it, or to the field of fields that stands behind it. The name is of the type
 /// that is given, and had the value that is given, or none. A record on the way that has no value or is omitted becomes

@@ -2,12 +2,12 @@
 ghost use Rattle.std.specs.Prelude.{◌≡◌, ◌<◌, None, Some, IfSome, bytes_eq, length, slice_get, slice_set};
 ghost use Rattle.std.specs.List.{position};
 ghost use Rattle.value_assignment.specs.Assignment as spec;
-ghost use Rattle.ttcn_values.specs.Outcomes.{Gives};
+ghost use Rattle.value_types.specs.Outcomes.{Gives};
 
+use check_rules::{DataType, Definitions};
 use std::alloc::Global;
 use ttcn_syntax::{Field, Name, Seq};
-use ttcn_types::{DataType, Definitions};
-use ttcn_values::{Fault, Value};
+use value_types::{Fault, Value};
 
 /// The position of a record's type, and its fields in order. A field may have no value.
 type Record = (usize, Seq<Option<Value>>);

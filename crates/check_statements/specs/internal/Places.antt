@@ -4,10 +4,10 @@ use Rattle.std.specs.Bool.{beq}
 use Rattle.std.specs.HashSet.{contains_by}
 use Rattle.std.specs.List.{list_any}
 use Rattle.ttcn_syntax.specs.declared.tree.definition.EnumNumber.{EnumNumber}
-use Rattle.check_statements.specs.Definitions.{same_number}
+use Rattle.check_rules.specs.Definitions.{same_number}
 use Rattle.check_statements.specs.declared.number_set.NumberSet.{NumberSet}
 use Rattle.check_scope.specs.Names as spec
-use Rattle.check_statements.specs.Statements as statement
+use Rattle.check_rules.specs.Statements as statement
 use Rattle.check_statements.specs.declared.place.Place.{Place}
 
 -- a number is below zero

@@ -1,7 +1,7 @@
 -- What is known where messages pass, in the words of the private contracts.
 use Rattle.std.specs.Prelude.{[], Some, None}
-use Rattle.check_expressions.specs.Expressions.{Judgement}
-use Rattle.check_statements.specs.Messages as spec
+use Rattle.check_rules.specs.Expressions.{Judgement}
+use Rattle.check_rules.specs.Messages as spec
 use Rattle.check_statements.specs.declared.message.Passing.{Passing}
 use Rattle.check_statements.specs.declared.message.Passing.TheVariants as at
 

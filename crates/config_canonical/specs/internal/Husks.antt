@@ -10,7 +10,7 @@ use Rattle.config_parts.specs.declared.component.State.{State}
 use Rattle.config_parts.specs.declared.component.State.TheVariants as state
 use Rattle.config_parts.specs.declared.config.Going.{Going}
 use Rattle.config_parts.specs.declared.connection.Connection.{Connection}
-use Rattle.ttcn_values.specs.declared.path.Path.{Path}
+use Rattle.value_types.specs.declared.path.Path.{Path}
 
 abbrev pub badness : Verdict → ℕ
 badness = rules.badness

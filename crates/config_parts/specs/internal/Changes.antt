@@ -11,7 +11,7 @@ use Rattle.config_parts.specs.declared.component.State.{State}
 use Rattle.config_parts.specs.declared.component.State.TheVariants as state
 use Rattle.config_parts.specs.declared.frame.Frame.{Frame}
 use Rattle.config_parts.specs.declared.frame.Data.{Data}
-use Rattle.ttcn_values.specs.declared.path.Path.{Path}
+use Rattle.value_types.specs.declared.path.Path.{Path}
 
 -- a list in which the element at a place is changed
 abbrev pub changed_at : {A : Type 0} → List A → ℕ → (A → A) → List A

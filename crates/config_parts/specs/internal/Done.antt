@@ -8,7 +8,8 @@ use Rattle.semantics.specs.Configurations.{path_cmp, worse}
 use Rattle.config_parts.specs.internal.Changes.{begun, is_of, is_terminated_at, terminated, touch, with_message, with_own, with_queues, with_state, with_verdict, without_message}
 use Rattle.config_parts.specs.internal.Ends.{add_connection, connection, is_double, peer}
 use Rattle.config_parts.specs.declared.act.Act.{Act}
-use Rattle.config_parts.specs.declared.act.Act.TheVariants as act
+use Rattle.config_parts.specs.declared.act.Request.{Request}
+use Rattle.config_parts.specs.declared.act.Request.TheVariants as request
 use Rattle.config_parts.specs.declared.component.Component.{Component}
 use Rattle.config_parts.specs.declared.component.Message.{Message}
 use Rattle.config_parts.specs.declared.component.State.{State}
@@ -20,11 +21,11 @@ use Rattle.config_parts.specs.declared.connection.Connection.{Connection}
 use Rattle.config_parts.specs.declared.connection.End.{End}
 use Rattle.config_parts.specs.declared.frame.Data.{Data}
 use Rattle.config_parts.specs.declared.frame.Frame.{Frame}
-use Rattle.ttcn_values.specs.declared.fault.Fault.{Fault}
-use Rattle.ttcn_values.specs.declared.fault.Fault.TheVariants.{Dynamic, Memory}
-use Rattle.ttcn_values.specs.declared.path.Path.{Path}
-use Rattle.ttcn_values.specs.declared.value.ComponentId.{ComponentId}
-use Rattle.ttcn_values.specs.declared.value.Value.{Value}
+use Rattle.value_types.specs.declared.fault.Fault.{Fault}
+use Rattle.value_types.specs.declared.fault.Fault.TheVariants.{Dynamic, Memory}
+use Rattle.value_types.specs.declared.path.Path.{Path}
+use Rattle.value_types.specs.declared.value.ComponentId.{ComponentId}
+use Rattle.value_types.specs.declared.value.Value.{Value}
 
 -- ---- what calls do: they say that what is wanted can't be had, or that memory was refused
 
@@ -109,15 +110,19 @@ abbrev pub stop : List Component → List Connection → Verdict → Path → Co
 stop components connections forgotten path =
     if is_main path then config.Ended (overall forgotten components) else going_on (touch components path (with_state terminated)) connections forgotten
 
+-- what a component asks for, where its own data are in place
+abbrev pub perform : List Component → List Connection → Verdict → ComponentId → Request → Option Config
+perform components connections forgotten itself request.Continues = Some (going_on components connections forgotten)
+perform components connections forgotten itself (request.Worsens v) = Some (going_on (touch components itself.path (with_verdict v)) connections forgotten)
+perform components connections forgotten itself (request.Removes port) = Some (going_on (touch components itself.path (with_queues (without_message port))) connections forgotten)
+perform components connections forgotten itself (request.Sends port to v) =
+    option_map (λ others. going_on others connections forgotten) (send components connections itself port to v)
+perform components connections forgotten itself (request.Creates new) = Some (going_on (create components new) connections forgotten)
+perform components connections forgotten itself (request.Starts path frame) =
+    option_map (λ others. going_on others connections forgotten) (start components path frame)
+perform components connections forgotten itself (request.Stops path) = Some (stop components connections forgotten path)
+perform components connections forgotten itself (request.Connects d e) =
+    option_map (going_connected components forgotten) (connect components connections d e)
+
 abbrev pub apply : Going → ComponentId → Act → Option Config
-apply going itself (act.Continues own) = Some (going_with (settled going itself.path own) going)
-apply going itself (act.Worsens v own) = Some (going_with (touch (settled going itself.path own) itself.path (with_verdict v)) going)
-apply going itself (act.Removes port own) = Some (going_with (touch (settled going itself.path own) itself.path (with_queues (without_message port))) going)
-apply going itself (act.Sends port to v own) =
-    option_map (λ components. going_with components going)
-    (send (settled going itself.path own) going.connections itself port to v)
-apply going itself (act.Creates new own) = Some (going_with (create (settled going itself.path own) new) going)
-apply going itself (act.Starts path frame own) = option_map (λ components. going_with components going) (start (settled going itself.path own) path frame)
-apply going itself (act.Stops path own) = Some (stop (settled going itself.path own) going.connections going.forgotten path)
-apply going itself (act.Connects d e own) =
-    option_map (going_connected (settled going itself.path own) going.forgotten) (connect (settled going itself.path own) going.connections d e)
+apply going itself asked = perform (settled going itself.path asked.own) going.connections going.forgotten itself asked.request

@@ -7,7 +7,7 @@ use Rattle.std.specs.declared.cmp.Ordering.TheVariants.{Less, Greater}
 use Rattle.semantics.specs.Configurations.{path_cmp, same_path}
 use Rattle.config_parts.specs.declared.connection.Connection.{Connection}
 use Rattle.config_parts.specs.declared.connection.End.{End}
-use Rattle.ttcn_values.specs.declared.path.Path.{Path}
+use Rattle.value_types.specs.declared.path.Path.{Path}
 
 abbrev pub end_cmp : End → End → Ordering
 end_cmp d e = match_ordering (path_cmp d.component e.component) Less (nat_cmp d.port e.port) Greater

@@ -9,10 +9,10 @@ use Rattle.config_parts.specs.declared.frame.Data.{Data}
 use Rattle.config_parts.specs.declared.frame.Frame.{Frame}
 use Rattle.config_parts.specs.internal.Changes.{is_of, touch, with_calls, with_own}
 use Rattle.config_parts.specs.internal.Stored.{with_cells, with_members, with_timer}
-use Rattle.ttcn_values.specs.Frames.{is_running}
-use Rattle.ttcn_values.specs.declared.frame.TimerState.{TimerState}
-use Rattle.ttcn_values.specs.declared.frame.TimerState.TheVariants as timer
-use Rattle.ttcn_values.specs.declared.path.Path.{Path}
+use Rattle.value_types.specs.Frames.{is_running}
+use Rattle.value_types.specs.declared.frame.TimerState.{TimerState}
+use Rattle.value_types.specs.declared.frame.TimerState.TheVariants as timer
+use Rattle.value_types.specs.declared.path.Path.{Path}
 
 -- ---- timers of a frame
 

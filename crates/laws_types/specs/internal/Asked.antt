@@ -5,11 +5,11 @@ use Rattle.ttcn_syntax.specs.declared.tree.expression.ComponentRef.{ComponentRef
 use Rattle.semantics.specs.Configurations.{Data, Frame, Going, component_at, path_of, same_path}
 use Rattle.semantics.specs.Sites.{Site}
 use Rattle.semantics.specs.Snapshots.{Snapshot, Test, last_view, reading_in}
-use Rattle.semantics.specs.Statements.{Act, Connects, Continues, Creates, Errs, Removes, Sends, Starts, Stops, Waits, Worsens}
-use Rattle.ttcn_values.specs.Outcomes.{DynamicError, Unmet, Yields}
-use Rattle.ttcn_values.specs.Readings.{component_referred}
-use Rattle.ttcn_values.specs.declared.path.Path.{Path}
-use Rattle.ttcn_values.specs.declared.value.ComponentId.{ComponentId}
+use Rattle.semantics.specs.Statements.{Act, Connects, Continues, Creates, Errs, Removes, Requests, Sends, Starts, Stops, Waits, Worsens}
+use Rattle.value_types.specs.Outcomes.{DynamicError, Unmet, Yields}
+use Rattle.value_types.specs.Readings.{component_referred}
+use Rattle.value_types.specs.declared.path.Path.{Path}
+use Rattle.value_types.specs.declared.value.ComponentId.{ComponentId}
 use Rattle.laws_types.specs.Typed.{FitCalls, FitsComponent, FitsData, FitsMessage, FitsOwn, HasFrames}
 
 -- a component that a reference means somewhere in a component's last frame
@@ -29,14 +29,14 @@ abbrev pub FitsAct : Test → ℕ → Path → (ComponentId → Type 0) → Act 
 FitsAct test component_type at P Waits = Unit {0}
 FitsAct test component_type at P (Errs DynamicError) = Unit {0}
 FitsAct test component_type at P (Errs Unmet) = ⊥
-FitsAct test component_type at P (Continues own) = FitsData test.definitions component_type own
-FitsAct test component_type at P (Worsens v own) = FitsData test.definitions component_type own
-FitsAct test component_type at P (Removes port own) = FitsData test.definitions component_type own
-FitsAct test component_type at P (Sends port to v own) = ((sender : ComponentId) → FitsMessage test.definitions (record { value = v; sender = sender })) × FitsData test.definitions component_type own
-FitsAct test component_type at P (Creates new own) = FitsComponent test.definitions new × FitsData test.definitions component_type own
-FitsAct test component_type at P (Starts path frame own) = FitsStart test P path frame × FitsData test.definitions component_type own
-FitsAct test component_type at P (Stops path own) = FitsOwn test.definitions component_type own × ((path ≡ at) ⊎ HasFrames own.calls)
-FitsAct test component_type at P (Connects d e own) = FitsData test.definitions component_type own
+FitsAct test component_type at P (Requests Continues own) = FitsData test.definitions component_type own
+FitsAct test component_type at P (Requests (Worsens v) own) = FitsData test.definitions component_type own
+FitsAct test component_type at P (Requests (Removes port) own) = FitsData test.definitions component_type own
+FitsAct test component_type at P (Requests (Sends port to v) own) = ((sender : ComponentId) → FitsMessage test.definitions (record { value = v; sender = sender })) × FitsData test.definitions component_type own
+FitsAct test component_type at P (Requests (Creates new) own) = FitsComponent test.definitions new × FitsData test.definitions component_type own
+FitsAct test component_type at P (Requests (Starts path frame) own) = FitsStart test P path frame × FitsData test.definitions component_type own
+FitsAct test component_type at P (Requests (Stops path) own) = FitsOwn test.definitions component_type own × ((path ≡ at) ⊎ HasFrames own.calls)
+FitsAct test component_type at P (Requests (Connects d e) own) = FitsData test.definitions component_type own
 
 -- ---- what is found
 

@@ -6,7 +6,6 @@ use Rattle.report.specs.declared.run.Content.{Content}
 use Rattle.report.specs.declared.run.Content.TheVariants as content
 use Rattle.report.specs.Labels.{label_text, number_text, path_text}
 use Rattle.report.specs.Runs.{IsProper, IsSmall, has_text, is_timer_name}
-use Rattle.step_labels.specs.declared.label.Expiry.{Expiry}
 use Rattle.ttcn_syntax.specs.Characters.{is_blank}
 
 -- no byte is the mark
@@ -26,11 +25,11 @@ IsPath text numbers = AllByRecursion IsSmall numbers × (text ≡ flat_map numbe
 abbrev pub IsNoPath : List ℕ → Type 0
 IsNoPath text = (numbers : List ℕ) → ¬ IsPath text numbers
 
-abbrev pub TellsExpiry : List ℕ → Expiry → Type 0
-TellsExpiry text expiry = IsSmall expiry.frame × IsTrue (is_timer_name expiry.timer) × (text ≡ decimal expiry.frame ++ 46 ∷ expiry.timer)
+abbrev pub TellsExpiry : List ℕ → ℕ → List ℕ → Type 0
+TellsExpiry text frame timer = IsSmall frame × IsTrue (is_timer_name timer) × (text ≡ decimal frame ++ 46 ∷ timer)
 
 abbrev pub IsNoExpiry : List ℕ → Type 0
-IsNoExpiry text = (expiry : Expiry) → ¬ TellsExpiry text expiry
+IsNoExpiry text = (frame : ℕ) (timer : List ℕ) → ¬ TellsExpiry text frame timer
 
 -- the name of the component with these numbers
 abbrev pub IsName : List ℕ → List ℕ → Type 0

@@ -143,8 +143,16 @@ fn share_work<Y: System, U: Summary<Y>, G: Gate, R: Threads + Sync>(
     work.join_workers(alloc, seat, draws, done)
 }
 
-/// The positions of the candidates whose states are new and no earlier candidate's, and what the steps of all
-/// candidates show.
+/// The first candidates of a layer.
+#[derive(Drop)]
+pub struct Firsts<U> {
+    /// The positions of the candidates whose states are new and no earlier candidate's, ascending.
+    pub positions: Vec<u64>,
+    /// What the steps of all candidates show.
+    pub shown: U,
+}
+
+/// Finds the candidates whose states are new and no earlier candidate's, and what the steps of all candidates show.
 pub fn find_first<'l, Y: System, U: Summary<Y>, G: Gate, R: Threads + Sync>(
     rt: &R,
     alloc: Global,
@@ -154,20 +162,20 @@ pub fn find_first<'l, Y: System, U: Summary<Y>, G: Gate, R: Threads + Sync>(
     layer: u64,
     visited: &'l ShardedSet<Y::State>,
     candidates: &'l [Candidate<Y::State, Y::Label>],
-) -> Result<(Vec<u64>, U), AllocError>
+) -> Result<Firsts<U>, AllocError>
     requires plan { IsWithinLimits plan.now }
     requires fits { All (Y.fits system.now) visited.now.keys }
     requires steps { All (IsStep (Y.graph system.now) visited.now.keys) candidates.now }
     requires room { length candidates.now < 2 ^ 63 }
-    ensures first { IfOk result (λ r. AreFirst Y.State.eq visited.now.keys candidates.now r.0.items) }
-    ensures summary { IfOk result (λ r. r.1 ≡ with_steps U.joins (U.observation system.now) (Y.graph system.now) visited.now.keys U.joins.none candidates.now) }
+    ensures first { IfOk result (λ r. AreFirst Y.State.eq visited.now.keys candidates.now r.positions.items) }
+    ensures summary { IfOk result (λ r. r.shown ≡ with_steps U.joins (U.observation system.now) (Y.graph system.now) visited.now.keys U.joins.none candidates.now) }
 {
     let size = plan.piece as usize;
     let pieces = candidates.len().div_ceil(size) as u64;
     let count = plan.workers.min(pieces).max(1);
     let (seen, mut seat) = Seen::new(alloc, candidates, count + 1)?;
     let (board, mut draws) = Board::new(alloc, pieces, count + 1)?;
-    let summary = share_work::<Y, U, G, R>(
+    let shown = share_work::<Y, U, G, R>(
         rt,
         alloc,
         &Work {
@@ -185,9 +193,11 @@ pub fn find_first<'l, Y: System, U: Summary<Y>, G: Gate, R: Threads + Sync>(
         &mut draws,
         count,
     )?;
-    if board.finish(draws) {
+    let has_stopped = board.finish(draws);
+    // A worker stops the others where it got no memory.
+    if has_stopped {
         return Err(AllocError);
     }
-    let firsts = seen.finish(alloc, seat)?;
-    Ok((firsts, summary))
+    let positions = seen.finish(alloc, seat)?;
+    Ok(Firsts { positions, shown })
 }

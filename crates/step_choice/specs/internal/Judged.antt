@@ -26,10 +26,10 @@ use Rattle.step_snapshot.specs.Tests.{legend_by, test_by}
 use Rattle.step_snapshot.specs.declared.snapshot.Snapshot.{Snapshot}
 use Rattle.config_parts.specs.Views.{view_by}
 use Rattle.config_parts.specs.declared.frame.Cells.{Cells}
-use Rattle.ttcn_values.specs.Outcomes.{Failure, Fails, Outcome, Yields, unmet}
-use Rattle.ttcn_values.specs.Readings.{Reading}
-use Rattle.ttcn_values.specs.declared.fault.Fault.{Fault}
-use Rattle.ttcn_values.specs.declared.fault.Fault.TheVariants.{Dynamic, Memory}
+use Rattle.value_types.specs.Outcomes.{Failure, Fails, Outcome, Yields, unmet}
+use Rattle.value_types.specs.Readings.{Reading}
+use Rattle.value_types.specs.declared.fault.Fault.{Fault}
+use Rattle.value_types.specs.declared.fault.Fault.TheVariants.{Dynamic, Memory}
 
 -- ---- where branches are judged
 

@@ -5,7 +5,7 @@ use Rattle.semantics.specs.Events as events
 use Rattle.semantics.specs.Events.{Choice, Refused}
 use Rattle.semantics.specs.Items.{Item}
 use Rattle.semantics.specs.Snapshots.{Test}
-use Rattle.ttcn_values.specs.declared.value.Value.{Value}
+use Rattle.value_types.specs.declared.value.Value.{Value}
 
 -- a choice, or another one where it chooses nothing
 abbrev pub or_later : Choice → Choice → Choice

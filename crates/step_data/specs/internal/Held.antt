@@ -4,7 +4,7 @@ use Rattle.std.specs.List.{find}
 use Rattle.std.specs.Option.{option_map}
 use Rattle.config_parts.specs.declared.frame.Data.{Data}
 use Rattle.config_parts.specs.internal.Stored.{cells_in}
-use Rattle.ttcn_values.specs.declared.value.Value.{Value}
+use Rattle.value_types.specs.declared.value.Value.{Value}
 
 -- what the first entry of a slot says
 abbrev pub value_at : ℕ → List (ℕ × Value) → Option Value

@@ -171,5 +171,5 @@ fn takes_no_branch_by_expiry(
     requires { Fits machine.now config.now }
 {
     let place = machine.branch(alloc, config, label)?;
-    Ok(label.expiry.is_none() || place.is_none())
+    Ok(matches!(label, Label::Statement(_)) || place.is_none())
 }

@@ -1,8 +1,9 @@
 //! The labels that can be spelled, enabled or not.
 use std::alloc::{AllocError, Global};
-use step_labels::{Expiry, Label};
+use step_labels::Label;
 use ttcn_config::{Component, Config};
 use ttcn_syntax::{Name, Seq};
+use ttcn_values::Path;
 
 /// The labels that can be spelled with these names of timers: those of each component and of a child that it hasn't created
 /// yet, with a frame more than the component has. Where the test case has ended, those of an MTC without frames.
@@ -48,22 +49,24 @@ fn push_labels(
     timers: &[Name],
     labels: &mut Vec<Label>,
 ) -> Result<(), AllocError> {
-    labels.push(label_of(alloc, path, None)?)?;
+    labels.push(Label::Statement(path_of(alloc, path)?))?;
     let calls = u32::try_from(calls).unwrap_or(u32::MAX);
     for frame in 0..calls.saturating_add(2) {
         for timer in timers {
-            let timer = timer.try_clone(alloc)?;
-            labels.push(label_of(alloc, path, Some(Expiry { frame, timer }))?)?;
+            labels.push(Label::Expiry {
+                component: path_of(alloc, path)?,
+                frame,
+                timer: timer.try_clone(alloc)?,
+            })?;
         }
     }
     Ok(())
 }
 
-/// The label of a path.
-fn label_of(alloc: Global, path: &[u32], expiry: Option<Expiry>) -> Result<Label, AllocError> {
-    let component = Vec::from_slice(alloc, path)?;
-    Ok(Label {
-        component: Seq::from_vec(component),
-        expiry,
+/// A path of its own with these numbers.
+fn path_of(alloc: Global, numbers: &[u32]) -> Result<Path, AllocError> {
+    let numbers = Vec::from_slice(alloc, numbers)?;
+    Ok(Path {
+        numbers: Seq::from_vec(numbers),
     })
 }

@@ -10,7 +10,7 @@ use Rattle.ttcn_step.specs.declared.error.CoarsenError.{CoarsenError}
 use Rattle.ttcn_step.specs.declared.error.CoarsenError.TheVariants as coarsen
 use Rattle.ttcn_step.specs.declared.fine.Fate.{Fate}
 use Rattle.ttcn_step.specs.internal.Fine.{fate_by, holding_of, told_by}
-use Rattle.ttcn_values.specs.declared.path.Path.{Path}
+use Rattle.value_types.specs.declared.path.Path.{Path}
 
 -- a call gives what is held where fine labels lead, and what came of each choice, or the number of the first that can't follow, unless memory was refused
 abbrev pub Follows : Machine → List FineLabel → Result Followed CoarsenError → Type 0

@@ -14,7 +14,7 @@ use Rattle.config_parts.specs.Legend.{Legend, component_by, config_by, data_by, 
 use Rattle.config_parts.specs.declared.component.Component.{Component}
 use Rattle.config_parts.specs.declared.config.Config.{Config}
 use Rattle.config_parts.specs.declared.config.Going.{Going}
-use Rattle.ttcn_values.specs.Outcomes.{Outcome}
+use Rattle.value_types.specs.Outcomes.{Outcome}
 
 -- what a component asks for
 abbrev pub asked : TestCase → Going → Component → said.Act

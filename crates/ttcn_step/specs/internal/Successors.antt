@@ -1,6 +1,5 @@
 -- Successors, as the private functions know them.
 use Rattle.std.specs.Prelude.{List, map}
-use Rattle.step_labels.specs.Labels.{label_by}
 use Rattle.semantics.specs.Configurations as rules
 use Rattle.semantics.specs.Steps.{Label}
 use Rattle.ttcn_step.specs.Machines.{Machine, said}
@@ -8,4 +7,4 @@ use Rattle.ttcn_step.specs.declared.successor.Successor.{Successor}
 
 -- labels with the configurations to which they lead
 abbrev pub pairs_by : Machine → List Successor → List (Label × rules.Configuration)
-pairs_by machine found = map (λ s. (label_by s.label, said machine s.config)) found
+pairs_by machine found = map (λ s. (s.label, said machine s.config)) found

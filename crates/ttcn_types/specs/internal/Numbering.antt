@@ -4,7 +4,7 @@ use Rattle.check_scope.specs.Names.{Names}
 use Rattle.check_scope.specs.declared.names.Meaning.{Meaning}
 use Rattle.check_scope.specs.declared.names.Meaning.TheVariants as meaning
 use Rattle.ttcn_syntax.specs.declared.tree.definition.Definition.{Definition}
-use Rattle.ttcn_types.specs.Parts.{how_many_in, number_at}
+use Rattle.check_rules.specs.Parts.{how_many_in, number_at}
 use Rattle.ttcn_types.specs.declared.parts.numbers.Numbers.{Numbers}
 
 -- how many constants and templates come before a definition

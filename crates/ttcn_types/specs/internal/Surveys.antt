@@ -4,9 +4,9 @@ use Rattle.std.specs.Option.{option_map}
 use Rattle.check_survey.specs.declared.thing.Thing.{Thing}
 use Rattle.ttcn_syntax.specs.declared.tree.definition.Definition.{Definition}
 use Rattle.check_scope.specs.Numbers.{number_of}
-use Rattle.ttcn_types.specs.Limits.{longest_chain, most_fields, most_parts}
-use Rattle.ttcn_types.specs.Parts.{altsteps, records, constants_and_templates}
-use Rattle.ttcn_types.specs.Rules.{AreTooLarge, HasCircle}
+use Rattle.check_rules.specs.Limits.{longest_chain, most_fields, most_parts}
+use Rattle.check_rules.specs.Parts.{altsteps, records, constants_and_templates}
+use Rattle.check_rules.specs.Rules.{AreTooLarge, HasCircle}
 use Rattle.check_scope.specs.declared.rule.Rule.{Rule}
 use Rattle.check_scope.specs.declared.rule.Rule.TheVariants as rule
 

@@ -1,6 +1,6 @@
 //! The numbers of constants and templates.
 ghost use Rattle.std.specs.Prelude.{◌≡◌, ◌+◌, ◌<◌, length, IfOk, OnOk};
-ghost use Rattle.ttcn_types.specs.Parts.{how_many};
+ghost use Rattle.check_rules.specs.Parts.{how_many};
 ghost use Rattle.ttcn_types.specs.internal.Numbering.{AreNumbers, count_before};
 
 use std::alloc::{AllocError, Global};

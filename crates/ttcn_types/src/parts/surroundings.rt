@@ -24,7 +24,7 @@ pub(super) struct Surroundings<'p, 'a> {
 
 impl Surroundings<'_, '_> {
     ghost use Rattle.ttcn_types.specs.internal.Surrounding.{scope_of};
-    ghost use Rattle.ttcn_types.specs.Parts as spec;
+    ghost use Rattle.check_rules.specs.Parts as spec;
 
     /// What a name stands for.
     pub(super) fn get(&self, name: &[u8]) -> Option<Meaning>

@@ -3,15 +3,15 @@ ghost use Rattle.std.specs.Prelude.{◌≡◌, IfOk, OnOk, map};
 ghost use Rattle.check_survey.specs.Things.{add, tally};
 
 use super::surroundings::Surroundings;
-use check_expressions::template::template_meant;
+use check_rules::template_meant;
 use check_survey::Thing;
 use std::alloc::{AllocError, Global};
 use ttcn_syntax::{Bound, Call, ComponentRef, Expr, FieldTemplate, Template, TemplateBody};
 
 impl Surroundings<'_, '_> {
     ghost use Rattle.ttcn_types.specs.internal.Surrounding.{scope_of};
-    ghost use Rattle.ttcn_types.specs.Parts as spec;
-    ghost use Rattle.check_expressions.specs.Templates as named;
+    ghost use Rattle.check_rules.specs.Parts as spec;
+    ghost use Rattle.check_rules.specs.Templates as named;
 
     /// The template that an expression names without arguments.
     fn template_named(&self, expr: &Expr) -> Option<usize>

@@ -3,9 +3,9 @@ ghost use Rattle.std.specs.Prelude.{◌≡◌, [], ◌∷◌, ◌++◌, length, 
 ghost use Rattle.check_survey.specs.Things.{tally};
 ghost use Rattle.ttcn_types.specs.internal.Surrounding.{scope_of};
 ghost use Rattle.check_scope.specs.Scopes.{module_scope};
-ghost use Rattle.check_statements.specs.Definitions.{with_parameters};
+ghost use Rattle.check_rules.specs.Definitions.{with_parameters};
 ghost use Rattle.check_scope.specs.Names.{declaring, resolved};
-ghost use Rattle.ttcn_types.specs.Parts as spec;
+ghost use Rattle.check_rules.specs.Parts as spec;
 ghost use Rattle.ttcn_types.specs.internal.Numbering.{AreNumbers};
 
 use super::numbers::Numbers;

@@ -1,14 +1,14 @@
 -- How templates are built step by step (ES 201 873-1, 15): each step makes a list of templates of another, and what a template of the text gives is the one that its steps leave.
 use Rattle.std.specs.Prelude.{◌≡◌, ◌≤◌, ◌<◌, ℕ, ◌-◌, true, List, [], ◌∷◌, ◌++◌, Ok, Err, None, Result, drop, length, map, nat_le, take, if◌then◌else◌}
-use Rattle.ttcn_values.specs.Outcomes.{Outcome, Yields, outcome_and_then, outcome_map, unmet, value_in}
-use Rattle.ttcn_values.specs.Readings.{Reading}
-use Rattle.ttcn_values.specs.Templates.{plain, with_ifpresent}
-use Rattle.ttcn_values.specs.declared.fault.Fault.{Fault}
-use Rattle.ttcn_values.specs.declared.fault.Fault.TheVariants.{Dynamic, Memory}
+use Rattle.value_types.specs.Outcomes.{Outcome, Yields, outcome_and_then, outcome_map, unmet, value_in}
+use Rattle.value_types.specs.Readings.{Reading}
+use Rattle.value_types.specs.Templates.{plain, with_ifpresent}
+use Rattle.value_types.specs.declared.fault.Fault.{Fault}
+use Rattle.value_types.specs.declared.fault.Fault.TheVariants.{Dynamic, Memory}
 use Rattle.ttcn_values.specs.declared.reader.Step.{Step}
 use Rattle.ttcn_values.specs.declared.reader.Step.TheVariants as step
-use Rattle.ttcn_values.specs.declared.template.Pattern.TheVariants as pattern
-use Rattle.ttcn_values.specs.declared.template.Template.{Template}
+use Rattle.value_types.specs.declared.template.Pattern.TheVariants as pattern
+use Rattle.value_types.specs.declared.template.Template.{Template}
 
 -- what is made of the templates so far
 abbrev pub Build : Type 0

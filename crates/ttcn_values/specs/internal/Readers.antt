@@ -3,10 +3,10 @@ use Rattle.std.specs.Prelude.{ℕ, Bool, All, List, Option, None}
 use Rattle.std.specs.Option.{option_map}
 use Rattle.ttcn_syntax.specs.declared.tree.definition.Definition.{Definition}
 use Rattle.ttcn_syntax.specs.declared.tree.expression.Reference.{Reference}
-use Rattle.ttcn_values.specs.Chains.{given_to, within_chains}
-use Rattle.ttcn_values.specs.Frames.{facts}
-use Rattle.ttcn_values.specs.Outcomes.{Gives, Outcome, or_error, or_unmet, outcome_and_then, unmet}
-use Rattle.ttcn_values.specs.Readings.{Reading, along, named, presence}
+use Rattle.value_types.specs.Chains.{given_to, within_chains}
+use Rattle.value_types.specs.Frames.{facts}
+use Rattle.value_types.specs.Outcomes.{Gives, Outcome, or_error, or_unmet, outcome_and_then, unmet}
+use Rattle.value_types.specs.Readings.{Reading, along, named, presence}
 use Rattle.ttcn_values.specs.declared.reader.ConstantResult.{ConstantResult}
 use Rattle.ttcn_values.specs.declared.reader.Origin.{Origin}
 use Rattle.ttcn_values.specs.declared.reader.Origin.TheVariants as origin
@@ -15,7 +15,7 @@ use Rattle.ttcn_values.specs.declared.reader.Use.{Use}
 use Rattle.ttcn_values.specs.declared.reader.Use.TheVariants as use_form
 use Rattle.ttcn_values.specs.declared.reader.Visible.{Visible}
 use Rattle.ttcn_values.specs.declared.reader.Visible.TheVariants as visible
-use Rattle.ttcn_values.specs.declared.value.Value.{Value}
+use Rattle.value_types.specs.declared.value.Value.{Value}
 
 abbrev pub names_seen : Visible → Reading → List ℕ → Outcome Value
 names_seen visible.Frame facts = facts.names

@@ -3,14 +3,14 @@
 ghost use Rattle.std.specs.Prelude.{◌≡◌, ◌-◌, ◌≤◌, [], drop, length, take};
 ghost use Rattle.ttcn_values.specs.internal.Building.{Builds, Gathers, after_step, after_steps};
 ghost use Rattle.ttcn_values.specs.internal.Readers.{KnowsConstants, read_by};
-ghost use Rattle.ttcn_values.specs.Outcomes.{Gives, GivesBy};
-ghost use Rattle.ttcn_values.specs.Templates.{plain, template_wanted};
+ghost use Rattle.value_types.specs.Outcomes.{Gives, GivesBy};
+ghost use Rattle.value_types.specs.Templates.{plain, template_wanted};
 
 use super::{Reader, Step, Visible};
 use crate::{Fault, Pattern, Template, Value};
+use check_rules::DataType;
 use std::alloc::Global;
 use ttcn_syntax::{Seq, Template as Written};
-use ttcn_types::DataType;
 
 /// A pattern without `ifpresent`.
 fn plain(pattern: Pattern) -> Template

@@ -1,7 +1,7 @@
 //! What the constants of the module give (ES 201 873-1, section 10).
 ghost use Rattle.std.specs.Prelude.{IfOk, IfSome};
 ghost use Rattle.ttcn_values.specs.internal.Readers.{AreResults, KnowsConstants, read_by};
-ghost use Rattle.ttcn_values.specs.Outcomes.{Gives};
+ghost use Rattle.value_types.specs.Outcomes.{Gives};
 
 use super::named_constants::constants_in;
 use super::{ConstantResult, Reader, Visible};

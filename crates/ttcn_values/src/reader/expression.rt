@@ -1,9 +1,9 @@
 //! What an expression gives (ES 201 873-1, section 7).
 ghost use Rattle.std.specs.Prelude.{◌≡◌, map};
-ghost use Rattle.ttcn_values.specs.Evaluation.{after, joined, link, value_of};
+ghost use Rattle.value_types.specs.Evaluation.{after, joined, link, value_of};
 ghost use Rattle.ttcn_values.specs.internal.Readers.{KnowsConstants, read_by, wanted_of};
-ghost use Rattle.ttcn_values.specs.Outcomes.{Answers, Gives, Yields};
-ghost use Rattle.ttcn_values.specs.Readings.{component_at, component_runs};
+ghost use Rattle.value_types.specs.Outcomes.{Answers, Gives, Yields};
+ghost use Rattle.value_types.specs.Readings.{component_at, component_runs};
 
 use super::record::{value_of_new, value_of_stored};
 use super::{Origin, Reader, Use};
@@ -26,7 +26,7 @@ impl Reader<'_> {
 
     /// What an expression gives.
     #[cycle(reader)]
-    #[tactic(auto, using(crate::proofs::Outcomes::outcome_forms))]
+    #[tactic(auto, using(value_types::proofs::Outcomes::outcome_forms))]
     pub(crate) fn evaluate(&self, alloc: Global, expr: &Expr) -> Result<Value, Fault>
         requires { KnowsConstants self.now }
         ensures { Gives (value_of expr.now (read_by self.now)) result }
@@ -65,7 +65,7 @@ impl Reader<'_> {
 
     /// What an operator and an operand behind a value give. They count for nothing where the value decides.
     #[cycle(reader)]
-    #[tactic(auto, using(crate::proofs::Outcomes::outcome_forms))]
+    #[tactic(auto, using(value_types::proofs::Outcomes::outcome_forms))]
     fn link(&self, alloc: Global, left: Value, next: &Link) -> Result<Value, Fault>
         requires { KnowsConstants self.now }
         ensures { Gives (joined (read_by self.now) (link next.now) left) result }

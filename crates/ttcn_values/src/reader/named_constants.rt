@@ -1,7 +1,7 @@
 //! The constants of the module that values name.
+use check_rules::{Definitions, Meaning};
 use std::alloc::{AllocError, Global};
 use ttcn_syntax::{ComponentRef, Expr, Name, Value as Written};
-use ttcn_types::{Definitions, Meaning};
 
 /// The constants that a value names, each once, by the positions of their declarations and their own in those.
 pub(super) fn constants_in(

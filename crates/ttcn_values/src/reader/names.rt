@@ -1,21 +1,21 @@
 //! What the names give that the module doesn't define.
 ghost use Rattle.std.specs.Prelude.{◌≡◌};
 ghost use Rattle.std.specs.Option.{option_map};
-ghost use Rattle.ttcn_values.specs.Chains.{given_to};
+ghost use Rattle.value_types.specs.Chains.{given_to};
 ghost use Rattle.ttcn_values.specs.internal.Readers.{origin_value, read_by};
-ghost use Rattle.ttcn_values.specs.Outcomes.{value_in};
-ghost use Rattle.ttcn_values.specs.Readings.{named, timer_at};
+ghost use Rattle.value_types.specs.Outcomes.{value_in};
+ghost use Rattle.value_types.specs.Readings.{named, timer_at};
 
 use super::record::enumerated;
 use super::{Origin, Reader, Visible};
-use crate::entries::seen_entry;
 use crate::named::position_of;
 use crate::{Path, TimerState, Value, timer_state};
+use check_rules::Meaning;
 use ttcn_syntax::{ComponentRef, Name, Parameter};
-use ttcn_types::Meaning;
+use value_types::seen_entry;
 
 /// What the parameter of a name is given.
-#[tactic(auto, using(crate::proofs::Outcomes::outcome_forms))]
+#[tactic(auto, using(value_types::proofs::Outcomes::outcome_forms))]
 fn given<'a>(parameters: &[Parameter], values: &'a [Value], name: &Name) -> Option<&'a Value>
     ensures { option_map (λ value. value.now) result ≡ value_in (given_to parameters.now values.now name.now) }
 {
@@ -24,7 +24,7 @@ fn given<'a>(parameters: &[Parameter], values: &'a [Value], name: &Name) -> Opti
 
 impl<'a> Reader<'a> {
     /// The value of a name, if it has one.
-    #[tactic(auto, using(crate::proofs::Outcomes::outcome_forms))]
+    #[tactic(auto, using(value_types::proofs::Outcomes::outcome_forms))]
     pub(super) fn name(&self, name: &Name) -> Option<&'a Value>
         ensures { option_map (λ value. value.now) result ≡ value_in ((read_by self.now).names name.now) }
     {
@@ -63,7 +63,7 @@ impl<'a> Reader<'a> {
     }
 
     /// What a name stands for.
-    #[tactic(auto, using(crate::proofs::Outcomes::outcome_forms))]
+    #[tactic(auto, using(value_types::proofs::Outcomes::outcome_forms))]
     pub(super) fn origin(&self, name: &Name) -> Origin<'a>
         ensures { value_in (named (read_by self.now) name.now) ≡ value_in (origin_value (read_by self.now) result) }
     {

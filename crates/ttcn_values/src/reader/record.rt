@@ -4,18 +4,18 @@ ghost use Rattle.std.specs.List.{find, position, slice_get};
 ghost use Rattle.std.specs.Option.{option_and_then, option_map};
 ghost use Rattle.ttcn_syntax.specs.declared.tree.value.FieldValue.{out-FieldValue};
 ghost use Rattle.ttcn_values.specs.internal.Readers.{taken_for};
-ghost use Rattle.ttcn_values.specs.Readings.{along, enumerated, field, last_presence, presence, read, state_of_field};
-ghost use Rattle.ttcn_values.specs.Outcomes.{Answers, Gives, Yields, or_error, or_unmet, value_in};
+ghost use Rattle.value_types.specs.Readings.{along, enumerated, field, last_presence, presence, read, state_of_field};
+ghost use Rattle.value_types.specs.Outcomes.{Answers, Gives, Yields, or_error, or_unmet, value_in};
 
 use super::Use;
 use crate::named::position_of;
 use crate::{Fault, Value};
+use check_rules::Definitions;
 use std::alloc::Global;
 use ttcn_syntax::{DefinitionKind, Field, FieldValue, Name, Value as Written};
-use ttcn_types::Definitions;
 
 /// A name of the enumeration at a position.
-#[tactic(auto, using(crate::proofs::Outcomes::outcome_forms))]
+#[tactic(auto, using(value_types::proofs::Outcomes::outcome_forms))]
 pub(super) fn enumerated(definitions: &Definitions<'_>, at: usize, name: &Name) -> Option<Value>
     ensures { result ≡ value_in (enumerated definitions.now at name.now) }
 {
@@ -38,7 +38,7 @@ fn state_in<'v>(
 }
 
 /// What stands in the field of a name, if there is such a field.
-#[tactic(auto, using(crate::proofs::Outcomes::outcome_forms))]
+#[tactic(auto, using(value_types::proofs::Outcomes::outcome_forms))]
 fn state_of_field<'v>(
     definitions: &Definitions<'_>,
     value: &'v Value,
@@ -63,7 +63,7 @@ fn read(state: &Option<Value>) -> Option<&Value>
 }
 
 /// The value of a field of a name, where there is such a field, it has a value and is not omitted.
-#[tactic(auto, using(crate::proofs::Outcomes::outcome_forms))]
+#[tactic(auto, using(value_types::proofs::Outcomes::outcome_forms))]
 fn field<'v>(definitions: &Definitions<'_>, value: &'v Value, name: &Name) -> Option<&'v Value>
     ensures { option_map (λ value. value.now) result ≡ value_in (field definitions.now name.now value.now) }
 {

@@ -3,26 +3,26 @@
 ghost use Rattle.std.specs.Prelude.{◌≡◌, None, Some, map};
 ghost use Rattle.std.specs.Option.{option_map};
 ghost use Rattle.ttcn_syntax.specs.declared.tree.expression.Expr.{out-Expr};
-ghost use Rattle.check_expressions.specs.Templates.{bare_name};
+ghost use Rattle.check_rules.specs.Templates.{bare_name};
 ghost use Rattle.check_scope.specs.Names.{fields_at};
 ghost use Rattle.ttcn_values.specs.internal.Building.{Plans, alone};
 ghost use Rattle.ttcn_values.specs.internal.Readers.{KnowsConstants, read_by};
-ghost use Rattle.ttcn_values.specs.Literals.{wanted_record};
-ghost use Rattle.ttcn_values.specs.Outcomes.{Gives, GivesBy, Yields, outcome_map};
-ghost use Rattle.ttcn_values.specs.Readings.{Reading};
-ghost use Rattle.ttcn_values.specs.Templates as spec;
-ghost use Rattle.ttcn_values.specs.declared.template.Pattern.TheVariants as pattern;
+ghost use Rattle.value_types.specs.Literals.{wanted_record};
+ghost use Rattle.value_types.specs.Outcomes.{Gives, GivesBy, Yields, outcome_map};
+ghost use Rattle.value_types.specs.Readings.{Reading};
+ghost use Rattle.value_types.specs.Templates as spec;
+ghost use Rattle.value_types.specs.declared.template.Pattern.TheVariants as pattern;
 
 use super::value::wanted_record;
 use super::{Reader, Step};
 use crate::named::first_of;
 use crate::{Fault, Pattern, Value};
+use check_rules::{DataType, Meaning};
 use std::alloc::Global;
 use ttcn_syntax::{
     Bound, ComponentRef, Expr, Field, FieldTemplate, Name, Parameter, Seq, Template as Written,
     TemplateBody, Value as WrittenValue,
 };
-use ttcn_types::{DataType, Meaning};
 
 /// The name that an expression is and nothing more.
 fn bare_name(expr: &Expr) -> Option<&Name>
@@ -55,7 +55,7 @@ impl Reader<'_> {
     }
 
     /// What an end of a range gives.
-    #[tactic(auto, using(crate::proofs::Outcomes::outcome_forms))]
+    #[tactic(auto, using(value_types::proofs::Outcomes::outcome_forms))]
     fn bound(&self, alloc: Global, bound: &Bound) -> Result<Option<i64>, Fault>
         requires { KnowsConstants self.now }
         ensures { Gives (spec.value_of_bound (read_by self.now) bound.now) result }
@@ -70,7 +70,7 @@ impl Reader<'_> {
     }
 
     /// What a range gives.
-    #[tactic(auto, using(crate::proofs::Outcomes::outcome_forms))]
+    #[tactic(auto, using(value_types::proofs::Outcomes::outcome_forms))]
     fn range(&self, alloc: Global, low: &Bound, high: &Bound) -> Result<Pattern, Fault>
         requires { KnowsConstants self.now }
         ensures { GivesBy spec.plain (spec.template_of_range (read_by self.now) low.now high.now) result }
@@ -81,7 +81,7 @@ impl Reader<'_> {
     }
 
     /// What an expression gives that names no template.
-    #[tactic(auto, using(crate::proofs::Outcomes::outcome_forms))]
+    #[tactic(auto, using(value_types::proofs::Outcomes::outcome_forms))]
     fn pattern(&self, alloc: Global, expr: &Expr) -> Result<Pattern, Fault>
         requires { KnowsConstants self.now }
         ensures { GivesBy spec.plain (spec.template_of_expression (read_by self.now) expr.now None) result }

@@ -1,15 +1,15 @@
 //! What stands where a value of a type is wanted (ES 201 873-1, sections 5.4 and 6.2).
 ghost use Rattle.std.specs.Prelude.{◌≡◌, map};
 ghost use Rattle.ttcn_values.specs.internal.Readers.{KnowsConstants, read_by};
-ghost use Rattle.ttcn_values.specs.Literals as spec;
-ghost use Rattle.ttcn_values.specs.Outcomes.{Answers, Gives};
+ghost use Rattle.value_types.specs.Literals as spec;
+ghost use Rattle.value_types.specs.Outcomes.{Answers, Gives};
 
 use super::Reader;
 use super::record::element_of;
 use crate::{Fault, Value};
+use check_rules::DataType;
 use std::alloc::Global;
 use ttcn_syntax::{Field, FieldValue, Seq, Value as Written};
-use ttcn_types::DataType;
 
 /// The position of the record that is wanted.
 pub(super) fn wanted_record(wanted: Option<DataType>) -> Result<usize, Fault>
@@ -25,7 +25,7 @@ pub(super) fn wanted_record(wanted: Option<DataType>) -> Result<usize, Fault>
 impl Reader<'_> {
     /// The value of what stands where a value of a type is wanted.
     #[cycle(reader)]
-    #[tactic(auto, using(crate::proofs::LiteralForms::literal_forms, crate::proofs::Outcomes::outcome_forms))]
+    #[tactic(auto, using(crate::proofs::LiteralForms::literal_forms, value_types::proofs::Outcomes::outcome_forms))]
     pub(crate) fn value(
         &self,
         alloc: Global,

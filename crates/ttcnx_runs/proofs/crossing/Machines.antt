@@ -9,7 +9,7 @@ use Rattle.ttcnx_runs.proofs.crossing.States.{cells-sync, id-sync}
 use Rattle.ttcnx_runs.proofs.crossing.Trees.{definition-sync}
 use Rattle.step_snapshot.specs.contracts.test_case.TestCase as test_case
 use Rattle.ttcn_step.specs.contracts.machine.Machine as machine
-use Rattle.ttcn_types.specs.contracts.definitions.Definitions as definitions
+use Rattle.check_rules.specs.contracts.definition_table.Definitions as definitions
 
 definitions-sync : (l : NamedLft) → IsSync (definitions.the_field l).row
 definitions-sync l = search (definition-sync, table-sync, crosses, sendable) depth 60 fits 20000

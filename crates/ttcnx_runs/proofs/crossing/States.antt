@@ -9,8 +9,8 @@ use Rattle.ttcnx_runs.specs.contracts.state.State.TheInside as inside
 use Rattle.ttcnx_runs.specs.declared.scheme.Scheme.{Ghosts}
 use Rattle.config_packed.specs.contracts.packed.Packed as packed
 use Rattle.config_parts.specs.contracts.frame.Cells as cells
-use Rattle.ttcn_values.proofs.value.Value.TheLaws.TheKnot as values
-use Rattle.ttcn_values.specs.contracts.value.ComponentId as id
+use Rattle.value_types.proofs.value.Value.TheLaws.TheKnot as values
+use Rattle.value_types.specs.contracts.value.ComponentId as id
 
 pub id-sync : IsSync id.the_field.row
 id-sync = search (crosses, sendable) depth 60 fits 20000

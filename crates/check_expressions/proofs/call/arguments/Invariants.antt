@@ -1,5 +1,5 @@
 use Rattle.std.proofs.Common.{◌≡◌, drop}
-use Rattle.check_expressions.specs.Calls as spec
+use Rattle.check_rules.specs.Calls as spec
 use Rattle.check_scope.specs.internal.Checking.{least, view}
 use Rattle.check_expressions.proofs.Arguments.{rest_of_arguments}
 use Rattle.check_expressions.proofs.call.arguments.Given as goal

@@ -1,7 +1,7 @@
 use Rattle.std.proofs.Common.{sym, ◌∙◌}
 use Rattle.check_scope.specs.internal.Checking.{view}
 use Rattle.check_scope.specs.declared.types.DataType.TheVariants as type
-use Rattle.check_expressions.proofs.Judgements.{chain-end, chain-first, chain-next, expression-Not, expression-Signed, operand-found}
+use Rattle.check_rules.proofs.Judgements.{chain-end, chain-first, chain-next, expression-Not, expression-Signed, operand-found}
 use Rattle.check_expressions.proofs.expression.+expression.Goals as goal
 
 pub loop-link-init : goal.loop-link-init

@@ -1,8 +1,8 @@
 use Rattle.std.proofs.Common.{◌≡◌, map, drop}
 use Rattle.check_scope.specs.internal.Checking.{view}
-use Rattle.check_expressions.specs.internal.Findings.{finding}
-use Rattle.check_expressions.specs.Expressions as spec
-use Rattle.check_expressions.proofs.Judgements.{all_linked}
+use Rattle.check_rules.specs.internal.Findings.{finding}
+use Rattle.check_rules.specs.Expressions as spec
+use Rattle.check_rules.proofs.Judgements.{all_linked}
 use Rattle.check_expressions.proofs.expression.+expression.Given as goal
 
 -- what was found so far with the links that are left is what is said of the whole expression

@@ -1,6 +1,6 @@
 use Rattle.std.proofs.Common.{◌≡◌, drop}
-use Rattle.check_expressions.specs.internal.Findings.{finding}
-use Rattle.check_expressions.specs.Expressions.{along}
+use Rattle.check_rules.specs.internal.Findings.{finding}
+use Rattle.check_rules.specs.Expressions.{along}
 use Rattle.check_expressions.proofs.Along.{left}
 use Rattle.check_expressions.proofs.expression.along.Given as goal
 

@@ -1,5 +1,5 @@
 use Rattle.std.proofs.Common.{ap, sym, ◌∙◌}
-use Rattle.check_expressions.specs.declared.finding.Finding.{Finding}
+use Rattle.check_rules.specs.declared.finding.Finding.{Finding}
 use Rattle.check_expressions.proofs.Along.{optional-end, optional-next}
 use Rattle.check_expressions.proofs.target.last_optional.Goals as goal
 

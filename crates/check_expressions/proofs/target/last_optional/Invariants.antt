@@ -1,5 +1,5 @@
 use Rattle.std.proofs.Common.{◌≡◌, drop}
-use Rattle.check_expressions.specs.Targets as spec
+use Rattle.check_rules.specs.Targets as spec
 use Rattle.check_expressions.proofs.target.last_optional.Given as goal
 
 -- what is left says what all say

@@ -2,10 +2,10 @@ use Rattle.std.proofs.Common.{sym, ap, ◌∙◌, map}
 use Rattle.std.specs.Option.{option_map}
 use Rattle.ttcn_syntax.specs.declared.tree.template.FieldTemplate.{out-FieldTemplate}
 use Rattle.check_scope.specs.internal.Checking.{view}
-use Rattle.check_expressions.specs.Templates as spec
-use Rattle.check_expressions.specs.Values.{wanted_fields}
+use Rattle.check_rules.specs.Templates as spec
+use Rattle.check_rules.specs.Values.{wanted_fields}
 use Rattle.check_expressions.proofs.Elements.{in_order-end, in_order-next, named-end, named-first, named-next, rest_in_order}
-use Rattle.check_expressions.proofs.TemplateForms.{each-end, each-next, field_template_out, rest_of_each}
+use Rattle.check_rules.proofs.TemplateForms.{each-end, each-next, field_template_out, rest_of_each}
 use Rattle.check_expressions.proofs.template.+template.Goals as goal
 
 pub by_name-loop-element-init : goal.by_name-loop-element-init

@@ -1,10 +1,10 @@
 use Rattle.std.proofs.Common.{◌≡◌, [], map, drop}
 use Rattle.std.specs.Option.{option_map}
 use Rattle.check_scope.specs.internal.Checking.{least, view}
-use Rattle.check_expressions.specs.Templates as spec
-use Rattle.check_expressions.specs.Values.{by_name, in_order, wanted_fields}
+use Rattle.check_rules.specs.Templates as spec
+use Rattle.check_rules.specs.Values.{by_name, in_order, wanted_fields}
 use Rattle.check_expressions.proofs.Elements.{Named, rest_in_order}
-use Rattle.check_expressions.proofs.TemplateForms.{rest_of_each}
+use Rattle.check_rules.proofs.TemplateForms.{rest_of_each}
 use Rattle.check_expressions.proofs.template.+template.Given as goal
 
 -- the names so far were met, and what was found so far and what is left are what all break

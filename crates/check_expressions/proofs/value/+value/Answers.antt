@@ -2,10 +2,10 @@ use Rattle.std.proofs.Common.{sym, ap, ◌∙◌, map}
 use Rattle.std.specs.Option.{option_map}
 use Rattle.ttcn_syntax.specs.declared.tree.value.FieldValue.{out-FieldValue}
 use Rattle.check_scope.specs.internal.Checking.{view}
-use Rattle.check_expressions.specs.Values as spec
-use Rattle.check_expressions.specs.Values.{wanted_fields}
+use Rattle.check_rules.specs.Values as spec
+use Rattle.check_rules.specs.Values.{wanted_fields}
 use Rattle.check_expressions.proofs.Elements.{in_order-end, in_order-next, named-end, named-first, named-next, rest_in_order}
-use Rattle.check_expressions.proofs.ValueForms.{field_value_out}
+use Rattle.check_rules.proofs.ValueForms.{field_value_out}
 use Rattle.check_expressions.proofs.value.+value.Goals as goal
 
 pub by_name-loop-element-init : goal.by_name-loop-element-init

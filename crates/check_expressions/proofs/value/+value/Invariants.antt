@@ -1,7 +1,7 @@
 use Rattle.std.proofs.Common.{◌≡◌, [], map, drop}
 use Rattle.std.specs.Option.{option_map}
 use Rattle.check_scope.specs.internal.Checking.{least, view}
-use Rattle.check_expressions.specs.Values as spec
+use Rattle.check_rules.specs.Values as spec
 use Rattle.check_expressions.proofs.Elements.{Named, rest_in_order}
 use Rattle.check_expressions.proofs.value.+value.Given as goal
 

@@ -1,6 +1,6 @@
 use Rattle.std.proofs.Common.{sym, ◌∙◌}
 use Rattle.check_scope.specs.internal.Checking.{view}
-use Rattle.check_statements.specs.Statements.{check_log_item}
+use Rattle.check_rules.specs.Statements.{check_log_item}
 use Rattle.check_statements.proofs.Insides.{parts-end, parts-next}
 use Rattle.check_statements.proofs.action.check_log.Goals as goal
 

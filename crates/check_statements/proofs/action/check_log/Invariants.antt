@@ -1,6 +1,6 @@
 use Rattle.std.proofs.Common.{◌≡◌, drop}
 use Rattle.check_scope.specs.internal.Checking.{least, view}
-use Rattle.check_statements.specs.Statements.{check_log, check_log_item}
+use Rattle.check_rules.specs.Statements.{check_log, check_log_item}
 use Rattle.check_statements.proofs.Insides.{rest_of_parts}
 use Rattle.check_statements.proofs.action.check_log.Given as goal
 

@@ -1,7 +1,7 @@
 use Rattle.std.proofs.Common.{rules, false, sym}
 use Rattle.check_scope.specs.internal.Checking.{view}
-use Rattle.check_expressions.specs.Declarations.{one_by_one}
-use Rattle.check_expressions.specs.Targets.{check_type, check_constant, constant_entry}
+use Rattle.check_rules.specs.Declarations.{one_by_one}
+use Rattle.check_rules.specs.Targets.{check_type, check_constant, constant_entry}
 use Rattle.check_statements.proofs.Declared.{in_both}
 use Rattle.check_statements.proofs.declaration.constants.Goals as goal
 

@@ -1,5 +1,5 @@
 use Rattle.std.proofs.Common.{rules}
-use Rattle.check_expressions.specs.Targets.{check_timer_name, timer_entry}
+use Rattle.check_rules.specs.Targets.{check_timer_name, timer_entry}
 use Rattle.check_statements.proofs.declaration.timers.Goals as goal
 
 pub returns : goal.returns

@@ -1,11 +1,11 @@
 use Rattle.std.proofs.Common.{◌++◌}
 use Rattle.std.specs.List.{flat_map}
 use Rattle.check_scope.specs.internal.Checking.{least_in}
-use Rattle.check_expressions.specs.Calls.{component_named}
-use Rattle.check_statements.specs.Definitions.{check_component_name, check_parameters, place_in}
+use Rattle.check_rules.specs.Calls.{component_named}
+use Rattle.check_rules.specs.Definitions.{check_component_name, check_parameters, place_in}
 use Rattle.check_scope.specs.Scopes.{scope_on}
-use Rattle.check_statements.specs.Statements.{branch}
-use Rattle.check_statements.specs.declared.place.Returns.TheVariants as returns
+use Rattle.check_rules.specs.Statements.{branch}
+use Rattle.check_rules.specs.declared.returns.Returns.TheVariants as returns
 use Rattle.check_statements.proofs.DefinitionForms.{noted_before}
 use Rattle.check_statements.proofs.definition.check_altstep.Goals as goal
 

@@ -1,6 +1,6 @@
 use Rattle.std.proofs.Common.{◌≡◌, drop}
 use Rattle.check_scope.specs.internal.Checking.{both, least, least_in, view}
-use Rattle.check_statements.specs.Definitions as spec
+use Rattle.check_rules.specs.Definitions as spec
 use Rattle.check_statements.proofs.DefinitionForms.{rest_of_definitions}
 use Rattle.check_statements.proofs.definition.check_definitions.Given as goal
 

@@ -1,8 +1,8 @@
 use Rattle.check_scope.specs.internal.Checking.{least_in}
-use Rattle.check_expressions.specs.Calls.{component_named}
-use Rattle.check_statements.specs.Definitions.{check_component_name, check_result, check_parameters, place_in, returns_of}
+use Rattle.check_rules.specs.Calls.{component_named}
+use Rattle.check_rules.specs.Definitions.{check_component_name, check_result, check_parameters, place_in, returns_of}
 use Rattle.check_scope.specs.Scopes.{scope_on}
-use Rattle.check_statements.specs.Statements.{statements}
+use Rattle.check_rules.specs.Statements.{statements}
 use Rattle.check_statements.proofs.DefinitionForms.{function_noted}
 use Rattle.check_statements.proofs.definition.check_function.Goals as goal
 

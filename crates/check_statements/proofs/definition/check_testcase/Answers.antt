@@ -1,10 +1,10 @@
 use Rattle.std.proofs.Common.{[], Some}
 use Rattle.check_scope.specs.internal.Checking.{least_in}
-use Rattle.check_expressions.specs.Calls.{component_named}
-use Rattle.check_statements.specs.Definitions.{check_component_name, place_in}
+use Rattle.check_rules.specs.Calls.{component_named}
+use Rattle.check_rules.specs.Definitions.{check_component_name, place_in}
 use Rattle.check_scope.specs.Scopes.{scope_on}
-use Rattle.check_statements.specs.Statements.{statements}
-use Rattle.check_statements.specs.declared.place.Returns.TheVariants as returns
+use Rattle.check_rules.specs.Statements.{statements}
+use Rattle.check_rules.specs.declared.returns.Returns.TheVariants as returns
 use Rattle.check_statements.proofs.DefinitionForms.{testcase_noted}
 use Rattle.check_statements.proofs.definition.check_testcase.Goals as goal
 

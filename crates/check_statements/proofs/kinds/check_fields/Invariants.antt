@@ -1,6 +1,6 @@
 use Rattle.std.proofs.Common.{[], drop}
 use Rattle.check_scope.specs.internal.Checking.{least}
-use Rattle.check_statements.specs.Definitions.{check_fields}
+use Rattle.check_rules.specs.Definitions.{check_fields}
 use Rattle.check_scope.specs.Names.{module_names}
 use Rattle.check_statements.proofs.Insides.{Fielded}
 use Rattle.check_statements.proofs.kinds.check_fields.Given as goal

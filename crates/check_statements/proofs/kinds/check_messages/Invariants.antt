@@ -1,6 +1,6 @@
 use Rattle.std.proofs.Common.{◌≡◌, drop}
 use Rattle.check_scope.specs.internal.Checking.{least}
-use Rattle.check_statements.specs.Definitions.{check_part, check_messages}
+use Rattle.check_rules.specs.Definitions.{check_part, check_messages}
 use Rattle.check_scope.specs.Names.{module_names}
 use Rattle.check_statements.proofs.Insides.{rest_of_parts}
 use Rattle.check_statements.proofs.kinds.check_messages.Given as goal

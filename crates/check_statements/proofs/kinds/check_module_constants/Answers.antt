@@ -2,7 +2,7 @@ use Rattle.std.proofs.Common.{sym, ◌∙◌}
 use Rattle.ttcn_syntax.specs.declared.tree.statement.Constant.{Constant}
 use Rattle.check_scope.specs.internal.Checking.{view}
 use Rattle.check_scope.specs.Typings.{target_of}
-use Rattle.check_expressions.specs.Values.{value}
+use Rattle.check_rules.specs.Values.{value}
 use Rattle.check_statements.proofs.Insides.{parts-end, parts-next}
 use Rattle.check_statements.proofs.kinds.check_module_constants.Goals as goal
 

@@ -1,8 +1,8 @@
 use Rattle.std.proofs.Common.{◌≡◌, drop}
 use Rattle.check_scope.specs.internal.Checking.{least, view}
-use Rattle.check_statements.specs.Definitions.{check_module_constants}
+use Rattle.check_rules.specs.Definitions.{check_module_constants}
 use Rattle.check_scope.specs.Typings.{target_of}
-use Rattle.check_expressions.specs.Values.{value}
+use Rattle.check_rules.specs.Values.{value}
 use Rattle.check_statements.proofs.Insides.{rest_of_parts}
 use Rattle.check_statements.proofs.kinds.check_module_constants.Given as goal
 

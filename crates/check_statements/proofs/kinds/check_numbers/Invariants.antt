@@ -1,6 +1,6 @@
 use Rattle.std.proofs.Common.{[], drop}
 use Rattle.check_scope.specs.internal.Checking.{least}
-use Rattle.check_statements.specs.Definitions.{check_numbers}
+use Rattle.check_rules.specs.Definitions.{check_numbers}
 use Rattle.check_statements.proofs.Insides.{Numbered}
 use Rattle.check_statements.proofs.kinds.check_numbers.Given as goal
 

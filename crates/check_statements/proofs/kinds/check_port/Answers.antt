@@ -1,5 +1,5 @@
 use Rattle.std.proofs.Common.{sym, ◌∙◌}
-use Rattle.check_statements.specs.Definitions.{check_messages}
+use Rattle.check_rules.specs.Definitions.{check_messages}
 use Rattle.check_scope.specs.Names.{module_names}
 use Rattle.check_statements.proofs.Insides.{parts-end, parts-next}
 use Rattle.check_statements.proofs.kinds.check_port.Goals as goal

@@ -1,7 +1,7 @@
 use Rattle.std.proofs.Common.{◌≡◌, drop}
 use Rattle.std.specs.List.{flat_map}
 use Rattle.check_scope.specs.internal.Checking.{least}
-use Rattle.check_statements.specs.Definitions.{check_messages}
+use Rattle.check_rules.specs.Definitions.{check_messages}
 use Rattle.check_scope.specs.Names.{module_names}
 use Rattle.check_statements.proofs.Insides.{rest_of_parts}
 use Rattle.check_statements.proofs.kinds.check_port.Given as goal

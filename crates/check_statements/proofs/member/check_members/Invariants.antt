@@ -1,6 +1,6 @@
 use Rattle.std.proofs.Common.{◌≡◌, drop}
 use Rattle.check_scope.specs.internal.Checking.{around, least, view}
-use Rattle.check_statements.specs.Definitions as spec
+use Rattle.check_rules.specs.Definitions as spec
 use Rattle.check_statements.proofs.MemberForms.{rest_of_members}
 use Rattle.check_statements.proofs.member.check_members.Given as goal
 

@@ -2,8 +2,8 @@ use Rattle.std.proofs.Common.{◌∙◌, rules, is_some, sym}
 use Rattle.check_scope.specs.internal.Checking.{view}
 use Rattle.check_scope.specs.Typings.{unless}
 use Rattle.check_scope.specs.declared.rule.Rule.TheVariants as rule
-use Rattle.check_expressions.specs.Declarations.{one_by_one}
-use Rattle.check_statements.specs.Definitions.{check_port_name, port_entry}
+use Rattle.check_rules.specs.Declarations.{one_by_one}
+use Rattle.check_rules.specs.Definitions.{check_port_name, port_entry}
 use Rattle.check_statements.proofs.Declared.{in_both}
 use Rattle.check_statements.proofs.MemberForms.{behind_ports}
 use Rattle.check_statements.proofs.member.check_ports.Goals as goal

@@ -1,8 +1,8 @@
 use Rattle.std.proofs.Common.{◌∙◌, rules, true, sym}
 use Rattle.check_scope.specs.internal.Checking.{view}
-use Rattle.check_expressions.specs.Declarations.{one_by_one}
-use Rattle.check_expressions.specs.Targets.{check_type}
-use Rattle.check_statements.specs.Definitions.{check_member_variable, member_variable_entry}
+use Rattle.check_rules.specs.Declarations.{one_by_one}
+use Rattle.check_rules.specs.Targets.{check_type}
+use Rattle.check_rules.specs.Definitions.{check_member_variable, member_variable_entry}
 use Rattle.check_statements.proofs.Declared.{in_both}
 use Rattle.check_statements.proofs.MemberForms.{behind_member_variables}
 use Rattle.check_statements.proofs.member.check_variables.Goals as goal

@@ -1,5 +1,5 @@
 use Rattle.std.proofs.Common.{rules}
-use Rattle.check_statements.specs.Definitions.{check_parameter, parameter_entry}
+use Rattle.check_rules.specs.Definitions.{check_parameter, parameter_entry}
 use Rattle.check_statements.proofs.parameter.check_parameters.Goals as goal
 
 pub returns : goal.returns

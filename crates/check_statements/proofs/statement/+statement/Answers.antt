@@ -1,7 +1,7 @@
 use Rattle.std.proofs.Common.{refl, sym, ap, ◌∙◌}
 use Rattle.check_scope.specs.internal.Checking.{around, both, least, least_in, view}
 use Rattle.check_statements.specs.internal.Places.{place_with}
-use Rattle.check_statements.specs.Statements as spec
+use Rattle.check_rules.specs.Statements as spec
 use Rattle.check_statements.proofs.Blocks.{alt-whole, behind_is_for, block-end, block-next, call-rest, conditional-next, do_while-rest, else-whole, event-rest, for-rest, if-rest, if-whole, left-seen, rest_of_block, while-rest}
 use Rattle.check_statements.proofs.Insides.{parts-end, parts-next}
 use Rattle.check_statements.proofs.statement.+statement.Goals as goal

@@ -2,7 +2,7 @@ use Rattle.std.proofs.Common.{◌≡◌, drop}
 use Rattle.std.specs.List.{flat_map}
 use Rattle.check_scope.specs.internal.Checking.{around, both, inside, least, least_in, view}
 use Rattle.check_statements.specs.internal.Places.{place_with}
-use Rattle.check_statements.specs.Statements as spec
+use Rattle.check_rules.specs.Statements as spec
 use Rattle.check_statements.proofs.Blocks.{rest_of_block}
 use Rattle.check_statements.proofs.Insides.{rest_of_parts}
 use Rattle.check_statements.proofs.statement.+statement.Given as goal

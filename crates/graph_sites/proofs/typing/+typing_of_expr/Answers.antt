@@ -1,6 +1,6 @@
 use Rattle.std.proofs.Common.{ap, sym, ◌∙◌}
 use Rattle.ttcn_syntax.specs.declared.tree.expression.Expr.TheVariants as form
-use Rattle.check_expressions.specs.Expressions.{expression}
+use Rattle.check_rules.specs.Expressions.{expression}
 use Rattle.check_scope.specs.declared.types.Typing.TheVariants as typing
 use Rattle.semantics.specs.Sites.{scope_at}
 use Rattle.graph_sites.proofs.Typed.{of-alone, of-chain}

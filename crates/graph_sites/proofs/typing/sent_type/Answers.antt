@@ -1,6 +1,6 @@
 use Rattle.std.proofs.Common.{false, Option, Some, ℕ, ap, sym, ◌∙◌}
 use Rattle.check_scope.specs.Typings.{type_known}
-use Rattle.check_statements.specs.Messages.{passage_at, passing_at, port_meant, type_by_port}
+use Rattle.check_rules.specs.Messages.{passage_at, passing_at, port_meant, type_by_port}
 use Rattle.semantics.specs.Sites.{scope_at}
 use Rattle.semantics.specs.Statements.{sent_at}
 use Rattle.graph_sites.proofs.Sites.{definitions_at}

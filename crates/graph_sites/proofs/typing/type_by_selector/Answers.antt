@@ -1,6 +1,6 @@
 use Rattle.std.proofs.Common.{true, Option, Some, ℕ, ap, sym, ◌∙◌}
 use Rattle.check_scope.specs.Typings.{type_known}
-use Rattle.check_statements.specs.Messages.{incoming, incoming_at, passing_at, port_meant, type_by_port}
+use Rattle.check_rules.specs.Messages.{incoming, incoming_at, passing_at, port_meant, type_by_port}
 use Rattle.semantics.specs.Sites.{scope_at}
 use Rattle.graph_sites.proofs.Sites.{definitions_at}
 use Rattle.graph_sites.proofs.typing.type_by_selector.Goals as goal

@@ -1,6 +1,6 @@
 use Rattle.std.proofs.Common.{ap, sym, ◌∙◌}
-use Rattle.check_expressions.specs.Expressions.{along}
-use Rattle.check_expressions.specs.Targets.{as_target}
+use Rattle.check_rules.specs.Expressions.{along}
+use Rattle.check_rules.specs.Targets.{as_target}
 use Rattle.check_scope.specs.Typings.{type_known}
 use Rattle.semantics.specs.Sites.{scope_at}
 use Rattle.graph_sites.proofs.Sites.{definitions_at}

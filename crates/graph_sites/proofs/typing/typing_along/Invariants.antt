@@ -1,5 +1,5 @@
 use Rattle.std.proofs.Common.{◌≡◌, drop}
-use Rattle.check_expressions.specs.Expressions.{along}
+use Rattle.check_rules.specs.Expressions.{along}
 use Rattle.graph_sites.proofs.typing.typing_along.Given as goal
 
 -- what is known so far, with the fields that are left, is what is known of all

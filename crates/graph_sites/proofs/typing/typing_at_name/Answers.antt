@@ -1,6 +1,6 @@
 use Rattle.std.proofs.Common.{ap, sym, ◌∙◌}
-use Rattle.check_expressions.specs.Calls.{template_type}
-use Rattle.check_expressions.specs.Templates.{typing_at_name}
+use Rattle.check_rules.specs.Calls.{template_type}
+use Rattle.check_rules.specs.Templates.{typing_at_name}
 use Rattle.check_scope.specs.Names.{kind_at}
 use Rattle.check_scope.specs.Typings.{typed}
 use Rattle.semantics.specs.Sites.{scope_at}

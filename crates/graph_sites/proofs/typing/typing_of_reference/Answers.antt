@@ -1,5 +1,5 @@
 use Rattle.std.proofs.Common.{ap, sym, ◌∙◌}
-use Rattle.check_expressions.specs.Expressions.{along, check_meaning}
+use Rattle.check_rules.specs.Expressions.{along, check_meaning}
 use Rattle.semantics.specs.Sites.{scope_at}
 use Rattle.graph_sites.proofs.Sites.{definitions_at}
 use Rattle.graph_sites.proofs.typing.typing_of_reference.Goals as goal

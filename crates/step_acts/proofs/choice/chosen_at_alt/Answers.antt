@@ -1,4 +1,4 @@
-use Rattle.step_acts.proofs.Standing.{known-there}
+use Rattle.step_forms.proofs.Standing.{known-there}
 use Rattle.step_acts.proofs.choice.chosen_at_alt.Goals as goal
 use Rattle.semantics.specs.Items.{Whole}
 use Rattle.ttcn_graph.proofs.Forms.{does-Alt}

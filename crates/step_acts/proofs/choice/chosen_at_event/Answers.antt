@@ -1,7 +1,7 @@
 use Rattle.std.proofs.Common.{[], ◌∷◌, map, sym, ◌∙◌}
-use Rattle.step_acts.proofs.Standing.{facts-kept, first-event, known-there, one-list}
+use Rattle.step_forms.proofs.Standing.{facts-kept, first-event, known-there, one-list}
 use Rattle.step_acts.proofs.choice.chosen_at_event.Goals as goal
-use Rattle.step_acts.specs.internal.Stands.{site_of}
+use Rattle.step_forms.specs.internal.Stands.{site_of}
 use Rattle.semantics.specs.Items.{Whole}
 use Rattle.graph_sites.specs.Facts.{event_by, event_facts}
 use Rattle.ttcn_graph.proofs.Forms.{does-Event}

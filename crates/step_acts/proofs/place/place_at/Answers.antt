@@ -1,7 +1,7 @@
 use Rattle.std.proofs.Common.{[], ◌∷◌, ap, arith, refl, sym, subst, ◌∙◌}
 use Rattle.step_acts.proofs.Placing.{place-first}
 use Rattle.step_acts.proofs.place.place_at.Goals as goal
-use Rattle.step_acts.specs.internal.Places.{list_at, site_at}
+use Rattle.step_forms.specs.internal.Places.{list_at, site_at}
 use Rattle.semantics.specs.Items.{Doing}
 use Rattle.graph_items.specs.Begun.{StandsIn, item_at}
 use Rattle.graph_items.specs.Standing.{part_of}

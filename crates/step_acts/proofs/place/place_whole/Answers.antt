@@ -2,7 +2,7 @@ use Rattle.std.proofs.Common.{subst, sym, Option}
 use Rattle.std.specs.Prelude.{IfOk}
 use Rattle.step_acts.proofs.Placing.{chosen-place}
 use Rattle.step_acts.proofs.place.place_whole.Goals as goal
-use Rattle.step_acts.specs.internal.Stands.{site_of}
+use Rattle.step_forms.specs.internal.Stands.{site_of}
 
 pub returns-in-Some : goal.returns-in-Some
 returns-in-Some c =

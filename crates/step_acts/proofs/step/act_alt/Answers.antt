@@ -1,12 +1,12 @@
-use Rattle.step_acts.proofs.Forms.{whole-asks}
-use Rattle.step_acts.proofs.Standing.{known-there}
+use Rattle.step_forms.proofs.Forms.{whole-asks}
+use Rattle.step_forms.proofs.Standing.{known-there}
 use Rattle.step_acts.proofs.step.act_alt.Goals as goal
-use Rattle.step_acts.specs.internal.Stands.{legend_of, site_of, stand_by}
+use Rattle.step_forms.specs.internal.Stands.{legend_of, site_of, stand_by}
 use Rattle.semantics.specs.Items.{Whole}
 use Rattle.semantics.specs.Statements as said
 use Rattle.ttcn_graph.proofs.Forms.{does-Alt}
 use Rattle.ttcn_syntax.specs.declared.tree.statement.Action.TheOpen.{Action-F}
-use Rattle.ttcn_values.specs.Outcomes.{Unmet}
+use Rattle.value_types.specs.Outcomes.{Unmet}
 
 pub choose_alt-chosen-requires-clause-named : goal.choose_alt-chosen-requires-clause-named
 choose_alt-chosen-requires-clause-named c =

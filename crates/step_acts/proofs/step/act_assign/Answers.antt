@@ -1,8 +1,8 @@
 use Rattle.std.proofs.Common.{subst, sym, ◌∙◌}
-use Rattle.step_acts.proofs.Standing.{one-goal}
+use Rattle.step_forms.proofs.Standing.{one-goal}
 use Rattle.step_acts.proofs.step.act_assign.Goals as goal
-use Rattle.step_acts.specs.Asks.{Asks}
-use Rattle.step_acts.specs.internal.Stands.{legend_of, site_of, stand_by}
+use Rattle.step_forms.specs.Asks.{Asks}
+use Rattle.step_forms.specs.internal.Stands.{legend_of, site_of, stand_by}
 use Rattle.semantics.specs.Statements as said
 use Rattle.graph_sites.specs.Facts.{Goal, goal_at, goal_by}
 

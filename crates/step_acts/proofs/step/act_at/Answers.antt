@@ -1,7 +1,7 @@
 use Rattle.std.proofs.Common.{[], ◌∷◌, ap, arith, map, refl, subst, ◌∙◌}
 use Rattle.step_acts.proofs.First.{first-asks}
 use Rattle.step_acts.proofs.step.act_at.Goals as goal
-use Rattle.step_acts.specs.internal.Places.{behind_first, list_at, site_at}
+use Rattle.step_forms.specs.internal.Places.{behind_first, list_at, site_at}
 use Rattle.semantics.specs.Items.{Doing}
 use Rattle.step_snapshot.specs.Seen.{own_by, seen_by}
 use Rattle.step_snapshot.specs.Tests.{legend_by, test_by}

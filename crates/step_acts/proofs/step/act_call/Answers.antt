@@ -1,9 +1,9 @@
 use Rattle.std.proofs.Common.{Option, subst, sym}
 use Rattle.step_acts.proofs.Choosing.{no-choice}
-use Rattle.step_acts.proofs.Forms.{whole-asks}
+use Rattle.step_forms.proofs.Forms.{whole-asks}
 use Rattle.step_acts.proofs.step.act_call.Goals as goal
-use Rattle.step_acts.specs.Asks.{Asks}
-use Rattle.step_acts.specs.internal.Stands.{legend_of, site_of, stand_by}
+use Rattle.step_forms.specs.Asks.{Asks}
+use Rattle.step_forms.specs.internal.Stands.{legend_of, site_of, stand_by}
 use Rattle.semantics.specs.Events.{Choice}
 use Rattle.semantics.specs.Statements as said
 use Rattle.ttcn_graph.proofs.Forms.{does-Call}

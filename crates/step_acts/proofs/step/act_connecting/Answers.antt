@@ -1,6 +1,6 @@
 use Rattle.std.proofs.Common.{[], ◌∷◌}
-use Rattle.step_acts.proofs.Forms.{does-Connect}
-use Rattle.step_acts.proofs.Standing.{first-known, known-there, second-known}
+use Rattle.step_forms.proofs.Forms.{does-Connect}
+use Rattle.step_forms.proofs.Standing.{first-known, known-there, second-known}
 use Rattle.step_acts.proofs.step.act_connecting.Goals as goal
 use Rattle.semantics.specs.Items.{Whole}
 use Rattle.ttcn_syntax.specs.declared.tree.statement.Action.TheOpen.{Action-F}

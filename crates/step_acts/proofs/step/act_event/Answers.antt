@@ -1,14 +1,14 @@
 use Rattle.std.proofs.Common.{[], ◌∷◌, map, sym, ◌∙◌}
-use Rattle.step_acts.proofs.Forms.{whole-asks}
-use Rattle.step_acts.proofs.Standing.{facts-kept, first-event, known-there, one-list}
+use Rattle.step_forms.proofs.Forms.{whole-asks}
+use Rattle.step_forms.proofs.Standing.{facts-kept, first-event, known-there, one-list}
 use Rattle.step_acts.proofs.step.act_event.Goals as goal
-use Rattle.step_acts.specs.internal.Stands.{legend_of, site_of, stand_by}
+use Rattle.step_forms.specs.internal.Stands.{legend_of, site_of, stand_by}
 use Rattle.semantics.specs.Items.{Whole}
 use Rattle.semantics.specs.Statements as said
 use Rattle.graph_sites.specs.Facts.{event_by, event_facts}
 use Rattle.ttcn_graph.proofs.Forms.{does-Event}
 use Rattle.ttcn_syntax.specs.declared.tree.statement.Action.TheOpen.{Action-F}
-use Rattle.ttcn_values.specs.Outcomes.{Unmet}
+use Rattle.value_types.specs.Outcomes.{Unmet}
 
 pub choose_event-chosen-requires-clause-named : goal.choose_event-chosen-requires-clause-named
 choose_event-chosen-requires-clause-named c =

@@ -1,5 +1,5 @@
 use Rattle.std.proofs.Common.{ap, [], ◌∙◌}
-use Rattle.step_acts.proofs.Standing.{first-known, known-there}
+use Rattle.step_forms.proofs.Standing.{first-known, known-there}
 use Rattle.step_acts.proofs.step.act_for_start.Goals as goal
 use Rattle.semantics.specs.Items.{Start}
 use Rattle.ttcn_graph.proofs.Forms.{does-For}

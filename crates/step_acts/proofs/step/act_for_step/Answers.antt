@@ -1,6 +1,6 @@
 use Rattle.std.proofs.Common.{[]}
 use Rattle.step_acts.proofs.Parts.{step-asks}
-use Rattle.step_acts.proofs.Standing.{first-known, known-there}
+use Rattle.step_forms.proofs.Standing.{first-known, known-there}
 use Rattle.step_acts.proofs.step.act_for_step.Goals as goal
 use Rattle.semantics.specs.Items.{Last}
 use Rattle.ttcn_graph.proofs.Forms.{does-For}

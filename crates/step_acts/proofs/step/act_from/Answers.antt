@@ -1,8 +1,8 @@
 use Rattle.std.proofs.Common.{List, subst}
 use Rattle.step_acts.proofs.Parts.{from-asks}
 use Rattle.step_acts.proofs.step.act_from.Goals as goal
-use Rattle.step_acts.specs.Asks.{Asks}
-use Rattle.step_acts.specs.internal.Stands.{legend_of, site_of, stand_by}
+use Rattle.step_forms.specs.Asks.{Asks}
+use Rattle.step_forms.specs.internal.Stands.{legend_of, site_of, stand_by}
 use Rattle.semantics.specs.Statements as said
 use Rattle.ttcn_graph.proofs.Forms.{does-If}
 use Rattle.ttcn_syntax.specs.declared.tree.statement.Action.TheOpen.{Action-F}

@@ -1,5 +1,5 @@
 use Rattle.std.proofs.Common.{ap, IfSome, List, slice_get, subst, sym, ◌∙◌}
-use Rattle.step_acts.proofs.Standing.{declared-known, known-there}
+use Rattle.step_forms.proofs.Standing.{declared-known, known-there}
 use Rattle.step_acts.proofs.step.act_name.Goals as goal
 use Rattle.semantics.specs.Items.{Name}
 use Rattle.step_snapshot.specs.Slots.{IsKnown}

@@ -1,8 +1,8 @@
 use Rattle.std.proofs.Common.{[]}
-use Rattle.step_acts.proofs.Forms.{does-Send}
-use Rattle.step_acts.proofs.Standing.{facts-kept, first-known, known-there}
+use Rattle.step_forms.proofs.Forms.{does-Send}
+use Rattle.step_forms.proofs.Standing.{facts-kept, first-known, known-there}
 use Rattle.step_acts.proofs.step.act_sending.Goals as goal
-use Rattle.step_acts.specs.internal.Stands.{site_of}
+use Rattle.step_forms.specs.internal.Stands.{site_of}
 use Rattle.semantics.specs.Items.{Whole}
 use Rattle.semantics.specs.Sites.{scope_at}
 use Rattle.semantics.specs.Statements as said

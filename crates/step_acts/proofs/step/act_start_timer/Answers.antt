@@ -1,8 +1,8 @@
 use Rattle.std.proofs.Common.{[]}
-use Rattle.step_acts.proofs.Forms.{does-StartTimer, whole-asks}
-use Rattle.step_acts.proofs.Standing.{facts-kept, first-known, known-there}
+use Rattle.step_forms.proofs.Forms.{does-StartTimer, whole-asks}
+use Rattle.step_forms.proofs.Standing.{facts-kept, first-known, known-there}
 use Rattle.step_acts.proofs.step.act_start_timer.Goals as goal
-use Rattle.step_acts.specs.internal.Stands.{legend_of, site_of, stand_by}
+use Rattle.step_forms.specs.internal.Stands.{legend_of, site_of, stand_by}
 use Rattle.semantics.specs.Items.{Whole}
 use Rattle.semantics.specs.Sites.{is_own}
 use Rattle.ttcn_syntax.specs.declared.tree.statement.Action.TheOpen.{Action-F}

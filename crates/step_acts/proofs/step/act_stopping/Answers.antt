@@ -1,7 +1,7 @@
-use Rattle.step_acts.proofs.Forms.{does-StopOf}
-use Rattle.step_acts.proofs.Standing.{facts-kept, known-there}
+use Rattle.step_forms.proofs.Forms.{does-StopOf}
+use Rattle.step_forms.proofs.Standing.{facts-kept, known-there}
 use Rattle.step_acts.proofs.step.act_stopping.Goals as goal
-use Rattle.step_acts.specs.internal.Stands.{site_of}
+use Rattle.step_forms.specs.internal.Stands.{site_of}
 use Rattle.semantics.specs.Items.{Whole}
 use Rattle.semantics.specs.Sites.{is_own}
 use Rattle.semantics.specs.Statements.{name_in}

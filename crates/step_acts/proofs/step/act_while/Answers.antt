@@ -1,4 +1,4 @@
-use Rattle.step_acts.proofs.Conditions.{do-asks, for-asks}
+use Rattle.step_forms.proofs.Conditions.{do-asks, for-asks}
 use Rattle.step_acts.proofs.step.act_while.Goals as goal
 use Rattle.ttcn_graph.proofs.Forms.{does-DoWhile, does-For}
 

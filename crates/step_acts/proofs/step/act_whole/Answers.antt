@@ -1,10 +1,10 @@
 use Rattle.std.proofs.Common.{List, [], subst}
-use Rattle.step_acts.proofs.Conditions.{loop-asks}
-use Rattle.step_acts.proofs.Forms.{does-Connect, does-StartComponent, whole-asks}
-use Rattle.step_acts.proofs.Standing.{first-known, known-there}
+use Rattle.step_forms.proofs.Conditions.{loop-asks}
+use Rattle.step_forms.proofs.Forms.{does-Connect, does-StartComponent, whole-asks}
+use Rattle.step_forms.proofs.Standing.{first-known, known-there}
 use Rattle.step_acts.proofs.step.act_whole.Goals as goal
-use Rattle.step_acts.specs.Asks.{Asks}
-use Rattle.step_acts.specs.internal.Stands.{legend_of, site_of, stand_by}
+use Rattle.step_forms.specs.Asks.{Asks}
+use Rattle.step_forms.specs.internal.Stands.{legend_of, site_of, stand_by}
 use Rattle.semantics.specs.Items.{Whole}
 use Rattle.semantics.specs.Statements as said
 use Rattle.ttcn_graph.proofs.Forms.{does-Assign, does-If, does-While}

@@ -1,13 +1,13 @@
 use Rattle.std.proofs.Common.{Err, None, Ok, Option, Result, ap, subst, sym, ◌∙◌}
 use Rattle.step_acts.proofs.Choosing.{chosen-asks, none-asks, refused-asks}
 use Rattle.step_acts.proofs.waiting.act_choice.Goals as goal
-use Rattle.step_acts.specs.Asks.{Asks}
-use Rattle.step_acts.specs.internal.Stands.{legend_of, site_of, stand_by}
+use Rattle.step_forms.specs.Asks.{Asks}
+use Rattle.step_forms.specs.internal.Stands.{legend_of, site_of, stand_by}
 use Rattle.step_choice.specs.Choices.{Finds, IsWayOf}
 use Rattle.step_choice.specs.declared.taken.Taken.{Taken}
 use Rattle.semantics.specs.Events.{Choice}
 use Rattle.semantics.specs.Statements as said
-use Rattle.ttcn_values.specs.declared.fault.Fault.{Fault}
+use Rattle.value_types.specs.declared.fault.Fault.{Fault}
 
 pub returns-in-Ok-Some-clause-asks : goal.returns-in-Ok-Some-clause-asks
 returns-in-Ok-Some-clause-asks c other =

@@ -1,10 +1,10 @@
 use Rattle.std.proofs.Common.{List, ap, map, ◌∙◌}
-use Rattle.step_acts.proofs.Asking.{asked}
+use Rattle.step_forms.proofs.Asking.{asked}
 use Rattle.step_acts.proofs.Choosing.{way-leads}
 use Rattle.step_acts.proofs.Takings.{takes}
 use Rattle.step_acts.proofs.waiting.act_taken.Goals as goal
-use Rattle.step_acts.specs.internal.Places.{list_at}
-use Rattle.step_acts.specs.internal.Stands.{legend_of, site_of, stand_by}
+use Rattle.step_forms.specs.internal.Places.{list_at}
+use Rattle.step_forms.specs.internal.Stands.{legend_of, site_of, stand_by}
 use Rattle.step_acts.specs.internal.Takings.{effected_by}
 use Rattle.step_choice.specs.Deeds.{deed_by}
 use Rattle.step_data.specs.Frames.{entered_all}

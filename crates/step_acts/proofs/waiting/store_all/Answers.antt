@@ -9,7 +9,7 @@ use Rattle.step_snapshot.specs.Tests.{legend_by, test_by}
 use Rattle.std.proofs.Common.{map}
 use Rattle.config_parts.specs.Legend.{data_by}
 use Rattle.graph_items.specs.Standing.{target_of}
-use Rattle.ttcn_values.proofs.Faults.{given_by, handed_on_by}
+use Rattle.value_types.proofs.Faults.{given_by, handed_on_by}
 
 pub store_at-requires-clause-known : goal.store_at-requires-clause-known
 store_at-requires-clause-known c =

@@ -5,7 +5,7 @@ use Rattle.step_choice.specs.Deeds.{stored_by}
 use Rattle.step_snapshot.specs.Tests.{extent_of, legend_by, test_by}
 use Rattle.config_parts.specs.Legend.{data_by}
 use Rattle.config_parts.specs.Views.{IsWithin}
-use Rattle.ttcn_values.specs.Outcomes.{Yields}
+use Rattle.value_types.specs.Outcomes.{Yields}
 
 -- the values so far are stored
 abbrev pub invariant-loop-one : goal.invariant-loop-one

@@ -4,7 +4,7 @@ use Rattle.std.specs.Option.{option_map}
 use Rattle.std.specs.List.{slice_get}
 use Rattle.ttcn_syntax.specs.declared.tree.definition.Altstep.{Altstep}
 use Rattle.ttcn_syntax.specs.declared.tree.statement.Branch.{out-Branch}
-use Rattle.check_expressions.specs.Calls.{altstep_meant, parameters_of}
+use Rattle.check_rules.specs.Calls.{altstep_meant, parameters_of}
 use Rattle.check_scope.specs.Names.{kind_at, module_names}
 use Rattle.semantics.specs.Branches.{branches_of, guard_holds, open_branch, written_call}
 use Rattle.semantics.specs.Events as events
@@ -24,8 +24,8 @@ use Rattle.step_snapshot.specs.Seen.{own_by, seen_by}
 use Rattle.graph_sites.specs.Facts.{branch_facts, event_by}
 use Rattle.ttcn_graph.specs.Graphs.{beginnings_at}
 use Rattle.ttcn_graph.specs.Ways.{items_of_branch}
-use Rattle.ttcn_values.specs.Outcomes.{Unmet, Yields}
-use Rattle.ttcn_values.specs.Templates.{arguments}
+use Rattle.value_types.specs.Outcomes.{Unmet, Yields}
+use Rattle.value_types.specs.Templates.{arguments}
 
 -- ---- branches
 

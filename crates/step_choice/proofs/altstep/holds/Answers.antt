@@ -2,9 +2,9 @@ use Rattle.std.proofs.Common.{ap, sym, ◌∙◌}
 use Rattle.semantics.specs.Branches.{guard_holds}
 use Rattle.step_choice.specs.internal.Judged.{reads}
 use Rattle.step_choice.proofs.altstep.holds.Goals as goal
-use Rattle.ttcn_values.proofs.Faults.{gives_same}
-use Rattle.ttcn_values.specs.Evaluation.{condition_of}
-use Rattle.ttcn_values.specs.Frames.{reading}
+use Rattle.value_types.proofs.Faults.{gives_same}
+use Rattle.value_types.specs.Evaluation.{condition_of}
+use Rattle.value_types.specs.Frames.{reading}
 
 pub returns : goal.returns
 returns c site at =

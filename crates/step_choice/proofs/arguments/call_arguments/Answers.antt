@@ -1,11 +1,11 @@
 use Rattle.std.proofs.Common.{ap, sym, ◌∙◌}
-use Rattle.check_expressions.specs.Calls.{parameters_of}
+use Rattle.check_rules.specs.Calls.{parameters_of}
 use Rattle.check_scope.specs.Names.{kind_at}
 use Rattle.step_choice.specs.internal.Judged.{reads, test_of}
 use Rattle.step_choice.proofs.arguments.call_arguments.Goals as goal
-use Rattle.ttcn_values.proofs.Faults.{gives_same}
-use Rattle.ttcn_values.specs.Frames.{reading}
-use Rattle.ttcn_values.specs.Templates.{arguments}
+use Rattle.value_types.proofs.Faults.{gives_same}
+use Rattle.value_types.specs.Frames.{reading}
+use Rattle.value_types.specs.Templates.{arguments}
 
 pub returns : goal.returns
 returns c site at =

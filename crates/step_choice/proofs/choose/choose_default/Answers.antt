@@ -11,7 +11,7 @@ use Rattle.step_choice.specs.internal.Later.{or_later}
 use Rattle.step_choice.proofs.choose.choose_default.Goals as goal
 use Rattle.step_snapshot.specs.Seen.{own_by, seen_by}
 use Rattle.config_parts.specs.declared.frame.Data.{Data}
-use Rattle.ttcn_types.specs.Limits.{longest_chain}
+use Rattle.check_rules.specs.Limits.{longest_chain}
 
 pub loop-default-init : goal.loop-default-init
 loop-default-init c =

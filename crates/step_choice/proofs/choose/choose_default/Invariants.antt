@@ -1,7 +1,7 @@
 use Rattle.std.proofs.Common.{◌≡◌, drop}
 use Rattle.step_choice.proofs.Defaulted.{first_of_defaults}
 use Rattle.step_choice.proofs.choose.choose_default.Given as goal
-use Rattle.ttcn_types.specs.Limits.{longest_chain}
+use Rattle.check_rules.specs.Limits.{longest_chain}
 
 -- the choice among the branches of all defaults is that among those of the defaults to come
 abbrev pub invariant-loop-default : goal.invariant-loop-default

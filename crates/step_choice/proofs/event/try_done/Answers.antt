@@ -2,8 +2,8 @@ use Rattle.semantics.specs.Events.{happened_if}
 use Rattle.semantics.specs.Snapshots.{is_terminated_in}
 use Rattle.step_choice.proofs.Tried.{failing}
 use Rattle.step_snapshot.specs.Seen.{seen_by}
-use Rattle.ttcn_values.specs.Frames.{reading}
-use Rattle.ttcn_values.specs.Readings.{component_referred}
+use Rattle.value_types.specs.Frames.{reading}
+use Rattle.value_types.specs.Readings.{component_referred}
 use Rattle.step_choice.proofs.event.try_done.Goals as goal
 
 pub returns-in-Err : goal.returns-in-Err

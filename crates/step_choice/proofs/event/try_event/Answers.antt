@@ -7,7 +7,7 @@ use Rattle.step_snapshot.specs.Seen.{own_by, seen_by}
 use Rattle.step_snapshot.specs.Tests.{legend_by}
 use Rattle.config_parts.specs.Views.{view_by}
 use Rattle.graph_sites.specs.Facts.{event_facts}
-use Rattle.ttcn_values.specs.Frames.{reading}
+use Rattle.value_types.specs.Frames.{reading}
 
 pub returns-in-Receive : goal.returns-in-Receive
 returns-in-Receive c site at same =

@@ -11,7 +11,7 @@ use Rattle.step_snapshot.specs.Seen.{seen_by}
 use Rattle.step_snapshot.specs.Tests.{legend_by}
 use Rattle.config_parts.specs.Legend.{message_by}
 use Rattle.config_parts.specs.declared.component.Queue.{Queue}
-use Rattle.ttcn_values.specs.Frames.{reading}
+use Rattle.value_types.specs.Frames.{reading}
 
 pub loop-queue-init : goal.loop-queue-init
 loop-queue-init c site same =

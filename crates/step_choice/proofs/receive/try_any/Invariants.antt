@@ -8,7 +8,7 @@ use Rattle.step_snapshot.specs.Seen.{seen_by}
 use Rattle.step_snapshot.specs.Tests.{legend_by}
 use Rattle.graph_sites.specs.Facts.{event_by, event_facts}
 use Rattle.ttcn_syntax.specs.declared.tree.statement.Event.TheVariants as event
-use Rattle.ttcn_values.specs.Frames.{reading}
+use Rattle.value_types.specs.Frames.{reading}
 
 -- all ports come to what those to come do
 abbrev pub invariant-loop-queue : goal.invariant-loop-queue

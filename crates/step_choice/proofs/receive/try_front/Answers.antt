@@ -7,7 +7,7 @@ use Rattle.step_choice.specs.internal.Judged.{names_of, test_of}
 use Rattle.step_choice.proofs.receive.try_front.Goals as goal
 use Rattle.config_parts.specs.Legend.{message_by}
 use Rattle.config_parts.specs.declared.component.Message.{Message}
-use Rattle.ttcn_values.specs.Frames.{reading}
+use Rattle.value_types.specs.Frames.{reading}
 
 pub returns-in-Some : goal.returns-in-Some
 returns-in-Some c site same =

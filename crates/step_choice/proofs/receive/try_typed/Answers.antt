@@ -7,8 +7,8 @@ use Rattle.step_choice.specs.declared.taken.Deed.TheVariants as code
 use Rattle.step_choice.specs.internal.Judged.{names_of, test_of}
 use Rattle.step_choice.proofs.receive.try_typed.Goals as goal
 use Rattle.config_parts.specs.Legend.{message_by}
-use Rattle.ttcn_values.specs.Frames.{reading}
-use Rattle.ttcn_values.specs.Outcomes.{Yields}
+use Rattle.value_types.specs.Frames.{reading}
+use Rattle.value_types.specs.Outcomes.{Yields}
 
 pub returns-in-Err : goal.returns-in-Err
 returns-in-Err c site same =

@@ -5,8 +5,8 @@ use Rattle.step_choice.proofs.Redirected.{both-stored, one-sender}
 use Rattle.step_choice.specs.Deeds.{stored_by}
 use Rattle.graph_items.specs.Standing.{target_of}
 use Rattle.graph_sites.specs.Facts.{goal_by}
-use Rattle.ttcn_values.specs.Outcomes.{outcome_map}
-use Rattle.ttcn_values.specs.declared.value.Value.TheVariants as value
+use Rattle.value_types.specs.Outcomes.{outcome_map}
+use Rattle.value_types.specs.declared.value.Value.TheVariants as value
 use Rattle.step_choice.proofs.redirect.redirects.Goals as goal
 
 pub returns : goal.returns

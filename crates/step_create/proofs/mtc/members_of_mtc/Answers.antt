@@ -6,8 +6,8 @@ use Rattle.semantics.specs.Runs.{first_snapshot}
 use Rattle.step_snapshot.specs.Tests.{legend_by, test_by}
 use Rattle.config_parts.specs.Legend.{frame_with}
 use Rattle.config_parts.specs.declared.frame.Cells.{Cells}
-use Rattle.ttcn_values.specs.Outcomes.{GivesBy}
-use Rattle.ttcn_values.specs.declared.value.ComponentId.{ComponentId}
+use Rattle.value_types.specs.Outcomes.{GivesBy}
+use Rattle.value_types.specs.declared.value.ComponentId.{ComponentId}
 
 pub returns-clause-made : goal.returns-clause-made
 returns-clause-made c =

@@ -3,7 +3,7 @@ use Rattle.step_data.specs.Frames.{entered_all}
 use Rattle.semantics.specs.Configurations as rules
 use Rattle.semantics.specs.Statements as said
 use Rattle.config_parts.specs.Legend.{data_by, frame_by}
-use Rattle.ttcn_values.specs.Outcomes.{GivesBy}
+use Rattle.value_types.specs.Outcomes.{GivesBy}
 use Rattle.step_data.proofs.frames.enter.Goals as goal
 
 pub returns-clause-entered : goal.returns-clause-entered

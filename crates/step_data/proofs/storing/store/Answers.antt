@@ -3,11 +3,11 @@ use Rattle.value_assignment.specs.Assignment.{assigned}
 use Rattle.semantics.specs.Storing as storing
 use Rattle.step_data.proofs.Changes.{held-by}
 use Rattle.config_parts.specs.Legend.{data_by}
-use Rattle.ttcn_values.specs.Outcomes.{Yields, outcome_map}
+use Rattle.value_types.specs.Outcomes.{Yields, outcome_map}
 use Rattle.semantics.specs.Entries.{put}
 use Rattle.semantics.specs.Items.{Target}
-use Rattle.ttcn_values.specs.Frames.{entry}
-use Rattle.ttcn_values.proofs.Faults.{handed_on_by}
+use Rattle.value_types.specs.Frames.{entry}
+use Rattle.value_types.proofs.Faults.{handed_on_by}
 use Rattle.step_data.proofs.storing.store.Goals as goal
 
 pub returns-in_err-value-clause-stored : goal.returns-in_err-value-clause-stored

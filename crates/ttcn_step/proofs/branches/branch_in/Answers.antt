@@ -10,27 +10,26 @@ branch_of-requires-clause-ordered c = paths-in-order (legend_by c.args.test.now)
 
 pub branch_of-requires-clause-within : goal.branch_of-requires-clause-within
 branch_of-requires-clause-within c =
-    let label = c.args.label.now in
-    found-within (extent_of c.args.test.now) label.component c.args.going.now.components c.in-Some-component_of.component.now c.requires.within
-    (searched label.component c.as_slice.result.now c.args.going.now.components c.component_of.result (Some c.in-Some-component_of.component) c.component_of.ensures c.as_slice.ensures c.in-Some-component_of.is)
+    let path = c.in-Statement.path in
+    found-within (extent_of c.args.test.now) path.numbers c.args.going.now.components c.in-Some.component.now c.requires.within
+    (searched path.numbers c.as_slice.result.now c.args.going.now.components c.component_of.result (Some c.in-Some.component) c.component_of.ensures c.as_slice.ensures c.in-Some.is)
+
+pub returns-in-Expiry : goal.returns-in-Expiry
+returns-in-Expiry c =
+    let t = c.args.test.now in
+    expiry-takes-none (legend_by t) (test_by t) c.args.going.now c.args.label.now _ _ _ c.in-Expiry.is
 
 pub returns-in-Some : goal.returns-in-Some
 returns-in-Some c =
     let t = c.args.test.now in
-    let label = c.args.label.now in
-    expiry-takes-none (legend_by t) (test_by t) c.args.going.now label.component label.expiry c.in-Some.field-0 c.in-Some.is
-
-pub returns-in-Some-component_of : goal.returns-in-Some-component_of
-returns-in-Some-component_of c =
-    let t = c.args.test.now in
-    let label = c.args.label.now in
-    found-takes (legend_by t) (test_by t) c.args.going.now label.component label.expiry c.in-Some-component_of.component.now c.branch_of.result c.in-None.is
-    (searched label.component c.as_slice.result.now c.args.going.now.components c.component_of.result (Some c.in-Some-component_of.component) c.component_of.ensures c.as_slice.ensures c.in-Some-component_of.is)
+    let path = c.in-Statement.path in
+    found-takes (legend_by t) (test_by t) c.args.going.now c.args.label.now path c.in-Some.component.now c.branch_of.result c.in-Statement.is
+    (searched path.numbers c.as_slice.result.now c.args.going.now.components c.component_of.result (Some c.in-Some.component) c.component_of.ensures c.as_slice.ensures c.in-Some.is)
     c.branch_of.ensures
 
-pub returns-in-None-component_of : goal.returns-in-None-component_of
-returns-in-None-component_of c =
+pub returns-in-None : goal.returns-in-None
+returns-in-None c =
     let t = c.args.test.now in
-    let label = c.args.label.now in
-    missing-takes-none (legend_by t) (test_by t) c.args.going.now label.component label.expiry c.in-None.is
-    (searched label.component c.as_slice.result.now c.args.going.now.components c.component_of.result None c.component_of.ensures c.as_slice.ensures c.in-None-component_of.is)
+    let path = c.in-Statement.path in
+    missing-takes-none (legend_by t) (test_by t) c.args.going.now c.args.label.now path c.in-Statement.is
+    (searched path.numbers c.as_slice.result.now c.args.going.now.components c.component_of.result None c.component_of.ensures c.as_slice.ensures c.in-None.is)

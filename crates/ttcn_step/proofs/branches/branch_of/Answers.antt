@@ -4,8 +4,8 @@ use Rattle.semantics.specs.Snapshots.{runs_in, snapshot_of}
 use Rattle.step_snapshot.specs.Tests.{legend_by}
 use Rattle.config_parts.specs.Legend.{component_by, going_by}
 use Rattle.ttcn_step.proofs.Branching.{branch-taken}
-use Rattle.ttcn_values.specs.contracts.path.PathPartialEq.TheImpl as equality
-use Rattle.ttcn_values.specs.declared.path.Path.{Path}
+use Rattle.value_types.specs.contracts.path.PathPartialEq.TheImpl as equality
+use Rattle.value_types.specs.declared.path.Path.{Path}
 use Rattle.ttcn_step.proofs.branches.branch_of.Goals as goal
 
 pub new-snapshot-requires-clause-runs : goal.new-snapshot-requires-clause-runs

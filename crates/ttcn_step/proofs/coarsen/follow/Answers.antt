@@ -7,7 +7,6 @@ use Rattle.step_snapshot.specs.Tests.{test_by}
 use Rattle.config_parts.specs.declared.config.Config.TheVariants as config
 use Rattle.ttcn_step.proofs.FineRuns.{begins, goes-on}
 use Rattle.ttcn_step.proofs.coarsen.follow.Goals as goal
-use Rattle.ttcn_step.specs.FineLabels.{fine_label_by}
 use Rattle.ttcn_step.specs.Machines.{Fits, legend, machine_of}
 use Rattle.ttcn_step.specs.declared.fine.FineStep.{FineStep}
 use Rattle.ttcn_step.specs.declared.fine.Stored.{Stored}
@@ -35,9 +34,9 @@ loop-place-preserved c =
     let labels = c.args.labels.now in
     let fine = c.loop-place.fine in
     let label = c.index-labels-place.result in
-    let leads = (let P : Option FineStep → Type 0 = λ o. Leads machine fine.now fine.stored.items (fine_label_by label) o in subst P c.in-Some.is c.in_ok-step.ensures.leads) in
+    let leads = (let P : Option FineStep → Type 0 = λ o. Leads machine fine.now fine.stored.items label o in subst P c.in-Some.is c.in_ok-step.ensures.leads) in
     record {
       leads = goes-on (test_by t) labels c.loop-place.place label (holding_of machine fine.now fine.stored.items) (holding_of machine c.in-Some.step.fine.now c.in-Some.step.fine.stored.items) c.loop-place.told.items c.push.new.self.items _
-          (hold_run (test_by t) (map fine_label_by labels)) c.loop-place-test.true c.index-labels-place.is leads.0 c.in_ok-push.ensures.items refl leads.1 c.loop-place.invariant.leads;
+          (hold_run (test_by t) labels) c.loop-place-test.true c.index-labels-place.is leads.0 c.in_ok-push.ensures.items refl leads.1 c.loop-place.invariant.leads;
       well = subst (λ o. IfSome o (IsWellBehind machine)) c.in-Some.is c.in_ok-step.ensures.well;
     }

@@ -1,5 +1,4 @@
 use Rattle.std.proofs.Common.{Some, IfSome, ap, option_map, refl, subst, sym, ◌∙◌}
-use Rattle.step_labels.specs.Labels.{label_by}
 use Rattle.step_snapshot.specs.Tests.{legend_by}
 use Rattle.ttcn_step.proofs.FineLeads.{behind-is, plain-leads, well-behind}
 use Rattle.ttcn_step.proofs.FineSteps.{taken-same}
@@ -10,7 +9,7 @@ pub returns-clause-leads : goal.returns-clause-leads
 returns-clause-leads c =
     let t = c.args.test.now in
     let machine = machine_of t in (
-      plain-leads machine c.args.going c.args.stored.items (label_by c.args.label.now) c.in-Some.after c.in_ok-stored.stored.items (sym c.is_of_alt.ensures ∙ c.if-is_of_alt.false)
+      plain-leads machine c.args.going c.args.stored.items c.args.label.now c.in-Some.after c.in_ok-stored.stored.items (sym c.is_of_alt.ensures ∙ c.if-is_of_alt.false)
           (sym c.in_ok-after.ensures.behind ∙ ap (option_map (said machine)) c.in-Some.is) (c.in_ok-stored.ensures.noted (legend_by t))
           ∙ ap Some (behind-is machine c.in-Some.after c.behind.result.now _ c.behind.result.stored.items c.behind.ensures.now c.behind.ensures.stored),
       refl,

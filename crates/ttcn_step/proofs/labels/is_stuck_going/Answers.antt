@@ -1,5 +1,4 @@
 use Rattle.std.proofs.Common.{ap, refl, sym, true≢false, ◌∙◌}
-use Rattle.step_labels.specs.Labels.{label_by}
 use Rattle.semantics.specs.Labels.{labels_of_component}
 use Rattle.step_snapshot.specs.Tests.{extent_of, legend_by, test_by}
 use Rattle.config_parts.specs.Legend.{component_by, going_by}
@@ -29,7 +28,7 @@ loop-component-preserved c =
     let items = c.as_slice-component-items.result.now in
     let labels = c.in_ok-labels.labels in
     passed (parts_of legend f) items c.loop-component.component-index c.component-item.result (f (component_by legend c.component-item.result)) (parts_of legend f items)
-    c.loop-component-test.true c.component-item.is refl (sym c.in_ok-labels.ensures ∙ empties label_by labels.items labels.len labels.ok.0 c.if-not-is_empty.ensures) c.loop-component.invariant
+    c.loop-component-test.true c.component-item.is refl (sym c.in_ok-labels.ensures ∙ empties labels.items labels.len labels.ok.0 c.if-not-is_empty.ensures) c.loop-component.invariant
 
 pub returns-then-not-is_empty : goal.returns-then-not-is_empty
 returns-then-not-is_empty c =
@@ -40,7 +39,7 @@ returns-then-not-is_empty c =
       λ stuck. absurd (true≢false (sym stuck)),
       λ none. absurd
           (left-over (parts_of legend f) items c.loop-component.component-index c.component-item.result (f (component_by legend c.component-item.result)) (parts_of legend f items)
-          c.loop-component-test.true c.component-item.is refl (λ part. fills label_by labels.items labels.len labels.ok.0 c.if-not-is_empty.ensures (c.in_ok-labels.ensures ∙ part)) c.loop-component.invariant
+          c.loop-component-test.true c.component-item.is refl (λ part. fills labels.items labels.len labels.ok.0 c.if-not-is_empty.ensures (c.in_ok-labels.ensures ∙ part)) c.loop-component.invariant
           (ap (parts_of legend f) c.as_slice-component-items.ensures ∙ none)),
     )
 

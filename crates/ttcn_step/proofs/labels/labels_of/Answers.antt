@@ -1,5 +1,4 @@
 use Rattle.std.proofs.Common.{map, refl}
-use Rattle.step_labels.specs.Labels.{label_by}
 use Rattle.semantics.specs.Labels.{labels_of_component}
 use Rattle.step_snapshot.specs.Tests.{extent_of, legend_by, test_by}
 use Rattle.config_parts.specs.Legend.{component_by, going_by}
@@ -27,5 +26,5 @@ loop-component-preserved c =
     let f = labels_of_component (test_by c.args.test.now) (going_by legend c.args.going.now) in
     let items = c.as_slice-component-items.result.now in
     grown (parts_of legend f) items c.loop-component.component-index c.component-item.result
-    (map label_by c.loop-component.labels.items) (map label_by c.push_component.new.labels.items) (f (component_by legend c.component-item.result)) (parts_of legend f items)
+    c.loop-component.labels.items c.push_component.new.labels.items (f (component_by legend c.component-item.result)) (parts_of legend f items)
     c.loop-component-test.true c.component-item.is refl c.in_ok-push_component.ensures c.loop-component.invariant

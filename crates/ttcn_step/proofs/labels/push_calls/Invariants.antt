@@ -1,9 +1,8 @@
 use Rattle.std.proofs.Common.{◌≡◌, ◌++◌, map}
-use Rattle.step_labels.specs.Labels.{label_by}
 use Rattle.step_snapshot.specs.Tests.{legend_by}
 use Rattle.ttcn_step.proofs.Listed.{calls_below}
 use Rattle.ttcn_step.proofs.labels.push_calls.Given as goal
 
 -- the labels of the lowest frames are there
 abbrev pub invariant-loop-below : goal.invariant-loop-below
-invariant-loop-below l = map label_by l.labels.items ≡ map label_by l.initial.labels.items ++ calls_below (legend_by l.test) l.path l.calls l.below
+invariant-loop-below l = l.labels.items ≡ l.initial.labels.items ++ calls_below (legend_by l.test) l.path l.calls l.below

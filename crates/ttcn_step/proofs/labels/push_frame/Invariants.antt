@@ -1,5 +1,4 @@
 use Rattle.std.proofs.Common.{◌≡◌, ◌++◌, drop, map}
-use Rattle.step_labels.specs.Labels.{label_by}
 use Rattle.step_snapshot.specs.Tests.{legend_by}
 use Rattle.ttcn_step.proofs.Listed.{timers_by}
 use Rattle.ttcn_step.proofs.labels.push_frame.Given as goal
@@ -7,5 +6,5 @@ use Rattle.ttcn_step.proofs.labels.push_frame.Given as goal
 -- the labels so far, before those of the timers to come
 abbrev pub invariant-loop-timer : goal.invariant-loop-timer
 invariant-loop-timer l =
-    map label_by l.labels.items ++ timers_by (legend_by l.test) l.path l.frame (drop l.timer-index l.timer-items)
-    ≡ map label_by l.initial.labels.items ++ timers_by (legend_by l.test) l.path l.frame l.timer-items
+    l.labels.items ++ timers_by (legend_by l.test) l.path l.frame (drop l.timer-index l.timer-items)
+    ≡ l.initial.labels.items ++ timers_by (legend_by l.test) l.path l.frame l.timer-items

@@ -1,6 +1,6 @@
 use Rattle.std.proofs.Common.{◌≡◌, Bor, List, Option, Result, subst, sym}
 use Rattle.std.specs.List.{list_any}
-use Rattle.step_acts.specs.Asks.{Asks, uncovered_act}
+use Rattle.step_forms.specs.Asks.{Asks, uncovered_act}
 use Rattle.semantics.specs.Snapshots.{runs_in, snapshot_of}
 use Rattle.step_snapshot.specs.Tests.{legend_by}
 use Rattle.step_snapshot.specs.declared.test_case.TestCase.{TestCase}
@@ -9,9 +9,9 @@ use Rattle.config_parts.specs.declared.act.Act.{Act}
 use Rattle.config_parts.specs.declared.component.Component.{Component}
 use Rattle.config_parts.specs.declared.config.Going.{Going}
 use Rattle.ttcn_step.specs.internal.Steps as spec
-use Rattle.ttcn_values.specs.contracts.path.PathPartialEq.TheImpl as equality
-use Rattle.ttcn_values.specs.declared.fault.Fault.{Fault}
-use Rattle.ttcn_values.specs.declared.path.Path.{Path}
+use Rattle.value_types.specs.contracts.path.PathPartialEq.TheImpl as equality
+use Rattle.value_types.specs.declared.fault.Fault.{Fault}
+use Rattle.value_types.specs.declared.path.Path.{Path}
 use Rattle.ttcn_step.proofs.step.asked.Goals as goal
 
 -- what is asked for in a snapshot of these

@@ -1,5 +1,5 @@
 use Rattle.std.proofs.Common.{◌≡◌, Option, Ok, ap, subst, sym, ◌∙◌, option_map}
-use Rattle.step_acts.specs.Asks.{Asks, uncovered_act}
+use Rattle.step_forms.specs.Asks.{Asks, uncovered_act}
 use Rattle.semantics.specs.Steps.{settled}
 use Rattle.step_snapshot.specs.Tests.{legend_by, test_by}
 use Rattle.config_parts.specs.Acts.{IsUncovered, act_by}

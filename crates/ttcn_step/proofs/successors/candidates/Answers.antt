@@ -1,5 +1,4 @@
 use Rattle.std.proofs.Common.{map, refl}
-use Rattle.step_labels.specs.Labels.{label_by}
 use Rattle.step_snapshot.specs.Tests.{extent_of, legend_by}
 use Rattle.config_parts.specs.Legend.{component_by}
 use Rattle.ttcn_step.proofs.Limits.{kept-at, within-at}
@@ -22,5 +21,5 @@ loop-component-preserved c =
     let legend = legend_by c.args.test.now in
     let items = c.as_slice-component-items.result.now in
     grown (parts_of legend candidates_of) items c.loop-component.component-index c.component-item.result
-    (map label_by c.loop-component.labels.items) (map label_by c.push_candidates.new.labels.items) (candidates_of (component_by legend c.component-item.result)) (parts_of legend candidates_of items)
+    c.loop-component.labels.items c.push_candidates.new.labels.items (candidates_of (component_by legend c.component-item.result)) (parts_of legend candidates_of items)
     c.loop-component-test.true c.component-item.is refl c.in_ok-push_candidates.ensures c.loop-component.invariant

@@ -1,5 +1,4 @@
 use Rattle.std.proofs.Common.{◌≡◌, ◌++◌, drop, map}
-use Rattle.step_labels.specs.Labels.{label_by}
 use Rattle.step_snapshot.specs.Tests.{legend_by}
 use Rattle.ttcn_step.proofs.Listed.{parts_of}
 use Rattle.ttcn_step.specs.internal.Steps.{candidates_of}
@@ -8,5 +7,5 @@ use Rattle.ttcn_step.proofs.successors.candidates.Given as goal
 -- the labels so far, before those of the components to come
 abbrev pub invariant-loop-component : goal.invariant-loop-component
 invariant-loop-component l =
-    map label_by l.labels.items ++ parts_of (legend_by l.test) candidates_of (drop l.component-index l.component-items)
+    l.labels.items ++ parts_of (legend_by l.test) candidates_of (drop l.component-index l.component-items)
     ≡ parts_of (legend_by l.test) candidates_of l.component-items

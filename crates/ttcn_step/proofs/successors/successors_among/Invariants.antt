@@ -1,6 +1,5 @@
 use Rattle.std.proofs.Common.{◌≡◌, map}
 use Rattle.std.specs.List.{All}
-use Rattle.step_labels.specs.Labels.{label_by}
 use Rattle.semantics.specs.Configurations as rules
 use Rattle.step_snapshot.specs.Tests.{legend_by, test_by}
 use Rattle.config_parts.specs.Legend.{going_by}
@@ -12,6 +11,6 @@ use Rattle.ttcn_step.proofs.successors.successors_among.Given as goal
 -- the enabled ones among the labels so far are found
 abbrev pub invariant-loop-label : goal.invariant-loop-label
 invariant-loop-label l = record {
-  pairs : pairs_by (machine_of l.test) l.found.items ≡ leads (test_by l.test) (rules.Goes (going_by (legend_by l.test) l.going)) (map label_by l.yielded);
+  pairs : pairs_by (machine_of l.test) l.found.items ≡ leads (test_by l.test) (rules.Goes (going_by (legend_by l.test) l.going)) l.yielded;
   fits : All (λ s. Fits (machine_of l.test) s.config) l.found.items;
 }

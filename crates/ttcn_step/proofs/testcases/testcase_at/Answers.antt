@@ -3,7 +3,7 @@ use Rattle.ttcn_syntax.specs.declared.tree.definition.Definition.{Definition}
 use Rattle.check_scope.specs.Names.{kind_at}
 use Rattle.step_snapshot.specs.Slots.{NoneIsMissing}
 use Rattle.graph_names.specs.Known.{names_of_kind}
-use Rattle.ttcn_types.specs.Rules.{AreWellTyped}
+use Rattle.check_rules.specs.Rules.{AreWellTyped}
 use Rattle.ttcn_step.proofs.testcases.testcase_at.Goals as goal
 
 pub invariant_of-result : goal.invariant_of-result

@@ -1,6 +1,6 @@
 use Rattle.std.proofs.Common.{◌≡◌, map}
 use Rattle.check_survey.specs.Things.{tally}
-use Rattle.ttcn_types.specs.Parts.{altstep_parts, altsteps}
+use Rattle.check_rules.specs.Parts.{altstep_parts, altsteps}
 use Rattle.ttcn_types.proofs.Listing.{listing}
 use Rattle.ttcn_types.proofs.parts.altsteps.Given as goal
 

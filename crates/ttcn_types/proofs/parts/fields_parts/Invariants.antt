@@ -1,6 +1,6 @@
 use Rattle.std.proofs.Common.{◌≡◌, map}
 use Rattle.check_survey.specs.Things.{tally}
-use Rattle.ttcn_types.specs.Parts.{all_of, part_of_field}
+use Rattle.check_rules.specs.Parts.{all_of, part_of_field}
 use Rattle.ttcn_types.proofs.Beside.{collecting}
 use Rattle.ttcn_types.proofs.parts.fields_parts.Given as goal
 

@@ -1,6 +1,6 @@
 use Rattle.std.proofs.Common.{◌≡◌, map}
 use Rattle.check_survey.specs.Things.{tally}
-use Rattle.ttcn_types.specs.Parts.{record_parts, records}
+use Rattle.check_rules.specs.Parts.{record_parts, records}
 use Rattle.ttcn_types.proofs.Listing.{listing}
 use Rattle.ttcn_types.proofs.parts.records.Given as goal
 

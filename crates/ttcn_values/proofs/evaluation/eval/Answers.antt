@@ -1,6 +1,6 @@
 use Rattle.std.proofs.Common.{subst}
-use Rattle.ttcn_values.specs.Evaluation.{value_of}
-use Rattle.ttcn_values.specs.Outcomes.{Gives}
+use Rattle.value_types.specs.Evaluation.{value_of}
+use Rattle.value_types.specs.Outcomes.{Gives}
 use Rattle.ttcn_values.proofs.evaluation.eval.Goals as goal
 
 pub returns : goal.returns

@@ -1,9 +1,9 @@
 use Rattle.std.proofs.Common.{◌≡◌, Err, Global, Vec, ap, subst, sym, ◌∙◌}
-use Rattle.ttcn_values.proofs.Faults.{given_by, handed_on}
-use Rattle.ttcn_values.specs.Frames.{reading}
-use Rattle.ttcn_values.specs.Outcomes.{GivesBy, Yields}
-use Rattle.ttcn_values.specs.Templates.{arguments}
-use Rattle.ttcn_values.specs.declared.value.Value.{Value}
+use Rattle.value_types.proofs.Faults.{given_by, handed_on}
+use Rattle.value_types.specs.Frames.{reading}
+use Rattle.value_types.specs.Outcomes.{GivesBy, Yields}
+use Rattle.value_types.specs.Templates.{arguments}
+use Rattle.value_types.specs.declared.value.Value.{Value}
 use Rattle.ttcn_values.proofs.evaluation.eval_arguments.Goals as goal
 
 pub returns-in_err-values : goal.returns-in_err-values

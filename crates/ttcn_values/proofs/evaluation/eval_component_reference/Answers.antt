@@ -1,6 +1,6 @@
 use Rattle.std.proofs.Common.{subst}
-use Rattle.ttcn_values.specs.Outcomes.{Gives}
-use Rattle.ttcn_values.specs.Readings.{component_at}
+use Rattle.value_types.specs.Outcomes.{Gives}
+use Rattle.value_types.specs.Readings.{component_at}
 use Rattle.ttcn_values.proofs.evaluation.eval_component_reference.Goals as goal
 
 pub returns : goal.returns

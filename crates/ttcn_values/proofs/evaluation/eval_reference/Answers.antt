@@ -1,6 +1,6 @@
 use Rattle.std.proofs.Common.{subst}
-use Rattle.ttcn_values.specs.Outcomes.{Gives}
-use Rattle.ttcn_values.specs.Readings.{referred}
+use Rattle.value_types.specs.Outcomes.{Gives}
+use Rattle.value_types.specs.Readings.{referred}
 use Rattle.ttcn_values.proofs.evaluation.eval_reference.Goals as goal
 
 pub returns : goal.returns

@@ -1,6 +1,6 @@
 use Rattle.std.proofs.Common.{subst}
-use Rattle.ttcn_values.specs.Outcomes.{Gives}
-use Rattle.ttcn_values.specs.Templates.{template_wanted}
+use Rattle.value_types.specs.Outcomes.{Gives}
+use Rattle.value_types.specs.Templates.{template_wanted}
 use Rattle.ttcn_values.proofs.evaluation.eval_template.Goals as goal
 
 pub returns : goal.returns

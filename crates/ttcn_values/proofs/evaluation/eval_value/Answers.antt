@@ -1,6 +1,6 @@
 use Rattle.std.proofs.Common.{subst}
-use Rattle.ttcn_values.specs.Literals.{value_wanted}
-use Rattle.ttcn_values.specs.Outcomes.{Gives}
+use Rattle.value_types.specs.Literals.{value_wanted}
+use Rattle.value_types.specs.Outcomes.{Gives}
 use Rattle.ttcn_values.proofs.evaluation.eval_value.Goals as goal
 
 pub returns : goal.returns

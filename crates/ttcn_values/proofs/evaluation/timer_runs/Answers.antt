@@ -1,5 +1,5 @@
 use Rattle.std.proofs.Common.{◌≡◌, subst}
-use Rattle.ttcn_values.specs.Readings.{timer_at}
+use Rattle.value_types.specs.Readings.{timer_at}
 use Rattle.ttcn_values.proofs.evaluation.timer_runs.Goals as goal
 
 pub returns : goal.returns

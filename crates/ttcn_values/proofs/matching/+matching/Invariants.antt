@@ -1,6 +1,6 @@
 use Rattle.std.proofs.Common.{◌≡◌, drop, map, length}
 use Rattle.std.specs.List.{list_any}
-use Rattle.ttcn_values.specs.Matching.{is_match, match_fields}
+use Rattle.value_types.specs.Matching.{is_match, match_fields}
 use Rattle.ttcn_values.proofs.matching.+matching.Given as goal
 
 -- the parts that are left decide

@@ -1,5 +1,5 @@
 use Rattle.std.proofs.Common.{bytes_eq, refl, rules}
-use Rattle.ttcn_values.proofs.Lists.{position-end, position-first, position-next}
+use Rattle.value_types.proofs.Lists.{position-end, position-first, position-next}
 use Rattle.ttcn_values.proofs.named.position_of.Goals as goal
 
 pub loop-at-init : goal.loop-at-init

@@ -1,5 +1,5 @@
 use Rattle.std.proofs.Common.{Bool, List, Option, Some, ap, ◌∙◌}
-use Rattle.check_statements.specs.Messages.{type_by_port}
+use Rattle.check_rules.specs.Messages.{type_by_port}
 use Rattle.check_scope.specs.declared.types.DataType.{DataType}
 use Rattle.check_statements.proofs.message.Passing.at.Goals as goal
 

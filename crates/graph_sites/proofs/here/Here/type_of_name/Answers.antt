@@ -1,5 +1,5 @@
 use Rattle.std.proofs.Common.{ap, sym, ◌∙◌, Some}
-use Rattle.check_expressions.specs.Expressions.{check_meaning}
+use Rattle.check_rules.specs.Expressions.{check_meaning}
 use Rattle.check_scope.specs.Typings.{type_known}
 use Rattle.check_scope.specs.declared.names.Meaning.TheVariants as meaning
 use Rattle.semantics.specs.Sites.{scope_at}

@@ -7,45 +7,45 @@ use Rattle.search_layer.specs.internal.Work.{have_same_state}
 use Rattle.search_layer.proofs.AllWorked.{are_first, all_shown, false_unless, piece_begins, piece_within}
 use Rattle.search_layer.proofs.workers.layer.find_first.Given.{Over}
 use Rattle.search_layer.proofs.workers.layer.find_first.Goals as goal
-use Rattle.search_layer.proofs.workers.layer.find_first.Goals.{Else-finish}
+use Rattle.search_layer.proofs.workers.layer.find_first.Goals.{Else-has_stopped}
 
 pub invariant_of-share_work-clause-cut : goal.invariant_of-share_work-clause-cut
 invariant_of-share_work-clause-cut g c =
     piece_begins (length c.args.candidates.now) c.args.plan.now.piece c.div_ceil-pieces.result c.requires.plan.piece_low c.div_ceil-pieces.ensures
 
-unseen : (g : Over) (c : Else-finish g) → (board_view c.share_work.new.draws).saw ≡ false
-unseen g c = false_unless (board_view c.share_work.new.draws).saw (λ saw. let e = c.finish.ensures.saw saw in let f = c.if-finish.false in absurd (cc))
+unseen : (g : Over) (c : Else-has_stopped g) → (board_view c.share_work.new.draws).saw ≡ false
+unseen g c = false_unless (board_view c.share_work.new.draws).saw (λ saw. let e = c.finish-has_stopped.ensures.saw saw in let f = c.if-has_stopped.false in absurd (cc))
 
-drawn : (g : Over) (c : Else-finish g) → (k : ℕ) → k < c.div_ceil-pieces.result → Stands k (board_view c.share_work.new.draws).drawn
+drawn : (g : Over) (c : Else-has_stopped g) → (k : ℕ) → k < c.div_ceil-pieces.result → Stands k (board_view c.share_work.new.draws).drawn
 drawn g c k low =
     let sizes = c.in_ok-board.ensures.sizes in
-    let first = c.in_ok-summary.ensures.first in
-    let seats = c.in_ok-summary.ensures.own.1.2 in
+    let first = c.in_ok-shown.ensures.first in
+    let seats = c.in_ok-shown.ensures.own.1.2 in
     let joined : (board_view c.share_work.new.draws).parts + (board_view c.share_work.new.draws).left ≡ (board_view c.share_work.new.draws).seats =
     (let a = first.board_parts in let b = first.board_left in let d = sizes.1 in omega arith) in
-    let once = c.finish.ensures.each joined (c.in_ok-summary.ensures.placed (unseen g c)).0 k (let e = sizes.0 in omega arith) in
+    let once = c.finish-has_stopped.ensures.each joined (c.in_ok-shown.ensures.placed (unseen g c)).0 k (let e = sizes.0 in omega arith) in
     omega arith
 
 pub returns-clause-first : goal.returns-clause-first
 returns-clause-first g c =
     let eq = g.Y.State.PartialEq.eq in
     let cs = c.args.candidates.now in
-    let at = (goal.at.returns-clause-first g c).Else-finish in
+    let at = (goal.at.returns-clause-first g c).Else-has_stopped in
     let laws = (g.met.Y.State.Eq g.world.𝓛 g.world.𝓜 g.world.𝓡 ((λ s x. x), (λ x. x), (λ x. x), λ x. x)).laws in
     are_first eq laws c.args.visited.now.keys cs c.args.plan.now.piece c.div_ceil-pieces.result (board_view c.share_work.new.draws).drawn
     c.requires.plan.piece_low (drawn g at) (piece_within (length cs) c.args.plan.now.piece c.div_ceil-pieces.result c.requires.plan.piece_low c.div_ceil-pieces.ensures)
-    (view c.share_work.new.seat).placed c.in_ok-firsts.firsts.items
-    (c.in_ok-summary.ensures.placed (unseen g at)).1
-    (subst (λ items. IsFirsts (have_same_state eq) items (view c.share_work.new.seat).placed c.in_ok-firsts.firsts.items) c.in_ok-seen.ensures.items c.in_ok-firsts.ensures.firsts)
+    (view c.share_work.new.seat).placed c.in_ok-positions.positions.items
+    (c.in_ok-shown.ensures.placed (unseen g at)).1
+    (subst (λ items. IsFirsts (have_same_state eq) items (view c.share_work.new.seat).placed c.in_ok-positions.positions.items) c.in_ok-seen.ensures.items c.in_ok-positions.ensures.firsts)
 
 pub returns-clause-summary : goal.returns-clause-summary
 returns-clause-summary g c =
     let system = c.args.system.now in
     let cs = c.args.candidates.now in
-    let at = (goal.at.returns-clause-summary g c).Else-finish in
+    let at = (goal.at.returns-clause-summary g c).Else-has_stopped in
     let laws = (g.met.Y.State.Eq g.world.𝓛 g.world.𝓜 g.world.𝓡 ((λ s x. x), (λ x. x), (λ x. x), λ x. x)).laws in
     let semilattice = (g.met.U.Summary g.world.𝓛 g.world.𝓜 g.world.𝓡 ((λ s x. x), (λ x. x), (λ x. x), λ x. x)).semilattice in
-    c.in_ok-summary.ensures.summary
+    c.in_ok-shown.ensures.summary
     ∙ all_shown g.Y.State.PartialEq.eq laws c.args.visited.now.keys cs c.args.plan.now.piece c.div_ceil-pieces.result (board_view c.share_work.new.draws).drawn
     c.requires.plan.piece_low (drawn g at) (piece_within (length cs) c.args.plan.now.piece c.div_ceil-pieces.result c.requires.plan.piece_low c.div_ceil-pieces.ensures)
     g.U.Summary.joins (g.U.Summary.observation system) (g.Y.System.graph system) semilattice

@@ -8,9 +8,9 @@ use Rattle.config_parts.proofs.Naming.{make_legend}
 use Rattle.config_parts.proofs.Within.{declare-keeps}
 use Rattle.config_parts.specs.Views.{HasSlotsWithin}
 use Rattle.config_parts.specs.declared.frame.Cells.{Cells}
-use Rattle.ttcn_values.proofs.Faults.{handed_on_by}
-use Rattle.ttcn_values.specs.Frames.{reading}
-use Rattle.ttcn_values.specs.Literals.{value_wanted}
+use Rattle.value_types.proofs.Faults.{handed_on_by}
+use Rattle.value_types.specs.Frames.{reading}
+use Rattle.value_types.specs.Literals.{value_wanted}
 
 pub returns-in_err-found-clause-declared : goal.returns-in_err-found-clause-declared
 returns-in_err-found-clause-declared c snapshot runs =

@@ -10,8 +10,8 @@ use Rattle.semantics.specs.Snapshots.{Snapshot, Test}
 use Rattle.semantics.specs.Configurations.{Frame}
 use Rattle.step_snapshot.specs.Tests.{test_by}
 use Rattle.ttcn_syntax.specs.declared.tree.statement.Constant.{Constant}
-use Rattle.ttcn_values.specs.Outcomes.{GivesBy, Outcome, Yields}
-use Rattle.ttcn_values.specs.declared.value.ComponentId.{ComponentId}
+use Rattle.value_types.specs.Outcomes.{GivesBy, Outcome, Yields}
+use Rattle.value_types.specs.declared.value.ComponentId.{ComponentId}
 
 -- the declaration of one constant
 abbrev constant : Test → ComponentId → Snapshot → Option DataType → Frame → Constant → Outcome Frame

@@ -3,7 +3,7 @@ use Rattle.step_create.proofs.members.Maker.declare_timers.Given as goal
 use Rattle.step_create.specs.Makers.{frame_for, size_of}
 use Rattle.semantics.specs.Storing as storing
 use Rattle.config_parts.specs.Views.{HasSlotsWithin}
-use Rattle.ttcn_values.specs.Outcomes.{Yields}
+use Rattle.value_types.specs.Outcomes.{Yields}
 
 abbrev pub invariant-loop-timer : goal.invariant-loop-timer
 invariant-loop-timer l =

@@ -8,7 +8,7 @@ use Rattle.config_parts.proofs.Naming.{make_legend}
 use Rattle.config_parts.proofs.Within.{forget-keeps}
 use Rattle.config_parts.specs.Views.{HasSlotsWithin}
 use Rattle.config_parts.specs.declared.frame.Cells.{Cells}
-use Rattle.ttcn_values.specs.Outcomes.{Yields}
+use Rattle.value_types.specs.Outcomes.{Yields}
 
 pub returns-in-None-clause-declared : goal.returns-in-None-clause-declared
 returns-in-None-clause-declared c snapshot runs =

@@ -8,8 +8,8 @@ use Rattle.step_snapshot.proofs.snapshot.Snapshot.frame.Goals.{then-sees_members
 use Rattle.config_parts.specs.Views.{AreNames, HasSlotsWithin, view_by}
 use Rattle.config_parts.specs.declared.frame.Cells.{Cells}
 use Rattle.config_parts.specs.declared.frame.Data.{Data}
-use Rattle.ttcn_values.specs.Chains.{within_chains}
-use Rattle.ttcn_values.specs.Frames.{longest_chain}
+use Rattle.value_types.specs.Chains.{within_chains}
+use Rattle.value_types.specs.Frames.{longest_chain}
 
 pub returns : goal.returns
 returns c site at =

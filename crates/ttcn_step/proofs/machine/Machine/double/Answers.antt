@@ -1,12 +1,10 @@
 use Rattle.std.proofs.Common.{IfOk, map, subst}
-use Rattle.step_labels.specs.Labels.{label_by}
 use Rattle.ttcn_step.proofs.Coarsening.{doubling-if}
 use Rattle.ttcn_step.proofs.machine.Machine.double.Goals as goal
 use Rattle.ttcn_step.specs.FineAnswers.{IsDoubling}
-use Rattle.ttcn_step.specs.FineLabels.{fine_label_by}
 use Rattle.ttcn_step.specs.Machines.{Machine, machine_of}
 
 pub returns-clause-fine : goal.returns-clause-fine
 returns-clause-fine c =
-    subst (λ (m : Machine). IfOk c.double.result (λ labels. IsDoubling m.test (map label_by c.args.run.now) (map fine_label_by labels.items))) c.self.view_is
-    (doubling-if (machine_of c.self.inside.test) (map label_by c.args.run.now) c.double.result c.double.ensures)
+    subst (λ (m : Machine). IfOk c.double.result (λ labels. IsDoubling m.test c.args.run.now labels.items)) c.self.view_is
+    (doubling-if (machine_of c.self.inside.test) c.args.run.now c.double.result c.double.ensures)

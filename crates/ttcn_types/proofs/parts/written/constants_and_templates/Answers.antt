@@ -2,7 +2,7 @@ use Rattle.std.proofs.Common.{length, sym, ap, ◌∙◌}
 use Rattle.std.proofs.lemmas.List.{length-map}
 use Rattle.check_survey.specs.Things.{tally}
 use Rattle.ttcn_types.proofs.WrittenOut.{length_written}
-use Rattle.ttcn_types.specs.Parts.{constants_and_templates}
+use Rattle.check_rules.specs.Parts.{constants_and_templates}
 use Rattle.ttcn_types.proofs.parts.written.constants_and_templates.Goals as goal
 
 pub returns-clause-places : goal.returns-clause-places

@@ -1,7 +1,7 @@
 use Rattle.std.proofs.Common.{◌≡◌, ◌++◌, map}
 use Rattle.ttcn_types.specs.internal.Surrounding.{scope_of}
 use Rattle.check_survey.specs.Things.{tally}
-use Rattle.ttcn_types.specs.Parts.{constant_parts}
+use Rattle.check_rules.specs.Parts.{constant_parts}
 use Rattle.ttcn_types.proofs.Listing.{listing}
 use Rattle.ttcn_types.proofs.parts.written.push_constants.Given as goal
 

@@ -1,6 +1,6 @@
 use Rattle.std.proofs.Common.{◌≡◌, ◌++◌, drop, map}
 use Rattle.check_survey.specs.Things.{tally}
-use Rattle.ttcn_types.specs.Parts.{things_from, constants_and_templates}
+use Rattle.check_rules.specs.Parts.{things_from, constants_and_templates}
 use Rattle.ttcn_types.proofs.parts.written.things_of.Given as goal
 
 -- the list so far, with what is left, is all that is written out

@@ -1,13 +1,13 @@
 use Rattle.std.proofs.Common.{[], ap, sym, arith, ◌∙◌}
 use Rattle.std.proofs.Common.{Global, Vec}
-use Rattle.ttcn_values.proofs.Faults.{gives_same}
+use Rattle.value_types.proofs.Faults.{gives_same}
 use Rattle.ttcn_values.proofs.Plans.{alone_last, alone_none, and_then_fault, gives_by_fault, gives_fault, none_built, none_given_by, none_of_map, planned_alone}
 use Rattle.ttcn_values.proofs.TemplateCalls.{template_gives}
 use Rattle.ttcn_values.specs.internal.Building.{after_step, after_steps, alone}
 use Rattle.ttcn_values.specs.internal.Readers.{read_by}
-use Rattle.ttcn_values.specs.Outcomes.{outcome_and_then, value_in}
-use Rattle.ttcn_values.specs.Templates as spec
-use Rattle.ttcn_values.specs.declared.template.Template.{Template}
+use Rattle.value_types.specs.Outcomes.{outcome_and_then, value_in}
+use Rattle.value_types.specs.Templates as spec
+use Rattle.value_types.specs.declared.template.Template.{Template}
 use Rattle.ttcn_values.proofs.reader.Reader.+building.Goals as goal
 
 pub build-loop-step-preserved : goal.build-loop-step-preserved

@@ -4,13 +4,13 @@ use Rattle.ttcn_values.proofs.Chained.{chain-fault, chain_of_fault}
 use Rattle.ttcn_values.proofs.ConstantBounds.{constant-below, constants_weight, found_value-below, item-below, level-below, link_weight, value_weight}
 use Rattle.ttcn_values.proofs.Each.{beside-fault, beside-next}
 use Rattle.ttcn_values.proofs.LiteralForms.{assigned_fault, listed_fault, at_field, element_gives, given-none, given-some, order_is}
-use Rattle.ttcn_values.proofs.Outcomes.{passes_on}
-use Rattle.ttcn_values.specs.Evaluation.{value_of}
-use Rattle.ttcn_values.specs.Chains.{within_chains}
-use Rattle.ttcn_values.specs.Frames.{facts}
+use Rattle.value_types.proofs.Outcomes.{passes_on}
+use Rattle.value_types.specs.Evaluation.{value_of}
+use Rattle.value_types.specs.Chains.{within_chains}
+use Rattle.value_types.specs.Frames.{facts}
 use Rattle.ttcn_values.specs.internal.Readers.{AreResults, read_by, seen_by}
-use Rattle.ttcn_values.specs.Literals as spec
-use Rattle.ttcn_values.specs.Outcomes.{Fails, Yields}
+use Rattle.value_types.specs.Literals as spec
+use Rattle.value_types.specs.Outcomes.{Fails, Yields}
 use Rattle.ttcn_values.specs.declared.reader.Visible.TheVariants as visible
 use Rattle.ttcn_values.proofs.reader.Reader.+reader.Goals as goal
 

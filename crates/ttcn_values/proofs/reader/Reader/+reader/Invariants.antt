@@ -1,9 +1,9 @@
 use Rattle.std.proofs.Common.{◌≡◌, ◌+◌, drop, length, map}
 use Rattle.std.specs.List.{zip}
-use Rattle.ttcn_values.specs.Evaluation.{after, link}
+use Rattle.value_types.specs.Evaluation.{after, link}
 use Rattle.ttcn_values.specs.internal.Readers.{AreResults, read_by}
-use Rattle.ttcn_values.specs.Literals as spec
-use Rattle.ttcn_values.specs.Outcomes.{Yields, each}
+use Rattle.value_types.specs.Literals as spec
+use Rattle.value_types.specs.Outcomes.{Yields, each}
 use Rattle.ttcn_values.proofs.ConstantBounds.{constants_weight, expr_weight, field_value_weight, levels, link_weight, sum, value_weight}
 use Rattle.ttcn_values.proofs.Each.{behind}
 use Rattle.ttcn_values.proofs.reader.Reader.+reader.Given as goal

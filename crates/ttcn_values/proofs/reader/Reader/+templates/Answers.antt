@@ -10,11 +10,11 @@ use Rattle.ttcn_values.proofs.Plans.{alone-many, gather_step, in_order-many, map
 use Rattle.ttcn_values.proofs.TemplateForms.{body_of_any, body_of_any_or_omit, body_of_complement, body_of_list, body_of_omit, element_found, element_missing, in_order_as_long, wanted_out}
 use Rattle.ttcn_values.specs.internal.Building.{after_steps, alone, one_after, with_more}
 use Rattle.ttcn_values.specs.internal.Readers.{read_by}
-use Rattle.ttcn_values.specs.Literals.{wanted_record}
-use Rattle.ttcn_values.specs.Outcomes.{Yields, outcome_map, unmet, value_in}
-use Rattle.ttcn_values.specs.Templates as spec
+use Rattle.value_types.specs.Literals.{wanted_record}
+use Rattle.value_types.specs.Outcomes.{Yields, outcome_map, unmet, value_in}
+use Rattle.value_types.specs.Templates as spec
 use Rattle.ttcn_values.specs.declared.reader.Step.TheVariants as step
-use Rattle.ttcn_values.specs.declared.template.Pattern.TheVariants as pattern
+use Rattle.value_types.specs.declared.template.Pattern.TheVariants as pattern
 use Rattle.ttcn_values.proofs.reader.Reader.+templates.Goals as goal
 
 pub plan-returns-else-template : goal.plan-returns-else-template

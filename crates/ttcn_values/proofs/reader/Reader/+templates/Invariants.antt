@@ -2,8 +2,8 @@ use Rattle.std.proofs.Common.{◌≡◌, ◌+◌, ◌*◌, bytes_eq, map, take}
 use Rattle.std.specs.List.{find, zip}
 use Rattle.ttcn_values.specs.internal.Building.{after_steps, one_after, with_more}
 use Rattle.ttcn_values.specs.internal.Readers.{read_by}
-use Rattle.ttcn_values.specs.Outcomes.{each}
-use Rattle.ttcn_values.specs.Templates as spec
+use Rattle.value_types.specs.Outcomes.{each}
+use Rattle.value_types.specs.Templates as spec
 use Rattle.ttcn_values.proofs.reader.Reader.+templates.Given as goal
 
 -- what is left of the tree, and how far its parts were handed on

@@ -1,11 +1,11 @@
 use Rattle.std.proofs.Common.{map, ap, sym, ◌∙◌}
 use Rattle.std.specs.List.{zip}
 use Rattle.ttcn_values.proofs.Each.{beside-alone, beside-end, beside-fault, beside-next, if_as_long}
-use Rattle.ttcn_values.proofs.Faults.{handed_on_by}
+use Rattle.value_types.proofs.Faults.{handed_on_by}
 use Rattle.ttcn_values.specs.internal.Readers.{read_by}
-use Rattle.ttcn_values.specs.Literals.{value_wanted}
-use Rattle.ttcn_values.specs.Outcomes.{each}
-use Rattle.ttcn_values.specs.Templates.{argument, arguments}
+use Rattle.value_types.specs.Literals.{value_wanted}
+use Rattle.value_types.specs.Outcomes.{each}
+use Rattle.value_types.specs.Templates.{argument, arguments}
 use Rattle.ttcn_values.proofs.reader.Reader.arguments.Goals as goal
 
 pub loop-at-init : goal.loop-at-init

@@ -2,8 +2,8 @@ use Rattle.std.proofs.Common.{◌≡◌, map}
 use Rattle.std.specs.List.{zip}
 use Rattle.ttcn_values.proofs.Each.{behind, beside}
 use Rattle.ttcn_values.specs.internal.Readers.{read_by}
-use Rattle.ttcn_values.specs.Outcomes.{each}
-use Rattle.ttcn_values.specs.Templates.{argument}
+use Rattle.value_types.specs.Outcomes.{each}
+use Rattle.value_types.specs.Templates.{argument}
 use Rattle.ttcn_values.proofs.reader.Reader.arguments.Given as goal
 
 -- the values so far, and what is left, are what all give

@@ -3,9 +3,9 @@ use Rattle.ttcn_values.proofs.Plans.{and_then_fault, call_step, map_none, none_g
 use Rattle.ttcn_values.proofs.TemplateCalls.{with_arguments}
 use Rattle.ttcn_values.specs.internal.Building.{alone}
 use Rattle.ttcn_values.specs.internal.Readers.{read_by}
-use Rattle.ttcn_values.specs.Outcomes.{Yields, outcome_map, value_in}
-use Rattle.ttcn_values.specs.Templates as spec
-use Rattle.ttcn_values.specs.declared.value.Value.{Value}
+use Rattle.value_types.specs.Outcomes.{Yields, outcome_map, value_in}
+use Rattle.value_types.specs.Templates as spec
+use Rattle.value_types.specs.declared.value.Value.{Value}
 use Rattle.ttcn_values.proofs.reader.Reader.plan_call.Goals as goal
 
 pub returns-in_err-values : goal.returns-in_err-values

@@ -1,7 +1,7 @@
 use Rattle.std.proofs.Common.{ap, sym, ◌∙◌}
 use Rattle.ttcn_values.proofs.Plans.{plain_step, none_named}
 use Rattle.ttcn_values.specs.internal.Readers.{read_by}
-use Rattle.ttcn_values.specs.Templates as spec
+use Rattle.value_types.specs.Templates as spec
 use Rattle.ttcn_values.proofs.reader.Reader.plan_expression.Goals as goal
 
 pub returns : goal.returns

@@ -1,6 +1,6 @@
 use Rattle.ttcn_values.proofs.Plans.{plain_step}
 use Rattle.ttcn_values.specs.internal.Readers.{read_by}
-use Rattle.ttcn_values.specs.Templates as spec
+use Rattle.value_types.specs.Templates as spec
 use Rattle.ttcn_values.proofs.reader.Reader.plan_range.Goals as goal
 
 pub returns : goal.returns

@@ -1,6 +1,6 @@
 use Rattle.std.proofs.Common.{◌≡◌, drop}
-use Rattle.ttcn_values.specs.Outcomes.{Yields}
-use Rattle.ttcn_values.specs.Readings.{along}
+use Rattle.value_types.specs.Outcomes.{Yields}
+use Rattle.value_types.specs.Readings.{along}
 use Rattle.ttcn_values.proofs.reader.record.along.Given as goal
 
 -- the fields that are left lead on to what all lead to

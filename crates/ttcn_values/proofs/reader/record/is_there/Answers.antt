@@ -1,6 +1,6 @@
 use Rattle.std.proofs.Common.{refl, sym, ap, ◌∙◌}
 use Rattle.ttcn_values.proofs.Following.{last-fault, last-next}
-use Rattle.ttcn_values.specs.Outcomes.{value_in}
+use Rattle.value_types.specs.Outcomes.{value_in}
 use Rattle.ttcn_values.proofs.reader.record.is_there.Goals as goal
 
 pub loop-name-init : goal.loop-name-init

@@ -1,5 +1,5 @@
 use Rattle.std.proofs.Common.{◌≡◌, drop}
-use Rattle.ttcn_values.specs.Readings.{last_presence}
+use Rattle.value_types.specs.Readings.{last_presence}
 use Rattle.ttcn_values.proofs.reader.record.is_there.Given as goal
 
 -- the fields that are left lead on to what all lead to

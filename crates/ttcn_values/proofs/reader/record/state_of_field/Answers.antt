@@ -1,6 +1,6 @@
 use Rattle.std.proofs.Common.{sym, ◌∙◌}
 use Rattle.ttcn_values.proofs.Following.{record_of_record}
-use Rattle.ttcn_values.proofs.Outcomes.{value_in_or_unmet}
+use Rattle.value_types.proofs.Outcomes.{value_in_or_unmet}
 use Rattle.ttcn_values.proofs.reader.record.state_of_field.Goals as goal
 
 pub returns-in-Record : goal.returns-in-Record

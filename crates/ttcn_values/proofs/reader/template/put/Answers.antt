@@ -1,7 +1,7 @@
 use Rattle.std.proofs.Common.{refl}
 use Rattle.ttcn_values.proofs.Plans.{plain_step}
-use Rattle.ttcn_values.specs.Outcomes.{Yields}
-use Rattle.ttcn_values.specs.Templates.{plain}
+use Rattle.value_types.specs.Outcomes.{Yields}
+use Rattle.value_types.specs.Templates.{plain}
 use Rattle.ttcn_values.proofs.reader.template.put.Goals as goal
 
 pub returns : goal.returns

@@ -1,7 +1,7 @@
 use Rattle.std.proofs.Common.{◌≡◌}
 use Rattle.ttcn_types.specs.internal.Surrounding.{scope_of}
 use Rattle.check_survey.specs.Things.{add}
-use Rattle.ttcn_types.specs.Parts.{expression_parts, link_parts}
+use Rattle.check_rules.specs.Parts.{expression_parts, link_parts}
 use Rattle.ttcn_types.proofs.Beside.{collecting}
 use Rattle.ttcn_types.proofs.parts.surroundings.Surroundings.+add_expression.Given as goal
 

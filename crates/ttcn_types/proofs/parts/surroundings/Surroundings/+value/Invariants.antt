@@ -1,7 +1,7 @@
 use Rattle.std.proofs.Common.{◌≡◌, map}
 use Rattle.ttcn_types.specs.internal.Surrounding.{scope_of}
 use Rattle.check_survey.specs.Things.{add}
-use Rattle.ttcn_types.specs.Parts.{all_of, field_value_parts, value_parts}
+use Rattle.check_rules.specs.Parts.{all_of, field_value_parts, value_parts}
 use Rattle.ttcn_types.proofs.Beside.{collecting}
 use Rattle.ttcn_types.proofs.parts.surroundings.Surroundings.+value.Given as goal
 

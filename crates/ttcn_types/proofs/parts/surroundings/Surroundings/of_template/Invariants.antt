@@ -1,7 +1,7 @@
 use Rattle.std.proofs.Common.{◌≡◌, drop}
 use Rattle.ttcn_types.specs.internal.Surrounding.{scope_of}
 use Rattle.check_scope.specs.Scopes.{module_scope}
-use Rattle.check_statements.specs.Definitions.{with_parameters}
+use Rattle.check_rules.specs.Definitions.{with_parameters}
 use Rattle.ttcn_types.proofs.parts.surroundings.Surroundings.of_template.Given as goal
 
 -- the scope so far, with the parameters that are left, is that with all of them

@@ -1,0 +1,14 @@
+pub mod Calls
+pub mod Declarations
+pub mod Definitions
+pub mod Expressions
+pub mod Limits
+pub mod Messages
+pub mod Parts
+pub mod Programs
+pub mod Rules
+pub mod Statements
+pub mod Targets
+pub mod Templates
+pub mod Values
+pub mod internal

@@ -1,0 +1,12 @@
+pub mod Asking
+pub mod Called
+pub mod Changed
+pub mod Coming
+pub mod Conditions
+pub mod Creating
+pub mod Ending
+pub mod Evaluated
+pub mod Forms
+pub mod Marking
+pub mod Standing
+pub mod Stood

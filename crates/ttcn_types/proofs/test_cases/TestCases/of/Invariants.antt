@@ -1,8 +1,0 @@
-use Rattle.std.proofs.Common.{◌≡◌, drop}
-use Rattle.ttcn_types.specs.internal.TestCases.{placed}
-use Rattle.ttcn_types.proofs.TestCaseLemmas.{placed_from, placing}
-use Rattle.ttcn_types.proofs.test_cases.TestCases.of.Given as goal
-
--- the test cases so far, with those that are left, are all of them
-abbrev pub invariant-loop-at : goal.invariant-loop-at
-invariant-loop-at l = placing (placed l.cases) l.at (drop l.at l.definitions) ≡ placed_from 0 l.definitions

@@ -1,6 +1,0 @@
-use Rattle.std.proofs.Common.{◌≡◌, take}
-use Rattle.ttcn_values.proofs.template.+copies.Given as goal
-
--- the templates so far are copied
-abbrev pub invariant-copies-loop-part : goal.invariant-copies-loop-part
-invariant-copies-loop-part l = l.copies.items ≡ take l.part-index l.parts

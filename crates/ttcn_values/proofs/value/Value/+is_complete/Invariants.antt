@@ -1,9 +1,0 @@
-use Rattle.std.proofs.Common.{◌≡◌, drop, map}
-use Rattle.std.specs.List.{list_all}
-use Rattle.std.specs.Option.{option_map}
-use Rattle.ttcn_values.specs.Values.{has_value, is_complete}
-use Rattle.ttcn_values.proofs.value.Value.+is_complete.Given as goal
-
--- the fields that are left decide
-abbrev pub invariant-loop-field : goal.invariant-loop-field
-invariant-loop-field l = is_complete l.self ≡ list_all has_value (map (option_map is_complete) (drop l.field-index l.field-items))

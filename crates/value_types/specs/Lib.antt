@@ -1,0 +1,11 @@
+pub mod Chains
+pub mod Evaluation
+pub mod Frames
+pub mod Literals
+pub mod Matching
+pub mod Operations
+pub mod Outcomes
+pub mod Readings
+pub mod Templates
+pub mod Values
+pub mod internal
