@@ -28,6 +28,7 @@ COMMANDS = [
     "run examples/x1.ttcn --testcase T --steps 2",
     "run examples/x2.ttcn --testcase T --steps 13 --workers 4 --piece 1",
     "run examples/x6.ttcn --testcase T --steps 10 --json",
+    "run examples/y1.ttcn --testcase T --steps 9 --script examples/y1.json",
     "replay examples/x2.ttcn --testcase T --run examples/x2.pass.run",
     "double examples/x2.ttcn --testcase T --run examples/x2.pass.run",
     "coarsen examples/x6.ttcn --testcase T --run examples/x6.fine.run",

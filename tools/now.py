@@ -25,8 +25,8 @@ NO_ANSWER = 70
 
 COMMANDS = {"check", "run", "replay", "coarsen", "double"}
 # The options that have a value, and those of them whose value is a file. What is neither option nor value is a file.
-VALUES = {"--testcase", "--steps", "--limit", "--workers", "--piece", "--run"}
-FILES = {"--run"}
+VALUES = {"--testcase", "--steps", "--limit", "--workers", "--piece", "--run", "--script"}
+FILES = {"--run", "--script"}
 
 # What the toolchain writes before and behind the program's own error: notes, and how the program ended or why it has no answer.
 NOTES = re.compile(rb"\A(?:rt: .*\n)+")

@@ -12,10 +12,24 @@ import tempfile
 
 TOOLS = os.path.dirname(os.path.realpath(__file__))
 EXAMPLES = os.path.join(os.path.dirname(TOOLS), "examples")
-X1, X2 = f"{EXAMPLES}/x1.ttcn", f"{EXAMPLES}/x2.ttcn"
+X1, X2, Y1 = f"{EXAMPLES}/x1.ttcn", f"{EXAMPLES}/x2.ttcn", f"{EXAMPLES}/y1.ttcn"
 
-# the longest text that is a module
+# the longest text that is a module or a script
 LONGEST = 1 << 20
+
+# the first steps of examples/y1.ttcn, and the reports on it with 9 steps: where 1 comes in and then 2, where 2 comes in first,
+# and where nothing comes in
+FIRST = b"mtc\n" * 3
+HEAD = b"testcase T\nsteps 9\nconfigurations %d\ncomplete yes\n"
+VERDICT = b"verdict %s 7\n" + b"  mtc\n" * 3 + b"  %s\n" + b"  mtc\n" * 3
+ONE_FIRST = HEAD % 29 + VERDICT % (b"pass", b"system.p") + VERDICT % (b"inconc", b"mtc/0.t") + b"branch 9:1\nbranch 11:1\n"
+TWO_FIRST = HEAD % 29 + VERDICT % (b"inconc", b"mtc/0.t") + VERDICT % (b"fail", b"system.p") + b"branch 10:1\nbranch 11:1\n"
+NOTHING = HEAD % 8 + VERDICT % (b"inconc", b"mtc/0.t") + b"branch 11:1\n"
+ONE_FIRST_IN_JSON = (
+    b'{"blocked":[],"branches":["9:1","11:1"],"complete":true,"configurations":29,"steps":9,"testcase":"T","verdicts":['
+    b'{"run":["mtc","mtc","mtc","system.p","mtc","mtc","mtc"],"verdict":"pass"},'
+    b'{"run":["mtc","mtc","mtc","mtc/0.t","mtc","mtc","mtc"],"verdict":"inconc"}]}\n'
+)
 
 
 def stored(name):
@@ -91,6 +105,68 @@ def long_rows(folder):
     ]
 
 
+def script_rows(folder):
+    """Returns command lines with a script, each with its status, and what its text is or begins with."""
+    test = ["--testcase", "T"]
+    explore = ["run", Y1, *test, "--steps", "9"]
+    one_first = file_in(folder, "one_first.json", b'{"p":[{"integer":1},{"integer":2}]}')
+    two_first = file_in(folder, "two_first.json", b' {"p": [{"integer": 2}, {"integer": 1}]}\n')
+    run = file_in(folder, "delivery.run", FIRST + b"system.p\n" + FIRST)
+    fine_run = file_in(folder, "delivery.fine.run", FIRST + b"system.p\nsnap mtc\nsystem.p\nchoose mtc\nmtc\nmtc\n")
+    missing, other = f"{folder}/missing.json", f"{folder}/other"
+    about_run = [
+        (["replay", Y1, *test, "--run", run, "--script", one_first], 0, b"replayed 7\nended pass\n"),
+        (["replay", Y1, *test, "--run", run, "--script", two_first], 0, b"replayed 7\nended fail\n"),
+        (["replay", Y1, *test, "--run", run], 1, b"refused N2 NotEnabled at label 4\n"),
+        (["double", Y1, *test, "--run", run, "--script", one_first], 0, FIRST + b"system.p\nsnap mtc\nchoose mtc\nmtc\nmtc\n"),
+        (["coarsen", Y1, *test, "--run", fine_run, "--script", one_first], 0, FIRST + b"system.p\nmtc\nsystem.p\nmtc\nmtc\n"),
+        (["coarsen", Y1, *test, "--run", fine_run], 1, b"refused F1 NotFine at label 4\n"),
+    ]
+    return [
+        ([*explore, "--script", one_first], 0, ONE_FIRST),
+        ([*explore, f"--script={one_first}", "--json", "--workers", "4", "--piece", "1"], 0, ONE_FIRST_IN_JSON),
+        ([*explore, "--script", two_first], 0, TWO_FIRST),
+        ([*explore, "--script", file_in(folder, "longest.json", b"{}".ljust(LONGEST))], 0, NOTHING),
+        (explore, 0, NOTHING),
+        *about_run,
+        *refused_script_rows(folder),
+        ([*explore, "--script", missing], 5, f"cannot read {missing}\n".encode()),
+        (["run", other, *test, "--steps", "9", "--script", missing], 5, f"cannot read {missing}\n".encode()),
+        (["replay", other, *test, "--run", other, "--script", missing], 5, f"cannot read {missing}\n".encode()),
+        (["replay", other, *test, "--run", missing, "--script", one_first], 5, f"cannot read {other}\n".encode()),
+        (["check", Y1, "--script", one_first], 2, "error: unexpected argument '--script' found\n"),
+    ]
+
+
+def refused_script_rows(folder):
+    """Returns command lines with a script that is refused, or not judged, each with its status and what its text is or begins with."""
+    explore = ["run", Y1, "--testcase", "T", "--steps", "9", "--script"]
+    open_object = file_in(folder, "open.json", b"{")
+    run, module = file_in(folder, "no.run", b"mtc.01\n"), file_in(folder, "no.ttcn", b"module Y {")
+    scripts = [
+        (b"{".ljust(LONGEST + 1), b"refused J4 TooLarge\n"),
+        (b"{}".ljust(LONGEST + 1), b"refused J4 TooLarge\n"),
+        (b"", b"refused J1 BadJson\n"),
+        (b"{", b"refused J1 BadJson\n"),
+        (b'{"p":[{"integer":1}]} {}', b"refused J1 BadJson\n"),
+        (b"[]", b"refused J2 NoSuchPort\n"),
+        (b'{"q":[]}', b"refused J2 NoSuchPort\n"),
+        (b'{"p":[1],"q":[]}', b"refused J2 NoSuchPort\n"),
+        (b'{"p":1}', b"refused J3 BadMessage\n"),
+        (b'{"p":[1]}', b"refused J3 BadMessage\n"),
+        (b'{"p":[{"boolean":true}]}', b"refused J3 BadMessage\n"),
+        (b'{"p":[{"integer":1},{"integer":1.0}]}', b"refused J3 BadMessage\n"),
+    ]
+    return [
+        *(([*explore, file_in(folder, f"{at}.json", text)], 1, line) for at, (text, line) in enumerate(scripts)),
+        (["run", module, "--testcase", "T", "--steps", "9", "--script", open_object], 1, "refused P1 Unexpected at "),
+        (["run", Y1, "--testcase", "t", "--steps", "9", "--script", open_object], 1, b"refused U1 NoSuchTestCase\n"),
+        (["replay", Y1, "--testcase", "T", "--run", run, "--script", open_object], 1, b"refused J1 BadJson\n"),
+        (["double", Y1, "--testcase", "T", "--run", run, "--script", open_object], 1, b"refused J1 BadJson\n"),
+        (["coarsen", Y1, "--testcase", "T", "--run", run, "--script", open_object], 1, b"refused J1 BadJson\n"),
+    ]
+
+
 def rows(folder):
     """Returns for each command line its words, the status, and what its text is, as bytes, or what it begins with."""
     missing = f"{folder}/missing"
@@ -119,6 +195,7 @@ def rows(folder):
         (["replay", missing, *test, "--run", f"{folder}/other"], 5, f"cannot read {missing}\n".encode()),
         (["replay", module, *test, "--run", missing], 5, f"cannot read {missing}\n".encode()),
         *long_rows(folder),
+        *script_rows(folder),
         *help_rows(),
         *refused_rows(),
     ]

@@ -134,7 +134,8 @@ def is_covered(row):
     if "by" in row.settings or row.settings.get("command", "run") not in COMMANDS:
         return False
     refusal = re.match(r"refused (\S+)", row.answer[-1])
-    return refusal is None or refusal[1] in ("E1", "U1", "N1", "N2", "F1", "F2")
+    return refusal is None or refusal[1] in (
+        "E1", "U1", "J1", "J2", "J3", "J4", "N1", "N2", "F1", "F2")
 
 
 def run_file_of(settings):
@@ -192,13 +193,14 @@ def answer_of(row):
     if "bytes" in settings:
         text = text[:int(settings["bytes"])]
     name = settings.get("testcase", "T")
+    script = settings.get("script")
     following = {"replay": reference.replay, "coarsen": fine.coarsen, "double": fine.double}
     command = settings.get("command", "run")
     if command in following:
-        printed = following[command](text, name, run_file_of(settings))
+        printed = following[command](text, name, run_file_of(settings), script)
     else:
         printed = reference.run(text, name, int(settings["steps"]),
-                                int(settings.get("limit", "1000000")))
+                                int(settings.get("limit", "1000000")), script)
     lines = printed.splitlines() or ["no lines"]
     if printed.startswith("refused"):
         return [f"status {status_of(printed)}"] + lines
@@ -285,6 +287,7 @@ class Comparison:
     def __init__(self, program, folder, keep):
         self.program = program
         self.folder = pathlib.Path(folder)
+        self.script = self.folder / "script.json"
         self.keep = keep
         self.compared = collections.Counter()
         self.different = collections.Counter()
@@ -294,25 +297,36 @@ class Comparison:
         and now and then a run that is followed."""
         made = modules.module(seed)
         choices = random.Random(seed)
-        file = self.folder / "module.ttcn"
-        file.write_bytes(made.text.encode("latin-1"))
+        file = self.written(made)
         steps = made.steps
-        report = reference.run(made.text, made.testcase, steps, LIMIT)
+        report = reference.run(made.text, made.testcase, steps, LIMIT, made.script)
         self.compare_run(seed, made, file, steps, report, choices)
         while report.startswith("refused E1") and steps > 0:
             # Fewer steps give fewer configurations, and so a report.
             steps -= 2
-            report = reference.run(made.text, made.testcase, steps, LIMIT)
+            report = reference.run(made.text, made.testcase, steps, LIMIT, made.script)
             if not report.startswith("refused"):
                 self.compare_run(seed, made, file, steps, report, choices)
         if choices.random() < 0.3:
             self.compare_replay(seed, made, file, choices)
 
+    def written(self, made):
+        """Writes a module and its script; tells the module's file."""
+        file = self.folder / "module.ttcn"
+        file.write_bytes(made.text.encode("latin-1"))
+        if made.script is not None:
+            self.script.write_bytes(made.script.encode("latin-1"))
+        return file
+
+    def with_script(self, made):
+        """The words for the script, where the module has one."""
+        return [] if made.script is None else ["--script", str(self.script)]
+
     def compare_run(self, seed, made, file, steps, report, choices):
         plan = ["--workers", str(choices.choice([1, 1, 2, 3])),
                 "--piece", str(choices.choice([1, 2, 7, 256]))]
         words = ["run", str(file), "--testcase", made.testcase, "--steps", str(steps),
-                 "--limit", str(LIMIT)] + plan
+                 "--limit", str(LIMIT)] + plan + self.with_script(made)
         expected = printed_by_reference(report)
         if expected.status == 0 and choices.random() < 0.15:
             words.append("--json")
@@ -326,8 +340,7 @@ class Comparison:
         """Fine runs of one module, and the doubling of a run."""
         made = module_for_fine_runs(seed)
         choices = random.Random(seed)
-        file = self.folder / "module.ttcn"
-        file.write_bytes(made.text.encode("latin-1"))
+        file = self.written(made)
         fine_machine = fine.FineMachine(walks.machine_of(made))
         for _ in range(FINE_RUNS):
             self.compare_walk(seed, made, file, random_walk(fine_machine, choices), choices)
@@ -352,8 +365,9 @@ class Comparison:
         run_file = self.folder / "run"
         run_file.write_bytes(run_text.encode("latin-1"))
         commands = {"replay": reference.replay, "coarsen": fine.coarsen, "double": fine.double}
-        expected = commands[command](made.text, made.testcase, run_text)
-        words = [command, str(file), "--testcase", made.testcase, "--run", str(run_file)]
+        expected = commands[command](made.text, made.testcase, run_text, made.script)
+        words = ([command, str(file), "--testcase", made.testcase, "--run", str(run_file)]
+                 + self.with_script(made))
         self.judge(command, seed, made, words, printed_by_reference(expected), run_text)
         return expected
 
@@ -370,13 +384,16 @@ class Comparison:
             return
         self.different[kind] += 1
         print(f"== seed {seed}: {' '.join(words)}")
-        print(made.text + ("" if run_text is None else "-- run\n" + run_text))
+        print(made.text + ("" if made.script is None else f"-- script\n{made.script}\n")
+              + ("" if run_text is None else "-- run\n" + run_text))
         print(f"-- reference\n{expected}")
         print(f"-- program\n{answered}", flush=True)
         if self.keep is not None:
             kept = pathlib.Path(self.keep)
             kept.mkdir(exist_ok=True)
             (kept / f"seed{seed}.ttcn").write_bytes(made.text.encode("latin-1"))
+            if made.script is not None:
+                (kept / f"seed{seed}.json").write_bytes(made.script.encode("latin-1"))
             if run_text is not None:
                 (kept / f"seed{seed}.run").write_bytes(run_text.encode("latin-1"))
 
@@ -395,8 +412,11 @@ MOST_LABELS = 150
 
 def module_for_fine_runs(seed):
     """A random module; in every second one several components wait at a
-    time."""
-    return crowds.module(seed) if seed % 2 else modules.module(seed)
+    time.  A script that would be refused is left out."""
+    made = crowds.module(seed) if seed % 2 else modules.module(seed)
+    if isinstance(reference.machine_of(made.text, made.testcase, made.script), str):
+        return made._replace(script=None)
+    return made
 
 
 def random_walk(fine_machine, choices, tries=3):

@@ -307,25 +307,24 @@ def read_fine_run(text):
     return reference.read_run(text, read_fine_label)
 
 
-def read_all(text, name, run_text, read):
+def read_all(text, name, run_text, read, script=None):
     """The machine of a test case and the labels of a run file, or a refusal."""
-    module = reference.read_module(text)
-    testcase = module.testcase(name)
-    if testcase is None:
-        return None, "refused U1 NoSuchTestCase\n"
+    machine = reference.machine_of(text, name, script)
+    if isinstance(machine, str):
+        return None, machine
     labels = read(run_text)
     if isinstance(labels, int):
         return None, f"refused N1 BadLabel at line {labels}\n"
-    return reference.Machine(module, testcase), labels
+    return machine, labels
 
 
 def lines_of(labels):
     return "".join(f"{label}\n" for label in labels)
 
 
-def coarsen(text, name, run_text):
+def coarsen(text, name, run_text, script=None):
     """What is printed for the run that a fine run stands for."""
-    machine, labels = read_all(text, name, run_text, read_fine_run)
+    machine, labels = read_all(text, name, run_text, read_fine_run, script)
     if machine is None:
         return labels
     fine_machine = FineMachine(machine)
@@ -338,9 +337,9 @@ def coarsen(text, name, run_text):
     return lines_of(fine_machine.coarse(labels))
 
 
-def double(text, name, run_text):
+def double(text, name, run_text, script=None):
     """What is printed for the fine run of a run."""
-    machine, labels = read_all(text, name, run_text, reference.read_run)
+    machine, labels = read_all(text, name, run_text, reference.read_run, script)
     if machine is None:
         return labels
     configuration = machine.start()
@@ -352,11 +351,11 @@ def double(text, name, run_text):
     return lines_of(FineMachine(machine).doubled(labels))
 
 
-def all_verdicts(text, name, limit=1000000):
+def all_verdicts(text, name, script=None, limit=1000000):
     """What is printed for all fine runs."""
-    machine, _ = read_all(text, name, "", read_fine_run)
+    machine, refusal = read_all(text, name, "", read_fine_run, script)
     if machine is None:
-        return "refused U1 NoSuchTestCase\n"
+        return refusal
     try:
         count, verdicts = explore(FineMachine(machine), limit)
     except reference.TooMany:
@@ -373,14 +372,16 @@ def main():
     which.add_argument("--coarsen", metavar="FINERUN")
     which.add_argument("--double", metavar="RUN")
     which.add_argument("--verdicts", action="store_true")
+    parser.add_argument("--script", metavar="FILE")
     words = parser.parse_args()
     text = reference.read_bytes(words.file)
+    script = None if words.script is None else reference.read_bytes(words.script)
     if words.coarsen is not None:
-        printed = coarsen(text, words.testcase, reference.read_bytes(words.coarsen))
+        printed = coarsen(text, words.testcase, reference.read_bytes(words.coarsen), script)
     elif words.verdicts:
-        printed = all_verdicts(text, words.testcase)
+        printed = all_verdicts(text, words.testcase, script)
     else:
-        printed = double(text, words.testcase, reference.read_bytes(words.double))
+        printed = double(text, words.testcase, reference.read_bytes(words.double), script)
     sys.stdout.write(printed)
     return 1 if printed.startswith("refused") else 0
 

@@ -10,6 +10,7 @@ a few don't, so that each dynamic error is met.
     modules.py SEED        prints the module
 """
 
+import json
 import random
 import sys
 from dataclasses import dataclass, field
@@ -21,11 +22,13 @@ TIMER_NAMES = ["t", "u", "s", "t0"]
 
 
 class Generated(NamedTuple):
-    """A module, its test case, and a bound that keeps its runs few."""
+    """A module, its test case, a bound that keeps its runs few, and perhaps a
+    script of what comes in at its system ports."""
 
     text: str
     testcase: str
     steps: int
+    script: Optional[str] = None
 
 
 @dataclass
@@ -186,7 +189,50 @@ class ModuleMaker:
         text = head + " {\n" + "".join(self.laid_out(each) for each in self.definitions)
         if self.chance(0.1):
             text += "control { execute(T()) ( [ ] ) }\n"
-        return Generated(text + "}\n", "T", steps)
+        return Generated(text + "}\n", "T", steps, self.script())
+
+    # The script.
+
+    def script(self):
+        """What comes in at some of the system ports, now and then something
+        that is no script."""
+        if not self.scripted and self.chance(0.8):
+            return None
+        ports = {}
+        for port, port_type in self.component_types[self.system or "M"].ports:
+            if self.chance(0.8):
+                ports[port] = [self.message(port_type)
+                               for _ in range(self.weighted([(1, 0), (5, 1), (4, 2), (1, 3)]))]
+        if self.fault(0.05):
+            ports["nowhere"] = []
+        written = json.dumps(ports, indent=self.pick([None, None, 1]))
+        return written + "]" if self.fault(0.03) else written
+
+    def message(self, port_type):
+        types = self.data_types() if self.fault(0.03) else port_type.incoming
+        of_type = self.pick(types or self.data_types())
+        return {of_type: self.written_value(of_type)}
+
+    def written_value(self, of_type):
+        """A value in JSON, now and then of another type."""
+        if self.fault(0.01):
+            return self.pick([None, 1.0, "e0d", [], {}, -0.0, 2 ** 63])
+        if of_type == "integer":
+            return self.pick([0, 1, 1, 2, 2, 3, -1, 7, -2 ** 63, 2 ** 63 - 1])
+        if of_type == "boolean":
+            return self.chance(0.5)
+        if of_type in self.enumerations:
+            return self.pick(self.enumerations[of_type])
+        written = {}
+        for field_type, name, optional in self.records[of_type]:
+            if optional and self.chance(0.4):
+                if self.chance(0.5):
+                    written[name] = None
+            else:
+                written[name] = self.written_value(field_type)
+        return written
+
+    # Layout of definitions.
 
     def laid_out(self, definition):
         """A definition with what may stand around it and has no meaning."""
@@ -246,6 +292,10 @@ class ModuleMaker:
     def fit(self, first, second):
         return (set(first.outgoing) <= set(second.incoming)
                 and set(second.outgoing) <= set(first.incoming))
+
+    def may_map(self, port, system_port):
+        return (set(port.outgoing) <= set(system_port.outgoing)
+                and set(system_port.incoming) <= set(port.incoming))
 
     def partner(self, port_type):
         """A port type that fits this one."""
@@ -343,6 +393,7 @@ class ModuleMaker:
         for component_type in self.component_types.values():
             component_type.links = {port: [] for port, _ in component_type.ports}
         self.connections = []
+        self.system = self.weighted([(6, None), (2, self.pick(list(self.component_types)))])
         counts = [(3, 0), (5, 1), (5, 2), (1, 3)]
         if any(theme is not None for theme in self.themes):
             counts = [(5, 0), (4, 1), (3, 2), (0.5, 3)]
@@ -460,6 +511,13 @@ class ModuleMaker:
         if self.fault(0.15):
             connects = connects[1:]
         statements.extend(connects)
+        self.scripted = self.chance(0.5)
+        if self.scripted:
+            for _ in range(self.pick([1, 1, 2])):
+                statements.extend(self.mapping_of("self", "M", "map"))
+                spot.expected += 1
+        elif self.chance(0.2):
+            statements.extend(self.mapping_of("self", "M"))
         for of_type in self.some(self.data_types() + ["W", "V"], 0, 2):
             name = self.new_name(spot, LOCAL_NAMES)
             certain = of_type in self.data_types() and self.chance(0.6)
@@ -486,7 +544,8 @@ class ModuleMaker:
             statements.extend(self.round(spot))
         most = {0: 60, 1: 30, 2: 20, 3: 14}[len(self.workers)]
         steps = begun + self.random.randint(most // 3, most)
-        return "testcase T() runs on M {\n" + self.joined(statements) + "}", steps
+        system = f" system {self.system}" if self.system else ""
+        return f"testcase T() runs on M{system} {{\n" + self.joined(statements) + "}", steps
 
     def round(self, spot):
         """Something sent, anything at all, and something waited for."""
@@ -562,7 +621,7 @@ class ModuleMaker:
                  (2.5, self.alternative), (0.8, self.lone_event), (0.6, self.stop),
                  (0.5, self.new_component)]
         if has_ports:
-            kinds += [(7, self.send), (0.4, self.connect)]
+            kinds += [(7, self.send), (0.4, self.connect), (0.4, self.mapping)]
         if spot.kind == "function":
             kinds.append((0.7, self.give_back))
         if spot.in_branch:
@@ -833,6 +892,29 @@ class ModuleMaker:
             port = self.pick(self.component_types[of_type].ports)[0]
             written.append(f"{component}:{'nowhere' if self.fault(0.02) else port}")
         return [f"connect({written[0]}, {written[1]})"]
+
+    def mapping(self, spot):
+        ends = [("self", spot.runs_on), ("mtc", "M")]
+        ends += [(variable.name, variable.type) for variable in spot.variables()
+                 if variable.type in self.component_types and variable.certain]
+        return self.mapping_of(*self.pick(ends))
+
+    def mapping_of(self, component, of_type, operation=None):
+        """A port of a component is mapped or unmapped; most often its type allows that."""
+        its = self.component_types[of_type]
+        free = [each for each in its.ports if not its.links[each[0]]]
+        port, port_type = self.pick(its.ports if self.fault(0.1) else free or its.ports)
+        system_ports = self.component_types[self.system or "M"].ports
+        fitting = [each for each in system_ports if self.may_map(port_type, each[1])]
+        operation = operation or self.pick(["map", "map", "unmap"])
+        if not fitting and not self.fault(0.1):
+            operation = "unmap"
+        system_port = self.pick(fitting or system_ports)[0]
+        if self.fault(0.02):
+            system_port = "nowhere"
+        ends = [f"{component}:{port}", f"system:{system_port}"]
+        self.random.shuffle(ends)
+        return [f"{operation}({ends[0]}, {ends[1]})"]
 
     def give_back(self, spot):
         if spot.result is None:

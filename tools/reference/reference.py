@@ -13,8 +13,8 @@ has no type here.  So where one name is declared with two record types that have
 the same fields, in blocks beside each other, fewer configurations may be told
 apart.  No module can compare such values.
 
-    reference.py FILE --testcase NAME --steps N [--limit L]
-    reference.py FILE --testcase NAME --replay RUNFILE
+    reference.py FILE --testcase NAME --steps N [--limit L] [--script FILE]
+    reference.py FILE --testcase NAME --replay RUNFILE [--script FILE]
 """
 
 import argparse
@@ -23,6 +23,8 @@ import sys
 import threading
 from dataclasses import dataclass, field
 from typing import NamedTuple, Optional
+
+import scripts
 
 LEAST_INTEGER = -(2 ** 63)
 GREATEST_INTEGER = 2 ** 63 - 1
@@ -48,10 +50,10 @@ USED_WORDS = frozenset("""
 activate all alt altstep and any boolean complement component connect const
 control create deactivate default do done else enumerated error fail false for
 from function if ifpresent in inconc infinity inout integer ispresent language
-log message mod module mtc none not null omit on optional or out pass port
+log map message mod module mtc none not null omit on optional or out pass port
 receive record rem repeat return running runs self send sender setverdict start
-stop system template testcase timeout timer to true type value var while with
-xor
+stop system template testcase timeout timer to true type unmap value var while
+with xor
 """.split())
 
 TOKEN = re.compile(r"""
@@ -389,6 +391,16 @@ class Connect(Statement):
 
 
 @dataclass(eq=False)
+class Mapping(Statement):
+    """A `map` or an `unmap` of a component's port and a port of the system."""
+
+    operation: str
+    component: object
+    port: str
+    system_port: str
+
+
+@dataclass(eq=False)
 class Send(Statement):
     port: str
     message: Typed
@@ -546,6 +558,8 @@ class Behaviour:
     result: Optional[str]
     body: list
     branches: list
+    # The component type whose ports a test case's system ports are.
+    system: Optional[str] = None
 
 
 @dataclass
@@ -699,10 +713,9 @@ class Parser:
             self.take("(")
             self.take(")")
             runs_on = self.runs_on()
-            if self.skip("system"):
-                self.name()
+            system = self.name() if self.skip("system") else runs_on
             module.behaviours[name] = Behaviour(
-                "testcase", name, [], runs_on, None, self.block(), [])
+                "testcase", name, [], runs_on, None, self.block(), [], system)
 
     def runs_on(self):
         if self.skip("runs"):
@@ -883,6 +896,8 @@ class Parser:
         if kind == "connect":
             ends = self.listed(self.connection_end, "(", ")")
             return Connect(place, ends)
+        if kind in ("map", "unmap"):
+            return self.mapping(place, kind)
         if kind == "activate":
             return Activate(place, self.activation())
         if kind == "deactivate":
@@ -901,6 +916,25 @@ class Parser:
         component = self.component()
         self.take(":")
         return component, self.name()
+
+    def mapping(self, place, operation):
+        """The two ports stand in either order."""
+        self.take("(")
+        if self.kind() == "system":
+            system_port = self.system_port()
+            self.take(",")
+            component, port = self.connection_end()
+        else:
+            component, port = self.connection_end()
+            self.take(",")
+            system_port = self.system_port()
+        self.take(")")
+        return Mapping(place, operation, component, port, system_port)
+
+    def system_port(self):
+        self.take("system")
+        self.take(":")
+        return self.name()
 
     def condition(self):
         self.take("(")
@@ -1394,6 +1428,9 @@ class Binder:
         for component, _ in statement.ends:
             self.expression(component)
 
+    def bind_Mapping(self, statement):
+        self.expression(statement.component)
+
     def bind_Send(self, statement):
         port_type = self.module.port_types[self.ports[statement.port]]
         self.typed(statement.message, port_type.outgoing)
@@ -1795,7 +1832,7 @@ class Default(NamedTuple):
 class Message(NamedTuple):
     type: str
     value: object
-    sender: ComponentReference
+    sender: Optional[ComponentReference]
 
 
 class Component(NamedTuple):
@@ -1815,12 +1852,16 @@ class Component(NamedTuple):
 class Configuration(NamedTuple):
     """The live part of a configuration that has not ended.  Of the terminated
     components there are the paths and the worst verdict; connections between
-    two of them are gone."""
+    two of them are gone.  Mappings are pairs of an end and a system port, and
+    `delivered` has each system port at which messages came in, with their
+    number."""
 
     components: tuple
     terminated: tuple
     terminated_verdict: int
     connections: frozenset
+    mappings: frozenset
+    delivered: tuple
 
 
 class Ended(NamedTuple):
@@ -1830,8 +1871,9 @@ class Ended(NamedTuple):
 
 
 class Label(NamedTuple):
-    """A step: a component's statement (`kind` 0) or an expiry (`kind` 1).
-    Labels are ordered as these tuples are."""
+    """A step: a component's statement (`kind` 0), an expiry (`kind` 1), or a
+    delivery (`kind` 2), which has a path behind all others, and the system
+    port in place of a timer.  Labels are ordered as these tuples are."""
 
     path: tuple
     kind: int = 0
@@ -1839,11 +1881,14 @@ class Label(NamedTuple):
     timer: str = ""
 
     def __str__(self):
+        if self.kind == 2:
+            return f"system.{self.timer}"
         text = path_text(self.path)
         return f"{text}/{self.frame}.{self.timer}" if self.kind else text
 
 
 MTC = ()
+BEHIND_ALL_PATHS = (float("inf"),)
 
 
 def path_text(path):
@@ -1858,6 +1903,8 @@ class Draft:
         self.terminated = set(configuration.terminated)
         self.terminated_verdict = configuration.terminated_verdict
         self.connections = set(configuration.connections)
+        self.mappings = set(configuration.mappings)
+        self.delivered = dict(configuration.delivered)
         self.has_ended = False
 
     def change(self, path, **changes):
@@ -1893,6 +1940,7 @@ class Draft:
         self.connections = {
             connection for connection in self.connections
             if not all(end[0] in self.terminated for end in connection)}
+        self.mappings = {mapping for mapping in self.mappings if mapping[0][0] != path}
 
     # What a component sees of others, and of its queues.
 
@@ -1918,7 +1966,9 @@ class Draft:
         return Configuration(tuple(sorted(self.components.items())),
                              tuple(sorted(self.terminated)),
                              self.terminated_verdict,
-                             frozenset(self.connections))
+                             frozenset(self.connections),
+                             frozenset(self.mappings),
+                             tuple(sorted(self.delivered.items())))
 
 
 class Snapshot(NamedTuple):
@@ -2232,16 +2282,18 @@ class Step(NamedTuple):
 
 
 class Machine:
-    """The steps of one test case."""
+    """The steps of one test case.  `script` has the messages that come in at
+    each system port, each with its type."""
 
-    def __init__(self, module, testcase):
+    def __init__(self, module, testcase, script=None):
         self.module = module
         self.testcase = testcase
+        self.script = script or {}
 
     def start(self):
         """The MTC runs with its frame 0 and the test case's body."""
         component_type = self.testcase.runs_on
-        draft = Draft(Configuration((), (), 0, frozenset()))
+        draft = Draft(Configuration((), (), 0, frozenset(), frozenset(), ()))
         mtc = self.new_component(component_type)._replace(running=True)
         draft.components[MTC] = mtc
         try:
@@ -2280,6 +2332,17 @@ class Machine:
                 if step is not None:
                     yield step
                 yield from self.expiries(configuration, path, component)
+        yield from self.deliveries(configuration)
+
+    def deliveries(self, configuration):
+        for end, system_port in sorted(configuration.mappings, key=lambda mapping: mapping[1]):
+            before = dict(configuration.delivered).get(system_port, 0)
+            messages = self.script.get(system_port, ())
+            if before < len(messages):
+                draft = Draft(configuration)
+                self.deliver(draft, end, Message(*messages[before], None))
+                draft.delivered[system_port] = before + 1
+                yield Step(Label(BEHIND_ALL_PATHS, 2, 0, system_port), draft.freeze(), None)
 
     def expiries(self, configuration, path, component):
         for number, frame in enumerate(component.frames):
@@ -2318,6 +2381,9 @@ class Machine:
         """The step of a label, or None where it isn't enabled."""
         if isinstance(configuration, Ended):
             return None
+        if label.kind == 2:
+            return next((step for step in self.deliveries(configuration)
+                         if step.label == label), None)
         component = dict(configuration.components).get(label.path)
         if component is None or not component.running:
             return None
@@ -2548,6 +2614,8 @@ class Machine:
         types = [self.live_port_type(draft, end) for end in ends]
         if first == second:
             raise DynamicError("a port can't be connected to itself")
+        if any(self.is_mapped(draft, end) for end in ends):
+            raise DynamicError("a mapped port can't be connected")
         for end, other in ((first, second), (second, first)):
             for far in self.far_ends(draft, end):
                 if far[0] == other[0] and far != other:
@@ -2568,6 +2636,32 @@ class Machine:
             raise DynamicError("a component has no such port")
         return self.module.port_types[name]
 
+    def do_Mapping(self, draft, path, statement):
+        component = self.reading(draft, path).component(statement.component)
+        end = (component, statement.port)
+        mapping = (end, statement.system_port)
+        if statement.operation == "unmap":
+            draft.mappings.discard(mapping)
+            return
+        port = self.live_port_type(draft, end)
+        name = self.module.component_types[self.testcase.system].port_type(statement.system_port)
+        if name is None:
+            raise DynamicError("the system has no such port")
+        system = self.module.port_types[name]
+        if self.far_ends(draft, end):
+            raise DynamicError("a connected port can't be mapped")
+        if any((other == end) != (system_port == statement.system_port)
+               for other, system_port in draft.mappings):
+            raise DynamicError("one of the two is mapped otherwise")
+        if not set(port.outgoing) <= set(system.outgoing):
+            raise DynamicError("a type that is sent doesn't go out")
+        if not set(system.incoming) <= set(port.incoming):
+            raise DynamicError("a type that comes in isn't received")
+        draft.mappings.add(mapping)
+
+    def is_mapped(self, draft, end):
+        return any(other == end for other, _ in draft.mappings)
+
     def far_ends(self, draft, end):
         """The ends that an end is connected to."""
         return [far for connection in draft.connections if end in connection
@@ -2577,9 +2671,13 @@ class Machine:
         reading = self.reading(draft, path)
         template = reading.template(statement.message.template, statement.message.type)
         value = specific_value(template)
+        receiver = None if statement.to is None else reading.component(statement.to)
+        if self.is_mapped(draft, (path, statement.port)):
+            if receiver is not None:
+                raise DynamicError("no component is on the way out of a mapped port")
+            return
         ends = self.far_ends(draft, (path, statement.port))
-        if statement.to is not None:
-            receiver = reading.component(statement.to)
+        if receiver is not None:
             ends = [end for end in ends if end[0] == receiver]
         if len(ends) != 1:
             raise DynamicError("a message needs exactly one way to go")
@@ -2682,7 +2780,7 @@ class Machine:
             return False
         if event.sender is not None:
             sender = reading.value(event.sender)
-            if sender == NULL or sender.path != front.sender.path:
+            if sender == NULL or front.sender is None or sender.path != front.sender.path:
                 return False
         if event.message is None:
             return True
@@ -2715,7 +2813,7 @@ class Machine:
             self.store(draft, path, target.home, target.names, message.value)
         target = event.store_sender
         if target is not None:
-            if message.sender.type != target.type:
+            if message.sender is None or message.sender.type != target.type:
                 raise DynamicError("a sender of another type")
             self.store(draft, path, target.home, target.names, message.sender)
 
@@ -2817,14 +2915,26 @@ def report(name, steps, answer):
     return "".join(line + "\n" for line in lines)
 
 
-def run(text, name, steps, limit=1000000):
-    """What is printed for a run: the report or the refusal."""
+def machine_of(text, name, script):
+    """The machine of a test case with a script's text, or a refusal."""
     module = read_module(text)
     testcase = module.testcase(name)
     if testcase is None:
         return "refused U1 NoSuchTestCase\n"
     try:
-        answer = explore(Machine(module, testcase), steps, limit)
+        read = {} if script is None else scripts.read_script(module, testcase, script)
+    except scripts.Refused as refusal:
+        return str(refusal)
+    return Machine(module, testcase, read)
+
+
+def run(text, name, steps, limit=1000000, script=None):
+    """What is printed for a run: the report or the refusal."""
+    machine = machine_of(text, name, script)
+    if isinstance(machine, str):
+        return machine
+    try:
+        answer = explore(machine, steps, limit)
     except TooMany:
         return "refused E1 TooMany\n"
     return report(name, steps, answer)
@@ -2837,10 +2947,14 @@ def run(text, name, steps, limit=1000000):
 NUMBER = r"(?:0|[1-9][0-9]*)"
 LABEL = re.compile(rf"mtc(?P<path>(?:\.{NUMBER})*)"
                    rf"(?:/(?P<frame>{NUMBER})\.(?P<timer>[A-Za-z][A-Za-z0-9_]*))?")
+DELIVERY = re.compile(r"system\.([A-Za-z][A-Za-z0-9_]*)")
 
 
 def read_label(line):
     """The label that a line is, or None."""
+    delivery = DELIVERY.fullmatch(line)
+    if delivery is not None:
+        return Label(BEHIND_ALL_PATHS, 2, 0, delivery[1])
     found = LABEL.fullmatch(line)
     if found is None:
         return None
@@ -2866,16 +2980,14 @@ def read_run(text, read=read_label):
     return labels
 
 
-def replay(text, name, run_text):
+def replay(text, name, run_text, script=None):
     """What is printed for a replay of a run file."""
-    module = read_module(text)
-    testcase = module.testcase(name)
-    if testcase is None:
-        return "refused U1 NoSuchTestCase\n"
+    machine = machine_of(text, name, script)
+    if isinstance(machine, str):
+        return machine
     labels = read_run(run_text)
     if isinstance(labels, int):
         return f"refused N1 BadLabel at line {labels}\n"
-    machine = Machine(module, testcase)
     configuration = machine.start()
     for number, label in enumerate(labels, start=1):
         step = machine.step_of(configuration, label)
@@ -2920,15 +3032,19 @@ def main():
     parser.add_argument("--steps", type=int, default=100)
     parser.add_argument("--limit", type=int, default=1000000)
     parser.add_argument("--replay", metavar="RUNFILE")
+    parser.add_argument("--script", metavar="FILE")
     words = parser.parse_args()
     text = read_bytes(words.file)
+    script = None if words.script is None else read_bytes(words.script)
     if words.replay is not None:
-        printed = replay(text, words.testcase, read_bytes(words.replay))
+        printed = replay(text, words.testcase, read_bytes(words.replay), script)
     else:
-        printed = run(text, words.testcase, words.steps, words.limit)
+        printed = run(text, words.testcase, words.steps, words.limit, script)
     sys.stdout.write(printed)
     return 1 if printed.startswith("refused") else 0
 
 
 if __name__ == "__main__":
-    sys.exit(with_deep_stack(main))
+    # The module that `scripts` knows: its values are equal to those here.
+    import reference
+    sys.exit(reference.with_deep_stack(reference.main))

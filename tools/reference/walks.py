@@ -7,7 +7,7 @@ import reference
 from fine import Choose, FineMachine, Plain, Snap
 from reference import Ended, Label
 
-STRANGE_LABELS = ["mtc", "mtc.1", "mtc.2", "mtc/0.t0", "mtc/1.t"]
+STRANGE_LABELS = ["mtc", "mtc.1", "mtc.2", "mtc/0.t0", "mtc/1.t", "system.p", "system.q", "system.zz"]
 
 BAD_LINES = ["snap", "choose", "snap  mtc", "choose\tmtc", "snap mtc/0.t", "choose mtc.01",
              "Snap mtc", "snapmtc", "snap mtc mtc", "choose mtc.", "choose snap mtc",
@@ -15,9 +15,12 @@ BAD_LINES = ["snap", "choose", "snap  mtc", "choose\tmtc", "snap mtc/0.t", "choo
 
 
 def machine_of(made):
-    """The machine of a random module's test case."""
-    module = reference.read_module(made.text)
-    return reference.Machine(module, module.testcase(made.testcase))
+    """The machine of a random module's test case; where its script is none,
+    nothing comes in."""
+    machine = reference.machine_of(made.text, made.testcase, made.script)
+    if isinstance(machine, str):
+        return reference.machine_of(made.text, made.testcase, None)
+    return machine
 
 
 # --------------------------------------------------------------------------

@@ -17,6 +17,7 @@ use Rattle.ttcn_syntax.specs.declared.tree.statement.Constants.{Constants}
 use Rattle.ttcn_syntax.specs.declared.tree.statement.Event.{Event}
 use Rattle.ttcn_syntax.specs.declared.tree.statement.ForStart.{ForStart}
 use Rattle.ttcn_syntax.specs.declared.tree.statement.LogItem.{LogItem}
+use Rattle.ttcn_syntax.specs.declared.tree.statement.Mapping.{Mapping}
 use Rattle.ttcn_syntax.specs.declared.tree.statement.PortRef.{PortRef}
 use Rattle.ttcn_syntax.specs.declared.tree.statement.Send.{Send}
 use Rattle.ttcn_syntax.specs.declared.tree.statement.Statement.{Statement, fold_out-Statement, out-Statement}
@@ -66,6 +67,9 @@ of_setverdict verdict reasons = ap action (sym (form.rolls-Setverdict verdict re
 
 pub of_connect : (one : PortRef) (other : PortRef) → action (form.Connect one other) ≡ leaf {A = Action} {B = Alternative} {C = Branch} {D = Conditional} {E = Statement} (Action-F.Connect one other)
 of_connect one other = ap action (sym (form.rolls-Connect one other)) ∙ fold-roll-Action StatementRules Check Check Check StatementRules action_step alternative_step branch_step conditional_step statement_step (Action-F.Connect one other)
+
+pub of_map : (mapping : Mapping) → action (form.Map mapping) ≡ leaf {A = Action} {B = Alternative} {C = Branch} {D = Conditional} {E = Statement} (Action-F.Map mapping)
+of_map mapping = ap action (sym (form.rolls-Map mapping)) ∙ fold-roll-Action StatementRules Check Check Check StatementRules action_step alternative_step branch_step conditional_step statement_step (Action-F.Map mapping)
 
 pub of_send : (send : Send) → action (form.Send send) ≡ leaf {A = Action} {B = Alternative} {C = Branch} {D = Conditional} {E = Statement} (Action-F.Send send)
 of_send send = ap action (sym (form.rolls-Send send)) ∙ fold-roll-Action StatementRules Check Check Check StatementRules action_step alternative_step branch_step conditional_step statement_step (Action-F.Send send)
@@ -151,7 +155,7 @@ pub statement_out : (s : Statement) → statement s ≡ action (out-Statement s)
 statement_out s = fold_out-Statement StatementRules Check Check Check StatementRules action_step alternative_step branch_step conditional_step statement_step s
 
 -- what is said of a statement, form by form
-pub ruleset statement_forms = (statement_out, of_variables, of_constants, of_timers, of_assign, of_call, of_event, of_repeat, of_return, of_stop, of_log, of_setverdict, of_connect, of_send, of_start_component, of_start_timer, of_stop_of, of_activate, of_deactivate, of_alt, of_if, of_if_else, of_while, of_do_while, of_for, behind_alt, behind_if, behind_while, behind_do_while, behind_for, both_assoc)
+pub ruleset statement_forms = (statement_out, of_variables, of_constants, of_timers, of_assign, of_call, of_event, of_repeat, of_return, of_stop, of_log, of_setverdict, of_connect, of_map, of_send, of_start_component, of_start_timer, of_stop_of, of_activate, of_deactivate, of_alt, of_if, of_if_else, of_while, of_do_while, of_for, behind_alt, behind_if, behind_while, behind_do_while, behind_for, both_assoc)
 
 -- ---- branches
 

@@ -18,6 +18,7 @@ use Rattle.ttcn_syntax.specs.declared.tree.statement.Assignment.{Assignment}
 use Rattle.ttcn_syntax.specs.declared.tree.statement.Branch.{Branch, fold-Branch}
 use Rattle.ttcn_syntax.specs.declared.tree.statement.Conditional.{Conditional, fold-Conditional}
 use Rattle.ttcn_syntax.specs.declared.tree.statement.Event.{Event}
+use Rattle.ttcn_syntax.specs.declared.tree.statement.Mapping.{Mapping}
 use Rattle.ttcn_syntax.specs.declared.tree.statement.Verdict.{Verdict}
 use Rattle.ttcn_syntax.specs.declared.tree.statement.Verdict.TheVariants as verdict
 use Rattle.ttcn_syntax.specs.declared.tree.value.Call.{Call}
@@ -168,6 +169,10 @@ check_stop scope reference = if names_timer scope reference then [] else (check_
 abbrev pub check_ends : Scope → ComponentRef → ComponentRef → List Rule
 check_ends scope one other = (check_wanted_component scope one).broken ++ (check_wanted_component scope other).broken
 
+-- the rules that a `map` or an `unmap` breaks: its port is of a component; the names of the ports are not judged
+abbrev pub check_mapping : Scope → Mapping → List Rule
+check_mapping scope mapping = (check_wanted_component scope mapping.port.component).broken
+
 -- ---- starts of components
 
 -- a function runs on the started component's type: not judged where one of them is unknown
@@ -214,6 +219,7 @@ leaf_rules Action-F.Stop place = []
 leaf_rules (Action-F.Log items) place = check_log place.scope items
 leaf_rules (Action-F.Setverdict verdict reasons) place = check_setverdict place.scope verdict reasons
 leaf_rules (Action-F.Connect one other) place = check_ends place.scope one.component other.component
+leaf_rules (Action-F.Map mapping) place = check_mapping place.scope mapping
 leaf_rules (Action-F.Send send) place = check_send place.scope send
 leaf_rules (Action-F.StartComponent reference call) place = check_start place.scope reference call
 leaf_rules (Action-F.StartTimer timer) place = check_timer place.scope timer

@@ -24,7 +24,7 @@ use check_scope::scope::Scope;
 use check_scope::types::{DataType, Target, Typing};
 use std::alloc::{AllocError, Global};
 use ttcn_syntax::{
-    Action, Call, ComponentRef, DefinitionKind, Expr, LogItem, Reference, Value, Verdict,
+    Action, Call, ComponentRef, DefinitionKind, Expr, LogItem, Mapping, Reference, Value, Verdict,
 };
 
 // ---- conditions
@@ -238,6 +238,13 @@ fn check_ends(scope: &Scope<'_>, one: &ComponentRef, other: &ComponentRef) -> Br
     one.broken.and(other.broken)
 }
 
+/// The least rule that a `map` or an `unmap` breaks.
+fn check_mapping(scope: &Scope<'_>, mapping: &Mapping) -> Broken
+    ensures { result ≡ least (spec.check_mapping (view scope.now) mapping.now) }
+{
+    check_wanted_component(scope, &mapping.port.component).broken
+}
+
 // ---- statements without blocks
 
 /// A statement that holds no block and declares nothing.
@@ -262,6 +269,7 @@ fn check_action(
             Ok(check_setverdict(scope, *verdict, reasons.as_slice()))
         }
         Action::Connect(one, other) => Ok(check_ends(scope, &one.component, &other.component)),
+        Action::Map(mapping) => Ok(check_mapping(scope, mapping)),
         Action::Send(send) => check_send(alloc, scope, send),
         Action::StartComponent(component, call) => check_start(alloc, scope, component, call),
         Action::StartTimer(timer) => Ok(check_timer(scope, timer)),

@@ -3,12 +3,12 @@ use Rattle.std.proofs.Common.{◌≡◌, ◌<◌, Bool, true, false, ◌&&◌, �
 use Rattle.std.proofs.lemmas.List.Elements.{All-cons, All-head, All-nil, All-tail}
 use Rattle.std.specs.List.{filter, find, fold, list_any}
 use Rattle.ttcn_syntax.specs.declared.tree.statement.Verdict.{Verdict}
-use Rattle.config_canonical.specs.internal.Husks.{forgotten, husk, is_dead, is_live, is_over, is_over_if_any, is_terminated, is_terminated_at, live_component, live_components, live_connections, live_going}
+use Rattle.config_canonical.specs.internal.Husks.{forgotten, husk, is_dead, is_live, is_over, is_over_if_any, is_terminated, is_terminated_at, live_component, live_components, live_connections, live_going, live_links}
 use Rattle.semantics.specs.Configurations as rules
 use Rattle.semantics.specs.Configurations.{same_path}
 use Rattle.semantics.specs.LiveParts as live
 use Rattle.semantics.specs.Steps as steps
-use Rattle.config_parts.specs.Legend.{Legend, component_by, config_by, connection_by, going_by, state_by}
+use Rattle.config_parts.specs.Legend.{Legend, component_by, config_by, connection_by, entries_by, going_by, mapping_by, state_by}
 use Rattle.config_parts.specs.Views.{AreAllWithin, Extent, IsConfigWithin, IsFrameWithin, IsWithin}
 use Rattle.config_parts.specs.declared.component.Component.{Component}
 use Rattle.config_parts.specs.declared.component.State.{State}
@@ -17,6 +17,7 @@ use Rattle.config_parts.specs.declared.config.Config.{Config}
 use Rattle.config_parts.specs.declared.config.Config.TheVariants as config
 use Rattle.config_parts.specs.declared.config.Going.{Going}
 use Rattle.config_parts.specs.declared.connection.Connection.{Connection}
+use Rattle.config_parts.specs.declared.connection.Links.{Links}
 use Rattle.value_types.specs.declared.path.Path.{Path}
 
 state-over : (s : State) → rules.is_terminated_state (state_by s) ≡ is_terminated s
@@ -74,7 +75,9 @@ module _ (legend : Legend) where
   pub going-live : (g : Going) → going_by legend (live_going g) ≡ live.live_going (going_by legend g)
   going-live g = λ i. record {
     components = components-live g.components i;
-    connections = connections-live g g.connections i;
+    connections = connections-live g g.links.connections i;
+    mappings = map (mapping_by legend) g.links.mappings;
+    delivered = entries_by legend g.links.delivered;
     forgotten = verdicts-live g.forgotten g.components i;
   }
 
@@ -121,7 +124,7 @@ verdict-stays v (c ∷ cs) none =
 pub going-stays : (g : Going) → list_any is_over g.components ≡ false → g ≡ live_going g
 going-stays g none = λ i. record {
   components = sym (components-stay g.components none) i;
-  connections = sym (connections-stay g.components none g.connections) i;
+  links = record { connections = sym (connections-stay g.components none g.links.connections) i; mappings = g.links.mappings; delivered = g.links.delivered };
   forgotten = sym (verdict-stays g.forgotten g.components none) i;
 }
 
@@ -131,11 +134,14 @@ kept-first : (b : Bool) (k : Connection) (ks live : List Connection) → not b �
 kept-first true k ks live stays rest = ap (λ xs. k ∷ xs) rest
 kept-first false k ks live stays rest = absurd (true≢false stays)
 
-pub none-dead : (xs : List Component) (ks : List Connection) → list_any (is_dead xs) ks ≡ false → live_connections xs ks ≡ ks
+none-dead : (xs : List Component) (ks : List Connection) → list_any (is_dead xs) ks ≡ false → live_connections xs ks ≡ ks
 none-dead xs [] none = refl
 none-dead xs (k ∷ ks) none =
     let p = or-parts (is_dead xs k) (list_any (is_dead xs) ks) none in
     kept-first (is_live xs k) k ks (live_connections xs ks) p.0 (none-dead xs ks p.1)
+
+pub links-stay : (xs : List Component) (links : Links) → list_any (is_dead xs) links.connections ≡ false → links ≡ live_links xs links
+links-stay xs links none = λ i. record { connections = sym (none-dead xs links.connections none) i; mappings = links.mappings; delivered = links.delivered }
 
 -- ---- what remains has positions still
 
@@ -149,4 +155,4 @@ components-within size (c ∷ cs) all =
 
 pub config-within : (size : Extent) (c : Config) → IsConfigWithin size c → IsConfigWithin size (live_config c)
 config-within size (config.Ended v) within = within
-config-within size (config.Going g) within = components-within size g.components within
+config-within size (config.Going g) within = record { components = components-within size g.components within.components; mappings = within.mappings }

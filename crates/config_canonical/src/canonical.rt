@@ -8,7 +8,9 @@ ghost use Rattle.semantics.specs.LiveParts.{live_part};
 ghost use Rattle.config_parts.specs.Legend.{Legend, config_by};
 ghost use Rattle.config_parts.specs.Views.{Extent, IsConfigWithin};
 
-use config_parts::{Cells, Component, Config, Connection, Data, Going, Shared, State, TryClone};
+use config_parts::{
+    Cells, Component, Config, Connection, Data, Going, Links, Shared, State, TryClone,
+};
 use std::alloc::{AllocError, Global};
 use ttcn_syntax::{Seq, Verdict};
 use value_types::{ComponentId, Path};
@@ -107,19 +109,28 @@ fn live_among(
     Ok(Seq::from_vec(live))
 }
 
-/// The connections that stay.
-fn live_connections(
+/// The connections that stay, all mappings, and what came in.
+fn live_links(
     alloc: Global,
     components: &[Component],
-    connections: Shared<Seq<Connection>>,
-) -> Result<Shared<Seq<Connection>>, AllocError>
-    ensures { IfOk result (λ live. live ≡ spec.live_connections components.now connections) }
+    links: Shared<Links>,
+) -> Result<Shared<Links>, AllocError>
+    ensures { IfOk result (λ live. live ≡ spec.live_links components.now links) }
 {
-    if !has_dead(components, connections.as_slice()) {
-        return Ok(connections);
+    if !has_dead(components, links.connections.as_slice()) {
+        return Ok(links);
     }
-    let live = live_among(alloc, components, connections.as_slice())?;
-    Shared::new(alloc, live)
+    let connections = live_among(alloc, components, links.connections.as_slice())?;
+    let mappings = links.mappings.try_clone(alloc)?;
+    let delivered = links.delivered.try_clone(alloc)?;
+    Shared::new(
+        alloc,
+        Links {
+            connections,
+            mappings,
+            delivered,
+        },
+    )
 }
 
 /// The worst verdict of the components of which nothing but their paths is left.
@@ -187,15 +198,15 @@ fn live_going(alloc: Global, going: Going) -> Result<Going, AllocError>
     }
     let Going {
         components,
-        connections,
+        links,
         forgotten: worst,
     } = going;
-    let connections = live_connections(alloc, components.as_slice(), connections)?;
+    let links = live_links(alloc, components.as_slice(), links)?;
     let forgotten = forgotten(components.as_slice(), worst);
     let components = live_components(alloc, components)?;
     Ok(Going {
         components,
-        connections,
+        links,
         forgotten,
     })
 }

@@ -1,16 +1,17 @@
 -- Configurations are read back from the bytes that spell them, whatever follows.
-use Rattle.std.proofs.Common.{◌≡◌, ℕ, true, List, [], ◌++◌, refl, sym, ap, ◌∙◌, append_assoc}
+use Rattle.std.proofs.Common.{◌≡◌, ℕ, true, List, [], ◌++◌, Option, Some, None, refl, sym, ap, ◌∙◌, append_assoc}
 use Rattle.std.proofs.lemmas.List.{append-nil}
 use Rattle.std.specs.Cmp.Lexicographic.{same_text}
 use Rattle.config_packed.specs.Packs.{same_bytes, same_bytes_equiv}
-use Rattle.config_packed.specs.Reading.{Reads, config_in, read_byte, read_cells, read_component, read_config, read_connection, read_data, read_default, read_end, read_entry, read_frame, read_going, read_list, read_message, read_queue, read_state, read_timer, read_value, read_verdict}
-use Rattle.config_packed.specs.Spelling.{spell_cells, spell_component, spell_config, spell_connection, spell_data, spell_default, spell_end, spell_entry, spell_frame, spell_going, spell_list, spell_message, spell_queue, spell_state, spell_timer, spell_value, spell_verdict}
+use Rattle.config_packed.specs.Reading.{Reads, config_in, read_byte, read_cells, read_component, read_config, read_connection, read_data, read_default, read_end, read_entry, read_frame, read_going, read_links, read_list, read_long, read_message, read_queue, read_sender, read_state, read_timer, read_value, read_verdict}
+use Rattle.config_packed.specs.Spelling.{spell_cells, spell_component, spell_config, spell_connection, spell_data, spell_default, spell_end, spell_entry, spell_frame, spell_going, spell_links, spell_list, spell_long, spell_message, spell_queue, spell_sender, spell_state, spell_timer, spell_value, spell_verdict}
 use Rattle.config_packed.proofs.NumbersBack.{read_list_back, read_long_back, read_number_back}
 use Rattle.config_packed.proofs.ValuesBack.{read_identity_back, read_path_back, read_value_back}
 use Rattle.ttcn_syntax.specs.declared.tree.statement.Verdict.{Verdict}
 use Rattle.ttcn_syntax.specs.declared.tree.statement.Verdict.TheVariants as verdict
 use Rattle.value_types.specs.declared.frame.TimerState.{TimerState}
 use Rattle.value_types.specs.declared.frame.TimerState.TheVariants as timer
+use Rattle.value_types.specs.declared.value.ComponentId.{ComponentId}
 use Rattle.config_parts.specs.declared.component.Component.{Component}
 use Rattle.config_parts.specs.declared.component.Message.{Message}
 use Rattle.config_parts.specs.declared.component.Queue.{Queue}
@@ -21,6 +22,7 @@ use Rattle.config_parts.specs.declared.config.Config.TheVariants as config
 use Rattle.config_parts.specs.declared.config.Going.{Going}
 use Rattle.config_parts.specs.declared.connection.Connection.{Connection}
 use Rattle.config_parts.specs.declared.connection.End.{End}
+use Rattle.config_parts.specs.declared.connection.Links.{Links}
 use Rattle.config_parts.specs.declared.frame.ActiveDefault.{ActiveDefault}
 use Rattle.config_parts.specs.declared.frame.Cells.{Cells}
 use Rattle.config_parts.specs.declared.frame.Data.{Data}
@@ -58,7 +60,7 @@ data_back : (own : Data) (rest : List ℕ) → read_data (spell_data own ++ rest
 unfolding read_data spell_data
 data_back own rest = simp (append_assoc, cells_back, read_list_back spell_frame read_frame frame_back, read_list_back spell_default read_default default_back, read_number_back)
 
--- ---- components and connections
+-- ---- components, connections and mappings
 
 verdict_back : (v : Verdict) (rest : List ℕ) → read_verdict (spell_verdict v ++ rest) ≡ (v, rest)
 unfolding read_verdict read_byte
@@ -74,9 +76,14 @@ state_back state.Created rest = refl
 state_back state.Running rest = refl
 state_back state.Terminated rest = refl
 
+sender_back : (sender : Option ComponentId) (rest : List ℕ) → read_sender (spell_sender sender ++ rest) ≡ (sender, rest)
+unfolding read_sender read_byte spell_sender
+sender_back None rest = refl
+sender_back (Some component) rest = ap (λ (p : ComponentId × List ℕ). (Some p.0, p.1)) (read_identity_back component rest)
+
 message_back : (message : Message) (rest : List ℕ) → read_message (spell_message message ++ rest) ≡ (message, rest)
 unfolding read_message spell_message
-message_back message rest = simp (append_assoc, read_value_back, read_identity_back)
+message_back message rest = simp (append_assoc, read_value_back, sender_back)
 
 queue_back : (queue : Queue) (rest : List ℕ) → read_queue (spell_queue queue ++ rest) ≡ (queue, rest)
 unfolding read_queue spell_queue
@@ -94,11 +101,15 @@ connection_back : (connection : Connection) (rest : List ℕ) → read_connectio
 unfolding read_connection spell_connection
 connection_back connection rest = simp (append_assoc, end_back)
 
+links_back : (links : Links) (rest : List ℕ) → read_links (spell_links links ++ rest) ≡ (links, rest)
+unfolding read_links spell_links
+links_back links rest = simp (append_assoc, read_list_back spell_connection read_connection connection_back, entries_back spell_end read_end end_back, entries_back spell_long read_long read_long_back)
+
 -- ---- configurations
 
 going_back : (going : Going) (rest : List ℕ) → read_going (spell_going going ++ rest) ≡ (going, rest)
 unfolding read_going spell_going
-going_back going rest = simp (append_assoc, read_list_back spell_component read_component component_back, read_list_back spell_connection read_connection connection_back, verdict_back)
+going_back going rest = simp (append_assoc, read_list_back spell_component read_component component_back, links_back, verdict_back)
 
 pub read_config_back : (c : Config) (rest : List ℕ) → read_config (spell_config c ++ rest) ≡ (c, rest)
 unfolding read_config spell_config read_byte

@@ -18,6 +18,7 @@ use Rattle.config_parts.specs.declared.config.Config.TheVariants as config
 use Rattle.config_parts.specs.declared.config.Going.{Going}
 use Rattle.config_parts.specs.declared.connection.Connection.{Connection}
 use Rattle.config_parts.specs.declared.connection.End.{End}
+use Rattle.config_parts.specs.declared.connection.Links.{Links}
 use Rattle.config_parts.specs.declared.frame.ActiveDefault.{ActiveDefault}
 use Rattle.config_parts.specs.declared.frame.Cells.{Cells}
 use Rattle.config_parts.specs.declared.frame.Data.{Data}
@@ -218,7 +219,7 @@ read_data = do
   children ← read_number
   done (record { members = members; calls = calls; defaults = defaults; activations = activations; children = children })
 
--- ---- components and connections
+-- ---- components, connections and mappings
 
 -- the verdict that this byte stands for
 abbrev pub verdict_of : ℕ → Verdict
@@ -244,11 +245,21 @@ read_state = do
   code ← read_byte
   done (state_of code)
 
+-- the sender of a message that begins with this byte: behind 0 it has none
+abbrev pub sender_from : ℕ → Reads (Option ComponentId)
+sender_from tag = if tag == 0 then done None else (do
+  component ← read_identity
+  done (Some component))
+
+-- the sender of a message
+unfoldable pub read_sender : Reads (Option ComponentId)
+read_sender = read_byte >>= sender_from
+
 -- a message, and then its sender
 unfoldable pub read_message : Reads Message
 read_message = do
   value ← read_value
-  sender ← read_identity
+  sender ← read_sender
   done (record { value = value; sender = sender })
 
 -- a port, and then the messages that wait there
@@ -282,15 +293,23 @@ read_connection = do
   other ← read_end
   done (record { one = one; other = other })
 
+-- connections, then the ports that are mapped to system ports, and then how many messages came in at system ports
+unfoldable pub read_links : Reads Links
+read_links = do
+  connections ← read_list read_connection
+  mappings ← read_list (read_entry read_end)
+  delivered ← read_list (read_entry read_long)
+  done (record { connections = connections; mappings = mappings; delivered = delivered })
+
 -- ---- configurations
 
 -- a test case that goes on
 unfoldable pub read_going : Reads Going
 read_going = do
   components ← read_list read_component
-  connections ← read_list read_connection
+  links ← read_links
   forgotten ← read_verdict
-  done (record { components = components; connections = connections; forgotten = forgotten })
+  done (record { components = components; links = links; forgotten = forgotten })
 
 -- a configuration that begins with this byte
 abbrev pub config_from : ℕ → Reads Config

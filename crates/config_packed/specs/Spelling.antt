@@ -19,6 +19,7 @@ use Rattle.config_parts.specs.declared.config.Config.TheVariants as config
 use Rattle.config_parts.specs.declared.config.Going.{Going}
 use Rattle.config_parts.specs.declared.connection.Connection.{Connection}
 use Rattle.config_parts.specs.declared.connection.End.{End}
+use Rattle.config_parts.specs.declared.connection.Links.{Links}
 use Rattle.config_parts.specs.declared.frame.ActiveDefault.{ActiveDefault}
 use Rattle.config_parts.specs.declared.frame.Cells.{Cells}
 use Rattle.config_parts.specs.declared.frame.Data.{Data}
@@ -127,7 +128,7 @@ spell_default active = spell_number active.number ++ spell_long active.altstep +
 unfoldable pub spell_data : Data → List ℕ
 spell_data own = spell_cells own.members ++ spell_list spell_frame own.calls ++ spell_list spell_default own.defaults ++ spell_number own.activations ++ spell_number own.children
 
--- ---- components and connections
+-- ---- components, connections and mappings
 
 -- a byte for a verdict
 abbrev pub verdict_code : Verdict → ℕ
@@ -151,9 +152,14 @@ state_code state.Terminated = 2
 abbrev pub spell_state : State → List ℕ
 spell_state s = state_code s ∷ []
 
+-- the sender of a message: the byte 0 where it has none, and the byte 1 before the component that sent it
+unfoldable pub spell_sender : Option ComponentId → List ℕ
+spell_sender None = 0 ∷ []
+spell_sender (Some component) = 1 ∷ spell_identity component
+
 -- a message, and then its sender
 unfoldable pub spell_message : Message → List ℕ
-spell_message message = spell_value message.value ++ spell_identity message.sender
+spell_message message = spell_value message.value ++ spell_sender message.sender
 
 -- a port, and then the messages that wait there
 unfoldable pub spell_queue : Queue → List ℕ
@@ -171,11 +177,15 @@ spell_end e = spell_path e.component ++ spell_number e.port
 unfoldable pub spell_connection : Connection → List ℕ
 spell_connection connection = spell_end connection.one ++ spell_end connection.other
 
+-- connections, then the ports that are mapped to system ports, and then how many messages came in at system ports
+unfoldable pub spell_links : Links → List ℕ
+spell_links links = spell_list spell_connection links.connections ++ spell_list (spell_entry spell_end) links.mappings ++ spell_list (spell_entry spell_long) links.delivered
+
 -- ---- configurations
 
--- components, connections, and the verdict of those that are forgotten
+-- components, how ports are linked and what came in there, and the verdict of the components that are forgotten
 unfoldable pub spell_going : Going → List ℕ
-spell_going going = spell_list spell_component going.components ++ spell_list spell_connection going.connections ++ spell_verdict going.forgotten
+spell_going going = spell_list spell_component going.components ++ spell_links going.links ++ spell_verdict going.forgotten
 
 -- a configuration: the byte 0 stands before the verdict of a test case that ended, and the byte 1 before one that goes on
 unfoldable pub spell_config : Config → List ℕ

@@ -1,13 +1,14 @@
 //! Configurations and their parts as bytes.
-ghost use Rattle.std.specs.Prelude.{◌≡◌};
-ghost use Rattle.config_packed.specs.Reading.{read_verdict};
+ghost use Rattle.std.specs.Prelude.{◌≡◌, ◌++◌, IfOk, OnOk};
+ghost use Rattle.config_packed.specs.Reading.{read_sender, read_verdict};
+ghost use Rattle.config_packed.specs.Spelling.{spell_sender};
 
 use crate::byte_reader::ByteReader;
 use crate::number::{put_long, put_number, take_long, take_number};
 use crate::spelled::Spelled;
 use config_parts::{
-    ActiveDefault, Cells, Component, Config, Connection, Data, End, Frame, Going, Message, Queue,
-    Shared, State,
+    ActiveDefault, Cells, Component, Config, Connection, Data, End, Frame, Going, Links, Message,
+    Queue, Shared, State,
 };
 use std::alloc::{AllocError, Global};
 use ttcn_syntax::{Seq, Verdict};
@@ -218,6 +219,37 @@ impl Spelled for State {
     }
 }
 
+/// The sender of a message: a byte that tells whether it has one, and then the component.
+#[tactic(auto, unfolding(crate::specs::Spelling::spell_sender))]
+fn put_sender(bytes: &mut Vec<u8>, sender: &Option<ComponentId>) -> Result<(), AllocError>
+    ensures { OnOk result (bytes.new.items ≡ bytes.old.items ++ spell_sender sender.now) }
+{
+    match sender {
+        None => {
+            bytes.push(0)?;
+            Ok(())
+        }
+        Some(component) => {
+            bytes.push(1)?;
+            component.put(bytes)
+        }
+    }
+}
+
+#[tactic(auto, unfolding(crate::specs::Reading::read_sender))]
+fn take_sender(
+    alloc: Global,
+    reader: &mut ByteReader<'_>,
+) -> Result<Option<ComponentId>, AllocError>
+    ensures value { IfOk result (λ sender. sender ≡ (read_sender reader.old).0) }
+    ensures rest { OnOk result (reader.new ≡ (read_sender reader.old).1) }
+{
+    if reader.byte() == 0 {
+        return Ok(None);
+    }
+    Ok(Some(ComponentId::take(alloc, reader)?))
+}
+
 impl Spelled for Message {
     ghost use Rattle.config_packed.specs.Reading.{read_message};
     ghost use Rattle.config_packed.specs.Spelling.{spell_message};
@@ -229,13 +261,13 @@ impl Spelled for Message {
     #[tactic(auto, unfolding(crate::specs::Spelling::spell_message))]
     fn put(&self, bytes: &mut Vec<u8>) -> Result<(), AllocError> {
         self.value.put(bytes)?;
-        self.sender.put(bytes)
+        put_sender(bytes, &self.sender)
     }
 
     #[tactic(auto, unfolding(crate::specs::Reading::read_message))]
     fn take(alloc: Global, reader: &mut ByteReader<'_>) -> Result<Message, AllocError> {
         let value = Value::take(alloc, reader)?;
-        let sender = ComponentId::take(alloc, reader)?;
+        let sender = take_sender(alloc, reader)?;
         Ok(Message { value, sender })
     }
 }
@@ -296,7 +328,7 @@ impl Spelled for Component {
     }
 }
 
-// ---- connections
+// ---- connections and mappings
 
 impl Spelled for End {
     ghost use Rattle.config_packed.specs.Reading.{read_end};
@@ -342,6 +374,34 @@ impl Spelled for Connection {
     }
 }
 
+impl Spelled for Links {
+    ghost use Rattle.config_packed.specs.Reading.{read_links};
+    ghost use Rattle.config_packed.specs.Spelling.{spell_links};
+
+    ghost spell = { spell_links };
+
+    ghost read = { read_links };
+
+    #[tactic(auto, unfolding(crate::specs::Spelling::spell_links))]
+    fn put(&self, bytes: &mut Vec<u8>) -> Result<(), AllocError> {
+        self.connections.put(bytes)?;
+        self.mappings.put(bytes)?;
+        self.delivered.put(bytes)
+    }
+
+    #[tactic(auto, unfolding(crate::specs::Reading::read_links))]
+    fn take(alloc: Global, reader: &mut ByteReader<'_>) -> Result<Links, AllocError> {
+        let connections = Seq::take(alloc, reader)?;
+        let mappings = Seq::take(alloc, reader)?;
+        let delivered = Seq::take(alloc, reader)?;
+        Ok(Links {
+            connections,
+            mappings,
+            delivered,
+        })
+    }
+}
+
 // ---- configurations
 
 impl Spelled for Going {
@@ -355,18 +415,18 @@ impl Spelled for Going {
     #[tactic(auto, unfolding(crate::specs::Spelling::spell_going))]
     fn put(&self, bytes: &mut Vec<u8>) -> Result<(), AllocError> {
         self.components.put(bytes)?;
-        self.connections.put(bytes)?;
+        self.links.put(bytes)?;
         self.forgotten.put(bytes)
     }
 
     #[tactic(auto, unfolding(crate::specs::Reading::read_going))]
     fn take(alloc: Global, reader: &mut ByteReader<'_>) -> Result<Going, AllocError> {
         let components = Seq::take(alloc, reader)?;
-        let connections = Shared::new(alloc, Seq::take(alloc, reader)?)?;
+        let links = Shared::new(alloc, Links::take(alloc, reader)?)?;
         let forgotten = Verdict::take(alloc, reader)?;
         Ok(Going {
             components,
-            connections,
+            links,
             forgotten,
         })
     }

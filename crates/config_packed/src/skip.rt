@@ -1,6 +1,6 @@
 //! Going past parts of configurations without keeping them.
 ghost use Rattle.std.specs.Prelude.{◌≡◌};
-ghost use Rattle.config_packed.specs.Reading.{read_enumerated, read_field, read_integer, read_record, read_value_within};
+ghost use Rattle.config_packed.specs.Reading.{read_enumerated, read_field, read_integer, read_record, read_sender, read_value_within};
 
 use crate::byte_reader::ByteReader;
 use crate::number::{take_long, take_number};
@@ -172,11 +172,20 @@ impl Skip for Verdict {
     }
 }
 
+#[tactic(auto, unfolding(crate::specs::Reading::read_sender))]
+fn skip_sender(reader: &mut ByteReader<'_>)
+    ensures { reader.new ≡ (read_sender reader.old).1 }
+{
+    if reader.byte() != 0 {
+        ComponentId::skip(reader);
+    }
+}
+
 impl Skip for Message {
     #[tactic(auto, unfolding(crate::specs::Reading::read_message))]
     fn skip(reader: &mut ByteReader<'_>) {
         Value::skip(reader);
-        ComponentId::skip(reader);
+        skip_sender(reader);
     }
 }
 

@@ -40,6 +40,23 @@ impl Spelled for u32 {
     }
 }
 
+impl Spelled for usize {
+    ghost use Rattle.config_packed.specs.Reading.{read_long};
+    ghost use Rattle.config_packed.specs.Spelling.{spell_long};
+
+    ghost spell = { spell_long };
+
+    ghost read = { read_long };
+
+    fn put(&self, bytes: &mut Vec<u8>) -> Result<(), AllocError> {
+        put_long(bytes, *self)
+    }
+
+    fn take(_alloc: Global, reader: &mut ByteReader<'_>) -> Result<usize, AllocError> {
+        Ok(take_long(reader))
+    }
+}
+
 impl<T: Spelled> Spelled for Seq<T> {
     ghost use Rattle.config_packed.specs.Reading.{read_list};
     ghost use Rattle.config_packed.specs.Spelling.{spell_list};

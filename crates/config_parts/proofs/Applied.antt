@@ -10,14 +10,16 @@ use Rattle.std.proofs.lemmas.Cmp.{nat_cmp_total, nat_list_cmp_total}
 use Rattle.ttcn_syntax.specs.declared.tree.statement.Verdict.{Verdict}
 use Rattle.semantics.specs.Configurations as rules
 use Rattle.semantics.specs.Configurations.{path_cmp, same_path, worse}
+use Rattle.semantics.specs.Entries.{Entries, put}
 use Rattle.semantics.specs.Snapshots.{Test}
 use Rattle.semantics.specs.Steps as steps
 use Rattle.semantics.specs.Taking.{uncovered}
 use Rattle.config_parts.specs.Acts.{HasPathsInOrder, IsFailing, IsUncovered, Leads, act_by, request_by}
-use Rattle.config_parts.specs.Legend.{IsLegend, Legend, component_by, config_by, connection_by, data_by, end_by, frame_by, going_by, message_by, queue_by, state_by}
+use Rattle.config_parts.specs.Legend.{IsLegend, Legend, component_by, config_by, connection_by, data_by, end_by, entries_by, frame_by, going_by, mapping_by, message_by, queue_by, state_by}
 use Rattle.config_parts.specs.internal.Changes as kept
 use Rattle.config_parts.specs.internal.Done as done
 use Rattle.config_parts.specs.internal.Ends as ends
+use Rattle.config_parts.specs.internal.Mappings as mapped
 use Rattle.config_parts.specs.declared.act.Act.{Act}
 use Rattle.config_parts.specs.declared.act.Request.{Request}
 use Rattle.config_parts.specs.declared.act.Request.TheVariants as request
@@ -32,7 +34,8 @@ use Rattle.config_parts.specs.declared.connection.Connection.{Connection}
 use Rattle.config_parts.specs.declared.connection.End.{End}
 use Rattle.config_parts.specs.declared.frame.Data.{Data}
 use Rattle.config_parts.specs.declared.frame.Frame.{Frame}
-use Rattle.config_parts.proofs.Named.{connection-by, connection-cmp-by, opposite-by, option-list, peers-by, queues-by, same-name}
+use Rattle.config_parts.proofs.Named.{connection-by, connection-cmp-by, opposite-by, option-list, peers-by, queues-by, same-end-by, same-name}
+use Rattle.config_parts.proofs.Stored.{put-of}
 use Rattle.config_parts.proofs.Touching.{Ascend, ascends-still, changes-by}
 use Rattle.value_types.specs.Outcomes.{Outcome, Yields, dynamic_error}
 use Rattle.value_types.specs.declared.fault.Fault.{Fault}
@@ -43,8 +46,12 @@ use Rattle.value_types.specs.declared.value.Value.{Value}
 
 -- ---- single components
 
-abbrev with_components : List Component → Going → Going
-with_components cs going = record { components = cs; connections = going.connections; forgotten = going.forgotten }
+abbrev pub with_components : List Component → Going → Going
+with_components cs going = record { components = cs; links = going.links; forgotten = going.forgotten }
+
+-- what stands for a test case with other components
+abbrev going-with : Legend → Going → List rules.Component → rules.Going
+going-with legend going cs = record { components = cs; connections = (going_by legend going).connections; mappings = (going_by legend going).mappings; delivered = (going_by legend going).delivered; forgotten = going.forgotten }
 
 -- two changes are one
 abbrev Alike : Legend → (Component → Component) → (rules.Component → rules.Component) → Type 0
@@ -59,7 +66,7 @@ unless-in legend f g alike state.Terminated x = refl
 pub touch-by : (legend : Legend) (f : Component → Component) (g : rules.Component → rules.Component) → Alike legend f g → (going : Going) (p : Path) → Ascend going.components
     → going_by legend (with_components (kept.touch going.components p f) going) ≡ steps.touch (going_by legend going) p g
 touch-by legend f g alike going p ascend =
-    ap (λ cs. record { components = cs; connections = map (connection_by legend) going.connections; forgotten = going.forgotten })
+    ap (going-with legend going)
     (changes-by legend p (kept.unless_terminated f) (steps.unless_terminated g) (λ x. unless-in legend f g alike x.state x) going.components ascend)
 
 -- ---- the data behind a step
@@ -95,7 +102,7 @@ changed-by : (legend : Legend) (f : Component → Component) (g : rules.Componen
     → Says legend (Some (Yields (rules.Goes (steps.touch (going_by legend going) q g)))) (Some (done.going_with (kept.touch going.components q f) going))
 changed-by legend f g alike going q ascend = ap (λ c. Some (Yields (rules.Goes c))) (sym (touch-by legend f g alike going q ascend))
 
-map-more : (ms : List Message) (m : Message) → map message_by (ms ++ m ∷ []) ≡ map message_by ms ++ message_by m ∷ []
+pub map-more : (ms : List Message) (m : Message) → map message_by (ms ++ m ∷ []) ≡ map message_by ms ++ message_by m ∷ []
 map-more [] m = refl
 map-more (n ∷ ms) m = ap (λ xs. message_by n ∷ xs) (map-more ms m)
 
@@ -103,12 +110,20 @@ map-less : (ms : List Message) → map message_by (kept.without_first ms) ≡ st
 map-less [] = refl
 map-less (m ∷ ms) = refl
 
-queues-alike : (legend : Legend) → IsLegend legend → (port : ℕ) (f : List Message → List Message) (g : List rules.Message → List rules.Message)
+pub queues-alike : (legend : Legend) → IsLegend legend → (port : ℕ) (f : List Message → List Message) (g : List rules.Message → List rules.Message)
     → ((ms : List Message) → map message_by (f ms) ≡ g (map message_by ms)) → Alike legend (kept.with_queues (kept.change_queue port f)) (steps.at_queue (legend.names port) g)
 queues-alike legend is port f g alike x =
     ap (λ qs. record { itself = x.itself; own = data_by legend x.own; state = state_by x.state; verdict = x.verdict; queues = qs }) (queues-by legend is port f g alike x.queues)
 
 -- ---- messages
+
+any-by : {A B : Type 0} (f : A → B) (p : B → Bool) (q : A → Bool) → ((a : A) → p (f a) ≡ q a) → (xs : List A) → list_any p (map f xs) ≡ list_any q xs
+any-by f p q alike [] = refl
+any-by f p q alike (a ∷ xs) = λ i. alike a i || any-by f p q alike xs i
+
+mapped-by : (legend : Legend) → IsLegend legend → (going : Going) (e : End) → steps.is_mapped (going_by legend going) (end_by legend e) ≡ mapped.is_mapped going.links.mappings e
+mapped-by legend is going e =
+    any-by (mapping_by legend) (λ m. rules.same_end (end_by legend e) m.1) (λ m. ends.same_end e m.1) (λ m. same-end-by legend is e m.1) going.links.mappings
 
 sent-by : (legend : Legend) → IsLegend legend → (going : Going) → Ascend going.components → (m : Message) (es : List End)
     → Says legend (Some (steps.ending (steps.deliver (going_by legend going) (message_by m) (map (end_by legend) es))))
@@ -120,14 +135,35 @@ sent-by legend is going ascend m (e ∷ []) =
     going e.component ascend
 sent-by legend is going ascend m (d ∷ e ∷ es) = tt
 
+peer-by : (legend : Legend) → IsLegend legend → (going : Going) → Ascend going.components → (itself : ComponentId) (port : ℕ) (to : Option Path) (v : Value)
+    → Says legend (Some (steps.ending (steps.send_to_peer (going_by legend going) itself (legend.names port) to v)))
+    (option_map (λ cs. done.going_with cs going) (done.send_to_peer going.components going.links.connections itself (record { component = itself.path; port = port }) to v))
+peer-by legend is going ascend itself port to v =
+    subst (λ es. Says legend (Some (steps.ending (steps.deliver (going_by legend going) (record { value = v; sender = Some itself }) es)))
+    (option_map (λ cs. done.going_with cs going) (done.send_to_peer going.components going.links.connections itself (record { component = itself.path; port = port }) to v)))
+    (sym (peers-by legend is going.links.connections (record { component = itself.path; port = port }) to))
+    (sent-by legend is going ascend (record { value = v; sender = Some itself }) (ends.peers going.links.connections (record { component = itself.path; port = port }) to))
+
+out-by : (legend : Legend) (going : Going) (to : Option Path)
+    → Says legend (Some (steps.ending (steps.send_out (going_by legend going) to))) (option_map (λ cs. done.going_with cs going) (done.send_out going.components to))
+out-by legend going None = refl
+out-by legend going (Some path) = tt
+
+send-in : (legend : Legend) → IsLegend legend → (going : Going) → Ascend going.components → (itself : ComponentId) (port : ℕ) (to : Option Path) (v : Value) (b : Bool)
+    → Says legend (Some (steps.ending (if b then steps.send_out (going_by legend going) to else steps.send_to_peer (going_by legend going) itself (legend.names port) to v)))
+    (option_map (λ cs. done.going_with cs going)
+    (if b then done.send_out going.components to else done.send_to_peer going.components going.links.connections itself (record { component = itself.path; port = port }) to v))
+send-in legend is going ascend itself port to v true = out-by legend going to
+send-in legend is going ascend itself port to v false = peer-by legend is going ascend itself port to v
+
 send-by : (legend : Legend) → IsLegend legend → (going : Going) → Ascend going.components → (itself : ComponentId) (port : ℕ) (to : Option Path) (v : Value)
     → Says legend (Some (steps.ending (steps.send (going_by legend going) itself (legend.names port) to v)))
-    (option_map (λ cs. done.going_with cs going) (done.send going.components going.connections itself port to v))
+    (option_map (λ cs. done.going_with cs going) (done.send going.components going.links itself port to v))
 send-by legend is going ascend itself port to v =
-    subst (λ es. Says legend (Some (steps.ending (steps.deliver (going_by legend going) (record { value = v; sender = itself }) es)))
-    (option_map (λ cs. done.going_with cs going) (done.send going.components going.connections itself port to v)))
-    (sym (peers-by legend is going.connections (record { component = itself.path; port = port }) to))
-    (sent-by legend is going ascend (record { value = v; sender = itself }) (ends.peers going.connections (record { component = itself.path; port = port }) to))
+    subst (λ b. Says legend (Some (steps.ending (if b then steps.send_out (going_by legend going) to else steps.send_to_peer (going_by legend going) itself (legend.names port) to v)))
+    (option_map (λ cs. done.going_with cs going) (done.send going.components going.links itself port to v)))
+    (sym (mapped-by legend is going (record { component = itself.path; port = port })))
+    (send-in legend is going ascend itself port to v (mapped.is_mapped going.links.mappings (record { component = itself.path; port = port })))
 
 -- ---- what is found
 
@@ -185,7 +221,7 @@ create-in legend new cs (Some c) = refl
 create-by : (legend : Legend) (going : Going) (new : Component)
     → Says legend (Some (Yields (rules.Goes (steps.with_new (component_by legend new) (going_by legend going))))) (Some (done.going_with (done.create going.components new) going))
 create-by legend going new =
-    ap (λ cs. Some (Yields (rules.Goes (record { components = cs; connections = map (connection_by legend) going.connections; forgotten = going.forgotten }))))
+    ap (λ cs. Some (Yields (rules.Goes (going-with legend going cs))))
     (sym (create-in legend new going.components (find (kept.is_of new.itself.path) going.components)
     ∙ ap (λ o. if is_some o then map (component_by legend) going.components else steps.insert (component_by legend new) (map (component_by legend) going.components))
     (sym (find-by legend new.itself.path going.components))))
@@ -205,16 +241,36 @@ overall-by : (legend : Legend) (v : Verdict) (cs : List Component)
 overall-by legend v [] = refl
 overall-by legend v (c ∷ cs) = overall-by legend (worse v c.verdict) cs
 
+filter-first : {A B : Type 0} (f : A → B) (b : Bool) (a : A) (said : List A) (rest : List B) → rest ≡ map f said → cond b (f a ∷ rest) rest ≡ map f (cond b (a ∷ said) said)
+filter-first f true a said rest e = ap (λ ys. f a ∷ ys) e
+filter-first f false a said rest e = e
+
+filter-by : {A B : Type 0} (f : A → B) (p : B → Bool) (q : A → Bool) → ((a : A) → p (f a) ≡ q a) → (xs : List A) → filter p (map f xs) ≡ map f (filter q xs)
+filter-by f p q alike [] = refl
+filter-by f p q alike (a ∷ xs) =
+    ap (λ b. cond b (f a ∷ filter p (map f xs)) (filter p (map f xs))) (alike a)
+    ∙ filter-first f (q a) a (filter q xs) (filter p (map f xs)) (filter-by f p q alike xs)
+
+terminate-by : (legend : Legend) (going : Going) → Ascend going.components → (p : Path)
+    → steps.terminate p (going_by legend going)
+    ≡ going_by legend (record { components = kept.touch going.components p (kept.with_state kept.terminated); links = mapped.without_component p going.links; forgotten = going.forgotten })
+terminate-by legend going ascend p =
+    ap (λ ms. steps.with_mappings ms (steps.touch (going_by legend going) p (steps.with_state rules.Terminated)))
+    (filter-by (mapping_by legend) (λ m. not (same_path m.1.component p)) (λ m. not (mapped.is_of p m)) (λ m. refl) going.links.mappings)
+    ∙ ap (steps.with_mappings (map (mapping_by legend) (mapped.without_ports p going.links.mappings)))
+    (sym (touch-by legend (kept.with_state kept.terminated) (steps.with_state rules.Terminated) (λ x. refl) going p ascend))
+
 stop-in : (legend : Legend) (going : Going) → Ascend going.components → (p : Path) (b : Bool)
-    → Some (Yields (if b then rules.Ended (rules.overall (going_by legend going)) else rules.Goes (steps.touch (going_by legend going) p (steps.with_state rules.Terminated))))
-    ≡ Some (Yields (config_by legend (if b then config.Ended (done.overall going.forgotten going.components) else done.going_with (kept.touch going.components p (kept.with_state kept.terminated)) going)))
+    → Some (Yields (if b then rules.Ended (rules.overall (going_by legend going)) else rules.Goes (steps.terminate p (going_by legend going))))
+    ≡ Some (Yields (config_by legend (if b then config.Ended (done.overall going.forgotten going.components)
+    else done.going_on (kept.touch going.components p (kept.with_state kept.terminated)) (mapped.without_component p going.links) going.forgotten)))
 stop-in legend going ascend p true = ap (λ v. Some (Yields (rules.Ended v))) (overall-by legend going.forgotten going.components)
-stop-in legend going ascend p false = changed-by legend (kept.with_state kept.terminated) (steps.with_state rules.Terminated) (λ x. refl) going p ascend
+stop-in legend going ascend p false = ap (λ c. Some (Yields (rules.Goes c))) (terminate-by legend going ascend p)
 
 stop-by : (legend : Legend) (test : Test) (going : Going) → Ascend going.components → (p : Path)
-    → Says legend (Some (Yields (steps.stop test (going_by legend going) p))) (Some (done.stop going.components going.connections going.forgotten p))
+    → Says legend (Some (Yields (steps.stop test (going_by legend going) p))) (Some (done.stop going.components going.links going.forgotten p))
 stop-by legend test going ascend p =
-    ap (λ b. Some (Yields (if b then rules.Ended (rules.overall (going_by legend going)) else rules.Goes (steps.touch (going_by legend going) p (steps.with_state rules.Terminated)))))
+    ap (λ b. Some (Yields (if b then rules.Ended (rules.overall (going_by legend going)) else rules.Goes (steps.terminate p (going_by legend going)))))
     (no-numbers p.numbers)
     ∙ stop-in legend going ascend p (done.is_main p)
 
@@ -271,18 +327,6 @@ behind Less = refl
 behind Equal = refl
 behind Greater = refl
 
-filter-first : (legend : Legend) (b : Bool) (k : Connection) (said : List Connection) (rest : List rules.Connection) → rest ≡ map (connection_by legend) said
-    → cond b (connection_by legend k ∷ rest) rest ≡ map (connection_by legend) (cond b (k ∷ said) said)
-filter-first legend true k said rest e = ap (λ ks. connection_by legend k ∷ ks) e
-filter-first legend false k said rest e = e
-
-filter-by : (legend : Legend) (p : rules.Connection → Bool) (q : Connection → Bool) → ((k : Connection) → p (connection_by legend k) ≡ q k) → (ks : List Connection)
-    → filter p (map (connection_by legend) ks) ≡ map (connection_by legend) (filter q ks)
-filter-by legend p q alike [] = refl
-filter-by legend p q alike (k ∷ ks) =
-    ap (λ b. cond b (connection_by legend k ∷ filter p (map (connection_by legend) ks)) (filter p (map (connection_by legend) ks))) (alike k)
-    ∙ filter-first legend (q k) k (filter q ks) (filter p (map (connection_by legend) ks)) (filter-by legend p q alike ks)
-
 map-append : (legend : Legend) (ks ls : List Connection) → map (connection_by legend) (ks ++ ls) ≡ map (connection_by legend) ks ++ map (connection_by legend) ls
 map-append legend [] ls = refl
 map-append legend (k ∷ ks) ls = ap (λ xs. connection_by legend k ∷ xs) (map-append legend ks ls)
@@ -292,32 +336,76 @@ add-by : (legend : Legend) → IsLegend legend → (new : Connection) (ks : List
 add-by legend is new ks =
     map-append legend (filter (λ k. is_lt (ends.connection_cmp k new)) ks) (new ∷ filter (λ k. is_gt (ends.connection_cmp k new)) ks)
     ∙ ap (λ xs. xs ++ connection_by legend new ∷ map (connection_by legend) (filter (λ k. is_gt (ends.connection_cmp k new)) ks))
-    (sym (filter-by legend (λ k. is_lt (steps.connection_cmp k (connection_by legend new))) (λ k. is_lt (ends.connection_cmp k new)) (λ k. ap is_lt (connection-cmp-by legend is k new)) ks))
+    (sym (filter-by (connection_by legend) (λ k. is_lt (steps.connection_cmp k (connection_by legend new))) (λ k. is_lt (ends.connection_cmp k new)) (λ k. ap is_lt (connection-cmp-by legend is k new)) ks))
     ∙ ap (λ xs. filter (λ k. is_lt (steps.connection_cmp k (connection_by legend new))) (map (connection_by legend) ks) ++ connection_by legend new ∷ xs)
-    (sym (filter-by legend (λ k. is_lt (steps.connection_cmp (connection_by legend new) k)) (λ k. is_gt (ends.connection_cmp k new))
+    (sym (filter-by (connection_by legend) (λ k. is_lt (steps.connection_cmp (connection_by legend new) k)) (λ k. is_gt (ends.connection_cmp k new))
     (λ k. ap is_lt (connection-cmp-by legend is new k ∙ connection-reverse new k) ∙ behind (ends.connection_cmp k new)) ks))
+
+apart-by : (legend : Legend) → IsLegend legend → (going : Going) (d e : End)
+    → steps.is_kept_apart (going_by legend going) (end_by legend d) (end_by legend e) ≡ done.is_kept_apart going.components going.links d e
+apart-by legend is going d e = λ i.
+    dead-by legend going d.component i || dead-by legend going e.component i || mapped-by legend is going d i || mapped-by legend is going e i ||
+    double-by legend is going.links.connections d e i || double-by legend is going.links.connections e d i
 
 connect-in : (legend : Legend) → IsLegend legend → (going : Going) (d e : End) (b : Bool)
     → Says legend (Some (steps.ending (if b then dynamic_error else Yields (steps.with_connection (steps.connection (end_by legend d) (end_by legend e)) (going_by legend going)))))
-    (option_map (done.going_connected going.components going.forgotten) (if b then None else Some (ends.add_connection (ends.connection d e) going.connections)))
+    (option_map (done.going_linked going.components going.forgotten) (if b then None else Some (done.with_connection d e going.links)))
 connect-in legend is going d e true = tt
 connect-in legend is going d e false =
-    ap (λ ks. Some (Yields (rules.Goes (record { components = map (component_by legend) going.components; connections = ks; forgotten = going.forgotten }))))
-    (sym (add-by legend is (ends.connection d e) going.connections
-    ∙ ap (λ k. steps.add_connection k (map (connection_by legend) going.connections)) (connection-by legend is d e)))
+    ap (λ ks. Some (Yields (rules.Goes (record { components = map (component_by legend) going.components; connections = ks; mappings = map (mapping_by legend) going.links.mappings; delivered = entries_by legend going.links.delivered; forgotten = going.forgotten }))))
+    (sym (add-by legend is (ends.connection d e) going.links.connections
+    ∙ ap (λ k. steps.add_connection k (map (connection_by legend) going.links.connections)) (connection-by legend is d e)))
 
 connect-by : (legend : Legend) → IsLegend legend → (going : Going) (d e : End)
     → Says legend (Some (steps.ending (steps.connect (going_by legend going) (end_by legend d) (end_by legend e))))
-    (option_map (done.going_connected going.components going.forgotten) (done.connect going.components going.connections d e))
+    (option_map (done.going_linked going.components going.forgotten) (done.connect going.components going.links d e))
 connect-by legend is going d e =
     subst (λ b. Says legend (Some (steps.ending (if b then dynamic_error else Yields (steps.with_connection (steps.connection (end_by legend d) (end_by legend e)) (going_by legend going)))))
-    (option_map (done.going_connected going.components going.forgotten) (done.connect going.components going.connections d e)))
-    (sym (ap (λ b. b || steps.is_terminated_at (going_by legend going) e.component || steps.is_double (going_by legend going) (end_by legend d) (end_by legend e) || steps.is_double (going_by legend going) (end_by legend e) (end_by legend d)) (dead-by legend going d.component)
-    ∙ ap (λ b. kept.is_terminated_at going.components d.component || b || steps.is_double (going_by legend going) (end_by legend d) (end_by legend e) || steps.is_double (going_by legend going) (end_by legend e) (end_by legend d)) (dead-by legend going e.component)
-    ∙ ap (λ b. kept.is_terminated_at going.components d.component || kept.is_terminated_at going.components e.component || b || steps.is_double (going_by legend going) (end_by legend e) (end_by legend d)) (double-by legend is going.connections d e)
-    ∙ ap (λ b. kept.is_terminated_at going.components d.component || kept.is_terminated_at going.components e.component || ends.is_double going.connections d e || b) (double-by legend is going.connections e d)))
-    (connect-in legend is going d e
-    (kept.is_terminated_at going.components d.component || kept.is_terminated_at going.components e.component || ends.is_double going.connections d e || ends.is_double going.connections e d))
+    (option_map (done.going_linked going.components going.forgotten) (done.connect going.components going.links d e)))
+    (sym (apart-by legend is going d e)) (connect-in legend is going d e (done.is_kept_apart going.components going.links d e))
+
+-- ---- mappings
+
+connected-by : (legend : Legend) → IsLegend legend → (going : Going) (e : End) → steps.is_connected (going_by legend going) (end_by legend e) ≡ mapped.is_connected going.links.connections e
+connected-by legend is going e =
+    any-by (connection_by legend) (λ k. rules.same_end (end_by legend e) k.one || rules.same_end (end_by legend e) k.other) (λ k. ends.same_end e k.one || ends.same_end e k.other)
+    (λ k i. same-end-by legend is e k.one i || same-end-by legend is e k.other i) going.links.connections
+
+otherwise-by : (legend : Legend) → IsLegend legend → (e : End) (slot : ℕ) (m : ℕ × End)
+    → steps.maps_otherwise (end_by legend e) (legend.names slot) (mapping_by legend m) ≡ mapped.maps_otherwise e slot m
+otherwise-by legend is e slot m = λ i. if same-end-by legend is e m.1 i then not (same-name legend is m.0 slot i) else same-name legend is m.0 slot i
+
+unmapped-by : (legend : Legend) → IsLegend legend → (going : Going) (e : End) (slot : ℕ)
+    → steps.is_kept_unmapped (going_by legend going) (end_by legend e) (legend.names slot) ≡ done.is_kept_unmapped going.components going.links e slot
+unmapped-by legend is going e slot = λ i.
+    dead-by legend going e.component i || connected-by legend is going e i ||
+    any-by (mapping_by legend) (steps.maps_otherwise (end_by legend e) (legend.names slot)) (mapped.maps_otherwise e slot) (otherwise-by legend is e slot) going.links.mappings i
+
+-- the configuration with other mappings
+abbrev with-mappings : Legend → Going → Entries rules.End → Option (Outcome rules.Configuration)
+with-mappings legend going ms = Some (Yields (rules.Goes (steps.with_mappings ms (going_by legend going))))
+
+map-in : (legend : Legend) → IsLegend legend → (going : Going) (e : End) (slot : ℕ) (b : Bool)
+    → Says legend (Some (steps.ending (if b then dynamic_error else Yields (steps.with_mappings (put (legend.names slot) (end_by legend e) (map (mapping_by legend) going.links.mappings)) (going_by legend going)))))
+    (option_map (done.going_linked going.components going.forgotten) (if b then None else Some (mapped.with_mapping e slot going.links)))
+map-in legend is going e slot true = tt
+map-in legend is going e slot false = ap (with-mappings legend going) (sym (put-of (end_by legend) legend is slot e going.links.mappings))
+
+map-by : (legend : Legend) → IsLegend legend → (going : Going) (e : End) (slot : ℕ)
+    → Says legend (Some (steps.ending (steps.map_port (going_by legend going) (end_by legend e) (legend.names slot))))
+    (option_map (done.going_linked going.components going.forgotten) (done.map_port going.components going.links e slot))
+map-by legend is going e slot =
+    subst (λ b. Says legend (Some (steps.ending (if b then dynamic_error else Yields (steps.with_mappings (put (legend.names slot) (end_by legend e) (map (mapping_by legend) going.links.mappings)) (going_by legend going)))))
+    (option_map (done.going_linked going.components going.forgotten) (done.map_port going.components going.links e slot)))
+    (sym (unmapped-by legend is going e slot)) (map-in legend is going e slot (done.is_kept_unmapped going.components going.links e slot))
+
+unmap-by : (legend : Legend) → IsLegend legend → (going : Going) (e : End) (slot : ℕ)
+    → Says legend (Some (Yields (rules.Goes (steps.unmap_port (going_by legend going) (end_by legend e) (legend.names slot)))))
+    (Some (done.going_on going.components (mapped.unmap_port e slot going.links) going.forgotten))
+unmap-by legend is going e slot =
+    ap (with-mappings legend going)
+    (filter-by (mapping_by legend) (λ m. not (rules.same_end (end_by legend e) m.1 && bytes_eq m.0 (legend.names slot))) (λ m. not (ends.same_end e m.1 && nat_eq m.0 slot))
+    (λ m i. not (same-end-by legend is e m.1 i && same-name legend is m.0 slot i)) going.links.mappings)
 
 -- ---- all that components ask for
 
@@ -330,7 +418,7 @@ behind-step : (legend : Legend) (going : Going) (p : Path) (own : Data) → unco
 behind-step legend going p own gone ascend step wanted says = subst (λ c. Says legend (step c) wanted) (settled-by legend going p own gone ascend) says
 
 perform-by : (legend : Legend) → IsLegend legend → (test : Test) (going : Going) → Ascend going.components → (itself : ComponentId) (asked : Request)
-    → Says legend (Some (steps.perform test (going_by legend going) itself (request_by legend asked))) (done.perform going.components going.connections going.forgotten itself asked)
+    → Says legend (Some (steps.perform test (going_by legend going) itself (request_by legend asked))) (done.perform going.components going.links going.forgotten itself asked)
 perform-by legend is test going ascend itself request.Continues = refl
 perform-by legend is test going ascend itself (request.Worsens v) = changed-by legend (kept.with_verdict v) (steps.with_verdict v) (λ x. refl) going itself.path ascend
 perform-by legend is test going ascend itself (request.Removes port) =
@@ -341,6 +429,8 @@ perform-by legend is test going ascend itself (request.Creates new) = create-by 
 perform-by legend is test going ascend itself (request.Starts path frame) = start-by legend going ascend path frame
 perform-by legend is test going ascend itself (request.Stops path) = stop-by legend test going ascend path
 perform-by legend is test going ascend itself (request.Connects d e) = connect-by legend is going d e
+perform-by legend is test going ascend itself (request.Maps e system_port) = map-by legend is going e system_port
+perform-by legend is test going ascend itself (request.Unmaps e system_port) = unmap-by legend is going e system_port
 
 apply-by : (legend : Legend) → IsLegend legend → (test : Test) (going : Going) → Ascend going.components → (itself : ComponentId) (asked : Act) → IsUncovered (act_by legend asked)
     → Says legend (steps.apply test (going_by legend going) itself (act_by legend asked)) (done.apply going itself asked)

@@ -235,7 +235,7 @@ running-first state.Running = refl
 running-first state.Terminated = refl
 
 abbrev with_components : List Component → Going → Going
-with_components cs going = record { components = cs; connections = going.connections; forgotten = going.forgotten }
+with_components cs going = record { components = cs; links = going.links; forgotten = going.forgotten }
 
 -- the configuration that is left
 abbrev left : Legend → Going → List Component → Outcome rules.Configuration

@@ -1,5 +1,6 @@
 pub mod Applied
 pub mod Changed
+pub mod Delivered
 pub mod Expired
 pub mod Inserted
 pub mod Named
@@ -7,5 +8,6 @@ pub mod Naming
 pub mod Places
 pub mod Stored
 pub mod Touching
+pub mod Unmapped
 pub mod Viewed
 pub mod Within

@@ -7,7 +7,6 @@ use Rattle.std.specs.declared.cmp.Ordering.TheVariants.{Less, Equal, Greater}
 use Rattle.std.proofs.lemmas.Map.Text.{is_eq-slice_cmp}
 use Rattle.semantics.specs.Configurations as rules
 use Rattle.semantics.specs.Configurations.{path_cmp, same_path}
-use Rattle.semantics.specs.Statements as said
 use Rattle.semantics.specs.Steps as steps
 use Rattle.config_parts.specs.Legend.{IsLegend, Legend, connection_by, end_by, message_by, queue_by}
 use Rattle.config_parts.specs.internal.Changes as kept
@@ -57,7 +56,7 @@ queues-by legend is port f g alike (q ∷ qs) =
 
 -- ---- ends
 
-pub same-end-by : (legend : Legend) → IsLegend legend → (d e : End) → said.same_end (end_by legend d) (end_by legend e) ≡ ends.same_end d e
+pub same-end-by : (legend : Legend) → IsLegend legend → (d e : End) → rules.same_end (end_by legend d) (end_by legend e) ≡ ends.same_end d e
 same-end-by legend is d e = ap (λ b. same_path d.component e.component && b) (same-name legend is d.port e.port)
 
 pub end-cmp-by : (legend : Legend) → IsLegend legend → (d e : End) → rules.end_cmp (end_by legend d) (end_by legend e) ≡ ends.end_cmp d e
@@ -93,7 +92,7 @@ opposite-first legend false false one other = refl
 
 pub opposite-by : (legend : Legend) → IsLegend legend → (d : End) (k : Connection) → steps.opposite (end_by legend d) (connection_by legend k) ≡ map (end_by legend) (option-list (ends.opposite d k))
 opposite-by legend is d k =
-    ap (λ b. if b then end_by legend k.other ∷ [] else if said.same_end (end_by legend d) (end_by legend k.other) then end_by legend k.one ∷ [] else []) (same-end-by legend is d k.one)
+    ap (λ b. if b then end_by legend k.other ∷ [] else if rules.same_end (end_by legend d) (end_by legend k.other) then end_by legend k.one ∷ [] else []) (same-end-by legend is d k.one)
     ∙ ap (λ b. if ends.same_end d k.one then end_by legend k.other ∷ [] else if b then end_by legend k.one ∷ [] else []) (same-end-by legend is d k.other)
     ∙ opposite-first legend (ends.same_end d k.one) (ends.same_end d k.other) k.one k.other
 

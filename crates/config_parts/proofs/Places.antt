@@ -1,5 +1,5 @@
 -- The place of the first element of a kind, and what is found, changed and written there.
-use Rattle.std.proofs.Common.{◌≡◌, ℕ, zero, suc, Bool, true, false, List, [], ◌∷◌, Option, None, Some, length, nat_lt, ◌+◌, cond, not, ◌||◌, refl, ap, arith, ◌∙◌, get_or, if◌then◌else◌}
+use Rattle.std.proofs.Common.{◌≡◌, ℕ, zero, suc, Bool, true, false, List, [], ◌∷◌, Option, None, Some, length, nat_lt, ◌+◌, cond, not, refl, ap, arith, ◌∙◌, get_or, if◌then◌else◌}
 use Rattle.std.proofs.lemmas.Bool.{lt-ltb, ltb-false, ltb-true}
 use Rattle.std.specs.List.{find, position, position_or_len}
 use Rattle.std.specs.Option.{option_map}
@@ -124,12 +124,3 @@ pub created-lives : (s : State) → is_created s ≡ true → is_terminated s �
 created-lives state.Created e = refl
 created-lives state.Running e = refl
 created-lives state.Terminated e = absurd (let found = e in cc)
-
--- ---- conditions
-
-pub none-of : {A : Type 0} (a b c d : Bool) (x y : A) → a ≡ false → b ≡ false → c ≡ false → d ≡ false → (if a || b || c || d then x else y) ≡ y
-none-of true b c d x y one two three four = absurd (let found = one in cc)
-none-of false true c d x y one two three four = absurd (let found = two in cc)
-none-of false false true d x y one two three four = absurd (let found = three in cc)
-none-of false false false true x y one two three four = absurd (let found = four in cc)
-none-of false false false false x y one two three four = refl

@@ -86,20 +86,28 @@ push-at slot a (e ∷ es) f = push-first (nat_cmp slot e.0) slot a e es (place (
 
 -- ---- entries by their names
 
-put-first : {A : Type 0} (legend : Legend) (o : Ordering) (slot : ℕ) (a : A) (e : ℕ × A) (es said : List (ℕ × A)) (rest : Entries A) → entries_by legend said ≡ rest
-    → entries_by legend (match_ordering o ((slot, a) ∷ e ∷ es) ((slot, a) ∷ es) (e ∷ said))
-    ≡ match_ordering o ((legend.names slot, a) ∷ (legend.names e.0, e.1) ∷ entries_by legend es) ((legend.names slot, a) ∷ entries_by legend es) ((legend.names e.0, e.1) ∷ rest)
-put-first legend Less slot a e es said rest is = refl
-put-first legend Equal slot a e es said rest is = refl
-put-first legend Greater slot a e es said rest is = ap (λ xs. (legend.names e.0, e.1) ∷ xs) is
+-- entries of slots as entries of names, where what they have stands for something
+abbrev pub entries-of : {A B : Type 0} → (A → B) → Legend → List (ℕ × A) → Entries B
+entries-of f legend es = map (λ e. (legend.names e.0, f e.1)) es
+
+put-first : {A B : Type 0} (f : A → B) (legend : Legend) (o : Ordering) (slot : ℕ) (a : A) (e : ℕ × A) (es said : List (ℕ × A)) (rest : Entries B) → entries-of f legend said ≡ rest
+    → entries-of f legend (match_ordering o ((slot, a) ∷ e ∷ es) ((slot, a) ∷ es) (e ∷ said))
+    ≡ match_ordering o ((legend.names slot, f a) ∷ (legend.names e.0, f e.1) ∷ entries-of f legend es) ((legend.names slot, f a) ∷ entries-of f legend es) ((legend.names e.0, f e.1) ∷ rest)
+put-first f legend Less slot a e es said rest is = refl
+put-first f legend Equal slot a e es said rest is = refl
+put-first f legend Greater slot a e es said rest is = ap (λ xs. (legend.names e.0, f e.1) ∷ xs) is
+
+pub put-of : {A B : Type 0} (f : A → B) (legend : Legend) → IsLegend legend → (slot : ℕ) (a : A) (es : List (ℕ × A))
+    → entries-of f legend (put slot a es) ≡ entries.put (legend.names slot) (f a) (entries-of f legend es)
+put-of f legend is slot a [] = refl
+put-of f legend is slot a (e ∷ es) =
+    put-first f legend (nat_cmp slot e.0) slot a e es (put slot a es) (entries.put (legend.names slot) (f a) (entries-of f legend es)) (put-of f legend is slot a es)
+    ∙ ap (λ o. match_ordering o ((legend.names slot, f a) ∷ (legend.names e.0, f e.1) ∷ entries-of f legend es) ((legend.names slot, f a) ∷ entries-of f legend es)
+    ((legend.names e.0, f e.1) ∷ entries.put (legend.names slot) (f a) (entries-of f legend es)))
+    (sym (is.ordered slot e.0))
 
 pub put-by : {A : Type 0} (legend : Legend) → IsLegend legend → (slot : ℕ) (a : A) (es : List (ℕ × A)) → entries_by legend (put slot a es) ≡ entries.put (legend.names slot) a (entries_by legend es)
-put-by legend is slot a [] = refl
-put-by legend is slot a (e ∷ es) =
-    put-first legend (nat_cmp slot e.0) slot a e es (put slot a es) (entries.put (legend.names slot) a (entries_by legend es)) (put-by legend is slot a es)
-    ∙ ap (λ o. match_ordering o ((legend.names slot, a) ∷ (legend.names e.0, e.1) ∷ entries_by legend es) ((legend.names slot, a) ∷ entries_by legend es)
-    ((legend.names e.0, e.1) ∷ entries.put (legend.names slot) a (entries_by legend es)))
-    (sym (is.ordered slot e.0))
+put-by legend is slot a es = put-of (λ x. x) legend is slot a es
 
 without-first : {A : Type 0} (legend : Legend) (b : Bool) (e : ℕ × A) (said : List (ℕ × A)) (rest : Entries A) → entries_by legend said ≡ rest
     → entries_by legend (if not b then e ∷ said else said) ≡ (if not b then (legend.names e.0, e.1) ∷ rest else rest)

@@ -1,15 +1,17 @@
 -- Changes keep slots that have names.
-use Rattle.std.proofs.Common.{◌≡◌, ℕ, ◌+◌, ◌<◌, length, refl, IfOk, Bool, ◌||◌, true, false, not, nat_eq, List, [], ◌∷◌, Option, None, Some, Result, Ok, Err, cond, is_some, sym, ap, subst, ◌∙◌, if◌then◌else◌}
+use Rattle.std.proofs.Common.{◌≡◌, ℕ, ◌+◌, ◌<◌, length, refl, IfOk, Bool, true, false, ◌&&◌, not, nat_eq, List, [], ◌∷◌, Option, None, Some, Result, Ok, Err, cond, is_some, sym, ap, subst, ◌∙◌, if◌then◌else◌}
 use Rattle.std.specs.List.{All, filter, find}
 use Rattle.std.specs.Option.{option_map}
 use Rattle.std.specs.Ordering.{match_ordering, nat_cmp}
 use Rattle.std.specs.declared.cmp.Ordering.{Ordering}
 use Rattle.std.specs.declared.cmp.Ordering.TheVariants.{Less, Equal, Greater}
-use Rattle.std.proofs.lemmas.List.Elements.{All-cons, All-head, All-nil, All-tail}
-use Rattle.config_parts.specs.Views.{AreAllWithin, AreWithin, Extent, HasSlotsWithin, IsActWithin, IsConfigWithin, IsFrameWithin, IsRequestWithin, IsWithin}
+use Rattle.std.proofs.lemmas.List.Elements.{All-cons, All-filter, All-head, All-nil, All-tail}
+use Rattle.ttcn_syntax.specs.declared.tree.statement.Verdict.{Verdict}
+use Rattle.config_parts.specs.Views.{AreAllWithin, AreWithin, Extent, HasSlotsWithin, IsActWithin, IsConfigWithin, IsFrameWithin, IsGoingWithin, IsRequestWithin, IsWithin}
 use Rattle.config_parts.specs.internal.Changes as kept
 use Rattle.config_parts.specs.internal.Done as done
 use Rattle.config_parts.specs.internal.Ends as ends
+use Rattle.config_parts.specs.internal.Mappings as mapped
 use Rattle.config_parts.specs.internal.Expiries.{expired_above, expired_at, expired_found, expired_of, may_expire, with_expired}
 use Rattle.config_parts.specs.internal.Stored.{cells_in, changed_in, declare, declare_timer, forget, in_last, last_cells, no_cells, put, with_cells, with_cells_in, with_members, with_position, with_timer, with_value, without}
 use Rattle.config_parts.specs.declared.act.Act.{Act}
@@ -20,8 +22,8 @@ use Rattle.config_parts.specs.declared.component.Message.{Message}
 use Rattle.config_parts.specs.declared.config.Config.{Config}
 use Rattle.config_parts.specs.declared.config.Config.TheVariants as config
 use Rattle.config_parts.specs.declared.config.Going.{Going}
-use Rattle.config_parts.specs.declared.connection.Connection.{Connection}
 use Rattle.config_parts.specs.declared.connection.End.{End}
+use Rattle.config_parts.specs.declared.connection.Links.{Links}
 use Rattle.config_parts.specs.declared.frame.Cells.{Cells}
 use Rattle.config_parts.specs.declared.frame.Data.{Data}
 use Rattle.config_parts.specs.declared.frame.Frame.{Frame}
@@ -192,9 +194,14 @@ expire-within size n slot p cs left one all e = found-expiring size n slot p cs 
 
 -- ---- what components ask for
 
+-- in all frames of a configuration what remains has a position, and each slot a name
+abbrev AreComponentsWithin : Extent → Config → Type 0
+AreComponentsWithin size (config.Ended v) = Unit {0}
+AreComponentsWithin size (config.Going going) = AreAllWithin size going.components
+
 abbrev IfConfig : Extent → Option Config → Type 0
 IfConfig size None = Unit {0}
-IfConfig size (Some c) = IsConfigWithin size c
+IfConfig size (Some c) = AreComponentsWithin size c
 
 settled-within : (size : Extent) (going : Going) (p : Path) (own : Data) → AreAllWithin size going.components → IsWithin size own → AreAllWithin size (done.settled going p own)
 settled-within size going p own all within = touch-within size (kept.with_own own) (λ c before. within) p going.components all
@@ -203,6 +210,15 @@ sent-within : (size : Extent) (going : Going) (cs : List Component) (o : Option 
     → IfConfig size (option_map (λ components. done.going_with components going) (option_map (λ e. done.deliver cs e m) o))
 sent-within size going cs None m all = tt
 sent-within size going cs (Some e) m all = touch-within size (kept.with_queues (kept.with_message e.port m)) (λ c before. before) e.component cs all
+
+out-within : (size : Extent) (going : Going) (cs : List Component) (to : Option Path) → AreAllWithin size cs → IfConfig size (option_map (λ components. done.going_with components going) (done.send_out cs to))
+out-within size going cs None all = all
+out-within size going cs (Some path) all = tt
+
+send-first : (size : Extent) (going : Going) (cs : List Component) (b : Bool) (itself : ComponentId) (from : End) (to : Option Path) (v : Value) → AreAllWithin size cs
+    → IfConfig size (option_map (λ components. done.going_with components going) (if b then done.send_out cs to else done.send_to_peer cs going.links.connections itself from to v))
+send-first size going cs true itself from to v all = out-within size going cs to all
+send-first size going cs false itself from to v all = sent-within size going cs (ends.peer going.links.connections from to) (record { value = v; sender = Some itself }) all
 
 insert-first : (size : Extent) (b : Bool) (new c : Component) (cs said : List Component) → ComponentWithin size new → AreAllWithin size (c ∷ cs) → AreAllWithin size said
     → AreAllWithin size (if b then new ∷ c ∷ cs else c ∷ said)
@@ -232,39 +248,101 @@ start-within size going cs p frame None one all = tt
 start-within size going cs p frame (Some c) one all = start-first size going cs p frame (done.is_created c.state) one all
 
 stop-within : (size : Extent) (going : Going) (cs : List Component) (p : Path) (b : Bool) → AreAllWithin size cs
-    → IsConfigWithin size (if b then config.Ended (done.overall going.forgotten cs) else done.going_on (kept.touch cs p (kept.with_state kept.terminated)) going.connections going.forgotten)
+    → AreComponentsWithin size (if b then config.Ended (done.overall going.forgotten cs) else done.going_on (kept.touch cs p (kept.with_state kept.terminated)) (mapped.without_component p going.links) going.forgotten)
 stop-within size going cs p true all = tt
 stop-within size going cs p false all = touch-within size (kept.with_state kept.terminated) (λ c before. before) p cs all
 
-connect-first : (size : Extent) (going : Going) (cs : List Component) (b : Bool) (ks : List Connection) → AreAllWithin size cs
-    → IfConfig size (option_map (done.going_connected cs going.forgotten) (if b then None else Some ks))
-connect-first size going cs true ks all = tt
-connect-first size going cs false ks all = all
+linked-within : (size : Extent) (going : Going) (cs : List Component) (b : Bool) (links : Links) → AreAllWithin size cs
+    → IfConfig size (option_map (done.going_linked cs going.forgotten) (if b then None else Some links))
+linked-within size going cs true links all = tt
+linked-within size going cs false links all = all
 
 perform-within : (size : Extent) (going : Going) (cs : List Component) (itself : ComponentId) (asked : Request) → AreAllWithin size cs → IsRequestWithin size asked
-    → IfConfig size (done.perform cs going.connections going.forgotten itself asked)
+    → IfConfig size (done.perform cs going.links going.forgotten itself asked)
 perform-within size going cs itself request.Continues all within = all
 perform-within size going cs itself (request.Worsens v) all within = touch-within size (kept.with_verdict v) (λ c before. before) itself.path cs all
 perform-within size going cs itself (request.Removes port) all within = touch-within size (kept.with_queues (kept.without_message port)) (λ c before. before) itself.path cs all
 perform-within size going cs itself (request.Sends port to v) all within =
-    sent-within size going cs (ends.peer going.connections (record { component = itself.path; port = port }) to) (record { value = v; sender = itself }) all
+    let from : End = record { component = itself.path; port = port } in
+    send-first size going cs (mapped.is_mapped going.links.mappings from) itself from to v all
 perform-within size going cs itself (request.Creates new) all within = create-first size (is_some (find (kept.is_of new.itself.path) cs)) new cs within all
 perform-within size going cs itself (request.Starts path frame) all within = start-within size going cs path frame (find (kept.is_of path) cs) within all
 perform-within size going cs itself (request.Stops path) all within = stop-within size going cs path (done.is_main path) all
 perform-within size going cs itself (request.Connects d e) all within =
-    connect-first size going cs
-    (kept.is_terminated_at cs d.component || kept.is_terminated_at cs e.component || ends.is_double going.connections d e || ends.is_double going.connections e d)
-    (ends.add_connection (ends.connection d e) going.connections) all
+    linked-within size going cs (done.is_kept_apart cs going.links d e) (done.with_connection d e going.links) all
+perform-within size going cs itself (request.Maps e system_port) all within =
+    linked-within size going cs (done.is_kept_unmapped cs going.links e system_port) (mapped.with_mapping e system_port going.links) all
+perform-within size going cs itself (request.Unmaps e system_port) all within = all
 
 apply-within : (size : Extent) (going : Going) (itself : ComponentId) (asked : Act) → AreAllWithin size going.components → IsActWithin size asked → IfConfig size (done.apply going itself asked)
 apply-within size going itself asked all within =
     perform-within size going (done.settled going itself.path asked.own) itself asked.request (settled-within size going itself.path asked.own all within.1) within.0
 
-answered-within : (size : Extent) (wanted : Option Config) (result : Result Config Fault) → IfConfig size wanted → done.Answers wanted result → IfOk result (IsConfigWithin size)
-answered-within size wanted (Ok c) within answers = subst (IfConfig size) answers within
+-- ---- the system ports that are mapped
+
+-- each system port that is mapped in a configuration has a name
+abbrev AreMappedWithin : Extent → Config → Type 0
+AreMappedWithin size (config.Ended v) = Unit {0}
+AreMappedWithin size (config.Going going) = AreWithin size.names going.links.mappings
+
+abbrev IfMapped : Extent → Option Config → Type 0
+IfMapped size None = Unit {0}
+IfMapped size (Some c) = AreMappedWithin size c
+
+kept-mapped : (size : Extent) (links : Links) (forgotten : Verdict) (o : Option (List Component)) → AreWithin size.names links.mappings
+    → IfMapped size (option_map (λ components. done.going_on components links forgotten) o)
+kept-mapped size links forgotten None all = tt
+kept-mapped size links forgotten (Some components) all = all
+
+stop-mapped : (size : Extent) (cs left : List Component) (links : Links) (forgotten v : Verdict) (p : Path) (b : Bool) → AreWithin size.names links.mappings
+    → AreMappedWithin size (if b then config.Ended v else done.going_on left (mapped.without_component p links) forgotten)
+stop-mapped size cs left links forgotten v p true all = tt
+stop-mapped size cs left links forgotten v p false all = All-filter (λ m. not (mapped.is_of p m)) (Slot size.names) links.mappings all
+
+linked-mapped : (size : Extent) (cs : List Component) (forgotten : Verdict) (b : Bool) (links : Links) → AreWithin size.names links.mappings
+    → IfMapped size (option_map (done.going_linked cs forgotten) (if b then None else Some links))
+linked-mapped size cs forgotten true links all = tt
+linked-mapped size cs forgotten false links all = all
+
+perform-mapped : (size : Extent) (cs : List Component) (links : Links) (forgotten : Verdict) (itself : ComponentId) (asked : Request) → AreWithin size.names links.mappings → IsRequestWithin size asked
+    → IfMapped size (done.perform cs links forgotten itself asked)
+perform-mapped size cs links forgotten itself request.Continues all within = all
+perform-mapped size cs links forgotten itself (request.Worsens v) all within = all
+perform-mapped size cs links forgotten itself (request.Removes port) all within = all
+perform-mapped size cs links forgotten itself (request.Sends port to v) all within = kept-mapped size links forgotten (done.send cs links itself port to v) all
+perform-mapped size cs links forgotten itself (request.Creates new) all within = all
+perform-mapped size cs links forgotten itself (request.Starts path frame) all within = kept-mapped size links forgotten (done.start cs path frame) all
+perform-mapped size cs links forgotten itself (request.Stops path) all within =
+    stop-mapped size cs (kept.touch cs path (kept.with_state kept.terminated)) links forgotten (done.overall forgotten cs) path (done.is_main path) all
+perform-mapped size cs links forgotten itself (request.Connects d e) all within = linked-mapped size cs forgotten (done.is_kept_apart cs links d e) (done.with_connection d e links) all
+perform-mapped size cs links forgotten itself (request.Maps e system_port) all within =
+    linked-mapped size cs forgotten (done.is_kept_unmapped cs links e system_port) (mapped.with_mapping e system_port links) (put-within size.names system_port e links.mappings within all)
+perform-mapped size cs links forgotten itself (request.Unmaps e system_port) all within =
+    All-filter (λ m. not (ends.same_end e m.1 && nat_eq m.0 system_port)) (Slot size.names) links.mappings all
+
+-- ---- both
+
+abbrev IfWithin : Extent → Option Config → Type 0
+IfWithin size None = Unit {0}
+IfWithin size (Some c) = IsConfigWithin size c
+
+both-within : (size : Extent) (o : Option Config) → IfConfig size o → IfMapped size o → IfWithin size o
+both-within size None components mappings = tt
+both-within size (Some (config.Ended v)) components mappings = tt
+both-within size (Some (config.Going going)) components mappings = record { components = components; mappings = mappings }
+
+answered-within : (size : Extent) (wanted : Option Config) (result : Result Config Fault) → IfWithin size wanted → done.Answers wanted result → IfOk result (IsConfigWithin size)
+answered-within size wanted (Ok c) within answers = subst (IfWithin size) answers within
 answered-within size wanted (Err why) within answers = tt
 
-pub applied-within : (size : Extent) (going : Going) (itself : ComponentId) (asked : Act) (result : Result Config Fault) → AreAllWithin size going.components → IsActWithin size asked
+pub applied-within : (size : Extent) (going : Going) (itself : ComponentId) (asked : Act) (result : Result Config Fault) → IsGoingWithin size going → IsActWithin size asked
     → done.Answers (done.apply going itself asked) result → IfOk result (IsConfigWithin size)
 applied-within size going itself asked result all within answers =
-    answered-within size (done.apply going itself asked) result (apply-within size going itself asked all within) answers
+    answered-within size (done.apply going itself asked) result
+    (both-within size (done.apply going itself asked) (apply-within size going itself asked all.components within)
+    (perform-mapped size (done.settled going itself.path asked.own) going.links going.forgotten itself asked.request all.mappings within.0)) answers
+
+-- ---- messages that come in
+
+pub delivered-within : (size : Extent) (e : End) (m : Message) (cs : List Component) → AreAllWithin size cs → AreAllWithin size (done.deliver cs e m)
+delivered-within size e m cs all = touch-within size (kept.with_queues (kept.with_message e.port m)) (λ c before. before) e.component cs all

@@ -25,6 +25,8 @@ request_by legend (request.Creates new) = said.Creates (component_by legend new)
 request_by legend (request.Starts path frame) = said.Starts path (frame_by legend frame)
 request_by legend (request.Stops path) = said.Stops path
 request_by legend (request.Connects one other) = said.Connects (end_by legend one) (end_by legend other)
+request_by legend (request.Maps e system_port) = said.Maps (end_by legend e) (legend.names system_port)
+request_by legend (request.Unmaps e system_port) = said.Unmaps (end_by legend e) (legend.names system_port)
 
 -- what the code's form of what a component does stands for among those of the rules
 abbrev pub act_by : Legend → Act → said.Act

@@ -2,7 +2,7 @@
 use Rattle.std.specs.Prelude.{◌≡◌, ℕ, List, [], map}
 use Rattle.std.specs.Ordering.{nat_cmp}
 use Rattle.semantics.specs.Configurations as rules
-use Rattle.semantics.specs.Entries.{Entries, name_cmp}
+use Rattle.semantics.specs.Entries.{Entries, Identifier, name_cmp}
 use Rattle.semantics.specs.Items.{Item}
 use Rattle.config_parts.specs.declared.component.Component.{Component}
 use Rattle.config_parts.specs.declared.component.Message.{Message}
@@ -56,7 +56,7 @@ data_by legend own = record {
   children = own.children;
 }
 
--- ---- components and connections
+-- ---- components, connections and mappings
 
 -- what the state of a component stands for
 abbrev pub state_by : State → rules.State
@@ -82,7 +82,7 @@ component_by legend component = record {
   queues = map (queue_by legend) component.queues;
 }
 
--- what an end of a connection stands for: its component, and the name of its port
+-- what a port that is connected or mapped stands for: its component, and the name of the port
 abbrev pub end_by : Legend → End → rules.End
 end_by legend e = record { component = e.component; port = legend.names e.port }
 
@@ -90,13 +90,19 @@ end_by legend e = record { component = e.component; port = legend.names e.port }
 abbrev pub connection_by : Legend → Connection → rules.Connection
 connection_by legend k = record { one = end_by legend k.one; other = end_by legend k.other }
 
+-- what a mapping stands for: the name of its system port, and the port that is mapped to it
+abbrev pub mapping_by : Legend → ℕ × End → Identifier × rules.End
+mapping_by legend m = (legend.names m.0, end_by legend m.1)
+
 -- ---- configurations
 
 -- what a test case that goes on stands for
 abbrev pub going_by : Legend → Going → rules.Going
 going_by legend going = record {
   components = map (component_by legend) going.components;
-  connections = map (connection_by legend) going.connections;
+  connections = map (connection_by legend) going.links.connections;
+  mappings = map (mapping_by legend) going.links.mappings;
+  delivered = entries_by legend going.links.delivered;
   forgotten = going.forgotten;
 }
 

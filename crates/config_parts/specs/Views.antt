@@ -9,6 +9,7 @@ use Rattle.config_parts.specs.declared.act.Request.TheVariants as request
 use Rattle.config_parts.specs.declared.component.Component.{Component}
 use Rattle.config_parts.specs.declared.config.Config.{Config}
 use Rattle.config_parts.specs.declared.config.Config.TheVariants as config
+use Rattle.config_parts.specs.declared.config.Going.{Going}
 use Rattle.config_parts.specs.declared.frame.Cells.{Cells}
 use Rattle.config_parts.specs.declared.frame.Data.{Data}
 use Rattle.config_parts.specs.declared.frame.Frame.{Frame}
@@ -47,15 +48,21 @@ pub record IsWithin (size : Extent) (own : Data) : Type 0 where
 abbrev pub AreAllWithin : Extent → List Component → Type 0
 AreAllWithin size components = All (λ component. IsWithin size component.own) components
 
--- in all frames of a configuration what remains has a position, and each slot a name: a test case that ended has no frames
+-- so it is in all frames of a test case that goes on, and each system port that is mapped has a name
+pub record IsGoingWithin (size : Extent) (going : Going) : Type 0 where
+  pub components : AreAllWithin size going.components
+  pub mappings : AreWithin size.names going.links.mappings
+
+-- so it is in a configuration: a test case that ended has no frames
 abbrev pub IsConfigWithin : Extent → Config → Type 0
 IsConfigWithin size (config.Ended v) = Unit {0}
-IsConfigWithin size (config.Going going) = AreAllWithin size going.components
+IsConfigWithin size (config.Going going) = IsGoingWithin size going
 
--- in all frames that a request brings what remains has a position, and each slot a name
+-- in all frames that a request brings what remains has a position, and each slot a name; so has the system port of a mapping
 abbrev pub IsRequestWithin : Extent → Request → Type 0
 IsRequestWithin size (request.Creates new) = IsWithin size new.own
 IsRequestWithin size (request.Starts path frame) = IsFrameWithin size frame
+IsRequestWithin size (request.Maps e system_port) = system_port < size.names
 IsRequestWithin size _ = Unit {0}
 
 -- so it is in these, and in all frames of the component behind its step

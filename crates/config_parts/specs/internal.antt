@@ -2,4 +2,5 @@ pub mod Changes
 pub mod Done
 pub mod Ends
 pub mod Expiries
+pub mod Mappings
 pub mod Stored

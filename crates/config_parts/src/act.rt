@@ -4,21 +4,21 @@ ghost use Rattle.semantics.specs.Snapshots.{Test};
 ghost use Rattle.semantics.specs.Steps as rules;
 ghost use Rattle.config_parts.specs.Acts.{HasPathsInOrder, IsUncovered, Leads, act_by};
 ghost use Rattle.config_parts.specs.Legend.{IsLegend, Legend, going_by};
-ghost use Rattle.config_parts.specs.Views.{AreAllWithin, Extent, IsActWithin, IsConfigWithin};
+ghost use Rattle.config_parts.specs.Views.{Extent, IsActWithin, IsConfigWithin, IsGoingWithin};
 ghost use Rattle.config_parts.specs.internal.Done as done;
 
 use crate::change::{remove_first, settle, worsen};
 use crate::component::Component;
 use crate::config::{Config, Going};
 use crate::connect::connect;
-use crate::connection::{Connection, End};
-use crate::copy::TryClone;
+use crate::connection::{End, Links};
 use crate::create::create;
 use crate::frame::{Data, Frame};
 use crate::going::{going_on, send, start, stop};
+use crate::mapping::{map_port, unmap_port};
 use crate::shared::Shared;
 use std::alloc::Global;
-use ttcn_syntax::{Seq, Verdict};
+use ttcn_syntax::Verdict;
 use value_types::{ComponentId, Fault, Path, Slot, Value};
 
 /// What a component asks for among all components, beside the change of its own data.
@@ -40,6 +40,10 @@ pub enum Request {
     Stops(Path),
     /// Two ports are connected.
     Connects(End, End),
+    /// A port is mapped to a system port.
+    Maps(End, Slot),
+    /// A port is mapped to a system port no more.
+    Unmaps(End, Slot),
 }
 
 /// What a component does in its step.
@@ -54,50 +58,56 @@ pub struct Act {
 fn performed(
     alloc: Global,
     components: Vec<Component>,
-    connections: Shared<Seq<Connection>>,
+    links: Shared<Links>,
     forgotten: Verdict,
     itself: &ComponentId,
     request: Request,
 ) -> Result<Config, Fault>
-    ensures { done.Answers (done.perform components.items connections forgotten itself.now request) result }
+    ensures { done.Answers (done.perform components.items links forgotten itself.now request) result }
 {
     let mut components = components;
     match request {
-        Request::Continues => Ok(going_on(components, connections, forgotten)),
+        Request::Continues => Ok(going_on(components, links, forgotten)),
         Request::Worsens(verdict) => {
             worsen(&mut components, &itself.path, verdict);
-            Ok(going_on(components, connections, forgotten))
+            Ok(going_on(components, links, forgotten))
         }
         Request::Removes(port) => {
             remove_first(alloc, &mut components, &itself.path, port)?;
-            Ok(going_on(components, connections, forgotten))
+            Ok(going_on(components, links, forgotten))
         }
         Request::Sends(port, to, value) => {
             send(
                 alloc,
                 &mut components,
-                connections.as_slice(),
+                links.get(),
                 itself,
                 port,
                 to.as_ref(),
                 value,
             )?;
-            Ok(going_on(components, connections, forgotten))
+            Ok(going_on(components, links, forgotten))
         }
         Request::Creates(new) => {
             create(&mut components, new)?;
-            Ok(going_on(components, connections, forgotten))
+            Ok(going_on(components, links, forgotten))
         }
         Request::Starts(path, frame) => {
             start(alloc, &mut components, &path, frame)?;
-            Ok(going_on(components, connections, forgotten))
+            Ok(going_on(components, links, forgotten))
         }
-        Request::Stops(path) => Ok(stop(components, connections, forgotten, &path)),
+        Request::Stops(path) => Ok(stop(alloc, components, links, forgotten, &path)?),
         Request::Connects(one, other) => {
-            let connections = connections.try_clone(alloc)?;
-            let connections = connect(alloc, &components, connections, one, other)?;
-            let connections = Shared::new(alloc, connections)?;
-            Ok(going_on(components, connections, forgotten))
+            let links = connect(alloc, &components, links.get(), one, other)?;
+            Ok(going_on(components, links, forgotten))
+        }
+        Request::Maps(end, system_port) => {
+            let links = map_port(alloc, &components, links.get(), end, system_port)?;
+            Ok(going_on(components, links, forgotten))
+        }
+        Request::Unmaps(end, system_port) => {
+            let links = unmap_port(alloc, links.get(), &end, system_port)?;
+            Ok(going_on(components, links, forgotten))
         }
     }
 }
@@ -108,13 +118,13 @@ fn done(going: Going, alloc: Global, itself: &ComponentId, act: Act) -> Result<C
 {
     let Going {
         components,
-        connections,
+        links,
         forgotten,
     } = going;
     let Act { request, own } = act;
     let mut components = components.into_vec();
     settle(alloc, &mut components, &itself.path, own)?;
-    performed(alloc, components, connections, forgotten, itself, request)
+    performed(alloc, components, links, forgotten, itself, request)
 }
 
 impl Going {
@@ -123,7 +133,7 @@ impl Going {
     /// the data behind the step.
     pub fn apply(self, alloc: Global, itself: &ComponentId, act: Act) -> Result<Config, Fault>
         ensures leads { (legend : Legend) (test : Test) → IsLegend legend → HasPathsInOrder self → IsUncovered (act_by legend act) → Leads legend (rules.apply test (going_by legend self) itself.now (act_by legend act)) result }
-        ensures within { (size : Extent) → AreAllWithin size self.components → IsActWithin size act → IfOk result (IsConfigWithin size) }
+        ensures within { (size : Extent) → IsGoingWithin size self → IsActWithin size act → IfOk result (IsConfigWithin size) }
     {
         done(self, alloc, itself, act)
     }

@@ -19,7 +19,7 @@ fn place_for<T>(entries: &[(Slot, T)], slot: Slot) -> Option<usize>
 }
 
 /// A slot has this, whatever it had before.
-fn put<T: Drop>(
+pub(crate) fn put<T: Drop>(
     entries: Seq<(Slot, T)>,
     slot: Slot,
     stored: T,

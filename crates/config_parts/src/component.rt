@@ -36,11 +36,11 @@ impl State {
     }
 }
 
-/// A message, and the component that sent it.
+/// A message, and the component that sent it: none did where it came in at a system port.
 #[derive(Debug, Drop, PartialEq, Eq, Hash)]
 pub struct Message {
     pub value: Value,
-    pub sender: ComponentId,
+    pub sender: Option<ComponentId>,
 }
 
 /// The messages that wait at a port, the one that came first in front (ES 201 873-1, 22.1).

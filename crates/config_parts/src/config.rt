@@ -1,6 +1,6 @@
 //! Configurations.
 use crate::component::Component;
-use crate::connection::Connection;
+use crate::connection::Links;
 use crate::shared::Shared;
 use ttcn_syntax::{Seq, Verdict};
 
@@ -9,8 +9,7 @@ use ttcn_syntax::{Seq, Verdict};
 pub struct Going {
     /// The components by their paths, ascending.
     pub components: Seq<Component>,
-    /// Ascending.
-    pub connections: Shared<Seq<Connection>>,
+    pub links: Shared<Links>,
     /// The worst verdict of the components of which nothing but their paths is left.
     pub forgotten: Verdict,
 }

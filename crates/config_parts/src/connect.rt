@@ -6,7 +6,10 @@ ghost use Rattle.config_parts.specs.internal.Ends as spec;
 
 use crate::change::is_terminated_at;
 use crate::component::Component;
-use crate::connection::{Connection, End};
+use crate::connection::{Connection, End, Links};
+use crate::copy::TryClone;
+use crate::mapping::is_mapped;
+use crate::shared::Shared;
 use std::alloc::{AllocError, Global};
 use std::cmp::Ordering;
 use ttcn_syntax::Seq;
@@ -134,22 +137,42 @@ fn add(
     Ok(Seq::from_vec(all))
 }
 
-/// Two ports are connected: neither component may be terminated, and neither port gets a second one of one component.
+/// Whether two ports may not be connected: a component is terminated, a port is mapped, or one of them would get a second
+/// one of one component.
+fn is_kept_apart(components: &[Component], links: &Links, one: &End, other: &End) -> bool
+    ensures { result ≡ done.is_kept_apart components.now links.now one.now other.now }
+{
+    let connections = links.connections.as_slice();
+    let mappings = links.mappings.as_slice();
+    is_terminated_at(components, &one.component)
+        || is_terminated_at(components, &other.component)
+        || is_mapped(mappings, one)
+        || is_mapped(mappings, other)
+        || is_double(connections, one, other)
+        || is_double(connections, other, one)
+}
+
+/// Two ports are connected.
 pub(crate) fn connect(
     alloc: Global,
     components: &[Component],
-    connections: Seq<Connection>,
+    links: &Links,
     one: End,
     other: End,
-) -> Result<Seq<Connection>, Fault>
-    ensures { done.Answers (done.connect components.now connections one other) result }
+) -> Result<Shared<Links>, Fault>
+    ensures { done.Answers (done.connect components.now links.now one other) result }
 {
-    if is_terminated_at(components, &one.component)
-        || is_terminated_at(components, &other.component)
-        || is_double(connections.as_slice(), &one, &other)
-        || is_double(connections.as_slice(), &other, &one)
-    {
+    if is_kept_apart(components, links, &one, &other) {
         return Err(Fault::Dynamic);
     }
-    Ok(add(alloc, connections, Connection::of(one, other))?)
+    let connections = links.connections.try_clone(alloc)?;
+    let connections = add(alloc, connections, Connection::of(one, other))?;
+    let mappings = links.mappings.try_clone(alloc)?;
+    let delivered = links.delivered.try_clone(alloc)?;
+    let links = Links {
+        connections,
+        mappings,
+        delivered,
+    };
+    Ok(Shared::new(alloc, links)?)
 }

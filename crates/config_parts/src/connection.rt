@@ -1,4 +1,5 @@
-//! Connections between ports (ES 201 873-1, 21.1).
+//! Connections between ports, and their mappings to system ports (ES 201 873-1, 21.1).
+use ttcn_syntax::Seq;
 use value_types::{Path, Slot};
 
 /// A component's port.
@@ -13,4 +14,15 @@ pub struct End {
 pub struct Connection {
     pub one: End,
     pub other: End,
+}
+
+/// How ports are linked: with each other, and with system ports; and what came in there.
+#[derive(Debug, Drop, PartialEq, Eq, Hash)]
+pub struct Links {
+    /// Ascending.
+    pub connections: Seq<Connection>,
+    /// The system ports that are mapped, ascending, each with the port that is mapped to it.
+    pub mappings: Seq<(Slot, End)>,
+    /// How many messages came in at each system port, where any did. The system ports ascend.
+    pub delivered: Seq<(Slot, usize)>,
 }

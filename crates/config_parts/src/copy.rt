@@ -3,7 +3,7 @@ ghost use Rattle.std.specs.Prelude.{◌≡◌, IfOk};
 
 use crate::component::{Component, Message, Queue};
 use crate::config::{Config, Going};
-use crate::connection::{Connection, End};
+use crate::connection::{Connection, End, Links};
 use crate::frame::{ActiveDefault, Cells, Data, Frame};
 use std::alloc::{AllocError, Global};
 use ttcn_syntax::Seq;
@@ -83,6 +83,15 @@ impl TryClone for Data {
     }
 }
 
+impl TryClone for Option<ComponentId> {
+    fn try_clone(&self, alloc: Global) -> Result<Option<ComponentId>, AllocError> {
+        Ok(match self {
+            Some(component) => Some(component.try_clone(alloc)?),
+            None => None,
+        })
+    }
+}
+
 impl TryClone for Message {
     fn try_clone(&self, alloc: Global) -> Result<Message, AllocError> {
         Ok(Message {
@@ -131,11 +140,23 @@ impl TryClone for Connection {
     }
 }
 
+impl TryClone for (Slot, End) {
+    fn try_clone(&self, alloc: Global) -> Result<(Slot, End), AllocError> {
+        Ok((self.0, self.1.try_clone(alloc)?))
+    }
+}
+
+impl TryClone for (Slot, usize) {
+    fn try_clone(&self, _alloc: Global) -> Result<(Slot, usize), AllocError> {
+        Ok((self.0, self.1))
+    }
+}
+
 impl TryClone for Going {
     fn try_clone(&self, alloc: Global) -> Result<Going, AllocError> {
         Ok(Going {
             components: self.components.try_clone(alloc)?,
-            connections: self.connections.share()?,
+            links: self.links.share()?,
             forgotten: self.forgotten,
         })
     }

@@ -5,7 +5,7 @@ ghost use Rattle.semantics.specs.Snapshots.{Test};
 ghost use Rattle.semantics.specs.Steps as rules;
 ghost use Rattle.config_parts.specs.Acts.{DoesStep, HasPathsInOrder};
 ghost use Rattle.config_parts.specs.Legend.{IsLegend, Legend, going_by};
-ghost use Rattle.config_parts.specs.Views.{AreAllWithin, Extent};
+ghost use Rattle.config_parts.specs.Views.{Extent, IsGoingWithin};
 ghost use Rattle.config_parts.specs.internal.Expiries as spec;
 ghost use Rattle.config_parts.specs.internal.Stored.{with_timer};
 ghost use Rattle.value_types.specs.Frames.{is_running};
@@ -145,7 +145,7 @@ impl Going {
         timer: Slot,
     ) -> Result<bool, AllocError>
         ensures steps { (legend : Legend) (test : Test) → IsLegend legend → HasPathsInOrder self.old → DoesStep legend (rules.step_in test (going_by legend self.old) (rules.Expiry path.now number (legend.names timer))) self.new result }
-        ensures within { (size : Extent) → timer < size.names → AreAllWithin size self.old.components → IfOk result (λ expired. expired ≡ true → AreAllWithin size self.new.components) }
+        ensures within { (size : Extent) → timer < size.names → IsGoingWithin size self.old → IfOk result (λ expired. expired ≡ true → IsGoingWithin size self.new) }
     {
         let mut components = mem::replace(&mut self.components, Seq::new(alloc)).into_vec();
         let expired = expire_at(alloc, &mut components, path, number, timer)?;

@@ -237,6 +237,10 @@ impl<'a> Names<'a> {
                 self.add(&one.port)?;
                 self.add(&other.port)
             }
+            Action::Map(mapping) => {
+                self.add(&mapping.port.port)?;
+                self.add(&mapping.system_port)
+            }
             Action::Send(send) => self.add(&send.port),
             Action::StartTimer(name) => self.add(name),
             Action::StopOf(component) => self.add_component(component),

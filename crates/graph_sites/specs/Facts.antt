@@ -152,6 +152,7 @@ facts_of_part definitions site part Action-F.Stop = Nothing
 facts_of_part definitions site part (Action-F.Log logged) = Nothing
 facts_of_part definitions site part (Action-F.Setverdict verdict reasons) = Nothing
 facts_of_part definitions site part (Action-F.Connect one other) = Nothing
+facts_of_part definitions site part (Action-F.Map m) = Nothing
 facts_of_part definitions site part (Action-F.Send send) = Sends (sent_type (scope_at definitions site) send)
 facts_of_part definitions site part (Action-F.StartComponent reference call) = Nothing
 facts_of_part definitions site part (Action-F.StartTimer name) = Sets (is_own definitions site name)

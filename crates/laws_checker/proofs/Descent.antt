@@ -145,6 +145,7 @@ plain-whole Action-F.Stop place whole nothing = whole
 plain-whole (Action-F.Log items) place whole nothing = whole
 plain-whole (Action-F.Setverdict verdict reasons) place whole nothing = whole
 plain-whole (Action-F.Connect one other) place whole nothing = whole
+plain-whole (Action-F.Map mapping) place whole nothing = whole
 plain-whole (Action-F.Send send) place whole nothing = whole
 plain-whole (Action-F.StartComponent reference call) place whole nothing = whole
 plain-whole (Action-F.StartTimer timer) place whole nothing = whole

@@ -5,8 +5,8 @@ use Rattle.ttcn_syntax.specs.declared.tree.statement.Verdict.{Verdict}
 use Rattle.ttcn_syntax.specs.declared.tree.statement.Verdict.TheVariants as verdict
 use Rattle.laws_fine.proofs.Choices.{IsOfAlt, act-of-alt}
 use Rattle.laws_fine.proofs.Early.{Pending, early, early-at, early_in, hastened, hastened-state, next_early, snapshot-early}
-use Rattle.laws_fine.proofs.EarlySteps.{IsMore, IsOnly, OutcomeIs, chosen_early, expiry_early, first-early, made_at, only-early, outcome-is, free}
-use Rattle.laws_fine.proofs.Moves.{HasChosen, HasExpired, HasMoved, HasSnapped, HasStepped, has_expired, moves}
+use Rattle.laws_fine.proofs.EarlySteps.{IsMore, IsOnly, OutcomeIs, chosen_early, delivery_early, expiry_early, first-early, made_at, only-early, outcome-is, free}
+use Rattle.laws_fine.proofs.Moves.{HasChosen, HasComeIn, HasExpired, HasMoved, HasSnapped, HasStepped, has_come_in, has_expired, moves}
 use Rattle.laws_fine.proofs.Pending.{StaysStored, fine-after-is, all-ready, all-run, chosen-gone, early-in-same, early-same, fate-here, fate-now, fate-on, is-bound, is-free, moved-other, pending, pending-is, pending-none, pending-not, pending-on, stored-stays, takes, touches, unstored}
 use Rattle.laws_fine.proofs.Sound.{IsKeptBySteps, IsSound, IsSoundIn, Stores, consed-at, moved-sound, only-there}
 use Rattle.laws_fine.specs.Fates.{Fate, Faults, Lapses, Takes, by_fate, coarse_from, fate, fate_of, is_choice_of, judged}
@@ -15,9 +15,9 @@ use Rattle.laws_steps.proofs.Finding.{found-path, path-is, path-same, some-is}
 use Rattle.laws_fine.proofs.Leading.{ended-run, fine_of, fine_run, leads}
 use Rattle.semantics.specs.Configurations.{Component, Configuration, Ended, Goes, Going, component_at, is_running_state, path_of, same_path}
 use Rattle.semantics.specs.Snapshots.{Snapshot, Test, snapshot_of}
-use Rattle.semantics.specs.Statements.{Act, Connects, Continues, Creates, Errs, Removes, Requests, Sends, Starts, Stops, Waits, Worsens, act}
+use Rattle.semantics.specs.Statements.{Act, Connects, Continues, Creates, Errs, Maps, Removes, Requests, Sends, Starts, Stops, Unmaps, Waits, Worsens, act}
 use Rattle.semantics.specs.Steps as steps
-use Rattle.semantics.specs.Steps.{Expiry, Label, Statement, apply, next, settled, statement_step}
+use Rattle.semantics.specs.Steps.{Delivery, Expiry, Label, Statement, apply, next, settled, statement_step}
 use Rattle.value_types.specs.Outcomes.{Outcome, Yields}
 use Rattle.value_types.specs.declared.path.Path.{Path}
 use Rattle.value_types.specs.declared.value.ComponentId.{ComponentId}
@@ -45,6 +45,8 @@ taking test c x (Requests (Creates new) own) is alt outcome = absurd alt
 taking test c x (Requests (Starts path frame) own) is alt outcome = absurd alt
 taking test c x (Requests (Stops path) own) is alt outcome = absurd alt
 taking test c x (Requests (Connects d e) own) is alt outcome = absurd alt
+taking test c x (Requests (Maps d system_port) own) is alt outcome = absurd alt
+taking test c x (Requests (Unmaps d system_port) own) is alt outcome = absurd alt
 
 -- ---- the step of a component that chooses at once
 
@@ -195,6 +197,11 @@ module _ (Lawful : Going → Type 0) (test : Test) (laws : IsKeptBySteps test La
           (hastened-state test (pending test (fine_of (Goes c) stored) (Plain (Expiry r n name) ∷ labels)) ex.x)
           (only-there c r ex.x sound.ascend ex.there) (is-bound Lawful test laws c stored (Plain (Expiry r n name) ∷ labels) ex.x sound (found-own c r ex.x ex.there)) ex.ran
           ∙ ap (λ d. Some (early_in test (pending test (fine_of (Goes c) stored) (Plain (Expiry r n name) ∷ labels)) d)) (sym ex.to)
+      start (Delivery system_port) at next =
+          let came : HasComeIn test c system_port at.d = has_come_in test c system_port at.d at.goes in
+          delivery_early test (pending test (fine_of (Goes c) stored) (Plain (Delivery system_port) ∷ labels)) c system_port came.e came.v came.mapped came.found
+          (all-ready Lawful test laws c stored (Plain (Delivery system_port) ∷ labels) sound)
+          ∙ ap (λ d. Some (early_in test (pending test (fine_of (Goes c) stored) (Plain (Delivery system_port) ∷ labels)) d)) (sym came.to)
 
   plain-leads : (c : Going) (stored : Stored) (label : Label) (labels : List FineLabel) (f g : Fine) (v : Verdict) → IsSound Lawful test c stored → NoFaults (fine_of (Goes c) stored) (Plain label ∷ labels)
       → fine_next test (fine_of (Goes c) stored) (Plain label) ≡ Some f → HasStepped test c stored label f → fine_run test labels f ≡ Some g → LeadsOn labels g v

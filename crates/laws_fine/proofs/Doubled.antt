@@ -11,7 +11,7 @@ use Rattle.semantics.specs.Configurations.{Component, Configuration, Ended, Goes
 use Rattle.semantics.specs.Runs.{graph_of, option_elim}
 use Rattle.semantics.specs.Snapshots.{Test, snapshot_of}
 use Rattle.semantics.specs.Statements.{act}
-use Rattle.semantics.specs.Steps.{Expiry, Label, Statement, apply, next, settled}
+use Rattle.semantics.specs.Steps.{Delivery, Expiry, Label, Statement, apply, next, settled}
 use Rattle.value_types.specs.Outcomes.{Outcome}
 use Rattle.value_types.specs.declared.path.Path.{Path}
 
@@ -62,6 +62,7 @@ label-told : (test : Test) (c : Going) (label : Label) (d : Configuration) (othe
     → fine_run test (doubled_label b label others) (fine_of (Goes c) []) ≡ fine_run test others (fine_of d [])
 label-told test c (Statement p) d others true is e = alt-next test c p d others is e
 label-told test c (Expiry p n name) d others true is e = absurd (let no = is in cc)
+label-told test c (Delivery system_port) d others true is e = absurd (let no = is in cc)
 label-told test c label d others false is e = ap (option_and_then (fine_run test others)) (plain-next test c label d is e)
 
 after-next : (test : Test) (c : Going) (label : Label) (d : Configuration) → next test (Goes c) label ≡ Some d → (graph_of test).after (Goes c) label ≡ d

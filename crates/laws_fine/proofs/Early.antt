@@ -1,6 +1,6 @@
 -- Configurations in which some components have already done what they will choose, and that the steps of others lead to such configurations again.
 use Rattle.std.proofs.Common.{◌≡◌, ℕ, Bool, true, false, ◌||◌, List, [], ◌∷◌, ◌++◌, map, Option, Some, None, IfSome, is_some, option_map, bytes_eq, refl, sym, ap, subst, ◌∙◌, if◌then◌else◌}
-use Rattle.std.specs.List.{All, filter, find, fold}
+use Rattle.std.specs.List.{All, filter, find, fold, list_any}
 use Rattle.std.specs.Option.{option_and_then}
 use Rattle.std.specs.Ordering.{is_lt}
 use Rattle.std.proofs.lemmas.List.Elements.{All-cons, All-head, All-nil, All-tail}
@@ -9,12 +9,14 @@ use Rattle.laws_fine.specs.Fine.{is_found}
 use Rattle.laws_steps.proofs.Finding.{found-map, path-is}
 use Rattle.semantics.proofs.Pairs.{All-more}
 use Rattle.semantics.specs.Configurations.{Component, Configuration, Created, Data, End, Ended, Frame, Goes, Going, Message, Queue, Running, State, Terminated, component_at, is_running_state, is_terminated_state, overall, path_cmp, path_of, same_path, worse}
+use Rattle.semantics.specs.Entries.{put}
 use Rattle.semantics.specs.Snapshots.{Snapshot, Test, front_of, mtc_of, snapshot_of}
-use Rattle.semantics.specs.Statements.{Act, Connects, Continues, Creates, Errs, Removes, Requests, Sends, Starts, Stops, Waits, Worsens, act}
-use Rattle.semantics.specs.Steps.{Statement, addressed, apply, at_queue, begin, change_queue, connect, connection, deliver, ending, insert, is_before, is_double, is_terminated_at, is_terminated_component, next, peers, send, settle, settled, start_component, start_created, start_in, statement_step, stop, touch, unless_terminated, with_connection, with_data, with_new, with_state, with_verdict, without_first}
+use Rattle.semantics.specs.Statements.{Act, Connects, Continues, Creates, Errs, Maps, Removes, Requests, Sends, Starts, Stops, Unmaps, Waits, Worsens, act}
+use Rattle.semantics.specs.Steps.{Statement, addressed, apply, at_queue, begin, change_queue, connect, connection, deliver, ending, insert, is_before, is_connected, is_double, is_kept_apart, is_kept_unmapped, is_mapped, is_terminated_at, is_terminated_component, map_port, maps_otherwise, next, peers, send, send_out, send_to_peer, settle, settled, start_component, start_created, start_in, statement_step, stop, terminate, touch, unless_terminated, unmap_port, with_connection, with_data, with_mappings, with_new, with_state, with_verdict, without_component, without_first}
 use Rattle.value_types.specs.Outcomes.{Fails, Outcome, Yields, dynamic_error, outcome_map}
 use Rattle.value_types.specs.declared.path.Path.{Path}
 use Rattle.value_types.specs.declared.value.ComponentId.{ComponentId}
+use Rattle.value_types.specs.declared.value.Value.{Value}
 
 -- ---- what a component does early
 
@@ -42,7 +44,7 @@ hastened test pending x = made_if test (pending (path_of x)) x
 
 -- the components that have to choose have chosen
 abbrev pub early : Test → Pending → Going → Going
-early test pending c = record { components = map (hastened test pending) c.components; connections = c.connections; forgotten = c.forgotten }
+early test pending c = record { components = map (hastened test pending) c.components; connections = c.connections; mappings = c.mappings; delivered = c.delivered; forgotten = c.forgotten }
 
 abbrev pub early_in : Test → Pending → Configuration → Configuration
 early_in test pending (Ended v) = Ended v
@@ -59,6 +61,8 @@ made-itself (Requests (Creates new) own) x = refl
 made-itself (Requests (Starts path frame) own) x = refl
 made-itself (Requests (Stops path) own) x = refl
 made-itself (Requests (Connects d e) own) x = refl
+made-itself (Requests (Maps d system_port) own) x = refl
+made-itself (Requests (Unmaps d system_port) own) x = refl
 
 pub made-state : (a : Act) (x : Component) → (made_by a x).state ≡ x.state
 made-state Waits x = refl
@@ -71,6 +75,8 @@ made-state (Requests (Creates new) own) x = refl
 made-state (Requests (Starts path frame) own) x = refl
 made-state (Requests (Stops path) own) x = refl
 made-state (Requests (Connects d e) own) x = refl
+made-state (Requests (Maps d system_port) own) x = refl
+made-state (Requests (Unmaps d system_port) own) x = refl
 
 made-verdict : (a : Act) (x : Component) → (made_by a x).verdict ≡ x.verdict
 made-verdict Waits x = refl
@@ -83,6 +89,8 @@ made-verdict (Requests (Creates new) own) x = refl
 made-verdict (Requests (Starts path frame) own) x = refl
 made-verdict (Requests (Stops path) own) x = refl
 made-verdict (Requests (Connects d e) own) x = refl
+made-verdict (Requests (Maps d system_port) own) x = refl
+made-verdict (Requests (Unmaps d system_port) own) x = refl
 
 if-itself : (test : Test) (o : Option Snapshot) (x : Component) → (made_if test o x).itself ≡ x.itself
 if-itself test None x = refl
@@ -149,7 +157,7 @@ touched-one test pending p change other x same =
     ∙ touched-told (hastened test pending) change other x (same_path (path_of x) p) (is_terminated_state x.state) same
 
 abbrev pub with_components : Going → List Component → Going
-with_components c xs = record { components = xs; connections = c.connections; forgotten = c.forgotten }
+with_components c xs = record { components = xs; connections = c.connections; mappings = c.mappings; delivered = c.delivered; forgotten = c.forgotten }
 
 pub touch-early : (test : Test) (pending : Pending) (c : Going) (p : Path) (change other : Component → Component) → All (AgreesAt test pending p change other) c.components
     → touch (early test pending c) p other ≡ early test pending (touch c p change)
@@ -194,6 +202,8 @@ state-made state (Requests (Creates new) own) x = refl
 state-made state (Requests (Starts path frame) own) x = refl
 state-made state (Requests (Stops path) own) x = refl
 state-made state (Requests (Connects d e) own) x = refl
+state-made state (Requests (Maps d system_port) own) x = refl
+state-made state (Requests (Unmaps d system_port) own) x = refl
 
 state-if : (test : Test) (state : State) (o : Option Snapshot) (x : Component) → with_state state (made_if test o x) ≡ made_if test o (with_state state x)
 state-if test state None x = refl
@@ -262,6 +272,8 @@ queue-made to message (Requests (Creates new) own) x front = refl
 queue-made to message (Requests (Starts path frame) own) x front = refl
 queue-made to message (Requests (Stops path) own) x front = refl
 queue-made to message (Requests (Connects d e) own) x front = refl
+queue-made to message (Requests (Maps d system_port) own) x front = refl
+queue-made to message (Requests (Unmaps d system_port) own) x front = refl
 
 -- a component that has to choose finds the message that it will remove
 abbrev pub IsReadyFor : Test → Option Snapshot → Component → Type 0
@@ -275,7 +287,7 @@ queue-if : (test : Test) (to : List ℕ) (message : Message) (o : Option Snapsho
 queue-if test to message None x ready = refl
 queue-if test to message (Some snapshot) x ready = queue-made to message (act test snapshot x.own) x ready
 
-touch-queue : (test : Test) (pending : Pending) (c : Going) (p : Path) (to : List ℕ) (message : Message) → All (IsReady test pending) c.components
+pub touch-queue : (test : Test) (pending : Pending) (c : Going) (p : Path) (to : List ℕ) (message : Message) → All (IsReady test pending) c.components
     → touch (early test pending c) p (at_queue to (behind_all message)) ≡ early test pending (touch c p (at_queue to (behind_all message)))
 touch-queue test pending c p to message all =
     touch-early test pending c p (at_queue to (behind_all message)) (at_queue to (behind_all message))
@@ -301,6 +313,17 @@ deliver-early test pending c message [] ready = refl
 deliver-early test pending c message (e ∷ []) ready = ap Yields (touch-queue test pending c e.component e.port message ready)
 deliver-early test pending c message (d ∷ e ∷ ends) ready = refl
 
+out-early : (test : Test) (pending : Pending) (c : Going) (to : Option Path) → send_out (early test pending c) to ≡ outcome_map (early test pending) (send_out c to)
+out-early test pending c None = refl
+out-early test pending c (Some path) = refl
+
+send-early : (test : Test) (pending : Pending) (c : Going) (sender : ComponentId) (port : List ℕ) (to : Option Path) (v : Value) (b : Bool) → All (IsReady test pending) c.components
+    → (if b then send_out (early test pending c) to else send_to_peer (early test pending c) sender port to v)
+    ≡ outcome_map (early test pending) (if b then send_out c to else send_to_peer c sender port to v)
+send-early test pending c sender port to v true ready = out-early test pending c to
+send-early test pending c sender port to v false ready =
+    deliver-early test pending c (record { value = v; sender = Some sender }) (filter (addressed to) (peers c (record { component = sender.path; port = port }))) ready
+
 start-in-early : (test : Test) (pending : Pending) (c : Going) (p : Path) (frame : Frame) (state : State) → (is_running_state state ≡ false → pending p ≡ None)
     → start_in (early test pending c) p frame state ≡ outcome_map (early test pending) (start_in c p frame state)
 start-in-early test pending c p frame Created run = ap Yields (touch-free test pending c p (begin frame) (λ x. refl) (run refl))
@@ -320,9 +343,9 @@ overall-told test pending v (x ∷ xs) =
     ap (λ w. fold (λ u component. worse u component.verdict) (worse v w) (map (hastened test pending) xs)) (hastened-verdict test pending x) ∙ overall-told test pending (worse v x.verdict) xs
 
 stop-told : (test : Test) (pending : Pending) (c : Going) (p : Path) (b : Bool)
-    → (if b then Ended (overall (early test pending c)) else Goes (touch (early test pending c) p (with_state Terminated))) ≡ early_in test pending (if b then Ended (overall c) else Goes (touch c p (with_state Terminated)))
+    → (if b then Ended (overall (early test pending c)) else Goes (terminate p (early test pending c))) ≡ early_in test pending (if b then Ended (overall c) else Goes (terminate p c))
 stop-told test pending c p true = ap Ended (overall-told test pending c.forgotten c.components)
-stop-told test pending c p false = ap Goes (touch-state test pending c p Terminated)
+stop-told test pending c p false = ap (λ d. Goes (with_mappings (without_component p c.mappings) d)) (touch-state test pending c p Terminated)
 
 over-told : (test : Test) (pending : Pending) (o : Option Component) → is_terminated_component (option_map (hastened test pending) o) ≡ is_terminated_component o
 over-told test pending None = refl
@@ -338,11 +361,23 @@ connect-told test pending c d e false = refl
 
 connect-early : (test : Test) (pending : Pending) (c : Going) (d e : End) → connect (early test pending c) d e ≡ outcome_map (early test pending) (connect c d e)
 connect-early test pending c d e =
-    ap (λ b. if b || is_terminated_at (early test pending c) e.component || is_double c d e || is_double c e d then dynamic_error else Yields (with_connection (connection d e) (early test pending c)))
+    ap (λ b. if b || is_terminated_at (early test pending c) e.component || is_mapped c d || is_mapped c e || is_double c d e || is_double c e d then dynamic_error else Yields (with_connection (connection d e) (early test pending c)))
     (over-early test pending c d.component)
-    ∙ ap (λ b. if is_terminated_at c d.component || b || is_double c d e || is_double c e d then dynamic_error else Yields (with_connection (connection d e) (early test pending c)))
+    ∙ ap (λ b. if is_terminated_at c d.component || b || is_mapped c d || is_mapped c e || is_double c d e || is_double c e d then dynamic_error else Yields (with_connection (connection d e) (early test pending c)))
     (over-early test pending c e.component)
-    ∙ connect-told test pending c d e (is_terminated_at c d.component || is_terminated_at c e.component || is_double c d e || is_double c e d)
+    ∙ connect-told test pending c d e (is_kept_apart c d e)
+
+map-told : (test : Test) (pending : Pending) (c : Going) (d : End) (system_port : List ℕ) (b : Bool)
+    → (if b then dynamic_error else Yields (with_mappings (put system_port d c.mappings) (early test pending c)))
+    ≡ outcome_map (early test pending) (if b then dynamic_error else Yields (with_mappings (put system_port d c.mappings) c))
+map-told test pending c d system_port true = refl
+map-told test pending c d system_port false = refl
+
+map-early : (test : Test) (pending : Pending) (c : Going) (d : End) (system_port : List ℕ) → map_port (early test pending c) d system_port ≡ outcome_map (early test pending) (map_port c d system_port)
+map-early test pending c d system_port =
+    ap (λ b. if b || is_connected c d || list_any (maps_otherwise d system_port) c.mappings then dynamic_error else Yields (with_mappings (put system_port d c.mappings) (early test pending c)))
+    (over-early test pending c d.component)
+    ∙ map-told test pending c d system_port (is_kept_unmapped c d system_port)
 
 -- ---- new components
 
@@ -439,8 +474,7 @@ apply_early test pending c itself (Requests (Removes port) own) none run ready =
 apply_early test pending c itself (Requests (Sends port to v) own) none run ready =
     ap (λ d. Some (ending (send d itself port to v))) (settle-free test pending c itself.path own none)
     ∙ ending-early test pending (send (settle c itself.path own) itself port to v) (send (early test pending (settle c itself.path own)) itself port to v)
-    (deliver-early test pending (settle c itself.path own) (record { value = v; sender = itself })
-    (filter (addressed to) (peers (settle c itself.path own) (record { component = itself.path; port = port })))
+    (send-early test pending (settle c itself.path own) itself port to v (is_mapped (settle c itself.path own) (record { component = itself.path; port = port }))
     (settle-ready test pending c itself.path own none ready))
 apply_early test pending c itself (Requests (Creates new) own) none run ready =
     ap (λ d. Some (Yields (Goes (with_new new d)))) (settle-free test pending c itself.path own none)
@@ -456,6 +490,12 @@ apply_early test pending c itself (Requests (Stops path) own) none run ready =
 apply_early test pending c itself (Requests (Connects d e) own) none run ready =
     ap (λ x. Some (ending (connect x d e))) (settle-free test pending c itself.path own none)
     ∙ ending-early test pending (connect (settle c itself.path own) d e) (connect (early test pending (settle c itself.path own)) d e) (connect-early test pending (settle c itself.path own) d e)
+apply_early test pending c itself (Requests (Maps d system_port) own) none run ready =
+    ap (λ x. Some (ending (map_port x d system_port))) (settle-free test pending c itself.path own none)
+    ∙ ending-early test pending (map_port (settle c itself.path own) d system_port) (map_port (early test pending (settle c itself.path own)) d system_port)
+    (map-early test pending (settle c itself.path own) d system_port)
+apply_early test pending c itself (Requests (Unmaps d system_port) own) none run ready =
+    ap (λ x. Some (Yields (Goes (unmap_port x d system_port)))) (settle-free test pending c itself.path own none)
 
 -- ---- the step of a statement
 

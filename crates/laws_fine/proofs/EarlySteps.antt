@@ -4,18 +4,20 @@ use Rattle.std.specs.List.{All}
 use Rattle.std.specs.Option.{option_and_then}
 use Rattle.std.proofs.lemmas.List.Elements.{All-cons, All-head, All-nil, All-tail}
 use Rattle.laws_fine.proofs.Choices.{IfData, IsOfAlt, IsSafeIn, act_lapses, act-of-alt, act-timer, asked}
-use Rattle.laws_fine.proofs.Early.{Pending, early, early-at, hastened, hastened-path, made, made_by, made_if, map-all, map-map, touch-early, with_components}
+use Rattle.laws_fine.proofs.Early.{IsReady, Pending, early, early-at, hastened, hastened-path, made, made_by, made_if, map-all, map-map, touch-early, touch-queue, with_components}
 use Rattle.laws_fine.proofs.Lapses.{expired-is, expiring, lapsed, timer_in, uncovered-lapses, uncovered-timer}
 use Rattle.laws_fine.specs.Fine.{is_at_alt}
 use Rattle.laws_steps.proofs.Finding.{alive, path-is}
 use Rattle.semantics.proofs.Pairs.{All-more}
-use Rattle.semantics.specs.Configurations.{Component, Data, Goes, Going, component_at, is_running_state, is_terminated_state, path_of, same_path}
+use Rattle.semantics.specs.Configurations.{Component, Data, End, Goes, Going, component_at, is_running_state, is_terminated_state, path_of, same_path}
 use Rattle.semantics.specs.Snapshots.{Snapshot, Test}
-use Rattle.semantics.specs.Statements.{Act, Connects, Continues, Creates, Errs, Removes, Requests, Sends, Starts, Stops, Waits, Worsens, act}
-use Rattle.semantics.specs.Steps.{Expiry, apply, at_queue, exchanged, expired, expiry_step, next, settle, settled, touch, unless_terminated, with_data, without_first}
+use Rattle.semantics.specs.Statements.{Act, Connects, Continues, Creates, Errs, Maps, Removes, Requests, Sends, Starts, Stops, Unmaps, Waits, Worsens, act}
+use Rattle.semantics.specs.Steps.{Delivery, Expiry, apply, at_queue, come_in, exchanged, expired, expiry_step, next, next_message, settle, settled, touch, unless_terminated, with_data, with_delivery, without_first}
+use Rattle.value_types.specs.Frames.{entry}
 use Rattle.value_types.specs.Outcomes.{Yields}
 use Rattle.value_types.specs.declared.frame.TimerState.TheVariants as timer
 use Rattle.value_types.specs.declared.path.Path.{Path}
+use Rattle.value_types.specs.declared.value.Value.{Value}
 
 -- ---- one component at a path
 
@@ -83,6 +85,8 @@ outcome-is test c x (Requests (Creates new) own) runs only = tt
 outcome-is test c x (Requests (Starts path frame) own) runs only = tt
 outcome-is test c x (Requests (Stops path) own) runs only = tt
 outcome-is test c x (Requests (Connects d e) own) runs only = tt
+outcome-is test c x (Requests (Maps d system_port) own) runs only = tt
+outcome-is test c x (Requests (Unmaps d system_port) own) runs only = tt
 
 -- ---- choosing early, and when it is time
 
@@ -101,6 +105,8 @@ made-path (Requests (Creates new) own) x = refl
 made-path (Requests (Starts path frame) own) x = refl
 made-path (Requests (Stops path) own) x = refl
 made-path (Requests (Connects d e) own) x = refl
+made-path (Requests (Maps d system_port) own) x = refl
+made-path (Requests (Unmaps d system_port) own) x = refl
 
 -- a component that hasn't to choose is as it is
 pub free : (test : Test) (pending : Pending) (p : Path) (y : Component) → path_of y ≡ p → pending p ≡ None → hastened test pending y ≡ y
@@ -183,6 +189,8 @@ made-lapses n name (Requests (Creates new) own) x is = absurd is
 made-lapses n name (Requests (Starts path frame) own) x is = absurd is
 made-lapses n name (Requests (Stops path) own) x is = absurd is
 made-lapses n name (Requests (Connects d e) own) x is = absurd is
+made-lapses n name (Requests (Maps d system_port) own) x is = absurd is
+made-lapses n name (Requests (Unmaps d system_port) own) x is = absurd is
 
 made-timer : (n : ℕ) (name : List ℕ) (a : Act) (x : Component) → IsOfAlt a → IfData a (λ d. timer_in n name d ≡ timer_in n name x.own) → timer_in n name (made_by a x).own ≡ timer_in n name x.own
 made-timer n name Waits x is same = refl
@@ -195,6 +203,8 @@ made-timer n name (Requests (Creates new) own) x is same = absurd is
 made-timer n name (Requests (Starts path frame) own) x is same = absurd is
 made-timer n name (Requests (Stops path) own) x is same = absurd is
 made-timer n name (Requests (Connects d e) own) x is same = absurd is
+made-timer n name (Requests (Maps d system_port) own) x is same = absurd is
+made-timer n name (Requests (Unmaps d system_port) own) x is same = absurd is
 
 -- a component that has to choose stands at an `alt`, and its choice is safe
 abbrev pub IsBound : Test → Option Snapshot → Component → Type 0
@@ -250,3 +260,19 @@ expiry_early test pending c p n name x found runs state only is timer =
     expiry-is test (early test pending c) p n name (hastened test pending x) (early-at test pending c p ∙ ap (option_map (hastened test pending)) found) (ap is_running_state state ∙ runs)
     (if-timer test (pending (path_of x)) n name x is timer)
     ∙ ap (λ d. Some (Goes d)) (expiry-touched test pending n name c x only is timer)
+
+-- ---- deliveries
+
+-- the delivery at a system port
+delivery-is : (test : Test) (c : Going) (system_port : List ℕ) (e : End) (v : Value) → entry c.mappings system_port ≡ Some e → next_message test c system_port ≡ Some v
+    → next test (Goes c) (Delivery system_port) ≡ Some (Goes (come_in system_port e v c))
+delivery-is test c system_port e v mapped found =
+    ap (λ o. option_map settled (option_and_then (λ d. option_map (λ w. Yields (Goes (come_in system_port d w c))) (next_message test c system_port)) o)) mapped
+    ∙ ap (λ o. option_map settled (option_map (λ w. Yields (Goes (come_in system_port e w c))) o)) found
+
+-- a delivery behind what is done early
+pub delivery_early : (test : Test) (pending : Pending) (c : Going) (system_port : List ℕ) (e : End) (v : Value) → entry c.mappings system_port ≡ Some e → next_message test c system_port ≡ Some v
+    → All (IsReady test pending) c.components → next test (Goes (early test pending c)) (Delivery system_port) ≡ Some (Goes (early test pending (come_in system_port e v c)))
+delivery_early test pending c system_port e v mapped found ready =
+    delivery-is test (early test pending c) system_port e v mapped found
+    ∙ ap (λ d. Some (Goes (with_delivery system_port d))) (touch-queue test pending c e.component e.port (record { value = v; sender = None }) ready)

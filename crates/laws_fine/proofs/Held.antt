@@ -6,15 +6,15 @@ use Rattle.laws_steps.proofs.Finding.{alive, found-path, path-is, path-same, som
 use Rattle.laws_fine.proofs.Kept.{kept_safe}
 use Rattle.laws_fine.proofs.Lapses.{lapsed, timer_in}
 use Rattle.laws_fine.proofs.Later.{IsChoice, chosen-later, chosen-now}
-use Rattle.laws_fine.proofs.Moves.{HasActed, HasExpired, acted, has_expired}
+use Rattle.laws_fine.proofs.Moves.{HasActed, HasComeIn, HasExpired, acted, has_come_in, has_expired}
 use Rattle.laws_fine.proofs.Sound.{IsKeptBySteps, IsSound, Stores, consed-at, filtered-at, found-stands, runs_at, without-told}
-use Rattle.laws_fine.proofs.Stays.{Stays, apply-stays, touched-at}
+use Rattle.laws_fine.proofs.Stays.{Stays, apply-stays, come-stays, touched-at}
 use Rattle.laws_fine.specs.Fine.{Stored, is_found, is_of_alt, stands_at_alt, still_stored, stored_at, without_stored}
 use Rattle.laws_fine.specs.Holding.{Held, held_at, noted, without_held}
 use Rattle.semantics.specs.Configurations.{Component, Configuration, Data, Ended, Goes, Going, component_at, is_running_state, is_terminated_state, path_of, same_path}
 use Rattle.semantics.specs.Snapshots.{Snapshot, Test, snapshot_of}
 use Rattle.semantics.specs.Statements.{Act, act}
-use Rattle.semantics.specs.Steps.{Expiry, Label, Statement, apply, exchanged, next, settled, unless_terminated}
+use Rattle.semantics.specs.Steps.{Delivery, Expiry, Label, Statement, apply, come_in, exchanged, next, settled, unless_terminated}
 use Rattle.value_types.specs.Outcomes.{Fails, IfYields, Outcome, Yields}
 use Rattle.value_types.specs.declared.frame.TimerState.TheVariants as timer
 use Rattle.value_types.specs.declared.path.Path.{Path}
@@ -61,6 +61,7 @@ noted-path-told h g false same = refl
 noted-path : (label : Label) (h : Held) → (noted label h).path ≡ h.path
 noted-path (Statement r) h = refl
 noted-path (Expiry r n name) h = noted-path-told h (record { path = h.path; taken = h.taken; since = h.since ++ Expiry r n name ∷ [] }) (same_path h.path r) refl
+noted-path (Delivery system_port) h = refl
 
 first-noted : (label : Label) (p : Path) (h : Held) (b : Bool) (r o : Option Held) → same_path (noted label h).path p ≡ b → r ≡ option_map (noted label) o
     → (if same_path (noted label h).path p then Some (noted label h) else r) ≡ option_map (noted label) (if b then Some h else o)
@@ -121,6 +122,7 @@ snapped-held test c held stored x there are p =
 abbrev pub lapse_by : Label → Path → Data → Data
 lapse_by (Statement r) p own = own
 lapse_by (Expiry r n name) p own = if same_path p r then lapsed n name own else own
+lapse_by (Delivery system_port) p own = own
 
 -- a component is there, and its data are these
 pub record HasData (p : Path) (own : Data) (c : Going) : Type 0 where
@@ -201,6 +203,7 @@ module _ (Lawful : Going → Type 0) (test : Test) (laws : IsKeptBySteps test La
   plain-held : (c : Going) (p : Path) (s : Snapshot) (label : Label) (d : Configuration) (old : Stores test c p s) (h : Held) → Lawful c → h.path ≡ p → next test (Goes c) label ≡ Some d → IsHeld test p s old.x.own h
       → IsHeld test p s (lapse_by label p old.x.own) (noted label h)
   plain-held c p s (Statement r) d old h lawful path goes is = is
+  plain-held c p s (Delivery system_port) d old h lawful path goes is = is
   plain-held c p s (Expiry r n name) d old h lawful path goes is =
       let by : HasExpired c r n name d = has_expired test c r n name d goes in
       noted-told c p r s n name old h (same_path p r) lawful refl path
@@ -220,6 +223,9 @@ module _ (Lawful : Going → Type 0) (test : Test) (laws : IsKeptBySteps test La
   plain-data c stored p s (Expiry r n name) d sound old other goes =
       let by : HasExpired c r n name d = has_expired test c r n name d goes in
       subst (HasDataIn p (lapse_by (Expiry r n name) p old.x.own)) (sym by.to) (expired-data c p r n name old.x by.x old.there by.there by.runs)
+  plain-data c stored p s (Delivery system_port) d sound old other goes =
+      let by : HasComeIn test c system_port d = has_come_in test c system_port d goes in
+      subst (HasDataIn p old.x.own) (sym by.to) (stays-data p old.x (Goes (come_in system_port by.e by.v c)) (come-stays c p old.x system_port by.e by.v old.there))
 
   -- what is kept of one that stays
   stay-held : (p : Path) (s : Snapshot) (own : Data) (h : Held) (d : Going) → HasData p own d → IsHeld test p s own h → (y : Component) → component_at d p ≡ Some y → IsHeld test p s y.own h

@@ -13,7 +13,7 @@ use Rattle.semantics.proofs.Pairs.{All-more}
 use Rattle.semantics.specs.Configurations.{Component, Configuration, Data, Goes, Going, component_at, is_running_state, is_terminated_state, path_of, same_path}
 use Rattle.semantics.specs.Runs.{option_elim}
 use Rattle.semantics.specs.Snapshots.{Snapshot, Test}
-use Rattle.semantics.specs.Statements.{Act, Connects, Continues, Creates, Errs, Removes, Requests, Sends, Starts, Stops, Waits, Worsens, act}
+use Rattle.semantics.specs.Statements.{Act, Connects, Continues, Creates, Errs, Maps, Removes, Requests, Sends, Starts, Stops, Unmaps, Waits, Worsens, act}
 use Rattle.semantics.specs.Steps.{Expiry, Label, apply, exchanged, settled, touch, unless_terminated}
 use Rattle.value_types.specs.declared.frame.TimerState.TheVariants as timer
 use Rattle.value_types.specs.declared.path.Path.{Path}
@@ -94,6 +94,8 @@ one-lapse test c p n name x own (Requests (Creates new) behind) there runs only 
 one-lapse test c p n name x own (Requests (Starts path frame) behind) there runs only alt ran same = absurd alt
 one-lapse test c p n name x own (Requests (Stops path) behind) there runs only alt ran same = absurd alt
 one-lapse test c p n name x own (Requests (Connects d e) behind) there runs only alt ran same = absurd alt
+one-lapse test c p n name x own (Requests (Maps d system_port) behind) there runs only alt ran same = absurd alt
+one-lapse test c p n name x own (Requests (Unmaps d system_port) behind) there runs only alt ran same = absurd alt
 
 -- ---- choices that are done later
 

@@ -31,7 +31,7 @@ use Rattle.laws_fine.specs.Holding.{Holding, hold_run, hold_start}
 use Rattle.laws_fine.specs.Verdicts.{EndsFinelyWith, EndsWith}
 use Rattle.laws_sites.proofs.Awaited.{awaited_outside}
 use Rattle.laws_sites.proofs.Firsts.{queues_differ}
-use Rattle.laws_sites.proofs.Runs.{apply_stands, expiry_stands, start_stands}
+use Rattle.laws_sites.proofs.Runs.{apply_stands, come_stands, expiry_stands, start_stands}
 use Rattle.laws_sites.specs.Awaiting.{AwaitsTimeout, BeginsByTimeout, IsTimeout}
 use Rattle.laws_sites.specs.Standing.{StandsByRules}
 use Rattle.laws_order.proofs.Runs.{start_ordered}
@@ -81,6 +81,7 @@ waits-awaits name Action-F.Stop is = is
 waits-awaits name (Action-F.Log logged) is = is
 waits-awaits name (Action-F.Setverdict verdict reasons) is = is
 waits-awaits name (Action-F.Connect one other) is = is
+waits-awaits name (Action-F.Map m) is = is
 waits-awaits name (Action-F.Send send) is = is
 waits-awaits name (Action-F.StartComponent reference call) is = is
 waits-awaits name (Action-F.StartTimer timer) is = is
@@ -123,6 +124,7 @@ stands-kept test well = record {
   apart = λ c is p x there. calls-apart test c p x x.own.calls is there refl;
   acts = λ c is p x there runs snapshot. option-holds test (apply test c x.itself (act test snapshot x.own)) (apply_stands test snapshot c p x well is there);
   expires = λ c is p n name x there runs ran. expiry_stands test c p x n name (lapsed n name x.own) is there (expires-to n name x.own ran);
+  comes = λ c is system_port e v mapped found. come_stands test c system_port e v is;
 }
 
 -- ---- the start

@@ -5,14 +5,16 @@ use Rattle.laws_fine.proofs.EarlySteps.{behind_expiry}
 use Rattle.laws_fine.proofs.Lapses.{expired-is, expiring, lapsed, timer_in}
 use Rattle.laws_fine.specs.Fine.{Choose, Fine, FineLabel, Plain, Snap, Stored, behind, choose, chosen, fine_step_in, is_at_alt, is_of_alt, snap, stands_at_alt, stored_at, without_stored}
 use Rattle.laws_steps.proofs.Finding.{some-is}
-use Rattle.semantics.specs.Configurations.{Component, Configuration, Goes, Going, component_at, is_running_state, path_of}
+use Rattle.semantics.specs.Configurations.{Component, Configuration, End, Goes, Going, component_at, is_running_state, path_of}
 use Rattle.semantics.specs.Snapshots.{Snapshot, Test, snapshot_of}
 use Rattle.semantics.specs.Statements.{act}
-use Rattle.semantics.specs.Steps.{Expiry, Label, Statement, apply, exchanged, expired, expiry_step, next, settled, statement_step, touch}
+use Rattle.semantics.specs.Steps.{Delivery, Expiry, Label, Statement, apply, come_in, exchanged, expired, expiry_step, next, next_message, settled, statement_step, touch}
+use Rattle.value_types.specs.Frames.{entry}
 use Rattle.value_types.specs.Outcomes.{Outcome, Yields}
 use Rattle.value_types.specs.declared.frame.TimerState.{TimerState}
 use Rattle.value_types.specs.declared.frame.TimerState.TheVariants as timer
 use Rattle.value_types.specs.declared.path.Path.{Path}
+use Rattle.value_types.specs.declared.value.Value.{Value}
 
 -- a component took its snapshot
 pub record HasSnapped (test : Test) (c : Going) (stored : Stored) (p : Path) (f : Fine) : Type 0 where
@@ -117,6 +119,14 @@ pub record HasExpired (c : Going) (p : Path) (n : ℕ) (name : List ℕ) (d : Co
   pub ran : timer_in n name x.own ≡ Some timer.Running
   pub to : d ≡ Goes (behind_expiry n name x c)
 
+-- a message came in
+pub record HasComeIn (test : Test) (c : Going) (system_port : List ℕ) (d : Configuration) : Type 0 where
+  pub e : End
+  pub v : Value
+  pub mapped : entry c.mappings system_port ≡ Some e
+  pub found : next_message test c system_port ≡ Some v
+  pub to : d ≡ Goes (come_in system_port e v c)
+
 acted-out : (test : Test) (c : Going) (p : Path) (d : Configuration) (x : Component) (o : Option (Outcome Configuration)) → component_at c p ≡ Some x → is_running_state x.state ≡ true
     → apply test c x.itself (act test (snapshot_of c x) x.own) ≡ o → option_map settled o ≡ Some d → HasActed test c p d
 acted-out test c p d x None there runs applied e = absurd (let no = e in cc)
@@ -156,3 +166,16 @@ expired-found c p n name d (Some x) there e = expired-runs c p n name d x (is_ru
 
 pub has_expired : (test : Test) (c : Going) (p : Path) (n : ℕ) (name : List ℕ) (d : Configuration) → next test (Goes c) (Expiry p n name) ≡ Some d → HasExpired c p n name d
 has_expired test c p n name d e = expired-found c p n name d (component_at c p) refl e
+
+come-found : (test : Test) (c : Going) (system_port : List ℕ) (d : Configuration) (e : End) (o : Option Value) → entry c.mappings system_port ≡ Some e → next_message test c system_port ≡ o
+    → option_map settled (option_map (λ v. Yields (Goes (come_in system_port e v c))) o) ≡ Some d → HasComeIn test c system_port d
+come-found test c system_port d e None mapped found is = absurd (let no = is in cc)
+come-found test c system_port d e (Some v) mapped found is = record { e = e; v = v; mapped = mapped; found = found; to = sym (some-is (Goes (come_in system_port e v c)) d is) }
+
+come-mapped : (test : Test) (c : Going) (system_port : List ℕ) (d : Configuration) (o : Option End) → entry c.mappings system_port ≡ o
+    → option_map settled (option_and_then (λ e. option_map (λ v. Yields (Goes (come_in system_port e v c))) (next_message test c system_port)) o) ≡ Some d → HasComeIn test c system_port d
+come-mapped test c system_port d None mapped is = absurd (let no = is in cc)
+come-mapped test c system_port d (Some e) mapped is = come-found test c system_port d e (next_message test c system_port) mapped refl is
+
+pub has_come_in : (test : Test) (c : Going) (system_port : List ℕ) (d : Configuration) → next test (Goes c) (Delivery system_port) ≡ Some d → HasComeIn test c system_port d
+has_come_in test c system_port d is = come-mapped test c system_port d (entry c.mappings system_port) refl is

@@ -153,7 +153,7 @@ early-same test one other same c =
     (map-all (hastened test one) (hastened test other) c.components (each-all (λ x. hastened test one x ≡ hastened test other x) (λ x. ap (λ o. made_if test o x) (same (path_of x))) c.components))
   where
     going_of : List Component → Going
-    going_of xs = record { components = xs; connections = c.connections; forgotten = c.forgotten }
+    going_of xs = record { components = xs; connections = c.connections; mappings = c.mappings; delivered = c.delivered; forgotten = c.forgotten }
 
 pub early-in-same : (test : Test) (one other : Pending) → ((p : Path) → one p ≡ other p) → (d : Configuration) → early_in test one d ≡ early_in test other d
 early-in-same test one other same (Ended v) = refl

@@ -17,7 +17,7 @@ use Rattle.semantics.specs.Configurations.{Component, Configuration, Ended, Goes
 use Rattle.semantics.specs.Runs.{option_elim, replay, start}
 use Rattle.semantics.specs.Snapshots.{Test, snapshot_of}
 use Rattle.semantics.specs.Statements.{act}
-use Rattle.semantics.specs.Steps.{Expiry, Label, Statement, apply, next, settled}
+use Rattle.semantics.specs.Steps.{Delivery, Expiry, Label, Statement, apply, next, settled}
 use Rattle.value_types.specs.Outcomes.{Outcome}
 use Rattle.value_types.specs.declared.path.Path.{Path}
 
@@ -60,6 +60,7 @@ label-returns : (test : Test) (c : Going) (label : Label) (between d : Configura
     → leads test labels between ≡ Some d → coarse_from test (fine_of between []) others ≡ labels → coarse_from test (fine_of (Goes c) []) (doubled_label b label others) ≡ label ∷ labels
 label-returns test c (Statement p) between d labels others true is e leads-on rest = alt-returns test c p between d labels others is e leads-on rest
 label-returns test c (Expiry p n name) between d labels others true is e leads-on rest = absurd (let no = is in cc)
+label-returns test c (Delivery system_port) between d labels others true is e leads-on rest = absurd (let no = is in cc)
 label-returns test c label between d labels others false is e leads-on rest =
     ap (λ f. label ∷ coarse_from test f others) (fine-after-is test (fine_of (Goes c) []) (fine_of between []) (Plain label) (plain-next test c label between is e)) ∙ ap (λ ls. label ∷ ls) rest
 

@@ -8,24 +8,25 @@ use Rattle.laws_fine.proofs.EarlySteps.{IsOnly, behind_expiry}
 use Rattle.laws_fine.proofs.Fronts.{HasMessage, PortsDiffer}
 use Rattle.laws_fine.proofs.Kept.{AreLater, IsApart, IsKept, IsLater, kept_safe}
 use Rattle.laws_fine.proofs.Lapses.{at_call, call-runs, lapse, lapsed, timer_in, timer_in_call, zero-runs}
-use Rattle.laws_fine.proofs.Moves.{HasActed, HasChosen, HasExpired, HasMoved, HasSnapped, acted, has_expired}
+use Rattle.laws_fine.proofs.Moves.{HasActed, HasChosen, HasComeIn, HasExpired, HasMoved, HasSnapped, acted, has_come_in, has_expired}
 use Rattle.laws_steps.proofs.Entries.{put-other, put-own}
 use Rattle.laws_steps.proofs.Found.{some-of}
-use Rattle.laws_fine.proofs.Stays.{Ascends, AscendsIn, IsSteady, Stays, apply-ascends, apply-stays, each-found, touch-ascends, touched-at}
+use Rattle.laws_fine.proofs.Stays.{Ascends, AscendsIn, IsSteady, Stays, apply-ascends, apply-stays, come-ascends, come-stays, each-found, touch-ascends, touched-at}
 use Rattle.laws_fine.specs.Fates.{fate_of, is_choice_of}
 use Rattle.laws_fine.specs.Fine.{Choose, Fine, FineLabel, Plain, Snap, Stored, chosen, is_at_alt, is_found, is_of_alt, stands_at_alt, still_stored, stored_at, without_stored}
 use Rattle.laws_steps.proofs.Finding.{alive, found-path, path-is, path-same, some-is, none-if}
 use Rattle.semantics.proofs.Pairs.{All-more}
-use Rattle.semantics.specs.Configurations.{Component, Configuration, Data, Ended, Frame, Goes, Going, Queue, component_at, is_running_state, is_terminated_state, path_of, same_path}
+use Rattle.semantics.specs.Configurations.{Component, Configuration, Data, End, Ended, Frame, Goes, Going, Queue, component_at, is_running_state, is_terminated_state, path_of, same_path}
 use Rattle.semantics.specs.Entries.{Entries, put}
 use Rattle.semantics.specs.Snapshots.{Snapshot, Test, front_at, front_of, snapshot_of, timers_of}
-use Rattle.semantics.specs.Statements.{Act, Connects, Continues, Creates, Errs, Removes, Requests, Sends, Starts, Stops, Waits, Worsens, act}
-use Rattle.semantics.specs.Steps.{Expiry, Label, Statement, apply, exchanged, next, settled, unless_terminated}
+use Rattle.semantics.specs.Statements.{Act, Connects, Continues, Creates, Errs, Maps, Removes, Requests, Sends, Starts, Stops, Unmaps, Waits, Worsens, act}
+use Rattle.semantics.specs.Steps.{Delivery, Expiry, Label, Statement, apply, come_in, exchanged, next, next_message, settled, unless_terminated}
 use Rattle.value_types.specs.Frames.{entry}
 use Rattle.value_types.specs.Outcomes.{Fails, IfYields, Outcome, Yields}
 use Rattle.value_types.specs.declared.frame.TimerState.{TimerState}
 use Rattle.value_types.specs.declared.frame.TimerState.TheVariants as timer
 use Rattle.value_types.specs.declared.path.Path.{Path}
+use Rattle.value_types.specs.declared.value.Value.{Value}
 
 -- ---- what is asked of configurations
 
@@ -41,6 +42,7 @@ pub record IsKeptBySteps (test : Test) (Lawful : Going → Type 0) : Type 0 wher
       → IfSome (apply test c x.itself (act test snapshot x.own)) (λ out. IfYields out (HoldsIn Lawful))
   pub expires : (c : Going) → Lawful c → (p : Path) (n : ℕ) (name : List ℕ) (x : Component) → component_at c p ≡ Some x → is_running_state x.state ≡ true → timer_in n name x.own ≡ Some timer.Running
       → Lawful (behind_expiry n name x c)
+  pub comes : (c : Going) → Lawful c → (system_port : List ℕ) (e : End) (v : Value) → entry c.mappings system_port ≡ Some e → next_message test c system_port ≡ Some v → Lawful (come_in system_port e v c)
 
 -- the component of a stored snapshot
 pub record Stores (test : Test) (c : Going) (p : Path) (snapshot : Snapshot) : Type 0 where
@@ -207,6 +209,8 @@ asked-fate f (Requests (Creates new) own) = refl
 asked-fate f (Requests (Starts path frame) own) = refl
 asked-fate f (Requests (Stops path) own) = refl
 asked-fate f (Requests (Connects d e) own) = refl
+asked-fate f (Requests (Maps d system_port) own) = refl
+asked-fate f (Requests (Unmaps d system_port) own) = refl
 
 pub follows-fate : (test : Test) (snapshot : Snapshot) (x y : Component) → HasOwn x y → is_at_alt test x.own.calls ≡ true → IsKept snapshot x → IsApart test x.own.calls
     → fate_of (act test snapshot y.own) ≡ fate_of (act test snapshot x.own)
@@ -286,6 +290,9 @@ module _ (Lawful : Going → Type 0) (test : Test) (laws : IsKeptBySteps test La
       let is : HasExpired c r n name d = has_expired test c r n name d goes in
       subst (FollowsTo p old.x) (sym is.to)
       (lapsed-at c p n name old.x is.x old.there (ap (component_at c) (found-path c r is.x is.there) ∙ is.there) is.runs is.ran)
+  plain-follows c stored p s (Delivery system_port) d sound old other goes =
+      let is : HasComeIn test c system_port d = has_come_in test c system_port d goes in
+      subst (FollowsTo p old.x) (sym is.to) (stays-follows p old.x (Goes (come_in system_port is.e is.v c)) (come-stays c p old.x system_port is.e is.v old.there))
 
   chosen-follows : (c : Going) (stored others : Stored) (p r : Path) (s t : Snapshot) (x : Component) (o : Option (Outcome Configuration)) → (old : Stores test c p s) → component_at c r ≡ Some x → same_path r p ≡ false
       → apply test c x.itself (act test t x.own) ≡ o → FollowsTo p old.x (chosen c others o).now
@@ -410,6 +417,9 @@ module _ (Lawful : Going → Type 0) (test : Test) (laws : IsKeptBySteps test La
   stepped-ascends c (Expiry r n name) d ordered goes =
       let is : HasExpired c r n name d = has_expired test c r n name d goes in
       subst AscendsIn (sym is.to) (touch-ascends c (path_of is.x) (exchanged (lapsed n name is.x.own)) (λ y. refl) ordered)
+  stepped-ascends c (Delivery system_port) d ordered goes =
+      let is : HasComeIn test c system_port d = has_come_in test c system_port d goes in
+      subst AscendsIn (sym is.to) (come-ascends c system_port is.e is.v ordered)
 
   stepped-holds : (c : Going) (label : Label) (d : Configuration) → Lawful c → next test (Goes c) label ≡ Some d → HoldsIn Lawful d
   stepped-holds c (Statement r) d lawful goes =
@@ -418,6 +428,9 @@ module _ (Lawful : Going → Type 0) (test : Test) (laws : IsKeptBySteps test La
   stepped-holds c (Expiry r n name) d lawful goes =
       let is : HasExpired c r n name d = has_expired test c r n name d goes in
       subst (HoldsIn Lawful) (sym is.to) (laws.expires c lawful r n name is.x is.there is.runs is.ran)
+  stepped-holds c (Delivery system_port) d lawful goes =
+      let is : HasComeIn test c system_port d = has_come_in test c system_port d goes in
+      subst (HoldsIn Lawful) (sym is.to) (laws.comes c lawful system_port is.e is.v is.mapped is.found)
 
   -- every fine step leads on to a sound configuration
   pub moved-sound : (c : Going) (stored : Stored) (label : FineLabel) (f : Fine) → IsSound Lawful test c stored → HasMoved test c stored label f → IsSoundIn Lawful test f.now f.stored

@@ -1,5 +1,5 @@
 -- A component stays as it is whatever others do, but for messages that come, and for its end; and paths stay in their order.
-use Rattle.std.proofs.Common.{◌≡◌, ℕ, ◌||◌, Bool, true, false, List, [], ◌∷◌, ◌++◌, map, Option, Some, None, IfSome, is_some, option_map, bytes_eq, get_or, refl, sym, ap, subst, ◌∙◌, if◌then◌else◌}
+use Rattle.std.proofs.Common.{◌≡◌, ℕ, Bool, true, false, List, [], ◌∷◌, ◌++◌, map, Option, Some, None, IfSome, is_some, option_map, bytes_eq, get_or, refl, sym, ap, subst, ◌∙◌, if◌then◌else◌}
 use Rattle.std.specs.List.{All, AllPairs, filter, find}
 use Rattle.std.specs.declared.cmp.Ordering.TheVariants.{Less, Equal}
 use Rattle.std.proofs.lemmas.Cmp.{nat_list_cmp_total, tied_itself}
@@ -9,12 +9,14 @@ use Rattle.laws_steps.proofs.Finding.{insert-found, found-map, found-path, path-
 use Rattle.laws_order.proofs.Changes.{Precedes, insert-ordered, none-found}
 use Rattle.semantics.proofs.Pairs.{pairs-head, pairs-map, pairs-more, pairs-tail}
 use Rattle.semantics.specs.Configurations.{Component, Configuration, Created, Data, End, Ended, Frame, Goes, Going, Message, Queue, Running, State, Terminated, component_at, is_running_state, is_terminated_state, overall, path_cmp, path_of, same_path}
+use Rattle.semantics.specs.Entries.{put}
 use Rattle.semantics.specs.Snapshots.{Test, front_of, mtc_of}
-use Rattle.semantics.specs.Statements.{Act, Connects, Continues, Creates, Errs, Removes, Requests, Sends, Starts, Stops, Waits, Worsens}
-use Rattle.semantics.specs.Steps.{addressed, apply, at_queue, begin, change_queue, connect, connection, deliver, ending, insert, is_double, is_terminated_at, peers, send, settle, start_component, start_created, start_in, touch, unless_terminated, with_connection, with_data, with_new, with_state, with_verdict, without_first}
+use Rattle.semantics.specs.Statements.{Act, Connects, Continues, Creates, Errs, Maps, Removes, Requests, Sends, Starts, Stops, Unmaps, Waits, Worsens}
+use Rattle.semantics.specs.Steps.{addressed, apply, at_queue, begin, change_queue, come_in, connect, connection, deliver, ending, insert, is_kept_apart, is_kept_unmapped, is_mapped, map_port, peers, send, send_out, send_to_peer, settle, start_component, start_created, start_in, terminate, touch, unless_terminated, with_connection, with_data, with_mappings, with_new, with_state, with_verdict, without_first}
 use Rattle.value_types.specs.Outcomes.{Fails, IfYields, Outcome, Yields, dynamic_error}
 use Rattle.value_types.specs.declared.path.Path.{Path}
 use Rattle.value_types.specs.declared.value.ComponentId.{ComponentId}
+use Rattle.value_types.specs.declared.value.Value.{Value}
 
 -- a component as it was, but for messages that came and for its state
 pub record IsSteady (x y : Component) : Type 0 where
@@ -147,6 +149,16 @@ deliver-stays c p x message (e ∷ []) there =
     touch-stays c e.component (at_queue e.port (λ messages. messages ++ message ∷ [])) (λ y. refl) p x there (λ at alive. queue-steady e.port message x)
 deliver-stays c p x message (d ∷ e ∷ ends) there = tt
 
+out-stays : (c : Going) (p : Path) (x : Component) (to : Option Path) → component_at c p ≡ Some x → IfYields (send_out c to) (StaysIn p x)
+out-stays c p x None there = record { y = x; there = there; steady = as-it-is x }
+out-stays c p x (Some path) there = tt
+
+send-stays : (c : Going) (p : Path) (x : Component) (sender : ComponentId) (port : List ℕ) (to : Option Path) (v : Value) (b : Bool) → component_at c p ≡ Some x
+    → IfYields (if b then send_out c to else send_to_peer c sender port to v) (StaysIn p x)
+send-stays c p x sender port to v true there = out-stays c p x to there
+send-stays c p x sender port to v false there =
+    deliver-stays c p x (record { value = v; sender = Some sender }) (filter (addressed to) (peers c (record { component = sender.path; port = port }))) there
+
 start-in-stays : (c : Going) (p q : Path) (x : Component) (frame : Frame) (state : State) → component_at c p ≡ Some x → (state ≡ Created → p ≡ q → ⊥) → IfYields (start_in c q frame state) (StaysIn p x)
 start-in-stays c p q x frame Created there other =
     touch-stays c q (begin frame) (λ y. refl) p x there (λ at alive. absurd (other refl (sym (found-path c p x there) ∙ path-is (path_of x) q at)))
@@ -163,13 +175,20 @@ start-stays : (c : Going) (p q : Path) (x : Component) (frame : Frame) (o : Opti
 start-stays c p q x frame None there runs here = tt
 start-stays c p q x frame (Some z) there runs here = start-in-stays c p q x frame z.state there (λ created. created-runs c p q x z there here runs created)
 
-stop-stays : (c : Going) (p q : Path) (x : Component) (b : Bool) → component_at c p ≡ Some x → Stays p x (if b then Ended (overall c) else Goes (touch c q (with_state Terminated)))
+stop-stays : (c : Going) (p q : Path) (x : Component) (b : Bool) → component_at c p ≡ Some x → Stays p x (if b then Ended (overall c) else Goes (terminate q c))
 stop-stays c p q x true there = tt
-stop-stays c p q x false there = touch-stays c q (with_state Terminated) (λ y. refl) p x there (λ at alive. state-steady Terminated x)
+stop-stays c p q x false there =
+    let ended : StaysIn p x (touch c q (with_state Terminated)) = touch-stays c q (with_state Terminated) (λ y. refl) p x there (λ at alive. state-steady Terminated x) in
+    record { y = ended.y; there = ended.there; steady = ended.steady }
 
 connect-stays : (c : Going) (p : Path) (x : Component) (d e : End) (b : Bool) → component_at c p ≡ Some x → IfYields (if b then dynamic_error else Yields (with_connection (connection d e) c)) (StaysIn p x)
 connect-stays c p x d e true there = tt
 connect-stays c p x d e false there = record { y = x; there = there; steady = as-it-is x }
+
+map-stays : (c : Going) (p : Path) (x : Component) (d : End) (system_port : List ℕ) (b : Bool) → component_at c p ≡ Some x
+    → IfYields (if b then dynamic_error else Yields (with_mappings (put system_port d c.mappings) c)) (StaysIn p x)
+map-stays c p x d system_port true there = tt
+map-stays c p x d system_port false there = record { y = x; there = there; steady = as-it-is x }
 
 -- a running component stays as it is behind the step of another
 pub apply-stays : (test : Test) (c : Going) (itself : ComponentId) (a : Act) (p : Path) (x : Component) → component_at c p ≡ Some x → is_running_state x.state ≡ true → (p ≡ itself.path → ⊥)
@@ -186,8 +205,7 @@ apply-stays test c itself (Requests (Removes port) own) p x there runs other =
     record { y = x; there = other-touch (settle c itself.path own) itself.path (at_queue port without_first) (λ y. refl) p x settled other; steady = as-it-is x }
 apply-stays test c itself (Requests (Sends port to v) own) p x there runs other =
     ending-stays p x (send (settle c itself.path own) itself port to v)
-    (deliver-stays (settle c itself.path own) p x (record { value = v; sender = itself })
-    (filter (addressed to) (peers (settle c itself.path own) (record { component = itself.path; port = port })))
+    (send-stays (settle c itself.path own) p x itself port to v (is_mapped (settle c itself.path own) (record { component = itself.path; port = port }))
     (other-touch c itself.path (with_data own) (λ y. refl) p x there other))
 apply-stays test c itself (Requests (Creates new) own) p x there runs other =
     new-stays (settle c itself.path own) p x new (other-touch c itself.path (with_data own) (λ y. refl) p x there other)
@@ -198,9 +216,20 @@ apply-stays test c itself (Requests (Stops path) own) p x there runs other =
     stop-stays (settle c itself.path own) p path x (same_path path (mtc_of test).path) (other-touch c itself.path (with_data own) (λ y. refl) p x there other)
 apply-stays test c itself (Requests (Connects d e) own) p x there runs other =
     ending-stays p x (connect (settle c itself.path own) d e)
-    (connect-stays (settle c itself.path own) p x d e
-    (is_terminated_at (settle c itself.path own) d.component || is_terminated_at (settle c itself.path own) e.component || is_double (settle c itself.path own) d e || is_double (settle c itself.path own) e d)
-    (other-touch c itself.path (with_data own) (λ y. refl) p x there other))
+    (connect-stays (settle c itself.path own) p x d e (is_kept_apart (settle c itself.path own) d e) (other-touch c itself.path (with_data own) (λ y. refl) p x there other))
+apply-stays test c itself (Requests (Maps d system_port) own) p x there runs other =
+    ending-stays p x (map_port (settle c itself.path own) d system_port)
+    (map-stays (settle c itself.path own) p x d system_port (is_kept_unmapped (settle c itself.path own) d system_port) (other-touch c itself.path (with_data own) (λ y. refl) p x there other))
+apply-stays test c itself (Requests (Unmaps d system_port) own) p x there runs other =
+    record { y = x; there = other-touch c itself.path (with_data own) (λ y. refl) p x there other; steady = as-it-is x }
+
+-- it stays so where a message comes in
+pub come-stays : (c : Going) (p : Path) (x : Component) (system_port : List ℕ) (e : End) (v : Value) → component_at c p ≡ Some x → StaysIn p x (come_in system_port e v c)
+come-stays c p x system_port e v there =
+    let message : Message = record { value = v; sender = None } in
+    let sent : StaysIn p x (touch c e.component (at_queue e.port (λ messages. messages ++ message ∷ []))) =
+    touch-stays c e.component (at_queue e.port (λ messages. messages ++ message ∷ [])) (λ y. refl) p x there (λ at alive. queue-steady e.port message x) in
+    record { y = sent.y; there = sent.there; steady = sent.steady }
 
 -- ---- paths in their order
 
@@ -238,6 +267,15 @@ deliver-ascends c message [] ordered = tt
 deliver-ascends c message (e ∷ []) ordered = touch-ascends c e.component (at_queue e.port (λ messages. messages ++ message ∷ [])) (λ y. refl) ordered
 deliver-ascends c message (d ∷ e ∷ ends) ordered = tt
 
+out-ascends : (c : Going) (to : Option Path) → Ascends c → IfYields (send_out c to) Ascends
+out-ascends c None ordered = ordered
+out-ascends c (Some path) ordered = tt
+
+send-ascends : (c : Going) (sender : ComponentId) (port : List ℕ) (to : Option Path) (v : Value) (b : Bool) → Ascends c → IfYields (if b then send_out c to else send_to_peer c sender port to v) Ascends
+send-ascends c sender port to v true ordered = out-ascends c to ordered
+send-ascends c sender port to v false ordered =
+    deliver-ascends c (record { value = v; sender = Some sender }) (filter (addressed to) (peers c (record { component = sender.path; port = port }))) ordered
+
 start-in-ascends : (c : Going) (q : Path) (frame : Frame) (state : State) → Ascends c → IfYields (start_in c q frame state) Ascends
 start-in-ascends c q frame Created ordered = touch-ascends c q (begin frame) (λ y. refl) ordered
 start-in-ascends c q frame Running ordered = tt
@@ -247,13 +285,17 @@ start-ascends : (c : Going) (q : Path) (frame : Frame) (o : Option Component) �
 start-ascends c q frame None ordered = tt
 start-ascends c q frame (Some z) ordered = start-in-ascends c q frame z.state ordered
 
-stop-ascends : (c : Going) (q : Path) (b : Bool) → Ascends c → AscendsIn (if b then Ended (overall c) else Goes (touch c q (with_state Terminated)))
+stop-ascends : (c : Going) (q : Path) (b : Bool) → Ascends c → AscendsIn (if b then Ended (overall c) else Goes (terminate q c))
 stop-ascends c q true ordered = tt
 stop-ascends c q false ordered = touch-ascends c q (with_state Terminated) (λ y. refl) ordered
 
 connect-ascends : (c : Going) (d e : End) (b : Bool) → Ascends c → IfYields (if b then dynamic_error else Yields (with_connection (connection d e) c)) Ascends
 connect-ascends c d e true ordered = tt
 connect-ascends c d e false ordered = ordered
+
+map-ascends-in : (c : Going) (d : End) (system_port : List ℕ) (b : Bool) → Ascends c → IfYields (if b then dynamic_error else Yields (with_mappings (put system_port d c.mappings) c)) Ascends
+map-ascends-in c d system_port true ordered = tt
+map-ascends-in c d system_port false ordered = ordered
 
 -- what is asked for leaves paths in their order
 pub apply-ascends : (test : Test) (c : Going) (itself : ComponentId) (a : Act) → Ascends c → AscendsBehind (apply test c itself a)
@@ -264,8 +306,7 @@ apply-ascends test c itself (Requests (Worsens v) own) ordered = touch-ascends (
 apply-ascends test c itself (Requests (Removes port) own) ordered = touch-ascends (settle c itself.path own) itself.path (at_queue port without_first) (λ y. refl) (settle-ascends c itself.path own ordered)
 apply-ascends test c itself (Requests (Sends port to v) own) ordered =
     ending-ascends (send (settle c itself.path own) itself port to v)
-    (deliver-ascends (settle c itself.path own) (record { value = v; sender = itself })
-    (filter (addressed to) (peers (settle c itself.path own) (record { component = itself.path; port = port }))) (settle-ascends c itself.path own ordered))
+    (send-ascends (settle c itself.path own) itself port to v (is_mapped (settle c itself.path own) (record { component = itself.path; port = port })) (settle-ascends c itself.path own ordered))
 apply-ascends test c itself (Requests (Creates new) own) ordered =
     new-ascends (settle c itself.path own) new (is_some (component_at (settle c itself.path own) (path_of new))) refl (settle-ascends c itself.path own ordered)
 apply-ascends test c itself (Requests (Starts path frame) own) ordered =
@@ -274,9 +315,15 @@ apply-ascends test c itself (Requests (Starts path frame) own) ordered =
 apply-ascends test c itself (Requests (Stops path) own) ordered = stop-ascends (settle c itself.path own) path (same_path path (mtc_of test).path) (settle-ascends c itself.path own ordered)
 apply-ascends test c itself (Requests (Connects d e) own) ordered =
     ending-ascends (connect (settle c itself.path own) d e)
-    (connect-ascends (settle c itself.path own) d e
-    (is_terminated_at (settle c itself.path own) d.component || is_terminated_at (settle c itself.path own) e.component || is_double (settle c itself.path own) d e || is_double (settle c itself.path own) e d)
-    (settle-ascends c itself.path own ordered))
+    (connect-ascends (settle c itself.path own) d e (is_kept_apart (settle c itself.path own) d e) (settle-ascends c itself.path own ordered))
+apply-ascends test c itself (Requests (Maps d system_port) own) ordered =
+    ending-ascends (map_port (settle c itself.path own) d system_port)
+    (map-ascends-in (settle c itself.path own) d system_port (is_kept_unmapped (settle c itself.path own) d system_port) (settle-ascends c itself.path own ordered))
+apply-ascends test c itself (Requests (Unmaps d system_port) own) ordered = settle-ascends c itself.path own ordered
+
+-- what comes in does so too
+pub come-ascends : (c : Going) (system_port : List ℕ) (e : End) (v : Value) → Ascends c → Ascends (come_in system_port e v c)
+come-ascends c system_port e v ordered = touch-ascends c e.component (at_queue e.port (λ messages. messages ++ record { value = v; sender = None } ∷ [])) (λ y. refl) ordered
 
 -- where paths ascend, each component is found by its own
 finds-first : (x y : Component) (xs : List Component) → Precedes x y → find (λ z. same_path (path_of z) (path_of y)) xs ≡ Some y → find (λ z. same_path (path_of z) (path_of y)) (x ∷ xs) ≡ Some y

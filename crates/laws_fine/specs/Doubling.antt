@@ -3,13 +3,14 @@ use Rattle.std.specs.Prelude.{Bool, true, false, List, [], ◌∷◌}
 use Rattle.semantics.specs.Configurations.{Configuration, Ended, Goes}
 use Rattle.semantics.specs.Runs.{graph_of, start}
 use Rattle.semantics.specs.Snapshots.{Test}
-use Rattle.semantics.specs.Steps.{Expiry, Label, Statement}
+use Rattle.semantics.specs.Steps.{Delivery, Expiry, Label, Statement}
 use Rattle.laws_fine.specs.Fine.{Choose, FineLabel, Plain, Snap, is_of_alt}
 
 -- the fine labels of a label, in front of others
 abbrev pub doubled_label : Bool → Label → List FineLabel → List FineLabel
 doubled_label true (Statement path) others = Snap path ∷ Choose path ∷ others
 doubled_label true (Expiry path number name) others = Plain (Expiry path number name) ∷ others
+doubled_label true (Delivery system_port) others = Plain (Delivery system_port) ∷ others
 doubled_label false label others = Plain label ∷ others
 
 -- a label is the statement of an `alt`

@@ -10,7 +10,7 @@ use Rattle.semantics.specs.Items.{Does, Doing, Item, Whole, action_of}
 use Rattle.semantics.specs.Runs.{option_elim, start}
 use Rattle.semantics.specs.Snapshots.{Snapshot, Test, snapshot_of}
 use Rattle.semantics.specs.Statements.{act}
-use Rattle.semantics.specs.Steps.{Expiry, Label, Statement, apply, next, settled}
+use Rattle.semantics.specs.Steps.{Delivery, Expiry, Label, Statement, apply, next, settled}
 pub use Rattle.step_labels.specs.declared.fine.FineLabel.{FineLabel}
 pub use Rattle.step_labels.specs.declared.fine.FineLabel.TheVariants.{Choose, Plain, Snap}
 use Rattle.value_types.specs.Outcomes.{Outcome}
@@ -89,6 +89,7 @@ choose test c stored component (Some snapshot) =
 abbrev pub is_of_alt : Test → Going → Label → Bool
 is_of_alt test c (Statement path) = is_found (stands_at_alt test) (component_at c path)
 is_of_alt test c (Expiry path number name) = false
+is_of_alt test c (Delivery system_port) = false
 
 -- behind a step, the snapshot of a component that doesn't run any more is gone
 abbrev pub behind : Stored → Configuration → Fine

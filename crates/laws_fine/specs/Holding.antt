@@ -9,7 +9,7 @@ use Rattle.semantics.specs.Configurations.{Component, Configuration, Ended, Goes
 use Rattle.semantics.specs.Runs.{option_elim, start}
 use Rattle.semantics.specs.Snapshots.{Test, snapshot_of}
 use Rattle.semantics.specs.Statements.{Act, Waits, act}
-use Rattle.semantics.specs.Steps.{Expiry, Label, Statement, apply, next, settled}
+use Rattle.semantics.specs.Steps.{Delivery, Expiry, Label, Statement, apply, next, settled}
 use Rattle.value_types.specs.Outcomes.{Outcome}
 use Rattle.value_types.specs.declared.path.Path.{Path}
 
@@ -39,6 +39,7 @@ still_held (Goes c) held = filter (λ h. is_found (λ component. is_running_stat
 abbrev pub noted : Label → Held → Held
 noted (Statement path) h = h
 noted (Expiry path number name) h = if same_path h.path path then record { path = h.path; taken = h.taken; since = h.since ++ Expiry path number name ∷ [] } else h
+noted (Delivery system_port) h = h
 
 -- where a label leads; where it leads nowhere, nothing changes
 abbrev pub after_label : Test → Configuration → Label → Configuration

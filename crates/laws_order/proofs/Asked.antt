@@ -19,7 +19,7 @@ use Rattle.semantics.specs.Events.{Effect, Elapses, Plain, Receives, Redirect, T
 use Rattle.semantics.specs.Items.{Item, Part, Waiting, action_of, items}
 use Rattle.semantics.specs.Sites.{Site, beginning}
 use Rattle.semantics.specs.Snapshots.{Snapshot, Test}
-use Rattle.semantics.specs.Statements.{Act, Connects, Continues, Creates, Errs, Removes, Requests, Sends, Stand, Starts, Stops, Waits, Worsens, act, choice_at, choose_from, declared, done, judge_at, new_id, reads, with_child}
+use Rattle.semantics.specs.Statements.{Act, Connects, Continues, Creates, Errs, Maps, Removes, Requests, Sends, Stand, Starts, Stops, Unmaps, Waits, Worsens, act, choice_at, choose_from, declared, done, judge_at, new_id, reads, with_child}
 use Rattle.semantics.specs.Storing.{declare, declare_timer, forget, going_on, in_last, store, target_meant, with_calls, with_remaining}
 use Rattle.semantics.specs.Taking.{effected, entered, from_mark, marked, repeat_in, repeated, store_all, taken}
 use Rattle.value_types.specs.Literals.{value_wanted}
@@ -41,6 +41,8 @@ IsAskedInOrder itself n (Requests (Creates new) own) = (path_of new ≡ child_of
 IsAskedInOrder itself n (Requests (Starts path frame) own) = IsFrameInOrder frame × HasNone frame.remaining × IsDataInOrder n own
 IsAskedInOrder itself n (Requests (Stops path) own) = IsDataInOrder n own
 IsAskedInOrder itself n (Requests (Connects d e) own) = IsDataInOrder n own
+IsAskedInOrder itself n (Requests (Maps d system_port) own) = IsDataInOrder n own
+IsAskedInOrder itself n (Requests (Unmaps d system_port) own) = IsDataInOrder n own
 
 -- the frame of a call is in order, and begins with no mark
 abbrev pub IsNewFrame : Frame → Type 0
@@ -166,6 +168,8 @@ module _ (n : ℕ) (stand : Stand) (own : IsDataInOrder n stand.own) (below : Al
     stops_last = λ under. left-ordered [] (All-nil IsFrameInOrder);
     stops = λ reference c meant. done-ordered;
     connects = λ one other c d first second may. done-ordered;
+    maps = λ m c meant may. done-ordered;
+    unmaps = λ m c meant. done-ordered;
   }
 
 -- a component asks for what is in order, where its data are

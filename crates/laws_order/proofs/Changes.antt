@@ -1,5 +1,5 @@
 -- What is done among the components leaves the order.
-use Rattle.std.proofs.Common.{◌≡◌, ℕ, ◌+◌, Bool, true, false, List, [], ◌∷◌, ◌++◌, map, Option, Some, None, IfSome, is_some, refl, sym, ap, subst, ◌∙◌, if◌then◌else◌}
+use Rattle.std.proofs.Common.{◌≡◌, ℕ, ◌+◌, Bool, true, false, ◌&&◌, not, List, [], ◌∷◌, ◌++◌, map, bytes_eq, Option, Some, None, IfSome, is_some, refl, sym, ap, subst, ◌∙◌, if◌then◌else◌}
 use Rattle.std.specs.List.{All, AllPairs, filter, find}
 use Rattle.std.specs.Ordering.{is_eq, is_lt, ordering_reverse}
 use Rattle.std.specs.declared.cmp.Ordering.{Ordering}
@@ -18,12 +18,12 @@ use Rattle.laws_order.proofs.Puts.{put-ordered}
 use Rattle.laws_order.proofs.Stored.{IsDataInOrder, IsFrameInOrder, last-ordered}
 use Rattle.laws_order.proofs.Unmarked.{HasNone, LastHasNone, none-uncovered}
 use Rattle.semantics.proofs.Pairs.{All-more, pairs-append, pairs-head, pairs-map, pairs-more, pairs-nil, pairs-tail}
-use Rattle.semantics.specs.Configurations.{Component, Configuration, Connection, Data, Frame, Going, Message, State, Terminated, component_at, is_terminated_state, path_cmp, path_of, same_path}
-use Rattle.semantics.specs.Entries.{Entries}
+use Rattle.semantics.specs.Configurations.{Component, Configuration, Connection, Data, End, Frame, Going, Message, State, Terminated, component_at, is_terminated_state, path_cmp, path_of, same_end, same_path}
+use Rattle.semantics.specs.Entries.{Entries, name_cmp, put}
 use Rattle.semantics.specs.Order.{Ascends, HasNamesInOrder}
 use Rattle.semantics.specs.Snapshots.{Snapshot, Test, snapshot_of}
 use Rattle.semantics.specs.Statements.{act}
-use Rattle.semantics.specs.Steps.{add_connection, apply, at_queue, begin, connection, connection_cmp, exchanged, expire_in, expired, expired_call, expired_frame, insert, settle, touch, unless_terminated, with_connection, with_data, with_new, with_state, with_verdict, without_first}
+use Rattle.semantics.specs.Steps.{add_connection, apply, at_queue, begin, come_in, connection, connection_cmp, exchanged, expire_in, expired, expired_call, expired_frame, insert, put_behind, settle, touch, unless_terminated, with_connection, with_data, with_delivery, with_mappings, with_new, with_state, with_verdict, without_first}
 use Rattle.semantics.specs.Storing.{with_remaining}
 use Rattle.semantics.specs.Taking.{without_marks}
 use Rattle.value_types.specs.Frames.{entry}
@@ -31,6 +31,7 @@ use Rattle.value_types.specs.declared.frame.TimerState.{TimerState}
 use Rattle.value_types.specs.declared.frame.TimerState.TheVariants as timer
 use Rattle.value_types.specs.declared.path.Path.{Path}
 use Rattle.value_types.specs.declared.value.ComponentId.{ComponentId}
+use Rattle.value_types.specs.declared.value.Value.{Value}
 
 pub record IsComponentInOrder (component : Component) : Type 0 where
   pub own : IsDataInOrder component.own.children component.own
@@ -43,6 +44,7 @@ pub record IsGoingInOrder (c : Going) : Type 0 where
   pub components : AllPairs Precedes c.components
   pub within : All IsComponentInOrder c.components
   pub connections : Ascends connection_cmp c.connections
+  pub mappings : HasNamesInOrder c.mappings
 
 -- ---- changes of a component
 
@@ -73,12 +75,13 @@ unless-gentle change gentle = record {
 }
 
 -- a change of each component
-pub each-ordered : (change : Component → Component) → IsGentle change → (c : Going) → IsGoingInOrder c → IsGoingInOrder (record { components = map change c.components; connections = c.connections; forgotten = c.forgotten })
+pub each-ordered : (change : Component → Component) → IsGentle change → (c : Going) → IsGoingInOrder c → IsGoingInOrder (record { components = map change c.components; connections = c.connections; mappings = c.mappings; delivered = c.delivered; forgotten = c.forgotten })
 each-ordered change gentle c is = record {
   components = pairs-map Precedes change c.components
       (pairs-more Precedes (λ a b. Precedes (change a) (change b)) (λ a b less. ap (λ p. path_cmp p (path_of (change b))) (gentle.path a) ∙ ap (path_cmp (path_of a)) (gentle.path b) ∙ less) c.components is.components);
   within = All-map IsComponentInOrder change c.components (All-more IsComponentInOrder (λ x. IsComponentInOrder (change x)) gentle.within c.components is.within);
   connections = is.connections;
+  mappings = is.mappings;
 }
 
 pick-gentle : (path : Path) (change : Component → Component) → IsGentle change → IsGentle (λ component. if same_path (path_of component) path then change component else component)
@@ -173,6 +176,7 @@ new-ordered new c fine is = record {
   components = new-components new c (is_some (component_at c (path_of new))) refl is.components;
   within = new-each IsComponentInOrder new c (is_some (component_at c (path_of new))) fine is.within;
   connections = is.connections;
+  mappings = is.mappings;
 }
 
 -- ---- connections
@@ -200,7 +204,16 @@ add-ordered new ks ordered =
     behind = All-more (λ k. is_lt (connection_cmp new k) ≡ true) (Before new) (λ k e. is-less (connection_cmp new k) e) (filter (λ k. is_lt (connection_cmp new k)) ks) (filter_passes (λ k. is_lt (connection_cmp new k)) ks)
 
 connection-ordered : (new : Connection) (c : Going) → IsGoingInOrder c → IsGoingInOrder (with_connection new c)
-connection-ordered new c is = record { components = is.components; within = is.within; connections = add-ordered new c.connections is.connections }
+connection-ordered new c is = record { components = is.components; within = is.within; connections = add-ordered new c.connections is.connections; mappings = is.mappings }
+
+-- ---- mappings
+
+mapped-ordered : (mappings : Entries End) (c : Going) → HasNamesInOrder mappings → IsGoingInOrder c → IsGoingInOrder (with_mappings mappings c)
+mapped-ordered mappings c ordered is = record { components = is.components; within = is.within; connections = is.connections; mappings = ordered }
+
+-- some of them go
+fewer-ordered : (stays : List ℕ × End → Bool) (c : Going) → IsGoingInOrder c → IsGoingInOrder (with_mappings (filter stays c.mappings) c)
+fewer-ordered stays c is = mapped-ordered (filter stays c.mappings) c (AllPairs-filter (λ (d e : List ℕ × End). name_cmp d.0 e.0 ≡ Less) stays c.mappings is.mappings) is
 
 -- ---- what a component asks for
 
@@ -221,13 +234,17 @@ applies c itself asking n is = record {
   continues = λ own asks. settled n own asks;
   worsens = λ v own asks. touch-ordered (settle c itself.path own) itself.path (with_verdict v) (verdict-gentle v) (settled n own asks);
   removes = λ port own asks. touch-ordered (settle c itself.path own) itself.path (at_queue port without_first) (queue-gentle port without_first) (settled n own asks);
-  delivers = λ port to v own e asks. touch-ordered (settle c itself.path own) e.component (at_queue e.port (λ messages. messages ++ record { value = v; sender = itself } ∷ []))
-      (queue-gentle e.port (λ messages. messages ++ record { value = v; sender = itself } ∷ [])) (settled n own asks);
+  delivers = λ port to v own e asks. touch-ordered (settle c itself.path own) e.component (at_queue e.port (λ messages. messages ++ record { value = v; sender = Some itself } ∷ []))
+      (queue-gentle e.port (λ messages. messages ++ record { value = v; sender = Some itself } ∷ [])) (settled n own asks);
+  sends_out = λ port to v own asks. settled n own asks;
   creates = λ new own asks. new-ordered new (settle c itself.path own) (new-fine new asks.1 asks.2) (settled (n + 1) own asks.4);
   starts = λ path frame own asks. touch-ordered (settle c itself.path own) path (begin frame) (begin-gentle frame asks.0 asks.1) (settled n own asks.2);
   lacks = λ path frame own asks found. tt;
-  stops = λ path own asks. touch-ordered (settle c itself.path own) path (with_state Terminated) (state-gentle Terminated) (settled n own asks);
+  stops = λ path own asks. fewer-ordered (λ m. not (same_path m.1.component path)) (touch (settle c itself.path own) path (with_state Terminated))
+      (touch-ordered (settle c itself.path own) path (with_state Terminated) (state-gentle Terminated) (settled n own asks));
   connects = λ d e own asks. connection-ordered (connection d e) (settle c itself.path own) (settled n own asks);
+  maps = λ d system_port own asks. mapped-ordered (put system_port d c.mappings) (settle c itself.path own) (put-ordered system_port d c.mappings is.mappings) (settled n own asks);
+  unmaps = λ d system_port own asks. fewer-ordered (λ m. not (same_end d m.1 && bytes_eq m.0 system_port)) (settle c itself.path own) (settled n own asks);
 }
   where
     settled : (m : ℕ) (own : Data) → IsDataInOrder m own → IsGoingInOrder (settle c itself.path own)
@@ -273,6 +290,18 @@ expired-ordered n number name own is marks =
         first-same : other.remaining ∷ map (λ frame. frame.remaining) others ≡ frame.remaining ∷ map (λ frame. frame.remaining) frames → other.remaining ≡ frame.remaining
         first-same e = cc
 
+-- ---- deliveries
+
+-- nothing is said of how many messages came in
+counted-ordered : (system_port : List ℕ) (c : Going) → IsGoingInOrder c → IsGoingInOrder (with_delivery system_port c)
+counted-ordered system_port c is = record { components = is.components; within = is.within; connections = is.connections; mappings = is.mappings }
+
+come-ordered : (system_port : List ℕ) (e : End) (v : Value) (c : Going) → IsGoingInOrder c → IsGoingInOrder (come_in system_port e v c)
+come-ordered system_port e v c is =
+    counted-ordered system_port (put_behind (record { value = v; sender = None }) e c)
+    (touch-ordered c e.component (at_queue e.port (λ messages. messages ++ record { value = v; sender = None } ∷ []))
+    (queue-gentle e.port (λ messages. messages ++ record { value = v; sender = None } ∷ [])) is)
+
 -- ---- steps
 
 pub component-ordered : (c : Going) (p : Path) (x : Component) → IsGoingInOrder c → component_at c p ≡ Some x → IsComponentInOrder x
@@ -293,4 +322,5 @@ steps-ordered test c is = record {
       let fine : IsComponentInOrder x = component-ordered c p x is found in
       let new : AreDataExpired x.own.children own = some-of (AreDataExpired x.own.children) (expired number name x.own) own changed (expired-ordered x.own.children number name x.own fine.own fine.marks) in
       touch-ordered c (path_of x) (exchanged own) (exchanged-gentle own (record { members = new.own.members; calls = new.own.calls; count = refl }) new.marks) is;
+  comes = λ system_port e v mapped found. come-ordered system_port e v c is;
 }

@@ -16,13 +16,15 @@ use Rattle.laws_order.proofs.Members.{members-ordered}
 use Rattle.laws_order.proofs.Stored.{IsDataInOrder, IsFrameInOrder}
 use Rattle.laws_order.specs.Families.{IsChild, IsFamily, StandsInFamily}
 use Rattle.semantics.proofs.Pairs.{All-more}
-use Rattle.semantics.specs.Configurations.{Component, Configuration, Connection, Created, Data, Ended, Frame, Goes, Going, Running, State, Terminated, component_at, is_running_state, is_terminated_state, path_of, same_path}
+use Rattle.semantics.specs.Configurations.{Component, Configuration, Connection, Created, Data, End, Ended, Frame, Goes, Going, Running, State, Terminated, component_at, is_running_state, is_terminated_state, path_of, same_path}
 use Rattle.semantics.specs.Creating.{child_of, new_members}
+use Rattle.semantics.specs.Entries.{Entries, put}
 use Rattle.semantics.specs.Runs.{first_snapshot, mtc_with, replay, start}
 use Rattle.semantics.specs.Snapshots.{Test, mtc_of, snapshot_of}
 use Rattle.semantics.specs.Statements.{Creates, Requests, act}
-use Rattle.semantics.specs.Steps.{Label, apply, at_queue, begin, connection, exchanged, expired, insert, settle, touch, unless_terminated, with_connection, with_data, with_new, with_state, with_verdict, without_first}
+use Rattle.semantics.specs.Steps.{Label, apply, at_queue, begin, come_in, connection, exchanged, expired, insert, put_behind, settle, touch, unless_terminated, unmap_port, with_connection, with_data, with_new, with_state, with_verdict, without_component, without_first}
 use Rattle.value_types.specs.declared.path.Path.{Path}
+use Rattle.value_types.specs.declared.value.Value.{Value}
 
 -- ---- changes
 
@@ -30,7 +32,7 @@ abbrev HasOrigin : Going → Component → Type 0
 HasOrigin c component = ((path_of component).numbers ≡ []) ⊎ IsChild c component
 
 abbrev changed : (Component → Component) → Going → Going
-changed g c = record { components = map g c.components; connections = c.connections; forgotten = c.forgotten }
+changed g c = record { components = map g c.components; connections = c.connections; mappings = c.mappings; delivered = c.delivered; forgotten = c.forgotten }
 
 -- a change that keeps paths, and by which no component has fewer children
 record IsGrowing (c : Going) (g : Component → Component) : Type 0 where
@@ -93,7 +95,7 @@ family-data c component own there le family =
 -- ---- new components
 
 abbrev going-with : Going → List Component → Going
-going-with c xs = record { components = xs; connections = c.connections; forgotten = c.forgotten }
+going-with c xs = record { components = xs; connections = c.connections; mappings = c.mappings; delivered = c.delivered; forgotten = c.forgotten }
 
 other-path : (c : Going) (new x : Component) (p : Path) (b : Bool) → same_path (path_of new) p ≡ b → is_some (component_at c (path_of new)) ≡ false → component_at c p ≡ Some x → same_path (path_of new) p ≡ false
 other-path c new x p false is none found = is
@@ -150,13 +152,17 @@ child-created c component new own there runs path count = record {
 
 -- ---- what a component asks for
 
--- connections have no part in it
-child-connected : (c : Going) (ks : List Connection) (x : Component) → IsChild c x → IsChild (record { components = c.components; connections = ks; forgotten = c.forgotten }) x
-child-connected c ks x is = record { parent = is.parent; there = is.there; number = is.number; created = is.created; path = is.path }
+-- connections, mappings and what came in have no part in it
+child-connected : (c : Going) (ks : List Connection) (ms : Entries End) (ds : Entries ℕ) (x : Component) → IsChild c x → IsChild (record { components = c.components; connections = ks; mappings = ms; delivered = ds; forgotten = c.forgotten }) x
+child-connected c ks ms ds x is = record { parent = is.parent; there = is.there; number = is.number; created = is.created; path = is.path }
 
-origin-connected : (c : Going) (ks : List Connection) (x : Component) → HasOrigin c x → HasOrigin (record { components = c.components; connections = ks; forgotten = c.forgotten }) x
-origin-connected c ks x (inl first) = inl first
-origin-connected c ks x (inr child) = inr (child-connected c ks x child)
+origin-connected : (c : Going) (ks : List Connection) (ms : Entries End) (ds : Entries ℕ) (x : Component) → HasOrigin c x → HasOrigin (record { components = c.components; connections = ks; mappings = ms; delivered = ds; forgotten = c.forgotten }) x
+origin-connected c ks ms ds x (inl first) = inl first
+origin-connected c ks ms ds x (inr child) = inr (child-connected c ks ms ds x child)
+
+family-connected : (c : Going) (ks : List Connection) (ms : Entries End) (ds : Entries ℕ) → IsFamily c → IsFamily (record { components = c.components; connections = ks; mappings = ms; delivered = ds; forgotten = c.forgotten })
+family-connected c ks ms ds family =
+    All-more (HasOrigin c) (HasOrigin (record { components = c.components; connections = ks; mappings = ms; delivered = ds; forgotten = c.forgotten })) (origin-connected c ks ms ds) c.components family
 
 module _ (c : Going) (component : Component) (there : IsFound c component) (runs : is_running_state component.state ≡ true) (family : IsFamily c) where
   same-count : (own : Data) → IsDataInOrder component.own.children own → IsFamily (settle c (path_of component) own)
@@ -174,22 +180,30 @@ module _ (c : Going) (component : Component) (there : IsFound c component) (runs
     continues = λ own asks. same-count own asks;
     worsens = λ v own asks. steady own (path_of component) (with_verdict v) (λ x. refl) (λ x. refl) asks;
     removes = λ port own asks. steady own (path_of component) (at_queue port without_first) (λ x. refl) (λ x. refl) asks;
-    delivers = λ port to v own e asks. steady own e.component (at_queue e.port (λ messages. messages ++ record { value = v; sender = component.itself } ∷ [])) (λ x. refl) (λ x. refl) asks;
+    delivers = λ port to v own e asks. steady own e.component (at_queue e.port (λ messages. messages ++ record { value = v; sender = Some component.itself } ∷ [])) (λ x. refl) (λ x. refl) asks;
+    sends_out = λ port to v own asks. same-count own asks;
     creates = λ new own asks. family-new (settle c (path_of component) own) new (child-created c component new own there runs asks.0 asks.4.count)
         (family-data c component own there (let e = asks.4.count in omega (arith, e)) family);
     starts = λ path frame own asks. steady own path (begin frame) (λ x. refl) (λ x. refl) asks.2;
     lacks = λ path frame own asks found. tt;
-    stops = λ path own asks. steady own path (with_state Terminated) (λ x. refl) (λ x. refl) asks;
-    connects = λ d e own asks.
-        All-more (HasOrigin (settle c (path_of component) own)) (HasOrigin (with_connection (connection d e) (settle c (path_of component) own)))
-        (origin-connected (settle c (path_of component) own) (with_connection (connection d e) (settle c (path_of component) own)).connections)
-        (settle c (path_of component) own).components (same-count own asks);
+    stops = λ path own asks.
+        family-connected (touch (settle c (path_of component) own) path (with_state Terminated)) c.connections (without_component path c.mappings) c.delivered
+        (steady own path (with_state Terminated) (λ x. refl) (λ x. refl) asks);
+    connects = λ d e own asks. family-connected (settle c (path_of component) own) (with_connection (connection d e) (settle c (path_of component) own)).connections c.mappings c.delivered (same-count own asks);
+    maps = λ d system_port own asks. family-connected (settle c (path_of component) own) c.connections (put system_port d c.mappings) c.delivered (same-count own asks);
+    unmaps = λ d system_port own asks. family-connected (settle c (path_of component) own) c.connections (unmap_port (settle c (path_of component) own) d system_port).mappings c.delivered (same-count own asks);
   }
 
   family-expired : (own : Data) → AreDataExpired component.own.children own → IsFamily (touch c (path_of component) (exchanged own))
   family-expired own is =
       family-touched c (path_of component) (exchanged own) (λ x. refl)
       (λ x also. subst (λ (y : Component). y.own.children ≤ own.children) (some-is component x (sym there ∙ also)) (let e = is.own.count in omega (arith, e))) family
+
+-- a message that comes in
+family-come : (c : Going) (system_port : List ℕ) (e : End) (v : Value) → IsFamily c → IsFamily (come_in system_port e v c)
+family-come c system_port e v family =
+    family-connected (put_behind (record { value = v; sender = None }) e c) c.connections c.mappings (come_in system_port e v c).delivered
+    (family-steady c e.component (at_queue e.port (λ messages. messages ++ record { value = v; sender = None } ∷ [])) (λ x. refl) (λ x. refl) family)
 
 -- ---- runs
 
@@ -216,12 +230,13 @@ steps-well test c is = record {
         family = family-expired c x (found-itself c p x found) runs is.family own
             (some-of (AreDataExpired x.own.children) (expired number name x.own) own changed (expired-ordered x.own.children number name x.own fine.own fine.marks));
       };
+  comes = λ system_port e v mapped found. record { order = (steps-ordered test c is.order).comes system_port e v mapped found; family = family-come c system_port e v is.family };
 }
 
-family-first : (test : Test) (body : List tree.Statement) (members : Frame) → IsFamily (record { components = mtc_with test body members ∷ []; connections = []; forgotten = verdict.None })
+family-first : (test : Test) (body : List tree.Statement) (members : Frame) → IsFamily (record { components = mtc_with test body members ∷ []; connections = []; mappings = []; delivered = []; forgotten = verdict.None })
 family-first test body members =
-    All-cons (HasOrigin (record { components = mtc_with test body members ∷ []; connections = []; forgotten = verdict.None })) (mtc_with test body members) [] (inl refl)
-    (All-nil (HasOrigin (record { components = mtc_with test body members ∷ []; connections = []; forgotten = verdict.None })))
+    All-cons (HasOrigin (record { components = mtc_with test body members ∷ []; connections = []; mappings = []; delivered = []; forgotten = verdict.None })) (mtc_with test body members) [] (inl refl)
+    (All-nil (HasOrigin (record { components = mtc_with test body members ∷ []; connections = []; mappings = []; delivered = []; forgotten = verdict.None })))
 
 start-well : (test : Test) → IfGoes StandsWell (start test)
 start-well test =

@@ -21,7 +21,7 @@ put-each-first P name a e entries Less new each others = All-cons P (name, a) (e
 put-each-first P name a e entries Equal new each others = All-cons P (name, a) entries new (All-tail P e entries each)
 put-each-first P name a e entries Greater new each others = All-cons P e (put name a entries) (All-head P e entries each) others
 
-put-each : {A : Type 0} (P : List ℕ × A → Type 0) (name : List ℕ) (a : A) (entries : Entries A) → P (name, a) → All P entries → All P (put name a entries)
+pub put-each : {A : Type 0} (P : List ℕ × A → Type 0) (name : List ℕ) (a : A) (entries : Entries A) → P (name, a) → All P entries → All P (put name a entries)
 put-each P name a [] new each = All-cons P (name, a) [] new (All-nil P)
 put-each P name a (e ∷ entries) new each = put-each-first P name a e entries (name_cmp name e.0) new each (put-each P name a entries new (All-tail P e entries each))
 

@@ -56,6 +56,7 @@ told-going c is = record {
   within = All-both IsOrderedWithin (λ x. HasValuesInOrder x × HasNoMarkFirst x) IsComponentInOrder told-component c.components is.ordered.within
       (All-both HasValuesInOrder HasNoMarkFirst (λ x. HasValuesInOrder x × HasNoMarkFirst x) (λ x v m. (v, m)) c.components is.values is.marks);
   connections = is.connections;
+  mappings = is.ordered.mappings;
 }
 
 said-timers : (x : Component) → IsComponentInOrder x → IsOrderedWithin x
@@ -69,7 +70,7 @@ said-marks x is = uncovered-none x.own x.own.calls refl is.marks
 
 said-going : (c : Going) → IsGoingInOrder c → IsInOrder c
 said-going c is = record {
-  ordered = record { components = is.components; within = All-more IsComponentInOrder IsOrderedWithin said-timers c.components is.within };
+  ordered = record { components = is.components; within = All-more IsComponentInOrder IsOrderedWithin said-timers c.components is.within; mappings = is.mappings };
   values = All-more IsComponentInOrder HasValuesInOrder said-values c.components is.within;
   connections = is.connections;
   marks = All-more IsComponentInOrder HasNoMarkFirst said-marks c.components is.within;
@@ -96,11 +97,12 @@ mtc-ordered test body members is = record {
 }
 
 pub first-ordered : (test : Test) (body : List Statement) (members : Frame) → IsFrameInOrder members
-    → IsGoingInOrder (record { components = mtc_with test body members ∷ []; connections = []; forgotten = verdict.None })
+    → IsGoingInOrder (record { components = mtc_with test body members ∷ []; connections = []; mappings = []; delivered = []; forgotten = verdict.None })
 first-ordered test body members is = record {
   components = AllPairs-cons Precedes (mtc_with test body members) [] (All-nil (Precedes (mtc_with test body members))) (pairs-nil Precedes);
   within = All-cons IsComponentInOrder (mtc_with test body members) [] (mtc-ordered test body members is) (All-nil IsComponentInOrder);
   connections = pairs-nil (λ k l. connection_cmp k l ≡ Less);
+  mappings = none-ordered;
 }
 
 pub starts : (test : Test) → IsConfigurationInOrder (start test)
@@ -168,7 +170,7 @@ live-gentle = record {
 live-going : (c : Going) → IsGoingInOrder c → IsGoingInOrder (live_going c)
 live-going c is =
     let each = each-ordered live_component live-gentle c is in
-    record { components = each.components; within = each.within; connections = AllPairs-filter (λ k l. connection_cmp k l ≡ Less) (is_live c) c.connections is.connections }
+    record { components = each.components; within = each.within; connections = AllPairs-filter (λ k l. connection_cmp k l ≡ Less) (is_live c) c.connections is.connections; mappings = is.mappings }
 
 pub live_ordered : (c : Configuration) → StandsInOrder c → StandsInOrder (live_part c)
 live_ordered (Ended v) is = tt

@@ -15,9 +15,9 @@ pub record HasValuesInOrder (component : Component) : Type 0 where
 abbrev pub HasNoMarkFirst : Component → Type 0
 HasNoMarkFirst component = uncovered component.own ≡ component.own
 
--- components, timers, values and connections stand in their order, and no component has a mark in front
+-- components, timers, values, connections and mappings stand in their order, and no component has a mark in front
 pub record IsInOrder (c : Going) : Type 0 where
-  -- components by path, and the timers of each frame by name
+  -- components by path, the timers of each frame by name, and mappings by the names of the system ports
   pub ordered : IsOrdered c
   -- the values of each frame by name
   pub values : All HasValuesInOrder c.components

@@ -29,13 +29,13 @@ use Rattle.laws_steps.proofs.Acting.{Keeps, act-asks, end-asks, part-asks}
 use Rattle.laws_steps.proofs.Found.{some-of}
 use Rattle.laws_steps.proofs.Outcomes.{map-yields, then-yields, yields-is}
 use Rattle.semantics.specs.Branches.{Chance, Written, written_alt, written_defaults}
-use Rattle.semantics.specs.Configurations.{Data, End, Frame, path_of}
+use Rattle.semantics.specs.Configurations.{Data, End, Frame, path_of, same_end}
 use Rattle.semantics.specs.Creating.{child_of, new_component, new_members, ports_of}
 use Rattle.semantics.specs.Events.{Effect, Elapses, Plain, Receives, Redirect, Taken}
 use Rattle.semantics.specs.Items.{Item, Part, Waiting, action_of, items}
 use Rattle.semantics.specs.Sites.{Site, beginning, scope_at}
 use Rattle.semantics.specs.Snapshots.{Snapshot, Test, last_view, mtc_of}
-use Rattle.semantics.specs.Statements.{Act, Connects, Continues, Creates, Errs, Removes, Requests, Sends, Stand, Starts, Stops, Waits, Worsens, act, choice_at, choose_from, component_meant_at, declared, done, judge_at, may_connect, new_id, port_type, reads, same_end, sent_to, sent_type, sent_value, suit_each_other, with_child}
+use Rattle.semantics.specs.Statements.{Act, Connects, Continues, Creates, Errs, Maps, Removes, Requests, Sends, Stand, Starts, Stops, Unmaps, Waits, Worsens, act, choice_at, choose_from, component_meant_at, declared, done, is_mappable, judge_at, may_connect, may_map, new_id, port_type, reads, sent_to, sent_type, sent_value, suit_each_other, system_type, with_child}
 use Rattle.semantics.specs.Storing.{declare, declare_timer, forget, going_on, in_last, store, target_meant, with_calls, with_remaining}
 use Rattle.semantics.specs.Taking.{effected, entered, from_mark, marked, repeat_in, repeated, store_all, taken}
 use Rattle.value_types.specs.Literals.{value_wanted}
@@ -49,11 +49,12 @@ use Rattle.value_types.specs.declared.value.Value.TheVariants as value
 abbrev pub IsEndOf : (ComponentId → Type 0) → List Definition → End → Type 0
 IsEndOf P definitions e = (id : ComponentId) × P id × (id.path ≡ e.component) × (list_any (λ name. bytes_eq name e.port) (port_names definitions id.component_type) ≡ true)
 
--- what a component that has created so many others asks for: it refers only to such components, connects ports of such, and a new one is its next child, with the ports of its type
+-- what a component that has created so many others asks for: it refers only to such components, connects and maps ports of such, and a new one is its next child, with the ports of its type
 abbrev pub IsAsked : (ComponentId → Type 0) → List Definition → ComponentId → ℕ → Act → Type 0
 IsAsked P definitions itself n (Requests (Creates new) own) =
     (path_of new ≡ child_of itself n) × ComponentRefersTo (HoldsOrIs P new.itself) new × DataReferTo (HoldsOrIs P new.itself) own × HasItsPorts definitions new
 IsAsked P definitions itself n (Requests (Connects d e) own) = IsEndOf P definitions d × IsEndOf P definitions e × DataReferTo P own
+IsAsked P definitions itself n (Requests (Maps d system_port) own) = IsEndOf P definitions d × DataReferTo P own
 IsAsked P definitions itself n other = ActRefersTo P other
 
 -- where a component stands
@@ -123,15 +124,23 @@ module _ (P : ComponentId → Type 0) (stand : Stand) (is : StandsAmong P stand)
   both-some (Some one) None fits = absurd (let no = fits in cc)
   both-some (Some one) (Some other) fits = (refl, refl)
 
-  end-of : (c : ComponentId) (p : List ℕ) → P c → is_some (port_type stand.test.definitions c p) ≡ true → IsEndOf P stand.test.definitions (record { component = c.path; port = p })
+  end-of : (c : ComponentId) (p : List ℕ) → P c → is_some (port_type stand.test.definitions c.component_type p) ≡ true → IsEndOf P stand.test.definitions (record { component = c.path; port = p })
   end-of c p holds is = (c, holds, refl, port-named stand.test.definitions c.component_type p is)
 
   connection-asks : (c d : ComponentId) (p q : List ℕ) → P c → P d → may_connect stand.test.definitions c p d q ≡ true → Asks (Requests (Connects (record { component = c.path; port = p }) (record { component = d.path; port = q })) (done stand))
   connection-asks c d p q one other may =
-      let parts = and_parts (suit_each_other stand.test.definitions (port_type stand.test.definitions c p) (port_type stand.test.definitions d q))
+      let parts = and_parts (suit_each_other stand.test.definitions (port_type stand.test.definitions c.component_type p) (port_type stand.test.definitions d.component_type q))
       (not (same_end (record { component = c.path; port = p }) (record { component = d.path; port = q }))) may in
-      let some = both-some (port_type stand.test.definitions c p) (port_type stand.test.definitions d q) parts.0 in
+      let some = both-some (port_type stand.test.definitions c.component_type p) (port_type stand.test.definitions d.component_type q) parts.0 in
       (end-of c p one some.0, end-of d q other some.1, done-refers)
+
+  mappable-some : (one other : Option (Option ℕ)) → is_mappable stand.test.definitions one other ≡ true → is_some one ≡ true
+  mappable-some None other fits = absurd (let no = fits in cc)
+  mappable-some (Some one) other fits = refl
+
+  mapped-end : (c : ComponentId) (p system_port : List ℕ) → P c → may_map stand.test c p system_port ≡ true → IsEndOf P stand.test.definitions (record { component = c.path; port = p })
+  mapped-end c p system_port holds may =
+      end-of c p holds (mappable-some (port_type stand.test.definitions c.component_type p) (port_type stand.test.definitions (system_type stand.test) system_port) may)
 
   to-is : (site : Site) (to : Option ComponentRef) → IfYields (sent_to stand site to) (λ o. IfSome o (IsPathOf P))
   to-is site None = tt
@@ -253,6 +262,8 @@ module _ (P : ComponentId → Type 0) (stand : Stand) (is : StandsAmong P stand)
     connects = λ one other c d first second may.
         connection-asks c d one.port other.port (yields-is P (component_meant_at stand site one.component) c first (meant-is site one.component))
         (yields-is P (component_meant_at stand site other.component) d second (meant-is site other.component)) may;
+    maps = λ m c meant may. (mapped-end c m.port.port m.system_port (yields-is P (component_meant_at stand site m.port.component) c meant (meant-is site m.port.component)) may, done-refers);
+    unmaps = λ m c meant. (path-of c (yields-is P (component_meant_at stand site m.port.component) c meant (meant-is site m.port.component)), done-refers);
   }
 
 -- ---- steps of a component
@@ -288,6 +299,7 @@ module _ (P : ComponentId → Type 0) (test : Test) (snapshot : Snapshot) (own :
 pub act-refers : (P : ComponentId → Type 0) (definitions : List Definition) (itself : ComponentId) (n : ℕ) (asked : Act) → IsAsked P definitions itself n asked → ActRefersTo P asked
 act-refers P definitions itself n (Requests (Creates new) own) is = (is.1, is.2)
 act-refers P definitions itself n (Requests (Connects d e) own) is = ((is.0.0, is.0.1, is.0.2), (is.1.0, is.1.1, is.1.2), is.2)
+act-refers P definitions itself n (Requests (Maps d system_port) own) is = ((is.0.0, is.0.1, is.0.2), is.1)
 act-refers P definitions itself n Waits is = is
 act-refers P definitions itself n (Errs why) is = is
 act-refers P definitions itself n (Requests Continues own) is = is
@@ -296,3 +308,4 @@ act-refers P definitions itself n (Requests (Removes port) own) is = is
 act-refers P definitions itself n (Requests (Sends port to v) own) is = is
 act-refers P definitions itself n (Requests (Starts path frame) own) is = is
 act-refers P definitions itself n (Requests (Stops path) own) is = is
+act-refers P definitions itself n (Requests (Unmaps d system_port) own) is = is

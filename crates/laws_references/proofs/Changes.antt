@@ -1,5 +1,5 @@
 -- What is done among the components leaves each component there that is referred to.
-use Rattle.std.proofs.Common.{◌≡◌, ℕ, Bool, true, false, List, [], ◌∷◌, ◌++◌, map, Option, Some, None, IfSome, IsSomeAnd, inl, inr, is_some, option_map, bytes_eq, refl, sym, ap, subst, ◌∙◌, if◌then◌else◌}
+use Rattle.std.proofs.Common.{◌≡◌, ℕ, Bool, true, false, ◌&&◌, not, List, [], ◌∷◌, ◌++◌, map, Option, Some, None, IfSome, IsSomeAnd, inl, inr, is_some, option_map, bytes_eq, refl, sym, ap, subst, ◌∙◌, if◌then◌else◌}
 use Rattle.std.specs.List.{All, filter, find, list_any}
 use Rattle.std.specs.Ordering.{is_lt, match_ordering}
 use Rattle.std.specs.declared.cmp.Ordering.{Ordering}
@@ -9,27 +9,30 @@ use Rattle.ttcn_syntax.specs.declared.tree.definition.Definition.{Definition}
 use Rattle.ttcn_syntax.specs.declared.tree.statement.Verdict.{Verdict}
 use Rattle.laws_references.proofs.Asked.{IsAsked, IsEndOf}
 use Rattle.laws_order.proofs.Families.{child-new}
+use Rattle.laws_order.proofs.Puts.{put-each}
 use Rattle.laws_references.proofs.More.{component-more}
 use Rattle.laws_references.proofs.Ports.{names-kept, queue-found}
 use Rattle.laws_references.proofs.Stored.{last-refers}
 use Rattle.laws_references.proofs.There.{StayThere, found-map, found-there, new-there, stay-beside, stay-touched, there-is, touching, touching-same}
 use Rattle.laws_steps.proofs.Finding.{found-path}
 use Rattle.laws_references.specs.Acts.{HoldsOrIs}
-use Rattle.laws_references.specs.References.{ComponentRefersTo, DataReferTo, FrameRefersTo, MessageRefersTo, QueueRefersTo}
-use Rattle.laws_references.specs.There.{HasAllReferred, HasItsPorts, IsBetweenPorts, IsPortThere, IsThere, port_names}
+use Rattle.laws_references.specs.References.{ComponentRefersTo, DataReferTo, FrameRefersTo, MessageRefersTo, QueueRefersTo, RefersTo, RefersToNone}
+use Rattle.laws_references.specs.There.{HasAllReferred, HasItsPorts, IsBetweenPorts, IsOfPort, IsPortThere, IsThere, port_names}
 use Rattle.laws_steps.proofs.Applying.{Anyhow, Applies}
 use Rattle.laws_steps.proofs.Expiring.{KeepsTimers, calls-expire, data-expires, frame-expires}
 use Rattle.laws_steps.proofs.Found.{found-each, insert-each, some-of}
 use Rattle.laws_order.specs.Families.{IsFamily}
 use Rattle.semantics.proofs.Pairs.{All-more}
-use Rattle.semantics.specs.Configurations.{Component, Connection, Data, End, Frame, Going, Message, Queue, State, Terminated, component_at, end_cmp, is_terminated_state, path_of, same_path}
+use Rattle.semantics.specs.Configurations.{Component, Connection, Data, End, Frame, Going, Message, Queue, State, Terminated, component_at, end_cmp, is_terminated_state, path_of, same_end, same_path}
 use Rattle.semantics.specs.Creating.{child_of}
+use Rattle.semantics.specs.Entries.{Entries, put}
 use Rattle.semantics.specs.Snapshots.{Test, mtc_of}
-use Rattle.semantics.specs.Steps.{add_connection, at_queue, begin, change_queue, connection, connection_cmp, exchanged, expired, expired_call, expired_frame, insert, settle, touch, unless_terminated, with_connection, with_data, with_new, with_state, with_verdict, without_first}
+use Rattle.semantics.specs.Steps.{add_connection, at_queue, begin, change_queue, come_in, connection, connection_cmp, exchanged, expired, expired_call, expired_frame, insert, put_behind, settle, terminate, touch, unless_terminated, unmap_port, with_connection, with_data, with_delivery, with_mappings, with_new, with_state, with_verdict, without_first}
 use Rattle.semantics.specs.Storing.{with_remaining}
 use Rattle.semantics.specs.Taking.{without_marks}
 use Rattle.value_types.specs.declared.path.Path.{Path}
 use Rattle.value_types.specs.declared.value.ComponentId.{ComponentId}
+use Rattle.value_types.specs.declared.value.Value.{Value}
 
 module _ (P : ComponentId → Type 0) (definitions : List Definition) where
   abbrev Refers : Component → Type 0
@@ -39,11 +42,16 @@ module _ (P : ComponentId → Type 0) (definitions : List Definition) where
   abbrev ConnectionRefers : Connection → Type 0
   ConnectionRefers k = IsEndOf P definitions k.one × IsEndOf P definitions k.other
 
+  -- the port of a mapping is one of such a component
+  abbrev MappingRefers : List ℕ × End → Type 0
+  MappingRefers m = IsEndOf P definitions m.1
+
   -- all that is there refers only to such components
   pub record GoingRefers (c : Going) : Type 0 where
     pub components : All (ComponentRefersTo P) c.components
     pub ports : All (HasItsPorts definitions) c.components
     pub connections : All ConnectionRefers c.connections
+    pub mappings : All MappingRefers c.mappings
 
   -- ---- changes of a component
 
@@ -85,6 +93,7 @@ module _ (P : ComponentId → Type 0) (definitions : List Definition) where
     components = All-map Refers (touching p change) c.components (All-more Refers (λ x. Refers (touching p change x)) (touching-refers p change gentle) c.components is.components);
     ports = All-map (HasItsPorts definitions) (touching p change) c.components (All-more (HasItsPorts definitions) (λ x. HasItsPorts definitions (touching p change x)) (touching-ports p change gentle) c.components is.ports);
     connections = is.connections;
+    mappings = is.mappings;
   }
 
   pub data-gentle : (own : Data) → DataReferTo P own → IsGentle (with_data own)
@@ -147,6 +156,15 @@ module _ (P : ComponentId → Type 0) (definitions : List Definition) where
   behind-kept : (message : Message) → MessageRefersTo P message → KeepsMessages (λ messages. messages ++ message ∷ [])
   behind-kept message is messages all = All-append (MessageRefersTo P) messages (message ∷ []) all (All-cons (MessageRefersTo P) message [] is (All-nil (MessageRefersTo P)))
 
+  -- what came in refers to no component
+  none-refers : (v : Value) → RefersToNone v → RefersTo P v
+  none-refers v none = subst (All P) (sym none) (All-nil P)
+
+  come-gentle : (port : List ℕ) (v : Value) → RefersToNone v → IsGentle (at_queue port (λ messages. messages ++ record { value = v; sender = None } ∷ []))
+  come-gentle port v none =
+      queue-gentle port (λ messages. messages ++ record { value = v; sender = None } ∷ [])
+      (behind-kept (record { value = v; sender = None }) (record { value = none-refers v none; sender = tt }))
+
   -- ---- connections
 
   connection-if : (d e : End) (o : Ordering) → IsEndOf P definitions d → IsEndOf P definitions e → ConnectionRefers (match_ordering o (record { one = d; other = e }) (record { one = d; other = e }) (record { one = e; other = d }))
@@ -165,7 +183,13 @@ module _ (P : ComponentId → Type 0) (definitions : List Definition) where
     components = is.components;
     ports = is.ports;
     connections = added-refer (connection d e) c.connections (connection-if d e (end_cmp d e) one other) is.connections;
+    mappings = is.mappings;
   }
+
+  -- ---- mappings
+
+  mapped-refers : (mappings : Entries End) (c : Going) → All MappingRefers mappings → GoingRefers c → GoingRefers (with_mappings mappings c)
+  mapped-refers mappings c all is = record { components = is.components; ports = is.ports; connections = is.connections; mappings = all }
 
   -- ---- new components
 
@@ -178,6 +202,7 @@ module _ (P : ComponentId → Type 0) (definitions : List Definition) where
     components = new-if Refers new c (is_some (component_at c (path_of new))) fine is.components;
     ports = new-if (HasItsPorts definitions) new c (is_some (component_at c (path_of new))) its is.ports;
     connections = is.connections;
+    mappings = is.mappings;
   }
 
   -- ---- one change after another
@@ -193,8 +218,27 @@ module _ (P : ComponentId → Type 0) (definitions : List Definition) where
     stay = λ id there. stay-touched d p change gentle.same id (is.stay id there);
   }
 
+  mapped-follows : (c d : Going) (mappings : Entries End) → All MappingRefers mappings → Follows c d → Follows c (with_mappings mappings d)
+  mapped-follows c d mappings all is = record { refers = mapped-refers mappings d all is.refers; stay = λ id there. is.stay id there }
+
   pub itself-follows : (c : Going) → GoingRefers c → Follows c c
   itself-follows c is = record { refers = is; stay = λ id there. there }
+
+  -- one more message came in
+  counted-follows : (c d : Going) (system_port : List ℕ) → Follows c d → Follows c (with_delivery system_port d)
+  counted-follows c d system_port is = record {
+    refers = record { components = is.refers.components; ports = is.refers.ports; connections = is.refers.connections; mappings = is.refers.mappings };
+    stay = λ id there. is.stay id there;
+  }
+
+  pub come-follows : (c : Going) (system_port : List ℕ) (e : End) (v : Value) → RefersToNone v → GoingRefers c → Follows c (come_in system_port e v c)
+  come-follows c system_port e v none is =
+      counted-follows c (put_behind (record { value = v; sender = None }) e c) system_port
+      (touch-follows c c e.component (at_queue e.port (λ messages. messages ++ record { value = v; sender = None } ∷ [])) (come-gentle e.port v none) (itself-follows c is))
+
+  -- some mappings go
+  fewer-follows : (c d : Going) (stays : List ℕ × End → Bool) → Follows c d → Follows c (with_mappings (filter stays d.mappings) d)
+  fewer-follows c d stays is = mapped-follows c d (filter stays d.mappings) (All-filter stays MappingRefers d.mappings is.refers.mappings) is
 
   pub settle-follows : (c : Going) (p : Path) (own : Data) → DataReferTo P own → GoingRefers c → Follows c (settle c p own)
   settle-follows c p own fine is = touch-follows c c p (with_data own) (data-gentle own fine) (itself-follows c is)
@@ -227,6 +271,7 @@ going-more P Q definitions more c is = record {
   components = All-more (ComponentRefersTo P) (ComponentRefersTo Q) (component-more P Q more) c.components is.components;
   ports = is.ports;
   connections = All-more (ConnectionRefers P definitions) (ConnectionRefers Q definitions) (λ k ends. (end-more P Q definitions more k.one ends.0, end-more P Q definitions more k.other ends.1)) c.connections is.connections;
+  mappings = All-more (MappingRefers P definitions) (MappingRefers Q definitions) (λ m port. end-more P Q definitions more m.1 port) c.mappings is.mappings;
 }
 
 -- ---- in the words of the laws
@@ -256,6 +301,7 @@ module _ (test : Test) where
     ports = is.ports;
     connections = All-more (IsBetweenPorts c) (ConnectionRefers (IsThere c) test.definitions)
         (λ k ends. (end-there test.definitions c k.one is.ports ends.0, end-there test.definitions c k.other is.ports ends.1)) c.connections is.connections;
+    mappings = All-more (IsOfPort c) (MappingRefers (IsThere c) test.definitions) (λ m port. end-there test.definitions c m.1 is.ports port) c.mappings is.mappings;
   }
 
   -- where all such components are there
@@ -267,6 +313,8 @@ module _ (test : Test) where
     connections = All-more (ConnectionRefers P test.definitions) (IsBetweenPorts c)
         (λ k ends. (there-end test.definitions c k.one is.ports (end-more P (IsThere c) test.definitions there k.one ends.0), there-end test.definitions c k.other is.ports (end-more P (IsThere c) test.definitions there k.other ends.1)))
         c.connections is.connections;
+    mappings = All-more (MappingRefers P test.definitions) (IsOfPort c)
+        (λ m port. there-end test.definitions c m.1 is.ports (end-more P (IsThere c) test.definitions there m.1 port)) c.mappings is.mappings;
   }
 
   -- ---- what a component asks for
@@ -313,17 +361,30 @@ module _ (test : Test) where
         continues = λ own asks. followed (settle c (path_of x) own) (settled-follows own asks);
         worsens = λ v own asks. touched own (path_of x) (with_verdict v) (verdict-gentle (IsThere c) test.definitions v) asks;
         removes = λ port own asks. touched own (path_of x) (at_queue port without_first) (queue-gentle (IsThere c) test.definitions port without_first (first-kept (IsThere c) test.definitions)) asks;
-        delivers = λ port to v own e asks. touched own e.component (at_queue e.port (λ messages. messages ++ record { value = v; sender = x.itself } ∷ []))
-            (queue-gentle (IsThere c) test.definitions e.port (λ messages. messages ++ record { value = v; sender = x.itself } ∷ [])
-            (behind-kept (IsThere c) test.definitions (record { value = v; sender = x.itself }) (record { value = asks.1; sender = here }))) asks.2;
+        delivers = λ port to v own e asks. touched own e.component (at_queue e.port (λ messages. messages ++ record { value = v; sender = Some x.itself } ∷ []))
+            (queue-gentle (IsThere c) test.definitions e.port (λ messages. messages ++ record { value = v; sender = Some x.itself } ∷ [])
+            (behind-kept (IsThere c) test.definitions (record { value = v; sender = Some x.itself }) (record { value = asks.1; sender = here }))) asks.2;
+        sends_out = λ port to v own asks. followed (settle c (path_of x) own) (settled-follows own asks.2);
         creates = λ new own asks. new-follows new own asks.0 asks.1 asks.2 asks.3;
         starts = λ path frame own asks. touched own path (begin frame) (begin-gentle (IsThere c) test.definitions frame asks.1) asks.2;
         lacks = λ path frame own asks found. tt;
-        stops = λ path own asks. touched own path (with_state Terminated) (state-gentle (IsThere c) test.definitions Terminated) asks.1;
+        stops = λ path own asks.
+            let ended : Follows (IsThere c) test.definitions c (touch (settle c (path_of x) own) path (with_state Terminated)) =
+            touch-follows (IsThere c) test.definitions c (settle c (path_of x) own) path (with_state Terminated) (state-gentle (IsThere c) test.definitions Terminated) (settled-follows own asks.1) in
+            followed (terminate path (settle c (path_of x) own))
+            (fewer-follows (IsThere c) test.definitions c (touch (settle c (path_of x) own) path (with_state Terminated)) (λ m. not (same_path m.1.component path)) ended);
         connects = λ d e own asks.
             let settled : Follows (IsThere c) test.definitions c (settle c (path_of x) own) = settled-follows own asks.2 in
             followed (with_connection (connection d e) (settle c (path_of x) own)) (record {
               refers = connected-refers (IsThere c) test.definitions (settle c (path_of x) own) d e asks.0 asks.1 settled.refers;
               stay = λ id there. settled.stay id there;
             });
+        maps = λ d system_port own asks.
+            let settled : Follows (IsThere c) test.definitions c (settle c (path_of x) own) = settled-follows own asks.1 in
+            followed (with_mappings (put system_port d c.mappings) (settle c (path_of x) own))
+            (mapped-follows (IsThere c) test.definitions c (settle c (path_of x) own) (put system_port d c.mappings)
+            (put-each (MappingRefers (IsThere c) test.definitions) system_port d c.mappings asks.0 settled.refers.mappings) settled);
+        unmaps = λ d system_port own asks.
+            followed (unmap_port (settle c (path_of x) own) d system_port)
+            (fewer-follows (IsThere c) test.definitions c (settle c (path_of x) own) (λ m. not (same_end d m.1 && bytes_eq m.0 system_port)) (settled-follows own asks.1));
       }

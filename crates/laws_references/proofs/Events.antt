@@ -81,9 +81,10 @@ module _ (P : ComponentId → Type 0) where
       All-cons RedirectRefers (record { reference = reference; value = value.Component sender }) [] (component-refers P sender is) (All-nil RedirectRefers)
   sender-if false reference sender is = tt
 
-  sender-redirected : (scope : Scope) (o : Option Reference) (sender : ComponentId) → P sender → IfYields (redirected_sender scope o sender) (All RedirectRefers)
+  sender-redirected : (scope : Scope) (o : Option Reference) (sender : Option ComponentId) → IfSome sender P → IfYields (redirected_sender scope o sender) (All RedirectRefers)
   sender-redirected scope None sender is = All-nil RedirectRefers
-  sender-redirected scope (Some reference) sender is = sender-if (fits_sender sender (target_at scope reference).data_type) reference sender is
+  sender-redirected scope (Some reference) None is = tt
+  sender-redirected scope (Some reference) (Some sender) is = sender-if (fits_sender sender (target_at scope reference).data_type) reference sender is
 
   redirects-refer : (scope : Scope) (receive : Receive) (message : Message) → MessageRefersTo P message → IfYields (redirects scope receive message) (All RedirectRefers)
   redirects-refer scope receive message is =

@@ -15,10 +15,10 @@ use Rattle.laws_references.specs.Acts.{ActRefersTo, IsPathOf}
 use Rattle.laws_references.specs.References.{ComponentRefersTo, EntriesReferTo, ReadingRefersTo, RefersTo, SnapshotRefersTo}
 use Rattle.laws_references.specs.There.{HasAllReferred, IsBetweenPorts, IsPortThere, IsThere, StandsWithAllReferred}
 use Rattle.semantics.proofs.Pairs.{All-flat, All-more}
-use Rattle.semantics.specs.Configurations.{Component, Connection, Created, Data, End, Frame, Goes, Going, Running, State, Terminated, component_at, path_of}
+use Rattle.semantics.specs.Configurations.{Component, Connection, Created, Data, End, Frame, Goes, Going, Running, State, Terminated, component_at, path_of, same_end}
 use Rattle.semantics.specs.Sites.{Site}
 use Rattle.semantics.specs.Snapshots.{Snapshot, Test, View, reading_in}
-use Rattle.semantics.specs.Statements.{Requests, Starts, act, same_end}
+use Rattle.semantics.specs.Statements.{Requests, Starts, act}
 use Rattle.semantics.specs.Steps.{opposite, peers, settle, start_component, start_created, start_in, with_data}
 use Rattle.value_types.specs.Literals.{value_wanted}
 use Rattle.value_types.specs.Outcomes.{IfYields, IsMet}

@@ -7,7 +7,7 @@ use Rattle.laws_references.proofs.Runs.{ends_stand}
 use Rattle.laws_references.proofs.There.{there-is}
 use Rattle.laws_steps.proofs.Finding.{found-first, found-path}
 use Rattle.laws_references.specs.References.{ComponentRefersTo, DefaultRefersTo, FrameRefersTo, QueueRefersTo, RefersTo}
-use Rattle.laws_references.specs.There.{HasAllLeft, HasAllReferred, IsBetweenPorts, IsLeft, IsPortLeft, IsPortThere, IsThere, StandsWithAllLeft, StandsWithAllReferred}
+use Rattle.laws_references.specs.There.{HasAllLeft, HasAllReferred, IsBetweenPorts, IsLeft, IsOfPort, IsPortLeft, IsPortThere, IsThere, ScriptRefersToNone, StandsWithAllLeft, StandsWithAllReferred}
 use Rattle.laws_order.proofs.Runs.{live-path}
 use Rattle.semantics.proofs.CanonicalRuns.{ends_live}
 use Rattle.semantics.proofs.Pairs.{All-more}
@@ -77,11 +77,12 @@ live-going test c is = record {
       (λ x refers. live-if (IsLeft (live_going c)) (is_terminated_state x.state) x (component-more (IsThere c) (IsLeft (live_going c)) (component-left c) x refers)) c.components is.components);
   connections = All-filter (is_live c) (λ k. IsPortLeft (live_going c) k.one × IsPortLeft (live_going c) k.other) c.connections
       (All-more (IsBetweenPorts c) (λ k. IsPortLeft (live_going c) k.one × IsPortLeft (live_going c) k.other) (λ k ends. (port-left c k.one ends.0, port-left c k.other ends.1)) c.connections is.connections);
+  mappings = All-more (IsOfPort c) (λ m. IsPortLeft (live_going c) m.1) (λ m port. port-left c m.1 port) c.mappings is.mappings;
 }
 
 pub live_left : (test : Test) (c : Configuration) → StandsWithAllReferred test c → StandsWithAllLeft (live_part c)
 live_left test (Ended v) is = tt
 live_left test (Goes c) is = live-going test c is
 
-pub ends_left : (test : Test) (run : Run Label) → StandsWithAllLeft (end_of (canonical_graph test) run)
-ends_left test run = subst StandsWithAllLeft (sym (ends_live test run)) (live_left test (end_of (graph_of test) run) (ends_stand test run))
+pub ends_left : (test : Test) (run : Run Label) → ScriptRefersToNone test → StandsWithAllLeft (end_of (canonical_graph test) run)
+ends_left test run script = subst StandsWithAllLeft (sym (ends_live test run)) (live_left test (end_of (graph_of test) run) (ends_stand test run script))

@@ -1,5 +1,5 @@
 -- What refers only to some components refers only to more of them.
-use Rattle.std.proofs.Common.{ℕ, List}
+use Rattle.std.proofs.Common.{ℕ, List, Option, Some, None, IfSome}
 use Rattle.laws_references.specs.References.{ComponentRefersTo, DataReferTo, DefaultRefersTo, EntriesReferTo, FrameRefersTo, MessageRefersTo, QueueRefersTo, RefersTo, references}
 use Rattle.semantics.proofs.Pairs.{All-more}
 use Rattle.semantics.specs.Configurations.{ActiveDefault, Component, Data, Frame, Message, Queue}
@@ -27,8 +27,12 @@ module _ (P Q : ComponentId → Type 0) (more : (id : ComponentId) → P id → 
     defaults = All-more (DefaultRefersTo P) (DefaultRefersTo Q) default-more own.defaults is.defaults;
   }
 
+  sender-more : (o : Option ComponentId) → IfSome o P → IfSome o Q
+  sender-more None is = tt
+  sender-more (Some id) is = more id is
+
   pub message-more : (message : Message) → MessageRefersTo P message → MessageRefersTo Q message
-  message-more message is = record { value = value-more message.value is.value; sender = more message.sender is.sender }
+  message-more message is = record { value = value-more message.value is.value; sender = sender-more message.sender is.sender }
 
   queue-more : (queue : Queue) → QueueRefersTo P queue → QueueRefersTo Q queue
   queue-more queue all = All-more (MessageRefersTo P) (MessageRefersTo Q) message-more queue.1 all

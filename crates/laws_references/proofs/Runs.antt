@@ -1,36 +1,38 @@
 -- In the configurations of runs each component that is referred to is there.
-use Rattle.std.proofs.Common.{◌≡◌, ℕ, ◌+◌, List, [], ◌∷◌, ◌++◌, Option, Some, None, Result, Ok, Err, IfSome, map, refl, sym, ap, subst, ◌∙◌, if◌then◌else◌}
-use Rattle.std.specs.List.{All, flat_map}
+use Rattle.std.proofs.Common.{◌≡◌, ℕ, ◌+◌, List, [], ◌∷◌, ◌++◌, Option, Some, None, Result, Ok, Err, IfSome, bytes_eq, map, option_map, refl, sym, ap, subst, ◌∙◌, if◌then◌else◌}
+use Rattle.std.specs.List.{All, find, flat_map}
+use Rattle.std.specs.Option.{unwrap_or}
 use Rattle.std.proofs.lemmas.List.Elements.{All-cons, All-head, All-map, All-nil}
 use Rattle.ttcn_syntax.specs.declared.tree.statement.Statement as tree
 use Rattle.ttcn_syntax.specs.declared.tree.statement.Verdict.TheVariants as verdict
 use Rattle.check_scope.specs.Names.{kind_at, members_of}
 use Rattle.laws_references.proofs.Asked.{IsAsked, IsEndOf, asked-refers}
-use Rattle.laws_references.proofs.Changes.{applies, exchanged-gentle, expired-refers, followed, itself-follows, said, told, touch-follows}
+use Rattle.laws_references.proofs.Changes.{applies, come-follows, exchanged-gentle, expired-refers, followed, itself-follows, said, told, touch-follows}
 use Rattle.laws_references.proofs.Members.{members-refer}
 use Rattle.laws_references.proofs.Ports.{empty-named}
 use Rattle.laws_references.proofs.There.{found-itself, found-there, there-by}
 use Rattle.laws_steps.proofs.Finding.{path-same}
 use Rattle.laws_references.proofs.Values.{all-of}
-use Rattle.laws_references.specs.References.{ComponentRefersTo, DataReferTo, DefaultRefersTo, FrameRefersTo, MessageRefersTo, QueueRefersTo, RefersTo, SnapshotRefersTo}
-use Rattle.laws_references.specs.There.{HasAllReferred, HasItsPorts, IsThere, StandsWithAllReferred}
+use Rattle.laws_references.specs.References.{ComponentRefersTo, DataReferTo, DefaultRefersTo, FrameRefersTo, MessageRefersTo, QueueRefersTo, RefersTo, RefersToNone, SnapshotRefersTo}
+use Rattle.laws_references.specs.There.{HasAllReferred, HasItsPorts, IsThere, ScriptRefersToNone, StandsWithAllReferred}
 use Rattle.laws_order.proofs.Families.{replay_family}
 use Rattle.laws_order.specs.Families.{IsFamily, StandsInFamily}
 use Rattle.laws_steps.proofs.Applying.{Anyhow, IfGoes, Leads, applied}
-use Rattle.laws_steps.proofs.Found.{found-each, some-of}
+use Rattle.laws_steps.proofs.Found.{found-each, get-each, some-of}
 use Rattle.laws_steps.proofs.Outcomes.{yields-is}
 use Rattle.laws_steps.proofs.Running.{Steps, end-holds, replay-holds, settled-leads, start-leads, step-leads}
 use Rattle.semantics.proofs.Pairs.{All-more}
-use Rattle.semantics.specs.Configurations.{Component, Configuration, Data, Ended, Frame, Goes, Going, Message, component_at, path_of, same_path}
+use Rattle.semantics.specs.Configurations.{Component, Configuration, Data, End, Ended, Frame, Goes, Going, Message, component_at, path_of, same_path}
 use Rattle.semantics.specs.Creating.{new_members, ports_of}
 use Rattle.semantics.specs.Runs.{body_frame, first_snapshot, graph_of, mtc_with, option_elim, replay, replay_from, start}
-use Rattle.semantics.specs.Snapshots.{Snapshot, Test, front_at, front_of, mtc_of, snapshot_of}
+use Rattle.semantics.specs.Snapshots.{Script, Snapshot, Test, front_at, front_of, mtc_of, snapshot_of}
 use Rattle.semantics.specs.Statements.{act}
-use Rattle.semantics.specs.Steps.{Label, apply, exchanged, expired, next, settled, step_in, touch}
+use Rattle.semantics.specs.Steps.{Label, apply, come_in, delivered_at, exchanged, expired, messages_at, next, next_message, settled, step_in, touch}
 use Rattle.summary.specs.Run.{Run, end_of}
 use Rattle.value_types.specs.Outcomes.{Fails, Outcome, Yields}
 use Rattle.value_types.specs.declared.path.Path.{Path}
 use Rattle.value_types.specs.declared.value.ComponentId.{ComponentId}
+use Rattle.value_types.specs.declared.value.Value.{Value}
 
 -- ---- steps
 
@@ -86,18 +88,37 @@ expiry_stands test c p x number name own is found expires =
     let fine : DataReferTo (IsThere c) own = subst (λ o. IfSome o (DataReferTo (IsThere c))) expires (expired-refers (IsThere c) test.definitions number name x.own refers.own) in
     followed test c is (touch c (path_of x) (exchanged own)) (touch-follows (IsThere c) test.definitions c c (path_of x) (exchanged own) (exchanged-gentle (IsThere c) test.definitions own fine) (itself-follows (IsThere c) test.definitions c (told test c is)))
 
-steps-stand : (test : Test) (c : Going) → IsFamily c → HasAllReferred test c → Steps test Anyhow (HasAllReferred test) c
-steps-stand test c family is = record {
+-- what holds of each message of a script holds of the one that comes in
+module _ (P : Value → Type 0) where
+  named-each : (script : Script) (name : List ℕ) → All (λ e. All P e.1) script → All P (messages_at script name)
+  named-each script name all = by (find (λ e. bytes_eq e.0 name) script) (found-each (λ e. All P e.1) (λ e. bytes_eq e.0 name) script all)
+    where
+      by : (o : Option (List ℕ × List Value)) → IfSome o (λ e. All P e.1) → All P (unwrap_or (option_map (λ e. e.1) o) [])
+      by None is = All-nil P
+      by (Some e) is = is
+
+  pub next-each : (test : Test) (c : Going) (system_port : List ℕ) → All (λ e. All P e.1) test.script → IfSome (next_message test c system_port) P
+  next-each test c system_port all = get-each P (messages_at test.script system_port) (delivered_at c.delivered system_port) (named-each test.script system_port all)
+
+-- a message that comes in
+come-stands : (test : Test) (c : Going) (system_port : List ℕ) (e : End) (v : Value) → ScriptRefersToNone test → HasAllReferred test c → next_message test c system_port ≡ Some v → HasAllReferred test (come_in system_port e v c)
+come-stands test c system_port e v script is found =
+    let none : RefersToNone v = some-of RefersToNone (next_message test c system_port) v found (next-each RefersToNone test c system_port script) in
+    followed test c is (come_in system_port e v c) (come-follows (IsThere c) test.definitions c system_port e v none (told test c is))
+
+steps-stand : (test : Test) (c : Going) → ScriptRefersToNone test → IsFamily c → HasAllReferred test c → Steps test Anyhow (HasAllReferred test) c
+steps-stand test c script family is = record {
   asked = λ p x found runs. leads test (snapshot_of c x) c p x family is found refl (snapshot_refers test c p x is found);
   expires = λ p x number name own found runs changed. expiry_stands test c p x number name own is found changed;
+  comes = λ system_port e v mapped found. come-stands test c system_port e v script is found;
 }
 
-next-going : (test : Test) (c : Configuration) (label : Label) → StandsInFamily c → StandsWithAllReferred test c → IfSome (next test c label) (IfGoes (HasAllReferred test))
-next-going test (Ended v) label family is = tt
-next-going test (Goes c) label family is = settled-leads test Anyhow (HasAllReferred test) (step_in test c label) (step-leads test Anyhow (HasAllReferred test) c (steps-stand test c family is) label)
+next-going : (test : Test) (c : Configuration) (label : Label) → ScriptRefersToNone test → StandsInFamily c → StandsWithAllReferred test c → IfSome (next test c label) (IfGoes (HasAllReferred test))
+next-going test (Ended v) label script family is = tt
+next-going test (Goes c) label script family is = settled-leads test Anyhow (HasAllReferred test) (step_in test c label) (step-leads test Anyhow (HasAllReferred test) c (steps-stand test c script family is) label)
 
-pub next_stands : (test : Test) (c d : Configuration) (label : Label) → StandsInFamily c → StandsWithAllReferred test c → next test c label ≡ Some d → StandsWithAllReferred test d
-next_stands test c d label family is e = told-by test d (some-of (IfGoes (HasAllReferred test)) (next test c label) d e (next-going test c label family is))
+pub next_stands : (test : Test) (c d : Configuration) (label : Label) → ScriptRefersToNone test → StandsInFamily c → StandsWithAllReferred test c → next test c label ≡ Some d → StandsWithAllReferred test d
+next_stands test c d label script family is e = told-by test d (some-of (IfGoes (HasAllReferred test)) (next test c label) d e (next-going test c label script family is))
 
 -- ---- the start
 
@@ -110,7 +131,7 @@ abbrev IsMtc : Test → ComponentId → Type 0
 IsMtc test id = id ≡ mtc_of test
 
 abbrev first-going : Test → List tree.Statement → Frame → Going
-first-going test body members = record { components = mtc_with test body members ∷ []; connections = []; forgotten = verdict.None }
+first-going test body members = record { components = mtc_with test body members ∷ []; connections = []; mappings = []; delivered = []; forgotten = verdict.None }
 
 mtc-there : (test : Test) (body : List tree.Statement) (members : Frame) → IsThere (first-going test body members) (mtc_of test)
 mtc-there test body members =
@@ -134,6 +155,7 @@ first-stands test body members all =
       components = All-cons (ComponentRefersTo (IsMtc test)) (mtc_with test body members) [] (mtc-refers test body members all) (All-nil (ComponentRefersTo (IsMtc test)));
       ports = All-cons (HasItsPorts test.definitions) (mtc_with test body members) [] (empty-named test.definitions (mtc_of test).component_type) (All-nil (HasItsPorts test.definitions));
       connections = All-nil (λ k. IsEndOf (IsMtc test) test.definitions k.one × IsEndOf (IsMtc test) test.definitions k.other);
+      mappings = All-nil (λ (m : List ℕ × End). IsEndOf (IsMtc test) test.definitions m.1);
     })
 
 pub start_stands : (test : Test) → StandsWithAllReferred test (start test)
@@ -179,12 +201,12 @@ ReachedStands test c = IsReached test c × StandsWithAllReferred test c
 pub start-both : (test : Test) → ReachedStands test (start test)
 start-both test = (([], refl), start_stands test)
 
-pub next-both : (test : Test) (c : Configuration) (label : Label) (o : Option Configuration) → next test c label ≡ o → ReachedStands test c → IfSome o (ReachedStands test)
-next-both test c label None e is = tt
-next-both test c label (Some d) e is = (reached-next test label c d is.0 e, next_stands test c d label (reached-family test c is.0) is.1 e)
+pub next-both : (test : Test) (c : Configuration) (label : Label) (o : Option Configuration) → ScriptRefersToNone test → next test c label ≡ o → ReachedStands test c → IfSome o (ReachedStands test)
+next-both test c label None script e is = tt
+next-both test c label (Some d) script e is = (reached-next test label c d is.0 e, next_stands test c d label script (reached-family test c is.0) is.1 e)
 
-pub replay_stands : (test : Test) (run : List Label) (c : Configuration) → replay test run ≡ Ok c → StandsWithAllReferred test c
-replay_stands test run c e = (replay-holds test (ReachedStands test) (start-both test) (λ c label is. next-both test c label (next test c label) refl is) run c e).1
+pub replay_stands : (test : Test) (run : List Label) (c : Configuration) → ScriptRefersToNone test → replay test run ≡ Ok c → StandsWithAllReferred test c
+replay_stands test run c script e = (replay-holds test (ReachedStands test) (start-both test) (λ c label is. next-both test c label (next test c label) script refl is) run c e).1
 
-pub ends_stand : (test : Test) (run : Run Label) → StandsWithAllReferred test (end_of (graph_of test) run)
-ends_stand test run = (end-holds test (ReachedStands test) (start-both test) (λ c label is. next-both test c label (next test c label) refl is) run).1
+pub ends_stand : (test : Test) (run : Run Label) → ScriptRefersToNone test → StandsWithAllReferred test (end_of (graph_of test) run)
+ends_stand test run script = (end-holds test (ReachedStands test) (start-both test) (λ c label is. next-both test c label (next test c label) script refl is) run).1

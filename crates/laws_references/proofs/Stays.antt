@@ -1,5 +1,5 @@
 -- No step takes a component away, or changes its path or type.
-use Rattle.std.proofs.Common.{◌≡◌, ℕ, Bool, true, false, ◌||◌, List, [], ◌∷◌, ◌++◌, Option, Some, None, IfSome, is_some, option_map, refl, ap, subst, if◌then◌else◌}
+use Rattle.std.proofs.Common.{◌≡◌, ℕ, Bool, true, false, List, [], ◌∷◌, ◌++◌, Option, Some, None, IfSome, is_some, option_map, refl, ap, subst, if◌then◌else◌}
 use Rattle.std.specs.List.{filter, find}
 use Rattle.std.specs.Option.{option_and_then}
 use Rattle.laws_references.proofs.More.{message-more}
@@ -8,12 +8,15 @@ use Rattle.laws_references.specs.References.{MessageRefersTo, SnapshotRefersTo}
 use Rattle.laws_references.specs.There.{IsThere}
 use Rattle.semantics.proofs.Pairs.{All-more}
 use Rattle.semantics.specs.Configurations.{Component, Configuration, Created, Data, End, Ended, Frame, Goes, Going, Message, Running, State, Terminated, component_at, is_running_state, overall, path_of, same_path}
+use Rattle.semantics.specs.Entries.{put}
 use Rattle.semantics.specs.Snapshots.{Snapshot, Test, mtc_of, snapshot_of}
-use Rattle.semantics.specs.Statements.{Act, Connects, Continues, Creates, Errs, Removes, Requests, Sends, Starts, Stops, Waits, Worsens, act}
-use Rattle.semantics.specs.Steps.{Expiry, Label, Statement, addressed, apply, at_queue, begin, connect, connection, deliver, ending, exchanged, expired, expiry_step, insert, is_double, is_terminated_at, next, peers, send, settle, settled, start_component, start_created, start_in, statement_step, step_in, touch, with_connection, with_data, with_new, with_state, with_verdict, without_first}
+use Rattle.semantics.specs.Statements.{Act, Connects, Continues, Creates, Errs, Maps, Removes, Requests, Sends, Starts, Stops, Unmaps, Waits, Worsens, act}
+use Rattle.semantics.specs.Steps.{Delivery, Expiry, Label, Statement, addressed, apply, at_queue, begin, come_in, connect, connection, deliver, ending, exchanged, expired, expiry_step, insert, is_kept_apart, is_kept_unmapped, is_mapped, map_port, next, next_message, peers, send, send_out, send_to_peer, settle, settled, start_component, start_created, start_in, statement_step, step_in, terminate, touch, with_connection, with_data, with_mappings, with_new, with_state, with_verdict, without_first}
+use Rattle.value_types.specs.Frames.{entry}
 use Rattle.value_types.specs.Outcomes.{Fails, IfYields, Outcome, Yields, dynamic_error}
 use Rattle.value_types.specs.declared.path.Path.{Path}
 use Rattle.value_types.specs.declared.value.ComponentId.{ComponentId}
+use Rattle.value_types.specs.declared.value.Value.{Value}
 
 module _ (c : Going) where
   abbrev StaysIn : Configuration → Type 0
@@ -38,6 +41,15 @@ module _ (c : Going) where
   deliver-stays d message (e ∷ []) stay = touched d e.component (at_queue e.port (λ messages. messages ++ message ∷ [])) (λ x. refl) stay
   deliver-stays d message (e ∷ f ∷ ends) stay = tt
 
+  out-stays : (d : Going) (to : Option Path) → StayThere c d → IfYields (send_out d to) (StayThere c)
+  out-stays d None stay = stay
+  out-stays d (Some path) stay = tt
+
+  send-stays : (b : Bool) (d : Going) (sender : ComponentId) (port : List ℕ) (to : Option Path) (v : Value) → StayThere c d → IfYields (if b then send_out d to else send_to_peer d sender port to v) (StayThere c)
+  send-stays true d sender port to v stay = out-stays d to stay
+  send-stays false d sender port to v stay =
+      deliver-stays d (record { value = v; sender = Some sender }) (filter (addressed to) (peers d (record { component = sender.path; port = port }))) stay
+
   start-stays-in : (d : Going) (p : Path) (frame : Frame) (state : State) → StayThere c d → IfYields (start_in d p frame state) (StayThere c)
   start-stays-in d p frame Created stay = touched d p (begin frame) (λ x. refl) stay
   start-stays-in d p frame Running stay = tt
@@ -47,13 +59,17 @@ module _ (c : Going) where
   start-stays d p frame None stay = tt
   start-stays d p frame (Some component) stay = start-stays-in d p frame component.state stay
 
-  stop-stays : (b : Bool) (d : Going) (p : Path) → StayThere c d → StaysIn (if b then Ended (overall d) else Goes (touch d p (with_state Terminated)))
+  stop-stays : (b : Bool) (d : Going) (p : Path) → StayThere c d → StaysIn (if b then Ended (overall d) else Goes (terminate p d))
   stop-stays true d p stay = tt
-  stop-stays false d p stay = touched d p (with_state Terminated) (λ x. refl) stay
+  stop-stays false d p stay = λ id there. touched d p (with_state Terminated) (λ x. refl) stay id there
 
   connect-stays : (b : Bool) (g : Going) (d e : End) → StayThere c g → IfYields (if b then dynamic_error else Yields (with_connection (connection d e) g)) (StayThere c)
   connect-stays true g d e stay = tt
   connect-stays false g d e stay = λ id there. stay id there
+
+  map-stays : (b : Bool) (g : Going) (d : End) (system_port : List ℕ) → StayThere c g → IfYields (if b then dynamic_error else Yields (with_mappings (put system_port d g.mappings) g)) (StayThere c)
+  map-stays true g d system_port stay = tt
+  map-stays false g d system_port stay = λ id there. stay id there
 
   new-stays-in : (new : Component) (d : Going) (o : Option Component) → component_at d (path_of new) ≡ o → StayThere d (with_new new d)
   new-stays-in new d None none = stay-beside new d none
@@ -69,8 +85,7 @@ module _ (c : Going) where
   applied-stays test itself (Requests (Removes port) own) = touched (settle c itself.path own) itself.path (at_queue port without_first) (λ x. refl) (stay-settled itself.path own)
   applied-stays test itself (Requests (Sends port to v) own) =
       ending-stays (send (settle c itself.path own) itself port to v)
-      (deliver-stays (settle c itself.path own) (record { value = v; sender = itself }) (filter (addressed to) (peers (settle c itself.path own) (record { component = itself.path; port = port })))
-      (stay-settled itself.path own))
+      (send-stays (is_mapped (settle c itself.path own) (record { component = itself.path; port = port })) (settle c itself.path own) itself port to v (stay-settled itself.path own))
   applied-stays test itself (Requests (Creates new) own) = λ id there.
       new-stays-in new (settle c itself.path own) (component_at (settle c itself.path own) (path_of new)) refl id (stay-settled itself.path own id there)
   applied-stays test itself (Requests (Starts path frame) own) =
@@ -79,8 +94,11 @@ module _ (c : Going) where
   applied-stays test itself (Requests (Stops path) own) = stop-stays (same_path path (mtc_of test).path) (settle c itself.path own) path (stay-settled itself.path own)
   applied-stays test itself (Requests (Connects d e) own) =
       ending-stays (connect (settle c itself.path own) d e)
-      (connect-stays (is_terminated_at (settle c itself.path own) d.component || is_terminated_at (settle c itself.path own) e.component || is_double (settle c itself.path own) d e || is_double (settle c itself.path own) e d)
-      (settle c itself.path own) d e (stay-settled itself.path own))
+      (connect-stays (is_kept_apart (settle c itself.path own) d e) (settle c itself.path own) d e (stay-settled itself.path own))
+  applied-stays test itself (Requests (Maps d system_port) own) =
+      ending-stays (map_port (settle c itself.path own) d system_port)
+      (map-stays (is_kept_unmapped (settle c itself.path own) d system_port) (settle c itself.path own) d system_port (stay-settled itself.path own))
+  applied-stays test itself (Requests (Unmaps d system_port) own) = λ id there. stay-settled itself.path own id there
 
   -- ---- steps
 
@@ -96,6 +114,15 @@ module _ (c : Going) where
   then-stays step None stay = tt
   then-stays step (Some x) stay = stay x
 
+  come-stays : (test : Test) (system_port : List ℕ) (e : End) (o : Option Value) → LeadsOn (option_map (λ v. Yields (Goes (come_in system_port e v c))) o)
+  come-stays test system_port e None = tt
+  come-stays test system_port e (Some v) =
+      λ id there. touched c e.component (at_queue e.port (λ messages. messages ++ record { value = v; sender = None } ∷ [])) (λ x. refl) (λ other is. is) id there
+
+  delivery-stays : (test : Test) (system_port : List ℕ) (o : Option End) → LeadsOn (option_and_then (λ e. option_map (λ v. Yields (Goes (come_in system_port e v c))) (next_message test c system_port)) o)
+  delivery-stays test system_port None = tt
+  delivery-stays test system_port (Some e) = come-stays test system_port e (next_message test c system_port)
+
   step-stays : (test : Test) (label : Label) → LeadsOn (step_in test c label)
   step-stays test (Statement p) =
       then-stays (statement_step test c) (component_at c p)
@@ -103,6 +130,7 @@ module _ (c : Going) where
   step-stays test (Expiry p number name) =
       then-stays (expiry_step c number name) (component_at c p)
       (λ x. running-stays (is_running_state x.state) (option_map (λ own. Yields (Goes (touch c (path_of x) (exchanged own)))) (expired number name x.own)) (exchanged-stays x (expired number name x.own)))
+  step-stays test (Delivery system_port) = delivery-stays test system_port (entry c.mappings system_port)
 
   settled-stays : (o : Outcome Configuration) → IfYields o StaysIn → StaysIn (settled o)
   settled-stays (Yields d) stay = stay

@@ -66,7 +66,7 @@ some-mapped g same id None is = is
 some-mapped g same id (Some x) is = same x ∙ is
 
 abbrev pub changed : (Component → Component) → Going → Going
-changed g c = record { components = map g c.components; connections = c.connections; forgotten = c.forgotten }
+changed g c = record { components = map g c.components; connections = c.connections; mappings = c.mappings; delivered = c.delivered; forgotten = c.forgotten }
 
 pub stay-changed : (c : Going) (g : Component → Component) → ((x : Component) → (g x).itself ≡ x.itself) → StayThere c (changed g c)
 stay-changed c g same id is = there-by (changed g c) id (option_map g (component_at c id.path)) (found-map g same id.path c.components) (some-mapped g same id (component_at c id.path) is)

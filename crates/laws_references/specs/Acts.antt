@@ -1,7 +1,7 @@
 -- What a component asks for refers only to components of which something holds.
 use Rattle.std.specs.Prelude.{◌≡◌, ◌⊎◌, IfSome}
 use Rattle.laws_references.specs.References.{ComponentRefersTo, DataReferTo, FrameRefersTo, RefersTo}
-use Rattle.semantics.specs.Statements.{Act, Connects, Continues, Creates, Errs, Removes, Requests, Sends, Starts, Stops, Waits, Worsens}
+use Rattle.semantics.specs.Statements.{Act, Connects, Continues, Creates, Errs, Maps, Removes, Requests, Sends, Starts, Stops, Unmaps, Waits, Worsens}
 use Rattle.value_types.specs.declared.path.Path.{Path}
 use Rattle.value_types.specs.declared.value.ComponentId.{ComponentId}
 
@@ -25,3 +25,5 @@ ActRefersTo P (Requests (Creates new) own) = ComponentRefersTo (HoldsOrIs P new.
 ActRefersTo P (Requests (Starts path frame) own) = IsPathOf P path × FrameRefersTo P frame × DataReferTo P own
 ActRefersTo P (Requests (Stops path) own) = IsPathOf P path × DataReferTo P own
 ActRefersTo P (Requests (Connects d e) own) = IsPathOf P d.component × IsPathOf P e.component × DataReferTo P own
+ActRefersTo P (Requests (Maps d system_port) own) = IsPathOf P d.component × DataReferTo P own
+ActRefersTo P (Requests (Unmaps d system_port) own) = IsPathOf P d.component × DataReferTo P own

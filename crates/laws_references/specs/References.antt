@@ -37,6 +37,10 @@ Passes good id = good id ≡ true
 abbrev pub RefersTo : (ComponentId → Type 0) → Value → Type 0
 RefersTo P v = All P (references v)
 
+-- a value refers to no component
+abbrev pub RefersToNone : Value → Type 0
+RefersToNone v = references v ≡ []
+
 -- ---- templates
 
 -- what one level of a pattern refers to, given what its parts refer to
@@ -93,10 +97,10 @@ pub record DataReferTo (P : ComponentId → Type 0) (own : Data) : Type 0 where
   pub calls : All (FrameRefersTo P) own.calls
   pub defaults : All (DefaultRefersTo P) own.defaults
 
--- a message's value refers only to components of which something holds, and its sender is one of them
+-- a message's value refers only to components of which something holds, and its sender, where it has one, is one of them
 pub record MessageRefersTo (P : ComponentId → Type 0) (message : Message) : Type 0 where
   pub value : RefersTo P message.value
-  pub sender : P message.sender
+  pub sender : IfSome message.sender P
 
 -- the messages that wait at a port refer only to components of which something holds
 abbrev pub QueueRefersTo : (ComponentId → Type 0) → Queue → Type 0

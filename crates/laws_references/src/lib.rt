@@ -11,7 +11,7 @@ ghost use Rattle.ttcn_syntax.specs.declared.tree.value.Value as written;
 ghost use Rattle.check_scope.specs.declared.types.DataType.{DataType};
 ghost use Rattle.laws_references.specs.Acts.{ActRefersTo};
 ghost use Rattle.laws_references.specs.References.{DataReferTo, EntriesReferTo, FactsReferTo, Passes, ReadingRefersTo, RefersTo, SnapshotRefersTo, TemplateRefersTo, references};
-ghost use Rattle.laws_references.specs.There.{IsPortThere, IsThere, StandsWithAllLeft, StandsWithAllReferred};
+ghost use Rattle.laws_references.specs.There.{IsPortThere, IsThere, ScriptRefersToNone, StandsWithAllLeft, StandsWithAllReferred};
 ghost use Rattle.laws_order.specs.Families.{StandsInFamily};
 ghost use Rattle.semantics.specs.Canonical.{canonical_graph};
 ghost use Rattle.semantics.specs.Configurations.{Component, Configuration, Data, End, Frame, Goes, Going, component_at, path_of};
@@ -96,25 +96,26 @@ pub fn runs_start_with_all_that_is_referred_to()
 {}
 
 /// Each step leaves all there that is referred to: what a component asks for, by a snapshot of its own that may be an earlier
-/// one, the expiry of a timer, and so each label.
+/// one, the expiry of a timer, and so each label, where messages that come in refer to no component.
 pub fn steps_leave_all_that_is_referred_to()
     ensures snapshot { (test : Test) (c : Going) (p : Path) (x : Component) → StandsWithAllReferred test (Goes c) → component_at c p ≡ Some x → SnapshotRefersTo (IsThere c) (snapshot_of c x) }
     ensures asked { (test : Test) (snapshot : Snapshot) (c : Going) (p : Path) (x : Component) → StandsInFamily (Goes c) → StandsWithAllReferred test (Goes c) → component_at c p ≡ Some x → snapshot.itself ≡ x.itself → SnapshotRefersTo (IsThere c) snapshot → IfSome (apply test c x.itself (act test snapshot x.own)) (λ out. StandsWithAllReferred test (settled out)) }
     ensures expiry { (test : Test) (c : Going) (p : Path) (x : Component) (number : ℕ) (name : List ℕ) (own : Data) → StandsWithAllReferred test (Goes c) → component_at c p ≡ Some x → expired number name x.own ≡ Some own → StandsWithAllReferred test (Goes (touch c (path_of x) (exchanged own))) }
-    ensures next { (test : Test) (c d : Configuration) (label : Label) → StandsInFamily c → StandsWithAllReferred test c → next test c label ≡ Some d → StandsWithAllReferred test d }
+    ensures next { (test : Test) (c d : Configuration) (label : Label) → ScriptRefersToNone test → StandsInFamily c → StandsWithAllReferred test c → next test c label ≡ Some d → StandsWithAllReferred test d }
 {}
 
-/// In each configuration that a run leads to all is there that is referred to.
+/// In each configuration that a run leads to all is there that is referred to, where the messages of the script refer to no
+/// component.
 pub fn runs_leave_all_that_is_referred_to()
-    ensures replayed { (test : Test) (run : List Label) (c : Configuration) → replay test run ≡ Ok c → StandsWithAllReferred test c }
-    ensures ends { (test : Test) (run : Run Label) → StandsWithAllReferred test (end_of (graph_of test) run) }
+    ensures replayed { (test : Test) (run : List Label) (c : Configuration) → ScriptRefersToNone test → replay test run ≡ Ok c → StandsWithAllReferred test c }
+    ensures ends { (test : Test) (run : Run Label) → ScriptRefersToNone test → StandsWithAllReferred test (end_of (graph_of test) run) }
 {}
 
 /// Of all that live parts refer to something is left: a component is there with its type, or it is terminated. So it is at the
-/// ends of runs over live parts.
+/// ends of runs over live parts, where the messages of the script refer to no component.
 pub fn live_parts_refer_to_what_is_left()
     ensures live { (test : Test) (c : Configuration) → StandsWithAllReferred test c → StandsWithAllLeft (live_part c) }
-    ensures ends { (test : Test) (run : Run Label) → StandsWithAllLeft (end_of (canonical_graph test) run) }
+    ensures ends { (test : Test) (run : Run Label) → ScriptRefersToNone test → StandsWithAllLeft (end_of (canonical_graph test) run) }
 {}
 
 /// Where all is there that is referred to, evaluation refers only to what is there: all that is read at a site, the components

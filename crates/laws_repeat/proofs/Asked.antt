@@ -266,6 +266,8 @@ module _ (stand : Stand) (at-frame : stand.own.calls ≡ stand.frame ∷ stand.b
       stops_last = λ is. (tt, left [] is);
       stops = λ reference c meant. (tt, done-follows);
       connects = λ one other c d first second may. (tt, done-follows);
+      maps = λ m c meant may. (tt, done-follows);
+      unmaps = λ m c meant. (tt, done-follows);
     }
 
 -- ---- steps of a component

@@ -1,5 +1,5 @@
 -- What lasts of the lists of each component stays with what is done among the components.
-use Rattle.std.proofs.Common.{◌≡◌, ℕ, List, [], ◌∷◌, Some, IfSome, inr, Ok, refl, sym, subst}
+use Rattle.std.proofs.Common.{◌≡◌, ℕ, List, [], ◌∷◌, ◌++◌, Some, None, IfSome, inr, Ok, refl, sym, subst}
 use Rattle.std.specs.List.{All}
 use Rattle.std.proofs.lemmas.List.Elements.{All-cons, All-nil}
 use Rattle.ttcn_syntax.specs.declared.tree.definition.Definition.{Definition}
@@ -15,7 +15,7 @@ use Rattle.semantics.specs.Items.{Item}
 use Rattle.semantics.specs.Runs.{body_frame, graph_of, mtc_with, replay, start}
 use Rattle.semantics.specs.Snapshots.{Test, snapshot_of}
 use Rattle.semantics.specs.Statements.{Act, Errs, Requests, Waits, act}
-use Rattle.semantics.specs.Steps.{Label, exchanged, expired, next}
+use Rattle.semantics.specs.Steps.{Label, at_queue, exchanged, expired, next}
 use Rattle.semantics.specs.Storing.{in_last, with_remaining}
 use Rattle.semantics.specs.Taking.{without_marks}
 use Rattle.summary.specs.Run.{Run, end_of}
@@ -93,6 +93,7 @@ module _ (test : Test) (Lasts : List (List Item) → Type 0) (lasting : IsLastin
         (act test (snapshot_of c x) x.own) (asked_followed test (snapshot_of c x) x.own);
     expires = λ p x number name own found runs changed.
         touch-each Stands c (path_of x) (exchanged own) (λ y is. some-of LastsIn (expired number name x.own) own changed (expired-lasts number name x.own (component-stands c p x all found))) all;
+    comes = λ system_port e v mapped found. touch-each Stands c e.component (at_queue e.port (λ messages. messages ++ record { value = v; sender = None } ∷ [])) (λ y is. is) all;
   }
 
   pub next-stands : (c : Configuration) (label : Label) → IsStanding c → IfSome (next test c label) IsStanding

@@ -256,6 +256,8 @@ module _ (stand : Stand) (well : AreWellTyped stand.test.definitions) (at : ℕ)
       stops_last = λ under. (tt, All-nil (IsFineFrame ds));
       stops = λ reference c meant. (tt, done-fine);
       connects = λ one other c d first second may. (tt, done-fine);
+      maps = λ m c meant may. (tt, done-fine);
+      unmaps = λ m c meant. (tt, done-fine);
     }
 
 -- ---- steps of a component

@@ -13,12 +13,12 @@ use Rattle.laws_steps.proofs.Expiring.{KeepsTimers, calls-expire, data-expires}
 use Rattle.laws_steps.proofs.Found.{found-each, some-of}
 use Rattle.laws_steps.proofs.Running.{Steps}
 use Rattle.semantics.proofs.Pairs.{All-more}
-use Rattle.semantics.specs.Configurations.{Component, Configuration, Data, Frame, Going, Message, State, Terminated, component_at, path_of, same_path}
+use Rattle.semantics.specs.Configurations.{Component, Configuration, Data, End, Frame, Going, Message, State, Terminated, component_at, path_of, same_path}
 use Rattle.semantics.specs.Entries.{Entries}
 use Rattle.semantics.specs.Items.{Doing, Item, Mark, Waiting}
 use Rattle.semantics.specs.Snapshots.{Snapshot, Test, snapshot_of}
 use Rattle.semantics.specs.Statements.{Act, Errs, Requests, Waits, act}
-use Rattle.semantics.specs.Steps.{apply, at_queue, begin, exchanged, expire_in, expired, expired_call, touch, with_data, with_state, with_verdict, without_first}
+use Rattle.semantics.specs.Steps.{apply, at_queue, begin, come_in, exchanged, expire_in, expired, expired_call, touch, with_data, with_state, with_verdict, without_first}
 use Rattle.semantics.specs.Storing.{in_last, with_remaining}
 use Rattle.semantics.specs.Taking.{without_marks}
 use Rattle.check_rules.specs.Rules.{AreWellTyped}
@@ -27,6 +27,7 @@ use Rattle.value_types.specs.declared.frame.TimerState.{TimerState}
 use Rattle.value_types.specs.declared.frame.TimerState.TheVariants as timer
 use Rattle.value_types.specs.declared.path.Path.{Path}
 use Rattle.value_types.specs.declared.value.ComponentId.{ComponentId}
+use Rattle.value_types.specs.declared.value.Value.{Value}
 
 module _ (ds : List Definition) where
   abbrev Fine : Component → Type 0
@@ -93,7 +94,7 @@ module _ (ds : List Definition) where
     settles = data-keeps;
     worsens = verdict-keeps;
     removes = λ port. queue-keeps port without_first;
-    delivers = λ port to v own at asks. queue-keeps at (λ messages. messages ++ record { value = v; sender = itself } ∷ []);
+    delivers = λ port to v own at asks. queue-keeps at (λ messages. messages ++ record { value = v; sender = Some itself } ∷ []);
     creates = λ new own asks. asks.0;
     starts = λ path frame own asks. begin-keeps frame asks.0;
     stops = state-keeps Terminated;
@@ -127,6 +128,13 @@ module _ (ds : List Definition) where
   pub exchange-fine : (c : Going) (path : Path) (own : Data) → IsFineGoing c → IsFineData ds own → IsFineGoing (touch c path (exchanged own))
   exchange-fine c path own all fine = touch-each Fine c path (exchanged own) (exchanged-keeps own fine) all
 
+  -- ---- deliveries
+
+  pub come-fine : (c : Going) (system_port : List ℕ) (e : End) (v : Value) → IsFineGoing c → IsFineGoing (come_in system_port e v c)
+  come-fine c system_port e v all =
+      touch-each Fine c e.component (at_queue e.port (λ messages. messages ++ record { value = v; sender = None } ∷ []))
+      (queue-keeps e.port (λ messages. messages ++ record { value = v; sender = None } ∷ [])) all
+
   -- ---- steps
 
   pub component-fine : (c : Going) (path : Path) → IsFineGoing c → IfSome (component_at c path) Fine
@@ -148,4 +156,5 @@ steps-fine test well c all = record {
   expires = λ p x number name own found runs changed.
       let fine : IsFineComponent test.definitions x = component-at-fine test.definitions c p x all found in
       exchange-fine test.definitions c (path_of x) own all (some-of (IsFineData test.definitions) (expired number name x.own) own changed (expired-fine test.definitions number name x.own fine.calls));
+  comes = λ system_port e v mapped found. come-fine test.definitions c system_port e v all;
 }

@@ -7,24 +7,25 @@ use Rattle.ttcn_syntax.specs.declared.tree.statement.Statement.{Statement}
 use Rattle.check_scope.specs.Names.{kind_at}
 use Rattle.check_rules.specs.Statements.{statements}
 use Rattle.laws_sites.proofs.Blocks.{block-fine}
-use Rattle.laws_sites.proofs.Changes.{IsFineConfiguration, IsFineGoing, ask-fine, component-fine, each-keeps, exchange-fine, expired-fine, steps-fine}
+use Rattle.laws_sites.proofs.Changes.{IsFineConfiguration, IsFineGoing, ask-fine, come-fine, component-fine, each-keeps, exchange-fine, expired-fine, steps-fine}
 use Rattle.laws_steps.proofs.Applying.{Anyhow, Leads}
 use Rattle.laws_steps.proofs.Running.{end-holds, next-leads, replay-holds, start-leads}
 use Rattle.laws_sites.proofs.Outside.{Begins, beginning-fine, testcase-fine}
 use Rattle.laws_sites.proofs.Ports.{new-queues, no-queues}
 use Rattle.laws_sites.specs.Standing.{IsFineComponent, IsFineFrame, IsFree, IsFrameOf, StandsByRules}
 use Rattle.laws_steps.proofs.Found.{some-of}
-use Rattle.semantics.specs.Configurations.{Component, Configuration, Data, Ended, Frame, Goes, Going, component_at, is_terminated_state, path_of}
+use Rattle.semantics.specs.Configurations.{Component, Configuration, Data, End, Ended, Frame, Goes, Going, component_at, is_terminated_state, path_of}
 use Rattle.semantics.specs.LiveParts.{husk, live_component, live_part}
 use Rattle.semantics.specs.Runs.{body_frame, graph_of, mtc_with, replay, start, testcase_body}
 use Rattle.semantics.specs.Sites.{beginning}
 use Rattle.semantics.specs.Snapshots.{Snapshot, Test, mtc_of}
 use Rattle.semantics.specs.Statements.{act}
-use Rattle.semantics.specs.Steps.{Label, apply, exchanged, expired, next, settled, touch}
+use Rattle.semantics.specs.Steps.{Label, apply, come_in, exchanged, expired, next, settled, touch}
 use Rattle.summary.specs.Run.{Run, end_of}
 use Rattle.check_rules.specs.Rules.{AreWellTyped}
 use Rattle.value_types.specs.Outcomes.{Fails, Outcome, Yields}
 use Rattle.value_types.specs.declared.path.Path.{Path}
+use Rattle.value_types.specs.declared.value.Value.{Value}
 
 -- ---- in the words of the laws
 
@@ -83,6 +84,9 @@ expiry_stands test c p x number name own is found expires =
     let fine : IsFineComponent test.definitions x = some-of (IsFineComponent test.definitions) (component_at c p) x found (component-fine test.definitions c p is) in
     exchange-fine test.definitions c (path_of x) own is
     (some-of (λ (own : Data). All (IsFineFrame test.definitions) own.calls) (expired number name x.own) own expires (expired-fine test.definitions number name x.own fine.calls))
+
+pub come_stands : (test : Test) (c : Going) (system_port : List ℕ) (e : End) (v : Value) → StandsByRules test (Goes c) → StandsByRules test (Goes (come_in system_port e v c))
+come_stands test c system_port e v is = come-fine test.definitions c system_port e v is
 
 next-of : (test : Test) → AreWellTyped test.definitions → (c : Configuration) (label : Label) → IsFineConfiguration test.definitions c → IfSome (next test c label) (IsFineConfiguration test.definitions)
 next-of test well c label is = next-leads test Anyhow (IsFineGoing test.definitions) (steps-fine test well) c label is

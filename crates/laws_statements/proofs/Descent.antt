@@ -174,6 +174,7 @@ parts_fine place whole Action-F.Stop nothing = tt
 parts_fine place whole (Action-F.Log items) nothing = nothing
 parts_fine place whole (Action-F.Setverdict verdict reasons) nothing = nothing
 parts_fine place whole (Action-F.Connect one other) nothing = nothing
+parts_fine place whole (Action-F.Map mapping) nothing = nothing
 parts_fine place whole (Action-F.Send send) nothing = nothing
 parts_fine place whole (Action-F.StartComponent reference call) nothing = nothing
 parts_fine place whole (Action-F.StartTimer timer) nothing = nothing

@@ -9,6 +9,7 @@ use Rattle.ttcn_syntax.specs.declared.tree.expression.Reference.{Reference}
 use Rattle.ttcn_syntax.specs.declared.tree.statement.Assignment.{Assignment}
 use Rattle.ttcn_syntax.specs.declared.tree.statement.Event.{Event}
 use Rattle.ttcn_syntax.specs.declared.tree.statement.LogItem.{LogItem}
+use Rattle.ttcn_syntax.specs.declared.tree.statement.Mapping.{Mapping}
 use Rattle.ttcn_syntax.specs.declared.tree.statement.PortSelector.{PortSelector}
 use Rattle.ttcn_syntax.specs.declared.tree.statement.Receive.{Receive}
 use Rattle.ttcn_syntax.specs.declared.tree.statement.Send.{Send}
@@ -28,11 +29,11 @@ use Rattle.check_scope.specs.Names.{Scope, resolved}
 use Rattle.check_scope.specs.declared.types.Target.{Target}
 use Rattle.check_rules.specs.Definitions.{returns_of}
 use Rattle.check_rules.specs.Messages.{Passing, check_event, check_message, check_receive, check_selector, check_send, check_timer, incoming, type_of_message}
-use Rattle.check_rules.specs.Statements.{Place, check_condition, check_deactivate, check_ends, check_guard, check_log, check_return, check_setverdict, check_start, check_stop}
+use Rattle.check_rules.specs.Statements.{Place, check_condition, check_deactivate, check_ends, check_guard, check_log, check_mapping, check_return, check_setverdict, check_start, check_stop}
 use Rattle.laws_checker.proofs.Whole.{naming}
 use Rattle.laws_statements.specs.Within.{IsWithin, ReturnsStayFine, StaysFine, StaysSame}
 use Rattle.laws_statements.proofs.WithinExpressions as inside
-use Rattle.laws_statements.proofs.WithinPhrases.{activation-fine, assignment-fine, call-fine, condition-fine, deactivate-fine, ends-fine, event-fine, guard-fine, incoming-same, log-fine, message-fine, message-typing-same, receive-fine, return-fine, rhs-fine, send-fine, setverdict-fine, start-fine, stop-fine, target-at-same, target-same, timer-fine, type-same}
+use Rattle.laws_statements.proofs.WithinPhrases.{activation-fine, assignment-fine, call-fine, condition-fine, deactivate-fine, ends-fine, event-fine, guard-fine, incoming-same, log-fine, mapping-fine, message-fine, message-typing-same, receive-fine, return-fine, rhs-fine, send-fine, setverdict-fine, start-fine, stop-fine, target-at-same, target-same, timer-fine, type-same}
 use Rattle.laws_statements.proofs.WithinTemplates.{template-fine}
 
 pub other-names : (scope other : Scope) → IsWithin scope other → naming scope other.names ≡ other
@@ -103,6 +104,9 @@ stop_stays c scope g within nothing = subst (λ s. check_stop s c ≡ []) (other
 
 pub ends_stays : (one other : ComponentRef) → StaysFine (λ s. check_ends s one other)
 ends_stays one other scope g within nothing = subst (λ s. check_ends s one other ≡ []) (other-names scope g within) (ends-fine scope g.names within.names one other nothing)
+
+pub mapping_stays : (mapping : Mapping) → StaysFine (λ s. check_mapping s mapping)
+mapping_stays mapping scope g within nothing = subst (λ s. check_mapping s mapping ≡ []) (other-names scope g within) (mapping-fine scope g.names within.names mapping nothing)
 
 pub start_stays : (c : ComponentRef) (call : Call) → StaysFine (λ s. check_start s c call)
 start_stays c call scope g within nothing = subst (λ s. check_start s c call ≡ []) (other-names scope g within) (start-fine scope g.names within.names c call nothing)

@@ -23,9 +23,9 @@ use Rattle.check_scope.specs.declared.names.Meaning.TheVariants as meaning
 use Rattle.check_scope.specs.declared.rule.Rule.{Rule}
 use Rattle.check_scope.specs.declared.rule.Rule.TheVariants as rule
 use Rattle.check_rules.specs.Messages.{check_event, check_send, check_timer}
-use Rattle.check_rules.specs.Statements.{Check, Place, StatementRules, action, action_step, alternative, alternative_step, behind_for_start, branch, branch_step, check_block, check_condition, check_deactivate, check_ends, check_for_start, check_guard, check_log, check_return, check_setverdict, check_start, check_stop, conditional, conditional_step, inside_branch, leaf_rules, statement, statement_step, statements, with_scope}
+use Rattle.check_rules.specs.Statements.{Check, Place, StatementRules, action, action_step, alternative, alternative_step, behind_for_start, branch, branch_step, check_block, check_condition, check_deactivate, check_ends, check_for_start, check_guard, check_log, check_mapping, check_return, check_setverdict, check_start, check_stop, conditional, conditional_step, inside_branch, leaf_rules, statement, statement_step, statements, with_scope}
 use Rattle.laws_checker.proofs.Nothing.{nothing-first, nothing-rest}
-use Rattle.laws_statements.proofs.Within.{activation_stays, assignment_stays, call_stays, condition_stays, deactivate_stays, ends_stays, event_stays, guard_stays, log_stays, send_stays, setverdict_stays, start_stays, stop_stays, timer_stays}
+use Rattle.laws_statements.proofs.Within.{activation_stays, assignment_stays, call_stays, condition_stays, deactivate_stays, ends_stays, event_stays, guard_stays, log_stays, mapping_stays, send_stays, setverdict_stays, start_stays, stop_stays, timer_stays}
 use Rattle.laws_statements.proofs.WithinExpressions.{none-append, part-by-part}
 use Rattle.laws_statements.proofs.WithinStatements.{Stays, StaysInside, behind-further, behind-within, block-fine, constants-fine, constants-further, constants-within, each-fine, further-first, further-rest, leaf-stays, plain, timers-fine, variables-fine, variables-further, variables-within}
 use Rattle.laws_statements.specs.Declares as declares
@@ -157,6 +157,7 @@ action-held (Action-F.«Action::Event» event) = leaf-stays (λ s. check_event s
 action-held (Action-F.Log items) = leaf-stays (λ s. check_log s items) (log_stays items)
 action-held (Action-F.Setverdict verdict reasons) = leaf-stays (λ s. check_setverdict s verdict reasons) (setverdict_stays verdict reasons)
 action-held (Action-F.Connect one other) = leaf-stays (λ s. check_ends s one.component other.component) (ends_stays one.component other.component)
+action-held (Action-F.Map mapping) = leaf-stays (λ s. check_mapping s mapping) (mapping_stays mapping)
 action-held (Action-F.Send send) = leaf-stays (λ s. check_send s send) (send_stays send)
 action-held (Action-F.StartComponent reference call) = leaf-stays (λ s. check_start s reference call) (start_stays reference call)
 action-held (Action-F.StartTimer timer) = leaf-stays (λ s. check_timer s timer) (timer_stays timer)

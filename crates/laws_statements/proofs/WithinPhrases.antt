@@ -11,6 +11,7 @@ use Rattle.ttcn_syntax.specs.declared.tree.statement.Event.{Event}
 use Rattle.ttcn_syntax.specs.declared.tree.statement.Event.TheVariants as event
 use Rattle.ttcn_syntax.specs.declared.tree.statement.LogItem.{LogItem}
 use Rattle.ttcn_syntax.specs.declared.tree.statement.LogItem.TheVariants as log_item
+use Rattle.ttcn_syntax.specs.declared.tree.statement.Mapping.{Mapping}
 use Rattle.ttcn_syntax.specs.declared.tree.statement.PortSelector.{PortSelector}
 use Rattle.ttcn_syntax.specs.declared.tree.statement.PortSelector.TheVariants as selector
 use Rattle.ttcn_syntax.specs.declared.tree.statement.Receive.{Receive}
@@ -40,7 +41,7 @@ use Rattle.check_scope.specs.declared.types.Typing.{Typing}
 use Rattle.check_scope.specs.declared.types.Typing.TheVariants as typing
 use Rattle.check_rules.specs.Definitions.{returns_of}
 use Rattle.check_rules.specs.Messages.{Passage, Passing, by_template, by_type_name, check_event, check_message, check_receive, check_received, check_selector, check_send, check_sender_redirect, check_sent, check_timer, check_to, check_type_name, check_value_redirect, incoming, incoming_at, is_timer_name, passage_at, port_meant, received_type, stores, stores_sender, type_by_itself, type_of_message}
-use Rattle.check_rules.specs.Statements.{check_boolean, check_condition, check_deactivate, check_ends, check_guard, check_log, check_log_item, check_return, check_setverdict, check_start, check_started, check_stop, is_error, is_function, refers_to_default, runs_there, says_component}
+use Rattle.check_rules.specs.Statements.{check_boolean, check_condition, check_deactivate, check_ends, check_guard, check_log, check_log_item, check_mapping, check_return, check_setverdict, check_start, check_started, check_stop, is_error, is_function, refers_to_default, runs_there, says_component}
 use Rattle.laws_checker.proofs.Nothing.{nothing-first, nothing-rest}
 use Rattle.laws_checker.proofs.Whole.{naming}
 use Rattle.laws_statements.proofs.WithinExpressions.{arguments-fine, component-same, expression-same, none-append, part-by-part, reference-same, reference_meant, same, value-fine, wanted-same}
@@ -225,6 +226,9 @@ module _ (h : Scope) (names : Names) (within : (name : List ℕ) → IfSome (h.n
   ends-fine one other nothing =
       part-by-part (check_wanted_component h one).broken (check_wanted_component h other).broken (check_wanted_component g one).broken (check_wanted_component g other).broken
       (wanted-fine one) (wanted-fine other) nothing
+
+  pub mapping-fine : (mapping : Mapping) → check_mapping h mapping ≡ [] → check_mapping g mapping ≡ []
+  mapping-fine mapping nothing = wanted-fine mapping.port.component nothing
 
   started-fine : (t : Typing) (call : Call) (at : Option ℕ) → check_started h t call at ≡ [] → check_started g t call at ≡ []
   started-fine t call None nothing = absurd (let e = nothing in cc)

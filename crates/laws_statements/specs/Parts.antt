@@ -15,7 +15,7 @@ use Rattle.check_scope.specs.Names.{Scope}
 use Rattle.check_scope.specs.declared.types.DataType.TheVariants as type
 use Rattle.check_scope.specs.declared.types.Typing.TheVariants as typing
 use Rattle.check_rules.specs.Messages.{check_event, check_send, check_timer}
-use Rattle.check_rules.specs.Statements.{Place, check_deactivate, check_ends, check_for_start, check_log, check_return, check_setverdict, check_start, check_stop, behind_for_start, inside_branch, statements, with_scope}
+use Rattle.check_rules.specs.Statements.{Place, check_deactivate, check_ends, check_for_start, check_log, check_mapping, check_return, check_setverdict, check_start, check_stop, behind_for_start, inside_branch, statements, with_scope}
 
 -- a condition: it breaks no rule, and is boolean
 pub record IsCondition (scope : Scope) (e : Expr) : Type 0 where
@@ -76,6 +76,7 @@ HasFineParts place Action-F.Stop = Unit {0}
 HasFineParts place (Action-F.Log items) = check_log place.scope items ≡ []
 HasFineParts place (Action-F.Setverdict verdict reasons) = check_setverdict place.scope verdict reasons ≡ []
 HasFineParts place (Action-F.Connect one other) = check_ends place.scope one.component other.component ≡ []
+HasFineParts place (Action-F.Map mapping) = check_mapping place.scope mapping ≡ []
 HasFineParts place (Action-F.Send send) = check_send place.scope send ≡ []
 HasFineParts place (Action-F.StartComponent reference call) = check_start place.scope reference call ≡ []
 HasFineParts place (Action-F.StartTimer timer) = check_timer place.scope timer ≡ []

@@ -14,6 +14,7 @@ ghost use Rattle.ttcn_syntax.specs.declared.tree.statement.Branch.{Branch};
 ghost use Rattle.ttcn_syntax.specs.declared.tree.statement.Constants.{Constants};
 ghost use Rattle.ttcn_syntax.specs.declared.tree.statement.Event.{Event};
 ghost use Rattle.ttcn_syntax.specs.declared.tree.statement.LogItem.{LogItem};
+ghost use Rattle.ttcn_syntax.specs.declared.tree.statement.Mapping.{Mapping};
 ghost use Rattle.ttcn_syntax.specs.declared.tree.statement.PortSelector.{PortSelector};
 ghost use Rattle.ttcn_syntax.specs.declared.tree.statement.Receive.{Receive};
 ghost use Rattle.ttcn_syntax.specs.declared.tree.statement.Send.{Send};
@@ -38,7 +39,7 @@ ghost use Rattle.check_scope.specs.declared.rule.Rule.TheVariants as rule;
 ghost use Rattle.check_scope.specs.declared.types.Target.{Target};
 ghost use Rattle.check_rules.specs.Definitions.{check_parameters, returns_of, with_parameters};
 ghost use Rattle.check_rules.specs.Messages.{Passing, check_event, check_message, check_receive, check_selector, check_send, check_timer, incoming, type_of_message};
-ghost use Rattle.check_rules.specs.Statements.{Place, branch, check_condition, check_deactivate, check_ends, check_guard, check_log, check_return, check_setverdict, check_start, check_stop, statement, statements, with_scope};
+ghost use Rattle.check_rules.specs.Statements.{Place, branch, check_condition, check_deactivate, check_ends, check_guard, check_log, check_mapping, check_return, check_setverdict, check_start, check_stop, statement, statements, with_scope};
 ghost use Rattle.laws_statements.specs.Declares.{Declared, NoneIsFurther, names_of_branch, names_of_constants, names_of_statement, names_of_statements, names_of_timers, names_of_variables};
 ghost use Rattle.laws_statements.specs.Members.{scope_behind};
 ghost use Rattle.laws_statements.specs.Within.{IsWithin, ReturnsStayFine, StaysFine, StaysSame};
@@ -60,7 +61,7 @@ pub fn expressions_stay_fine()
 
 /// What stands in statements without blocks and declarations, and breaks no rule, breaks none where further names are
 /// visible.
-#[tactic(auto, using(crate::proofs::Within::arguments_stay, crate::proofs::Within::guard_stays, crate::proofs::Within::call_stays, crate::proofs::Within::activation_stays, crate::proofs::Within::rhs_stays, crate::proofs::Within::assignment_stays, crate::proofs::Within::condition_stays, crate::proofs::Within::deactivate_stays, crate::proofs::Within::stop_stays, crate::proofs::Within::ends_stays, crate::proofs::Within::start_stays, crate::proofs::Within::timer_stays, crate::proofs::Within::message_stays, crate::proofs::Within::send_stays, crate::proofs::Within::receive_stays, crate::proofs::Within::event_stays))]
+#[tactic(auto, using(crate::proofs::Within::arguments_stay, crate::proofs::Within::guard_stays, crate::proofs::Within::call_stays, crate::proofs::Within::activation_stays, crate::proofs::Within::rhs_stays, crate::proofs::Within::assignment_stays, crate::proofs::Within::condition_stays, crate::proofs::Within::deactivate_stays, crate::proofs::Within::stop_stays, crate::proofs::Within::ends_stays, crate::proofs::Within::mapping_stays, crate::proofs::Within::start_stays, crate::proofs::Within::timer_stays, crate::proofs::Within::message_stays, crate::proofs::Within::send_stays, crate::proofs::Within::receive_stays, crate::proofs::Within::event_stays))]
 pub fn parts_stay_fine()
     ensures arguments { (parameters : List Parameter) (given : List Value) → StaysFine (λ s. check_arguments s parameters given) }
     ensures calls { (callable : Option DefinitionKind → Bool) (call : Call) → StaysFine (λ s. check_call s callable call) }
@@ -74,6 +75,7 @@ pub fn parts_stay_fine()
     ensures deactivations { (r : Option Reference) → StaysFine (λ s. check_deactivate s r) }
     ensures stops { (c : ComponentRef) → StaysFine (λ s. check_stop s c) }
     ensures connections { (one other : ComponentRef) → StaysFine (λ s. check_ends s one other) }
+    ensures mappings { (mapping : Mapping) → StaysFine (λ s. check_mapping s mapping) }
     ensures starts { (c : ComponentRef) (call : Call) → StaysFine (λ s. check_start s c call) }
     ensures timers { (name : List ℕ) → StaysFine (λ s. check_timer s name) }
     ensures messages { (passing : Passing) (otherwise : Judgement) (message : MessageTemplate) → StaysFine (λ s. check_message s passing otherwise message) }

@@ -11,6 +11,9 @@ use Rattle.ttcn_syntax.specs.declared.tree.statement.Conditional.{Conditional, o
 use Rattle.ttcn_syntax.specs.declared.tree.statement.Constant.{Constant}
 use Rattle.ttcn_syntax.specs.declared.tree.statement.ForStart.TheVariants as for_start
 use Rattle.ttcn_syntax.specs.declared.tree.statement.LogItem.{LogItem}
+use Rattle.ttcn_syntax.specs.declared.tree.statement.MapOperation.{MapOperation}
+use Rattle.ttcn_syntax.specs.declared.tree.statement.MapOperation.TheVariants as operation
+use Rattle.ttcn_syntax.specs.declared.tree.statement.Mapping.{Mapping}
 use Rattle.ttcn_syntax.specs.declared.tree.statement.PortRef.{PortRef}
 use Rattle.ttcn_syntax.specs.declared.tree.statement.Send.{Send}
 use Rattle.ttcn_syntax.specs.declared.tree.statement.Statement.{Statement}
@@ -34,7 +37,7 @@ use Rattle.semantics.specs.Events.{Choice, Effect, Nothing, Refused, Taken}
 use Rattle.semantics.specs.Items.{Does, Doing, From, Item, Last, Loop, Mark, Name, Part, Start, Target, Waiting, Whole, action_of, items, items_if_any, site_in_for, start_items}
 use Rattle.semantics.specs.Sites.{Site, scope_at}
 use Rattle.semantics.specs.Snapshots.{Snapshot, Test}
-use Rattle.semantics.specs.Statements.{Act, Connects, Continues, Creates, Errs, Removes, Requests, Sends, Stand, Starts, Stops, Waits, Worsens, act, act_alt_or, act_assignment, act_choice, act_conditional, act_connect, act_constant, act_deactivate, act_end, act_first, act_for_start, act_for_step, act_from, act_if, act_in, act_initial, act_loop, act_name, act_part, act_port, act_return, act_send, act_start, act_test, act_timer, act_variable, act_while, act_whole, acting, activate, activated, activated_at, ask_connection, assign, body_of, call_function, called_frame, choice_at, component_meant_at, continuing, created, declared, declared_target, done, enter, frame_at, frame_of_call, function_frame, give_back, go_either, leave, may_connect, most, name_in, new_id, otherwise, reads, remaining, result_at, sent_to, sent_type, sent_value, stop_meant, waits_first, with_child, with_defaults, with_frames, without_default}
+use Rattle.semantics.specs.Statements.{Act, Connects, Continues, Creates, Errs, Maps, Removes, Requests, Sends, Stand, Starts, Stops, Unmaps, Waits, Worsens, act, act_alt_or, act_assignment, act_choice, act_conditional, act_connect, act_constant, act_deactivate, act_end, act_first, act_for_start, act_for_step, act_from, act_if, act_in, act_initial, act_loop, act_map, act_name, act_part, act_port, act_return, act_send, act_start, act_test, act_timer, act_variable, act_while, act_whole, acting, activate, activated, activated_at, ask_connection, ask_operation, assign, body_of, call_function, called_frame, choice_at, component_meant_at, continuing, created, declared, declared_target, done, enter, frame_at, frame_of_call, function_frame, give_back, go_either, leave, may_connect, may_map, most, name_in, new_id, otherwise, reads, remaining, result_at, sent_to, sent_type, sent_value, stop_meant, waits_first, with_child, with_defaults, with_frames, without_default}
 use Rattle.semantics.specs.Storing.{declare, declare_timer, forget, going_on, set_timer, store, target_meant, with_calls}
 use Rattle.semantics.specs.Taking.{port_taken, repeat_alt, repeated, taken}
 use Rattle.value_types.specs.Evaluation.{condition_of}
@@ -104,6 +107,10 @@ pub record Keeps (stand : Stand) (site : Site) (s : Statement) (part : Part) (As
   pub connects : (one other : PortRef) (c d : ComponentId) → component_meant_at stand site one.component ≡ Yields c → component_meant_at stand site other.component ≡ Yields d
       → may_connect stand.test.definitions c one.port d other.port ≡ true
       → Asks (Requests (Connects (record { component = c.path; port = one.port }) (record { component = d.path; port = other.port })) (done stand))
+  pub maps : (m : Mapping) (c : ComponentId) → component_meant_at stand site m.port.component ≡ Yields c → may_map stand.test c m.port.port m.system_port ≡ true
+      → Asks (Requests (Maps (record { component = c.path; port = m.port.port }) m.system_port) (done stand))
+  pub unmaps : (m : Mapping) (c : ComponentId) → component_meant_at stand site m.port.component ≡ Yields c
+      → Asks (Requests (Unmaps (record { component = c.path; port = m.port.port }) m.system_port) (done stand))
 
 module _ (stand : Stand) (site : Site) (s : Statement) (part : Part) (Asks : Act → Type 0) (Opened Changed Left : Data → Type 0) (Given : Value → Type 0) (Begun : Frame → Type 0)
     (keeps : Keeps stand site s part Asks Opened Changed Left Given Begun) where
@@ -320,6 +327,20 @@ module _ (stand : Stand) (site : Site) (s : Statement) (part : Part) (Asks : Act
       (λ c first. acting-is (λ d. ask_connection stand c one.port d other.port) (component_meant_at stand site other.component)
       (λ d second. ask-if one other c d (may_connect ds c one.port d other.port) first second (λ e. e)))
 
+  map-if : (m : Mapping) (c : ComponentId) (b : Bool) → component_meant_at stand site m.port.component ≡ Yields c → (b ≡ true → may_map stand.test c m.port.port m.system_port ≡ true)
+      → Asks (if b then Requests (Maps (record { component = c.path; port = m.port.port }) m.system_port) (done stand) else Errs DynamicError)
+  map-if m c true meant may = keeps.maps m c meant (may refl)
+  map-if m c false meant may = keeps.fails DynamicError
+
+  operation-asks : (m : Mapping) (c : ComponentId) (o : MapOperation) → component_meant_at stand site m.port.component ≡ Yields c → Asks (ask_operation stand o c m.port.port m.system_port)
+  operation-asks m c operation.Map meant = map-if m c (may_map stand.test c m.port.port m.system_port) meant (λ e. e)
+  operation-asks m c operation.Unmap meant = keeps.unmaps m c meant
+
+  map-asks : (m : Mapping) → Asks (act_map stand site m)
+  map-asks m =
+      acting-is (λ c. ask_operation stand m.operation c m.port.port m.system_port) (component_meant_at stand site m.port.component)
+      (λ c meant. operation-asks m c m.operation meant)
+
   send-asks : (send : Send) → Asks (act_send stand site send)
   send-asks send =
       acting-is (λ v. acting (λ to. Requests (Sends send.port to v) (done stand)) (sent_to stand site send.to)) (sent_value stand site send (sent_type (scope_at ds site) send))
@@ -408,6 +429,7 @@ module _ (stand : Stand) (site : Site) (s : Statement) (part : Part) (Asks : Act
   whole-asks whole tests (Action-F.Log logged) e = done-asks
   whole-asks whole tests (Action-F.Setverdict v reasons) e = keeps.worsens v reasons whole e
   whole-asks whole tests (Action-F.Connect one other) e = connect-asks one other
+  whole-asks whole tests (Action-F.Map m) e = map-asks m
   whole-asks whole tests (Action-F.Send send) e = send-asks send
   whole-asks whole tests (Action-F.StartComponent reference call) e = start-asks reference call
   whole-asks whole tests (Action-F.StartTimer name) e = goes-on (set_timer stand.test site name timer.Running (done stand)) (keeps.sets_timer name timer.Running)

@@ -1,5 +1,5 @@
 -- One walk over what is done among the components: a law says what each change of a configuration keeps, and the walk says it of where a step leads.
-use Rattle.std.proofs.Common.{◌≡◌, ℕ, Bool, true, false, ◌||◌, List, [], ◌∷◌, ◌++◌, Option, Some, None, IfSome, is_some, refl, if◌then◌else◌}
+use Rattle.std.proofs.Common.{◌≡◌, ℕ, Bool, true, false, List, [], ◌∷◌, ◌++◌, Option, Some, None, IfSome, is_some, refl, if◌then◌else◌}
 use Rattle.std.specs.List.{All, filter}
 use Rattle.std.proofs.lemmas.List.Elements.{All-map}
 use Rattle.ttcn_syntax.specs.declared.tree.statement.Verdict.{Verdict}
@@ -7,8 +7,9 @@ use Rattle.laws_steps.proofs.Found.{new-each}
 use Rattle.semantics.proofs.Pairs.{All-more}
 use Rattle.semantics.specs.Configurations.{Component, Configuration, Created, Data, End, Ended, Frame, Goes, Going, Running, State, Terminated, component_at, is_terminated_state, overall, path_of, same_path}
 use Rattle.semantics.specs.Snapshots.{Test, mtc_of}
-use Rattle.semantics.specs.Statements.{Act, Connects, Continues, Creates, Errs, Removes, Requests, Sends, Starts, Stops, Waits, Worsens}
-use Rattle.semantics.specs.Steps.{addressed, apply, at_queue, begin, connection, deliver, ending, is_double, is_terminated_at, peers, settle, start_created, start_in, touch, unless_terminated, with_connection, with_data, with_new, with_state, with_verdict, without_first}
+use Rattle.semantics.specs.Entries.{put}
+use Rattle.semantics.specs.Statements.{Act, Connects, Continues, Creates, Errs, Maps, Removes, Requests, Sends, Starts, Stops, Unmaps, Waits, Worsens}
+use Rattle.semantics.specs.Steps.{addressed, apply, at_queue, begin, connection, deliver, ending, is_kept_apart, is_kept_unmapped, is_mapped, peers, send_out, send_to_peer, settle, start_created, start_in, terminate, touch, unless_terminated, unmap_port, with_connection, with_data, with_mappings, with_new, with_state, with_verdict, without_first}
 use Rattle.value_types.specs.Outcomes.{DynamicError, Failure, Fails, Outcome, Unmet, Yields, dynamic_error}
 use Rattle.value_types.specs.declared.path.Path.{Path}
 use Rattle.value_types.specs.declared.value.ComponentId.{ComponentId}
@@ -45,22 +46,34 @@ pub record Applies (May : Failure → Type 0) (Asks : Act → Type 0) (Stands : 
   pub worsens : (v : Verdict) (own : Data) → Asks (Requests (Worsens v) own) → Stands (touch (settle c itself.path own) itself.path (with_verdict v))
   pub removes : (port : List ℕ) (own : Data) → Asks (Requests (Removes port) own) → Stands (touch (settle c itself.path own) itself.path (at_queue port without_first))
   pub delivers : (port : List ℕ) (to : Option Path) (v : Value) (own : Data) (e : End) → Asks (Requests (Sends port to v) own)
-      → Stands (touch (settle c itself.path own) e.component (at_queue e.port (λ messages. messages ++ record { value = v; sender = itself } ∷ [])))
+      → Stands (touch (settle c itself.path own) e.component (at_queue e.port (λ messages. messages ++ record { value = v; sender = Some itself } ∷ [])))
+  pub sends_out : (port : List ℕ) (to : Option Path) (v : Value) (own : Data) → Asks (Requests (Sends port to v) own) → Stands (settle c itself.path own)
   pub creates : (new : Component) (own : Data) → Asks (Requests (Creates new) own) → Stands (with_new new (settle c itself.path own))
   pub starts : (path : Path) (frame : Frame) (own : Data) → Asks (Requests (Starts path frame) own) → Stands (touch (settle c itself.path own) path (begin frame))
   pub lacks : (path : Path) (frame : Frame) (own : Data) → Asks (Requests (Starts path frame) own) → component_at (settle c itself.path own) path ≡ None → May Unmet
-  pub stops : (path : Path) (own : Data) → Asks (Requests (Stops path) own) → Stands (touch (settle c itself.path own) path (with_state Terminated))
+  pub stops : (path : Path) (own : Data) → Asks (Requests (Stops path) own) → Stands (terminate path (settle c itself.path own))
   pub connects : (d e : End) (own : Data) → Asks (Requests (Connects d e) own) → Stands (with_connection (connection d e) (settle c itself.path own))
+  pub maps : (d : End) (system_port : List ℕ) (own : Data) → Asks (Requests (Maps d system_port) own) → Stands (with_mappings (put system_port d c.mappings) (settle c itself.path own))
+  pub unmaps : (d : End) (system_port : List ℕ) (own : Data) → Asks (Requests (Unmaps d system_port) own) → Stands (unmap_port (settle c itself.path own) d system_port)
 
 module _ (test : Test) (May : Failure → Type 0) (Asks : Act → Type 0) (Stands : Going → Type 0) (c : Going) (itself : ComponentId) (applies : Applies May Asks Stands c itself) where
   abbrev Well : Outcome Configuration → Type 0
   Well o = LeadsWell May (IfGoes Stands) o
 
   delivered : (port : List ℕ) (to : Option Path) (v : Value) (own : Data) (ends : List End) → Asks (Requests (Sends port to v) own)
-      → Well (ending (deliver (settle c itself.path own) (record { value = v; sender = itself }) ends))
+      → Well (ending (deliver (settle c itself.path own) (record { value = v; sender = Some itself }) ends))
   delivered port to v own [] asks = applies.errs
   delivered port to v own (e ∷ []) asks = applies.delivers port to v own e asks
   delivered port to v own (d ∷ e ∷ ends) asks = applies.errs
+
+  sent-out : (port : List ℕ) (to : Option Path) (v : Value) (own : Data) (named : Option Path) → Asks (Requests (Sends port to v) own) → Well (ending (send_out (settle c itself.path own) named))
+  sent-out port to v own None asks = applies.sends_out port to v own asks
+  sent-out port to v own (Some path) asks = applies.errs
+
+  sent : (port : List ℕ) (to : Option Path) (v : Value) (own : Data) (b : Bool) → Asks (Requests (Sends port to v) own)
+      → Well (ending (if b then send_out (settle c itself.path own) to else send_to_peer (settle c itself.path own) itself port to v))
+  sent port to v own true asks = sent-out port to v own to asks
+  sent port to v own false asks = delivered port to v own (filter (addressed to) (peers (settle c itself.path own) (record { component = itself.path; port = port }))) asks
 
   started-in : (path : Path) (frame : Frame) (own : Data) (state : State) → Asks (Requests (Starts path frame) own) → Well (ending (start_in (settle c itself.path own) path frame state))
   started-in path frame own Created asks = applies.starts path frame own asks
@@ -72,13 +85,18 @@ module _ (test : Test) (May : Failure → Type 0) (Asks : Act → Type 0) (Stand
   started path frame own None is asks = applies.lacks path frame own asks is
   started path frame own (Some component) is asks = started-in path frame own component.state asks
 
-  stopped : (path : Path) (own : Data) (b : Bool) → Asks (Requests (Stops path) own) → IfGoes Stands (if b then Ended (overall (settle c itself.path own)) else Goes (touch (settle c itself.path own) path (with_state Terminated)))
+  stopped : (path : Path) (own : Data) (b : Bool) → Asks (Requests (Stops path) own) → IfGoes Stands (if b then Ended (overall (settle c itself.path own)) else Goes (terminate path (settle c itself.path own)))
   stopped path own true asks = tt
   stopped path own false asks = applies.stops path own asks
 
   connected : (d e : End) (own : Data) (b : Bool) → Asks (Requests (Connects d e) own) → Well (ending (if b then dynamic_error else Yields (with_connection (connection d e) (settle c itself.path own))))
   connected d e own true asks = applies.errs
   connected d e own false asks = applies.connects d e own asks
+
+  port-mapped : (d : End) (system_port : List ℕ) (own : Data) (b : Bool) → Asks (Requests (Maps d system_port) own)
+      → Well (ending (if b then dynamic_error else Yields (with_mappings (put system_port d c.mappings) (settle c itself.path own))))
+  port-mapped d system_port own true asks = applies.errs
+  port-mapped d system_port own false asks = applies.maps d system_port own asks
 
   -- where a step leads in which a component asks for this
   pub applied : (asked : Act) → Asks asked → Leads May (IfGoes Stands) (apply test c itself asked)
@@ -87,13 +105,13 @@ module _ (test : Test) (May : Failure → Type 0) (Asks : Act → Type 0) (Stand
   applied (Requests Continues own) asks = applies.continues own asks
   applied (Requests (Worsens v) own) asks = applies.worsens v own asks
   applied (Requests (Removes port) own) asks = applies.removes port own asks
-  applied (Requests (Sends port to v) own) asks =
-      delivered port to v own (filter (addressed to) (peers (settle c itself.path own) (record { component = itself.path; port = port }))) asks
+  applied (Requests (Sends port to v) own) asks = sent port to v own (is_mapped (settle c itself.path own) (record { component = itself.path; port = port })) asks
   applied (Requests (Creates new) own) asks = applies.creates new own asks
   applied (Requests (Starts path frame) own) asks = started path frame own (component_at (settle c itself.path own) path) refl asks
   applied (Requests (Stops path) own) asks = stopped path own (same_path path (mtc_of test).path) asks
-  applied (Requests (Connects d e) own) asks =
-      connected d e own (is_terminated_at (settle c itself.path own) d.component || is_terminated_at (settle c itself.path own) e.component || is_double (settle c itself.path own) d e || is_double (settle c itself.path own) e d) asks
+  applied (Requests (Connects d e) own) asks = connected d e own (is_kept_apart (settle c itself.path own) d e) asks
+  applied (Requests (Maps d system_port) own) asks = port-mapped d system_port own (is_kept_unmapped (settle c itself.path own) d system_port) asks
+  applied (Requests (Unmaps d system_port) own) asks = applies.unmaps d system_port own asks
 
 -- ---- what holds of each component
 
@@ -117,7 +135,7 @@ pub record AppliesEach (Asks : Act → Type 0) (Has : Data → Type 0) (Is : Com
   pub settles : (own : Data) → Has own → KeepsEach Is (with_data own)
   pub worsens : (v : Verdict) → KeepsEach Is (with_verdict v)
   pub removes : (port : List ℕ) → KeepsEach Is (at_queue port without_first)
-  pub delivers : (port : List ℕ) (to : Option Path) (v : Value) (own : Data) (at : List ℕ) → Asks (Requests (Sends port to v) own) → KeepsEach Is (at_queue at (λ messages. messages ++ record { value = v; sender = itself } ∷ []))
+  pub delivers : (port : List ℕ) (to : Option Path) (v : Value) (own : Data) (at : List ℕ) → Asks (Requests (Sends port to v) own) → KeepsEach Is (at_queue at (λ messages. messages ++ record { value = v; sender = Some itself } ∷ []))
   pub creates : (new : Component) (own : Data) → Asks (Requests (Creates new) own) → Is new
   pub starts : (path : Path) (frame : Frame) (own : Data) → Asks (Requests (Starts path frame) own) → KeepsEach Is (begin frame)
   pub stops : KeepsEach Is (with_state Terminated)
@@ -144,13 +162,16 @@ applies-each Asks Has Is c itself all each = record {
   continues = λ own asks. settled own (each.owns (Requests Continues own) asks);
   worsens = λ v own asks. touch-each Is (settle c itself.path own) itself.path (with_verdict v) (each.worsens v) (settled own (each.owns (Requests (Worsens v) own) asks));
   removes = λ port own asks. touch-each Is (settle c itself.path own) itself.path (at_queue port without_first) (each.removes port) (settled own (each.owns (Requests (Removes port) own) asks));
-  delivers = λ port to v own e asks. touch-each Is (settle c itself.path own) e.component (at_queue e.port (λ messages. messages ++ record { value = v; sender = itself } ∷ [])) (each.delivers port to v own e.port asks)
+  delivers = λ port to v own e asks. touch-each Is (settle c itself.path own) e.component (at_queue e.port (λ messages. messages ++ record { value = v; sender = Some itself } ∷ [])) (each.delivers port to v own e.port asks)
       (settled own (each.owns (Requests (Sends port to v) own) asks));
+  sends_out = λ port to v own asks. settled own (each.owns (Requests (Sends port to v) own) asks);
   creates = λ new own asks. new-each Is new (settle c itself.path own) (is_some (component_at (settle c itself.path own) (path_of new))) (each.creates new own asks) (settled own (each.owns (Requests (Creates new) own) asks));
   starts = λ path frame own asks. touch-each Is (settle c itself.path own) path (begin frame) (each.starts path frame own asks) (settled own (each.owns (Requests (Starts path frame) own) asks));
   lacks = λ path frame own asks found. tt;
   stops = λ path own asks. touch-each Is (settle c itself.path own) path (with_state Terminated) each.stops (settled own (each.owns (Requests (Stops path) own) asks));
   connects = λ d e own asks. settled own (each.owns (Requests (Connects d e) own) asks);
+  maps = λ d system_port own asks. settled own (each.owns (Requests (Maps d system_port) own) asks);
+  unmaps = λ d system_port own asks. settled own (each.owns (Requests (Unmaps d system_port) own) asks);
 }
   where
     settled : (own : Data) → Has own → All Is (settle c itself.path own).components

@@ -6,23 +6,26 @@ use Rattle.ttcn_syntax.specs.declared.tree.statement.Verdict.TheVariants as verd
 use Rattle.check_scope.specs.Names.{kind_at}
 use Rattle.laws_steps.proofs.Applying.{IfGoes, Leads, LeadsWell}
 use Rattle.laws_steps.proofs.Found.{some-of}
-use Rattle.semantics.specs.Configurations.{Component, Configuration, Data, Ended, Frame, Goes, Going, component_at, is_running_state, path_of}
+use Rattle.semantics.specs.Configurations.{Component, Configuration, Data, End, Ended, Frame, Goes, Going, component_at, is_running_state, path_of}
 use Rattle.semantics.specs.Creating.{new_members}
 use Rattle.semantics.specs.Runs.{first_snapshot, graph_of, mtc_with, option_elim, replay, replay_from, start, started, testcase_body}
 use Rattle.semantics.specs.Snapshots.{Test, mtc_of, snapshot_of}
 use Rattle.semantics.specs.Statements.{act}
-use Rattle.semantics.specs.Steps.{Expiry, Label, Statement, apply, exchanged, expired, expiry_step, next, settled, statement_step, step, step_in, touch}
+use Rattle.semantics.specs.Steps.{Delivery, Expiry, Label, Statement, apply, come_in, exchanged, expired, expiry_step, next, next_message, settled, statement_step, step, step_in, touch}
 use Rattle.summary.specs.Run.{Run, Start, Then, end_of}
+use Rattle.value_types.specs.Frames.{entry}
 use Rattle.value_types.specs.Outcomes.{Failure, Fails, Outcome, Yields, or_unmet, outcome_and_then, outcome_map}
 use Rattle.value_types.specs.declared.path.Path.{Path}
+use Rattle.value_types.specs.declared.value.Value.{Value}
 
 -- ---- steps
 
--- What a law says of steps in a configuration in which the test case goes on: of what a component that runs asks for, and of a timer that expires.
+-- What a law says of steps in a configuration in which the test case goes on: of what a component that runs asks for, of a timer that expires, and of a message that comes in.
 pub record Steps (test : Test) (May : Failure → Type 0) (Stands : Going → Type 0) (c : Going) : Type 0 where
   pub asked : (p : Path) (x : Component) → component_at c p ≡ Some x → is_running_state x.state ≡ true → Leads May (IfGoes Stands) (apply test c x.itself (act test (snapshot_of c x) x.own))
   pub expires : (p : Path) (x : Component) (number : ℕ) (name : List ℕ) (own : Data) → component_at c p ≡ Some x → is_running_state x.state ≡ true → expired number name x.own ≡ Some own
       → Stands (touch c (path_of x) (exchanged own))
+  pub comes : (system_port : List ℕ) (e : End) (v : Value) → entry c.mappings system_port ≡ Some e → next_message test c system_port ≡ Some v → Stands (come_in system_port e v c)
 
 module _ (test : Test) (May : Failure → Type 0) (Stands : Going → Type 0) (c : Going) (steps : Steps test May Stands c) where
   running-leads : (b : Bool) (o : Option (Outcome Configuration)) → (b ≡ true → Leads May (IfGoes Stands) o) → Leads May (IfGoes Stands) (if b then o else None)
@@ -38,6 +41,16 @@ module _ (test : Test) (May : Failure → Type 0) (Stands : Going → Type 0) (c
   expiry-leads p x number name None found runs is = tt
   expiry-leads p x number name (Some own) found runs is = steps.expires p x number name own found runs is
 
+  message-leads : (system_port : List ℕ) (e : End) (o : Option Value) → entry c.mappings system_port ≡ Some e → next_message test c system_port ≡ o
+      → Leads May (IfGoes Stands) (option_map (λ v. Yields (Goes (come_in system_port e v c))) o)
+  message-leads system_port e None mapped next = tt
+  message-leads system_port e (Some v) mapped next = steps.comes system_port e v mapped next
+
+  delivery-leads : (system_port : List ℕ) (o : Option End) → entry c.mappings system_port ≡ o
+      → Leads May (IfGoes Stands) (option_and_then (λ e. option_map (λ v. Yields (Goes (come_in system_port e v c))) (next_message test c system_port)) o)
+  delivery-leads system_port None mapped = tt
+  delivery-leads system_port (Some e) mapped = message-leads system_port e (next_message test c system_port) mapped refl
+
   -- the step of a label
   pub step-leads : (label : Label) → Leads May (IfGoes Stands) (step_in test c label)
   step-leads (Statement p) =
@@ -47,6 +60,7 @@ module _ (test : Test) (May : Failure → Type 0) (Stands : Going → Type 0) (c
       then-leads (expiry_step c number name) (component_at c p)
       (λ x found. running-leads (is_running_state x.state) (option_map (λ own. Yields (Goes (touch c (path_of x) (exchanged own)))) (expired number name x.own))
       (λ runs. expiry-leads p x number name (expired number name x.own) found runs refl))
+  step-leads (Delivery system_port) = delivery-leads system_port (entry c.mappings system_port) refl
 
 -- ---- the next configuration
 
@@ -73,11 +87,11 @@ module _ (test : Test) (May : Failure → Type 0) (Stands : Going → Type 0) wh
 -- what holds of the configuration in which the MTC alone begins the body of the test case, holds of the one in which runs start
 pub start-leads : (test : Test) (May : Failure → Type 0) (Stands : Going → Type 0)
     → ((body : List tree.Statement) (members : Frame) → testcase_body (kind_at test.definitions test.testcase) ≡ Some body → new_members test (mtc_of test) (first_snapshot test) ≡ Yields members
-    → Stands (record { components = mtc_with test body members ∷ []; connections = []; forgotten = verdict.None })) → IfGoes Stands (start test)
+    → Stands (record { components = mtc_with test body members ∷ []; connections = []; mappings = []; delivered = []; forgotten = verdict.None })) → IfGoes Stands (start test)
 start-leads test May Stands begins = of-body (testcase_body (kind_at test.definitions test.testcase)) refl
   where
     of-members : (body : List tree.Statement) (o : Outcome Frame) → testcase_body (kind_at test.definitions test.testcase) ≡ Some body → new_members test (mtc_of test) (first_snapshot test) ≡ o
-        → IfGoes Stands (settled (outcome_map (λ members. Goes (record { components = mtc_with test body members ∷ []; connections = []; forgotten = verdict.None })) o))
+        → IfGoes Stands (settled (outcome_map (λ members. Goes (record { components = mtc_with test body members ∷ []; connections = []; mappings = []; delivered = []; forgotten = verdict.None })) o))
     of-members body (Yields members) is made = begins body members is made
     of-members body (Fails why) is made = tt
 

@@ -38,7 +38,7 @@ use Rattle.value_types.specs.Outcomes.{DynamicError, Fails, Outcome, Unmet, Yiel
 use Rattle.laws_types.proofs.Branches.{FitsWritten, alt-branch-fits, lone-call-fits, lone-event-fits}
 use Rattle.laws_types.proofs.Choices.{WritesFit, choice-asks, choose-fits, judge-fits}
 use Rattle.laws_types.proofs.Data.{Any, LastAt, frame-outside}
-use Rattle.laws_types.proofs.Forms.{connect-asks, deactivate-asks, return-asks, start-asks, start-timer-asks, stop-of-asks, test-asks}
+use Rattle.laws_types.proofs.Forms.{connect-asks, deactivate-asks, map-asks, return-asks, start-asks, start-timer-asks, stop-of-asks, test-asks}
 use Rattle.laws_types.proofs.Leaving.{end-asks}
 use Rattle.laws_types.proofs.Nested.{nest-block, nest-block-if, nest-for, nest-one}
 use Rattle.laws_types.proofs.Rights.{activated-fits, assignment-asks, name-asks}
@@ -191,6 +191,7 @@ module _ (stand : Stand) (well : AreWellTyped stand.test.definitions) (site : Si
     whole-asks inside (Action-F.Log logged) e form parts = done-fits
     whole-asks inside (Action-F.Setverdict verdict reasons) e form parts = done-fits
     whole-asks inside (Action-F.Connect one other) e form parts = connect-asks stand well site is nest one other parts
+    whole-asks inside (Action-F.Map m) e form parts = map-asks stand well site is nest m parts
     whole-asks inside (Action-F.Send send) e form parts = send-asks stand well site is nest send parts
     whole-asks inside (Action-F.StartComponent reference call) e form parts = start-asks stand well site is nest reference call parts
     whole-asks inside (Action-F.StartTimer name) e form parts = start-timer-asks stand well site is nest name parts

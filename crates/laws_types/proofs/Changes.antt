@@ -9,16 +9,17 @@ use Rattle.laws_evaluation.specs.Uses.{GivesOnly}
 use Rattle.laws_steps.proofs.Applying.{Applies, IfGoes, Leads, applied}
 use Rattle.laws_steps.proofs.Found.{new-each}
 use Rattle.semantics.proofs.Pairs.{All-more}
-use Rattle.semantics.specs.Configurations.{Component, Configuration, Data, Ended, Frame, Goes, Going, Message, Queue, Terminated, component_at, is_terminated_state, path_of, same_path}
+use Rattle.semantics.specs.Configurations.{Component, Configuration, Data, End, Ended, Frame, Goes, Going, Message, Queue, Terminated, component_at, is_terminated_state, path_of, same_path}
 use Rattle.semantics.specs.Items.{Doing, Item, Mark, Waiting}
 use Rattle.semantics.specs.Snapshots.{Test}
 use Rattle.semantics.specs.Statements.{Act, Errs}
-use Rattle.semantics.specs.Steps.{apply, at_queue, begin, change_queue, settle, touch, unless_terminated, with_data, with_state, with_verdict, without_first}
+use Rattle.semantics.specs.Steps.{apply, at_queue, begin, change_queue, come_in, settle, touch, unless_terminated, with_data, with_state, with_verdict, without_first}
 use Rattle.semantics.specs.Storing.{in_last, with_remaining}
 use Rattle.semantics.specs.Taking.{uncovered, without_marks}
 use Rattle.value_types.specs.Outcomes.{Failure, DynamicError, Fails, Outcome, Unmet, Yields}
 use Rattle.value_types.specs.declared.path.Path.{Path}
 use Rattle.value_types.specs.declared.value.ComponentId.{ComponentId}
+use Rattle.value_types.specs.declared.value.Value.{Value}
 use Rattle.laws_types.proofs.Nested.{nest-wider}
 use Rattle.laws_types.specs.internal.Asked.{AreOfType, FitsAct, FitsStart, IsFound}
 use Rattle.laws_types.specs.Typed.{FitCalls, FitQueues, FitsComponent, FitsData, FitsFrame, FitsMessage, FitsOwn, FitsTypes, HasFrames, Nest}
@@ -224,6 +225,13 @@ module _ (definitions : List Definition) where
         queues = fits.queues;
       }
 
+-- a message that comes in
+pub come-fits : (test : Test) (c : Going) (system_port : List ℕ) (e : End) (v : Value) → FitsMessage test.definitions (record { value = v; sender = None }) → All (FitsComponent test.definitions) c.components
+    → All (FitsComponent test.definitions) (come_in system_port e v c).components
+come-fits test c system_port e v fits all =
+    touched-any test.definitions c e.component (at_queue e.port (λ messages. messages ++ record { value = v; sender = None } ∷ []))
+    (queue-keeps test.definitions e.port (λ messages. messages ++ record { value = v; sender = None } ∷ []) (behind-fit test.definitions (record { value = v; sender = None }) fits)) all
+
 -- a step may fail with a dynamic error alone
 abbrev MayFail : Failure → Type 0
 MayFail DynamicError = Unit {0}
@@ -271,8 +279,9 @@ module _ (test : Test) (c : Going) (itself : ComponentId) (all : All (FitsCompon
     worsens = λ v own fits. touched-any ds (settle c itself.path own) itself.path (with_verdict v) (verdict-keeps ds v) (after own fits);
     removes = λ port own fits. touched-any ds (settle c itself.path own) itself.path (at_queue port without_first) (queue-keeps ds port without_first (without-first ds)) (after own fits);
     delivers = λ port to v own e fits.
-        touched-any ds (settle c itself.path own) e.component (at_queue e.port (λ messages. messages ++ record { value = v; sender = itself } ∷ []))
-        (queue-keeps ds e.port (λ messages. messages ++ record { value = v; sender = itself } ∷ []) (behind-fit ds (record { value = v; sender = itself }) (fits.0 itself))) (after own fits.1);
+        touched-any ds (settle c itself.path own) e.component (at_queue e.port (λ messages. messages ++ record { value = v; sender = Some itself } ∷ []))
+        (queue-keeps ds e.port (λ messages. messages ++ record { value = v; sender = Some itself } ∷ []) (behind-fit ds (record { value = v; sender = Some itself }) (fits.0 (Some itself)))) (after own fits.1);
+    sends_out = λ port to v own fits. after own fits.1;
     creates = λ new own fits. new-each (FitsComponent ds) new (settle c itself.path own) (is_some (component_at (settle c itself.path own) (path_of new))) fits.0 (after own fits.1);
     starts = λ path frame own fits.
         let at-path = started-at path frame fits.0 in
@@ -284,6 +293,8 @@ module _ (test : Test) (c : Going) (itself : ComponentId) (all : All (FitsCompon
         absurd (let e : false ≡ true = sym (ap is_some none) ∙ found-map ds path itself.path (with_data own) (λ x. refl) c.components at-path.1 in cc);
     stops = λ path own fits. stopped path own fits.0 fits.1;
     connects = λ d e own fits. after own fits;
+    maps = λ d system_port own fits. after own fits;
+    unmaps = λ d system_port own fits. after own fits;
   }
 
   pub apply-fits : (asked : Act) → FitsAct test itself.component_type itself.path M asked → IfSome (apply test c itself asked) (λ out. GivesOnly out (FitsTypes test))

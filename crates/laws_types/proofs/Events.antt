@@ -112,7 +112,7 @@ met-given (Yields a) is = tt
 met-given (Fails DynamicError) is = tt
 met-given (Fails Unmet) is = is
 
-from-level : (definitions : List Definition) (sender : ComponentId) (x : Value-F Value) (at : ℕ) → level_goes definitions x (target_of (Some (type.Component at))) ≡ true → GivesOnly (is_from sender x) (λ b. Unit {0})
+from-level : (definitions : List Definition) (sender : Option ComponentId) (x : Value-F Value) (at : ℕ) → level_goes definitions x (target_of (Some (type.Component at))) ≡ true → GivesOnly (is_from sender x) (λ b. Unit {0})
 from-level definitions sender (Value-F.Component c) at goes = tt
 from-level definitions sender Value-F.Null at goes = tt
 from-level definitions sender (Value-F.Integer n) at goes = absurd (let e = goes in cc)
@@ -218,9 +218,10 @@ module _ (test : Test) (well : AreWellTyped test.definitions) (snapshot : Snapsh
       (type.Component at, target-here reference (type.Component at) variable, sender-goes at sender (subst (λ d. fits_sender sender d ≡ true) (target-type reference (type.Component at) variable) fits))
       (All-nil (FitsRedirect test site))
 
-  sender-stored : (o : Option Reference) (sender : ComponentId) → IfSome o (StoresSender here) → GivesOnly (redirected_sender here o sender) (All (FitsRedirect test site))
+  sender-stored : (o : Option Reference) (sender : Option ComponentId) → IfSome o (StoresSender here) → GivesOnly (redirected_sender here o sender) (All (FitsRedirect test site))
   sender-stored None sender stores = All-nil (FitsRedirect test site)
-  sender-stored (Some reference) sender stores = sender-if reference stores.at sender stores.variable (fits_sender sender (target_at here reference).data_type) refl
+  sender-stored (Some reference) None stores = tt
+  sender-stored (Some reference) (Some sender) stores = sender-if reference stores.at sender stores.variable (fits_sender sender (target_at here reference).data_type) refl
 
   same-known : (t u : DataType) → typing.Known t ≡ typing.Known u → t ≡ u
   same-known t u e = cc
@@ -280,7 +281,7 @@ module _ (test : Test) (well : AreWellTyped test.definitions) (snapshot : Snapsh
 
     -- ---- messages
 
-    from-met : (from : Option ComponentRef) (sender : ComponentId) → check_to here from ≡ [] → GivesOnly (from_fits read from sender) (λ b. Unit {0})
+    from-met : (from : Option ComponentRef) (sender : Option ComponentId) → check_to here from ≡ [] → GivesOnly (from_fits read from sender) (λ b. Unit {0})
     from-met None sender fine = tt
     from-met (Some c) sender fine =
         only_then (IsReference ds (check_wanted_component judged-in c).typing) (λ b. Unit {0}) (λ v. is_from sender (out-Value v)) (component_at read c)

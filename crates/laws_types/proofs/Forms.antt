@@ -11,6 +11,9 @@ use Rattle.ttcn_syntax.specs.declared.tree.expression.ComponentRef.{ComponentRef
 use Rattle.ttcn_syntax.specs.declared.tree.expression.ComponentRef.TheVariants as component
 use Rattle.ttcn_syntax.specs.declared.tree.expression.Expr.{Expr}
 use Rattle.ttcn_syntax.specs.declared.tree.expression.Reference.{Reference}
+use Rattle.ttcn_syntax.specs.declared.tree.statement.MapOperation.{MapOperation}
+use Rattle.ttcn_syntax.specs.declared.tree.statement.MapOperation.TheVariants as operation
+use Rattle.ttcn_syntax.specs.declared.tree.statement.Mapping.{Mapping}
 use Rattle.ttcn_syntax.specs.declared.tree.statement.PortRef.{PortRef}
 use Rattle.ttcn_syntax.specs.declared.tree.value.Call.{Call}
 use Rattle.ttcn_syntax.specs.declared.tree.value.TypeName.{TypeName}
@@ -29,7 +32,7 @@ use Rattle.check_scope.specs.declared.types.DataType.TheVariants as type
 use Rattle.check_scope.specs.declared.types.Typing.{Typing}
 use Rattle.check_scope.specs.declared.types.Typing.TheVariants as typing
 use Rattle.check_rules.specs.Messages.{check_timer, is_timer_name}
-use Rattle.check_rules.specs.Statements.{Place, check_boolean, check_condition, check_deactivate, check_ends, check_return, check_start, check_stop, is_function, runs_there}
+use Rattle.check_rules.specs.Statements.{Place, check_boolean, check_condition, check_deactivate, check_ends, check_mapping, check_return, check_start, check_stop, is_function, runs_there}
 use Rattle.laws_checker.proofs.Descent.{name_resolves}
 use Rattle.laws_checker.proofs.Fitting.{same-number}
 use Rattle.laws_checker.proofs.Nothing.{kept, nothing-first, nothing-rest}
@@ -43,14 +46,14 @@ use Rattle.laws_evaluation.specs.Uses.{GivesOnly}
 use Rattle.laws_sites.specs.Standing.{MayReturn}
 use Rattle.laws_statements.proofs.Resolving.{started}
 use Rattle.laws_statements.proofs.Returning.{results_known, return_fits}
-use Rattle.laws_statements.proofs.Within.{condition_stays, deactivate_stays, ends_stays, return_stays, start_stays, stop_stays}
+use Rattle.laws_statements.proofs.Within.{condition_stays, deactivate_stays, ends_stays, mapping_stays, return_stays, start_stays, stop_stays}
 use Rattle.laws_statements.specs.Parts.{IsCondition}
 use Rattle.laws_statements.specs.Resolved as resolved_as
 use Rattle.laws_statements.specs.Results.{IsReturn, ReturnsValue}
 use Rattle.semantics.specs.Configurations.{ActiveDefault, Data}
 use Rattle.semantics.specs.Items.{Item}
 use Rattle.semantics.specs.Sites.{Site, component_name, scope_at}
-use Rattle.semantics.specs.Statements.{Act, Continues, Errs, Requests, Stand, Starts, Stops, act_connect, act_deactivate, act_return, act_start, act_stop_of, act_test, acting, ask_connection, component_meant_at, done, frame_of_call, go_either, leave, may_connect, stop_meant, with_defaults, without_default}
+use Rattle.semantics.specs.Statements.{Act, Continues, Errs, Maps, Requests, Stand, Starts, Stops, act_connect, act_deactivate, act_map, act_return, act_start, act_stop_of, act_test, acting, ask_connection, ask_operation, component_meant_at, done, frame_of_call, go_either, leave, may_connect, may_map, stop_meant, with_defaults, without_default}
 use Rattle.semantics.specs.Storing.{set_timer}
 use Rattle.check_rules.specs.Rules.{AreWellTyped}
 use Rattle.value_types.specs.Evaluation.{condition_of}
@@ -288,6 +291,21 @@ module _ (stand : Stand) (well : AreWellTyped stand.test.definitions) (site : Si
       (λ c any. acting-fits stand.test ct stand.snapshot.itself.path (IsMeant stand.test stand.snapshot stand.own stand.frame) (λ d. Unit {0}) (λ d. ask_connection stand c one.port d other.port) (component_meant_at stand site other.component)
       (wanted-component other.component (nothing-rest first (check_wanted_component scope other.component).broken wider))
       (λ d any. ask-connects (may_connect ds c one.port d other.port) _ (Errs DynamicError) done-fits tt))
+
+  asks-mapping : (b : Bool) (asked : Act) → Asking asked → Asking (if b then asked else Errs DynamicError)
+  asks-mapping true asked is = is
+  asks-mapping false asked is = tt
+
+  operation-asks : (o : MapOperation) (c : ComponentId) (port system_port : List ℕ) → Asking (ask_operation stand o c port system_port)
+  operation-asks operation.Map c port system_port =
+      asks-mapping (may_map stand.test c port system_port) (Requests (Maps (record { component = c.path; port = port }) system_port) (done stand)) done-fits
+  operation-asks operation.Unmap c port system_port = done-fits
+
+  pub map-asks : (m : Mapping) → check_mapping here m ≡ [] → Asking (act_map stand site m)
+  map-asks m nothing =
+      acting-fits stand.test ct stand.snapshot.itself.path (IsMeant stand.test stand.snapshot stand.own stand.frame) (λ c. Unit {0}) (λ c. ask_operation stand m.operation c m.port.port m.system_port) (component_meant_at stand site m.port.component)
+      (wanted-component m.port.component (mapping_stays m here scope (within stand well site is) nothing))
+      (λ c any. operation-asks m.operation c m.port.port m.system_port)
 
   pub start-asks : (reference : ComponentRef) (call : Call) → check_start here reference call ≡ [] → Asking (act_start stand site reference call)
   start-asks reference call nothing =

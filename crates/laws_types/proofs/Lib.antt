@@ -16,6 +16,7 @@ pub mod Readings
 pub mod Repeating
 pub mod Rights
 pub mod Running
+pub mod Scripts
 pub mod Sends
 pub mod Stands
 pub mod Starting

@@ -54,10 +54,10 @@ use Rattle.laws_types.specs.Typed.{FitsMessage}
 -- ---- the types of messages
 
 -- no component type, and not `default`
-abbrev IsPlain : DataType → Type 0
+abbrev pub IsPlain : DataType → Type 0
 IsPlain t = (is_component t || is_default t) ≡ false
 
-abbrev IsPlainType : Option DataType → Type 0
+abbrev pub IsPlainType : Option DataType → Type 0
 IsPlainType None = ⊥
 IsPlainType (Some t) = IsPlain t
 
@@ -68,7 +68,7 @@ part-plain (Some (meaning.Component at)) nothing = absurd (let e = nothing in cc
 part-plain (Some (meaning.PortType at)) nothing = absurd (let e = nothing in cc)
 part-plain _ nothing = absurd (let e = nothing in cc)
 
-type-plain : (names : Names) (t : TypeName) → check_part names t ≡ [] → IsPlainType (resolved names t)
+pub type-plain : (names : Names) (t : TypeName) → check_part names t ≡ [] → IsPlainType (resolved names t)
 type-plain names type_name.Integer nothing = refl
 type-plain names type_name.Boolean nothing = refl
 type-plain names type_name.Default nothing = absurd (let e = nothing in cc)
@@ -91,7 +91,7 @@ passing-plain names incoming (m ∷ messages) nothing =
     (passing-if (passes incoming m.direction) names m.types (nothing-first (check_messages names m) (flat_map (check_messages names) messages) nothing))
     (passing-plain names incoming messages (nothing-rest (check_messages names m) (flat_map (check_messages names) messages) nothing))
 
-port-plain : (definitions : List Definition) → AreWellTyped definitions → (at : ℕ) (incoming : Bool) (k : Option DefinitionKind) → kind_at definitions at ≡ k → All IsPlainType (types_of_port (module_names definitions) incoming k)
+pub port-plain : (definitions : List Definition) → AreWellTyped definitions → (at : ℕ) (incoming : Bool) (k : Option DefinitionKind) → kind_at definitions at ≡ k → All IsPlainType (types_of_port (module_names definitions) incoming k)
 port-plain definitions well at incoming (Some (kind.Port p)) is = passing-plain (module_names definitions) incoming p.messages (definition_is_fine definitions well at (kind.Port p) is)
 port-plain definitions well at incoming (Some (kind.Record r)) is = All-nil IsPlainType
 port-plain definitions well at incoming (Some (kind.Enumerated e)) is = All-nil IsPlainType
@@ -160,7 +160,7 @@ level-type definitions of plain Value-F.Null goes = absurd (let no : false ≡ t
 level-type definitions of plain Value-F.Omit goes = absurd (let e = goes in cc)
 
 -- a specific value of such a type is a message
-message-fits : (definitions : List Definition) (of : DataType) → IsPlain of → (v : Value) → IsSpecific definitions (target_of (Some of)) v → (sender : ComponentId) → FitsMessage definitions (record { value = v; sender = sender })
+message-fits : (definitions : List Definition) (of : DataType) → IsPlain of → (v : Value) → IsSpecific definitions (target_of (Some of)) v → (sender : Option ComponentId) → FitsMessage definitions (record { value = v; sender = sender })
 message-fits definitions of plain v is sender = record {
   data_type = of;
   is_typed = level-type definitions of plain (out-Value v) (sym (goes_out definitions v (target_of (Some of))) ∙ is.goes);

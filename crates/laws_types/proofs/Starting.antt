@@ -69,7 +69,7 @@ module _ (test : Test) (well : AreWellTyped test.definitions) where
   started-fits : (body : List Statement) → is_some (testcase_body (kind_at ds test.testcase)) ≡ true → Begins ds well test.testcase (statements body) → GivesOnly (started test body) (FitsTypes test)
   started-fits body there fine =
       only-mapped (λ frame. FitsMembers ds (mtc_of test).component_type (view_of frame)) (FitsTypes test)
-      (λ members. Goes (record { components = mtc_with test body members ∷ []; connections = []; forgotten = verdict.None })) (new_members test (mtc_of test) (first_snapshot test))
+      (λ members. Goes (record { components = mtc_with test body members ∷ []; connections = []; mappings = []; delivered = []; forgotten = verdict.None })) (new_members test (mtc_of test) (first_snapshot test))
       (new_members_fit test (mtc_of test) (first_snapshot test) well)
       (λ members fits. All-cons (FitsComponent ds) (mtc_with test body members) [] (mtc-fits body members there fine fits) (All-nil (FitsComponent ds)))
 

@@ -10,7 +10,7 @@ use Rattle.std.proofs.lemmas.Slice.Eq.{bytes_eq-Decides}
 use Rattle.ttcn_syntax.specs.declared.tree.definition.Definition.{Definition}
 use Rattle.laws_evaluation.specs.Uses.{GivesOnly}
 use Rattle.laws_references.proofs.Found.{component_is_there}
-use Rattle.laws_references.proofs.Runs.{found-refers}
+use Rattle.laws_references.proofs.Runs.{found-refers, next-each}
 use Rattle.laws_references.specs.References.{ComponentRefersTo, FrameRefersTo}
 use Rattle.laws_references.specs.There.{IsThere, StandsWithAllReferred}
 use Rattle.laws_sites.proofs.Firsts.{last_frame}
@@ -18,24 +18,27 @@ use Rattle.laws_sites.specs.Standing.{IsFineFrame, StandsByRules}
 use Rattle.laws_steps.proofs.Found.{found-each, some-of}
 use Rattle.laws_order.specs.Order.{HasNoMarkFirst, StandsInOrder}
 use Rattle.semantics.proofs.Pairs.{All-more, pairs-head, pairs-tail}
-use Rattle.semantics.specs.Configurations.{Component, Configuration, Data, Ended, Frame, Goes, Going, Message, Queue, component_at, is_running_state, path_cmp, path_of, same_path}
+use Rattle.semantics.specs.Configurations.{Component, Configuration, Data, End, Ended, Frame, Goes, Going, Message, Queue, component_at, is_running_state, path_cmp, path_of, same_path}
 use Rattle.semantics.specs.Items.{Item}
 use Rattle.semantics.specs.Snapshots.{Snapshot, Test, front_at, front_of, last_view, snapshot_of, timers_of}
 use Rattle.semantics.specs.Statements.{act}
-use Rattle.semantics.specs.Steps.{Expiry, Label, Statement, apply, exchanged, expired, expiry_step, next, settled, statement_step, step, touch}
+use Rattle.semantics.specs.Steps.{Delivery, Expiry, Label, Statement, apply, come_in, exchanged, expired, expiry_step, next, next_message, settled, statement_step, step, touch}
 use Rattle.semantics.specs.Storing.{in_last, with_remaining}
 use Rattle.semantics.specs.Taking.{repeat_alt, uncovered, without_marks}
+use Rattle.step_script.specs.Fitting.{FitsScript}
 use Rattle.check_rules.specs.Rules.{AreWellTyped}
 use Rattle.value_types.specs.Frames.{entry}
 use Rattle.value_types.specs.Outcomes.{Fails, IfYields, Outcome, Yields}
 use Rattle.value_types.specs.declared.path.Path.{Path}
 use Rattle.value_types.specs.declared.value.ComponentId.{ComponentId}
+use Rattle.value_types.specs.declared.value.Value.{Value}
 use Rattle.laws_types.proofs.Asked.{asked-fits}
-use Rattle.laws_types.proofs.Changes.{apply-fits}
+use Rattle.laws_types.proofs.Changes.{apply-fits, come-fits}
 use Rattle.laws_types.proofs.Expiring.{LikeOwn, exchanged-fits, own-expires}
 use Rattle.laws_repeat.specs.Following.{lists_of}
 use Rattle.laws_repeat.specs.Marks.{AllAreMarked, StandsAtRepeat, StandsMarked}
 use Rattle.laws_types.proofs.Repeating.{FindsAlt, finds-alt}
+use Rattle.laws_types.proofs.Scripts.{FitsIn, script-messages}
 use Rattle.laws_types.specs.Steps.{Sees}
 use Rattle.laws_types.specs.internal.Asked.{AreOfType, FitsAct, IsFound, IsMeant}
 use Rattle.laws_types.specs.Typed.{FitQueues, FitsComponent, FitsData, FitsMessage, FitsOwn, FitsTypes, HasFrames}
@@ -207,19 +210,31 @@ expiry-if : (test : Test) (c : Going) (x : Component) (o : Option Data) → Fits
 expiry-if test c x None fits types here runs like = tt
 expiry-if test c x (Some own) fits types here runs like = exchanged-fits test.definitions c (path_of x) x own types here like fits runs
 
+come-if : (test : Test) (c : Going) (system_port : List ℕ) (e : End) (o : Option Value) → FitsTypes test (Goes c) → IfSome o (FitsIn test.definitions)
+    → IfSome (option_map (λ v. Yields (Goes (come_in system_port e v c))) o) (λ out. GivesOnly out (FitsTypes test))
+come-if test c system_port e None fits message = tt
+come-if test c system_port e (Some v) fits message = come-fits test c system_port e v message fits
+
+delivery-if : (test : Test) (c : Going) (system_port : List ℕ) (o : Option End) → FitsScript test → FitsTypes test (Goes c)
+    → IfSome (option_and_then (λ e. option_map (λ v. Yields (Goes (come_in system_port e v c))) (next_message test c system_port)) o) (λ out. GivesOnly out (FitsTypes test))
+delivery-if test c system_port None script fits = tt
+delivery-if test c system_port (Some e) script fits =
+    come-if test c system_port e (next_message test c system_port) fits (next-each (FitsIn test.definitions) test c system_port (script-messages test script))
+
 -- the step of a label
-pub step_fits : (test : Test) (c : Configuration) (label : Label) → AreWellTyped test.definitions → StandsByRules test c → StandsInOrder c → StandsWithAllReferred test c → StandsMarked test c → FitsTypes test c
+pub step_fits : (test : Test) (c : Configuration) (label : Label) → AreWellTyped test.definitions → FitsScript test → StandsByRules test c → StandsInOrder c → StandsWithAllReferred test c → StandsMarked test c → FitsTypes test c
     → IfSome (step test c label) (λ out. GivesOnly out (FitsTypes test))
-step_fits test (Ended v) label well rules order referred marked fits = tt
-step_fits test (Goes c) (Statement path) well rules order referred marked fits =
+step_fits test (Ended v) label well script rules order referred marked fits = tt
+step_fits test (Goes c) (Statement path) well script rules order referred marked fits =
     then-fits test (statement_step test c) (component_at c path)
     (λ x found. let here : FitsComponent test.definitions x = component-fits-at test c path x fits found in
     running-fits test x (is_running_state x.state) (apply test c x.itself (act test (snapshot_of c x) x.own)) refl
     (λ runs. framed test c path x x.own.calls well rules order referred marked fits found refl (here.running runs)))
-step_fits test (Goes c) (Expiry path number name) well rules order referred marked fits =
+step_fits test (Goes c) (Expiry path number name) well script rules order referred marked fits =
     then-fits test (expiry_step c number name) (component_at c path)
     (λ x found. running-fits test x (is_running_state x.state) (option_map (λ own. Yields (Goes (touch c (path_of x) (exchanged own)))) (expired number name x.own)) refl
     (λ runs. expiry-if test c x (expired number name x.own) fits (types-in path c.components x order.ordered.components found) (component-fits-at test c path x fits found) runs (own-expires number name x.own)))
+step_fits test (Goes c) (Delivery system_port) well script rules order referred marked fits = delivery-if test c system_port (entry c.mappings system_port) script fits
 
 settled-keeps : (test : Test) (o : Option (Outcome Configuration)) (d : Configuration) → IfSome o (λ out. GivesOnly out (FitsTypes test)) → option_map settled o ≡ Some d → FitsTypes test d
 settled-keeps test None d fits is = absurd (let e = is in cc)
@@ -232,5 +247,5 @@ settled-keeps test (Some (Fails why)) d fits is = subst (FitsTypes test) (some-c
     some-conf : {a b : Configuration} → Some a ≡ Some b → a ≡ b
     some-conf h = cc
 
-pub next_fits : (test : Test) (c d : Configuration) (label : Label) → AreWellTyped test.definitions → StandsByRules test c → StandsInOrder c → StandsWithAllReferred test c → StandsMarked test c → FitsTypes test c → next test c label ≡ Some d → FitsTypes test d
-next_fits test c d label well rules order referred marked fits is = settled-keeps test (step test c label) d (step_fits test c label well rules order referred marked fits) is
+pub next_fits : (test : Test) (c d : Configuration) (label : Label) → AreWellTyped test.definitions → FitsScript test → StandsByRules test c → StandsInOrder c → StandsWithAllReferred test c → StandsMarked test c → FitsTypes test c → next test c label ≡ Some d → FitsTypes test d
+next_fits test c d label well script rules order referred marked fits is = settled-keeps test (step test c label) d (step_fits test c label well script rules order referred marked fits) is

@@ -1,5 +1,5 @@
 -- In runs of a module that breaks no rule only a step that fails ends with verdict `error`, since no `setverdict` sets it.
-use Rattle.std.proofs.Common.{◌≡◌, ℕ, Bool, true, false, not, ◌||◌, List, [], ◌∷◌, ◌++◌, Option, Some, None, IfSome, is_some, option_map, refl, sym, ap, subst, if◌then◌else◌}
+use Rattle.std.proofs.Common.{◌≡◌, ℕ, Bool, true, false, not, List, [], ◌∷◌, ◌++◌, Option, Some, None, IfSome, is_some, option_map, refl, sym, ap, subst, if◌then◌else◌}
 use Rattle.std.specs.List.{All, filter, fold}
 use Rattle.std.specs.Option.{option_and_then}
 use Rattle.std.specs.Ordering.{match_ordering, nat_cmp}
@@ -26,16 +26,19 @@ use Rattle.laws_steps.proofs.Outcomes.{any-yields, map-yields}
 use Rattle.semantics.proofs.Pairs.{All-more}
 use Rattle.semantics.specs.Configurations.{Component, Configuration, Created, Data, End, Ended, Frame, Goes, Going, Message, Running, State, Terminated, badness, component_at, is_running_state, is_terminated_state, overall, path_of, same_path, worse}
 use Rattle.semantics.specs.Creating.{new_members}
+use Rattle.semantics.specs.Entries.{put}
 use Rattle.semantics.specs.Items.{Doing, Item, Whole, action_of}
 use Rattle.semantics.specs.Runs.{first_snapshot, mtc_with, start, started, testcase_body}
 use Rattle.semantics.specs.Sites.{Site}
 use Rattle.semantics.specs.Snapshots.{Test, mtc_of, snapshot_of}
-use Rattle.semantics.specs.Statements.{Act, Connects, Continues, Creates, Errs, Removes, Requests, Sends, Starts, Stops, Waits, Worsens, act}
-use Rattle.semantics.specs.Steps.{Expiry, Label, Statement, addressed, apply, at_queue, begin, connect, connection, deliver, ending, exchanged, expired, expiry_step, insert, is_double, is_terminated_at, next, peers, send, settle, settled, start_component, start_created, start_in, statement_step, step, touch, unless_terminated, with_connection, with_data, with_state, with_verdict, without_first}
+use Rattle.semantics.specs.Statements.{Act, Connects, Continues, Creates, Errs, Maps, Removes, Requests, Sends, Starts, Stops, Unmaps, Waits, Worsens, act}
+use Rattle.semantics.specs.Steps.{Delivery, Expiry, Label, Statement, addressed, apply, at_queue, begin, come_in, connect, connection, deliver, ending, exchanged, expired, expiry_step, insert, is_kept_apart, is_kept_unmapped, is_mapped, map_port, next, next_message, peers, send, send_out, send_to_peer, settle, settled, start_component, start_created, start_in, statement_step, step, terminate, touch, unless_terminated, with_connection, with_data, with_mappings, with_state, with_verdict, without_first}
 use Rattle.check_rules.specs.Rules.{AreWellTyped}
+use Rattle.value_types.specs.Frames.{entry}
 use Rattle.value_types.specs.Outcomes.{Fails, IfYields, Outcome, Yields, dynamic_error, or_unmet, outcome_and_then}
 use Rattle.value_types.specs.declared.path.Path.{Path}
 use Rattle.value_types.specs.declared.value.ComponentId.{ComponentId}
+use Rattle.value_types.specs.declared.value.Value.{Value}
 use Rattle.laws_types.specs.Runs.{HasNoError}
 
 -- ---- verdicts
@@ -135,6 +138,15 @@ module _ (test : Test) (well : AreWellTyped test.definitions) where
   deliver-quiet c message (e ∷ []) is = touch-keeps c e.component (at_queue e.port (λ messages. messages ++ message ∷ [])) (λ x fine. fine) is
   deliver-quiet c message (d ∷ e ∷ ends) is = tt
 
+  out-quiet : (c : Going) (to : Option Path) → AreFine c → IfYields (send_out c to) AreFine
+  out-quiet c None is = is
+  out-quiet c (Some path) is = tt
+
+  send-quiet : (b : Bool) (c : Going) (sender : ComponentId) (port : List ℕ) (to : Option Path) (v : Value) → AreFine c → IfYields (if b then send_out c to else send_to_peer c sender port to v) AreFine
+  send-quiet true c sender port to v is = out-quiet c to is
+  send-quiet false c sender port to v is =
+      deliver-quiet c (record { value = v; sender = Some sender }) (filter (addressed to) (peers c (record { component = sender.path; port = port }))) is
+
   start-in-quiet : (c : Going) (path : Path) (frame : Frame) (state : State) → AreFine c → IfYields (start_in c path frame state) AreFine
   start-in-quiet c path frame Created is = touch-keeps c path (begin frame) (λ x fine. fine) is
   start-in-quiet c path frame Running is = tt
@@ -144,13 +156,17 @@ module _ (test : Test) (well : AreWellTyped test.definitions) where
   start-quiet c path frame None is = tt
   start-quiet c path frame (Some component) is = start-in-quiet c path frame component.state is
 
-  stop-quiet : (b : Bool) (c : Going) (path : Path) → AreFine c → IsQuiet (if b then Ended (overall c) else Goes (touch c path (with_state Terminated)))
+  stop-quiet : (b : Bool) (c : Going) (path : Path) → AreFine c → IsQuiet (if b then Ended (overall c) else Goes (terminate path c))
   stop-quiet true c path is = all-none c.forgotten c.components is.0 is.1
   stop-quiet false c path is = touch-keeps c path (with_state Terminated) (λ x fine. fine) is
 
   connect-quiet : (b : Bool) (c : Going) (d e : End) → AreFine c → IfYields (if b then dynamic_error else Yields (with_connection (connection d e) c)) AreFine
   connect-quiet true c d e is = tt
   connect-quiet false c d e is = is
+
+  map-quiet : (b : Bool) (c : Going) (d : End) (system_port : List ℕ) → AreFine c → IfYields (if b then dynamic_error else Yields (with_mappings (put system_port d c.mappings) c)) AreFine
+  map-quiet true c d system_port is = tt
+  map-quiet false c d system_port is = is
 
   module _ (c : Going) (itself : ComponentId) (is : AreFine c) (calls : List Frame) (all : All (IsFineFrame test.definitions) calls) where
     apply-quiet : (asked : Act) → IsFollowed test.definitions (lists_of calls) asked → LeadsToQuiet (apply test c itself asked)
@@ -162,7 +178,7 @@ module _ (test : Test) (well : AreWellTyped test.definitions) where
     apply-quiet (Requests (Removes port) own) follows = touch-keeps (settle c itself.path own) itself.path (at_queue port without_first) (λ x fine. fine) (settles c itself.path own is)
     apply-quiet (Requests (Sends port to v) own) follows =
         ending-quiet (send (settle c itself.path own) itself port to v)
-        (deliver-quiet (settle c itself.path own) (record { value = v; sender = itself }) (filter (addressed to) (peers (settle c itself.path own) (record { component = itself.path; port = port }))) (settles c itself.path own is))
+        (send-quiet (is_mapped (settle c itself.path own) (record { component = itself.path; port = port })) (settle c itself.path own) itself port to v (settles c itself.path own is))
     apply-quiet (Requests (Creates new) own) follows =
         let settled-fine : AreFine (settle c itself.path own) = settles c itself.path own is in (
           settled-fine.0,
@@ -174,8 +190,11 @@ module _ (test : Test) (well : AreWellTyped test.definitions) where
     apply-quiet (Requests (Stops path) own) follows = stop-quiet (same_path path (mtc_of test).path) (settle c itself.path own) path (settles c itself.path own is)
     apply-quiet (Requests (Connects d e) own) follows =
         ending-quiet (connect (settle c itself.path own) d e)
-        (connect-quiet (is_terminated_at (settle c itself.path own) d.component || is_terminated_at (settle c itself.path own) e.component || is_double (settle c itself.path own) d e || is_double (settle c itself.path own) e d)
-        (settle c itself.path own) d e (settles c itself.path own is))
+        (connect-quiet (is_kept_apart (settle c itself.path own) d e) (settle c itself.path own) d e (settles c itself.path own is))
+    apply-quiet (Requests (Maps d system_port) own) follows =
+        ending-quiet (map_port (settle c itself.path own) d system_port)
+        (map-quiet (is_kept_unmapped (settle c itself.path own) d system_port) (settle c itself.path own) d system_port (settles c itself.path own is))
+    apply-quiet (Requests (Unmaps d system_port) own) follows = settles c itself.path own is
 
   -- ---- steps
 
@@ -201,6 +220,15 @@ module _ (test : Test) (well : AreWellTyped test.definitions) where
   then-quiet step None quiet rules = tt
   then-quiet step (Some x) quiet rules = quiet x rules
 
+  come-quiet : (c : Going) (system_port : List ℕ) (e : End) (o : Option Value) → AreFine c → LeadsToQuiet (option_map (λ v. Yields (Goes (come_in system_port e v c))) o)
+  come-quiet c system_port e None is = tt
+  come-quiet c system_port e (Some v) is = touch-keeps c e.component (at_queue e.port (λ messages. messages ++ record { value = v; sender = None } ∷ [])) (λ x fine. fine) is
+
+  delivery-quiet : (c : Going) (system_port : List ℕ) (o : Option End) → AreFine c
+      → LeadsToQuiet (option_and_then (λ e. option_map (λ v. Yields (Goes (come_in system_port e v c))) (next_message test c system_port)) o)
+  delivery-quiet c system_port None is = tt
+  delivery-quiet c system_port (Some e) is = come-quiet c system_port e (next_message test c system_port) is
+
   component-ruled : (c : Going) (path : Path) → StandsByRules test (Goes c) → IfSome (component_at c path) (IsFineComponent test.definitions)
   component-ruled c path rules = found-each (IsFineComponent test.definitions) (λ component. same_path (path_of component) path) c.components rules
 
@@ -208,6 +236,7 @@ module _ (test : Test) (well : AreWellTyped test.definitions) where
   step-quiet (Ended v) label rules is = tt
   step-quiet (Goes c) (Statement path) rules is = then-quiet (statement_step test c) (component_at c path) (λ x fine. statement-quiet c x is fine) (component-ruled c path rules)
   step-quiet (Goes c) (Expiry path number name) rules is = then-quiet (expiry_step c number name) (component_at c path) (λ x fine. expiry-quiet c number name x is) (component-ruled c path rules)
+  step-quiet (Goes c) (Delivery system_port) rules is = delivery-quiet c system_port (entry c.mappings system_port) is
 
   -- ---- runs
 
@@ -228,7 +257,7 @@ module _ (test : Test) (well : AreWellTyped test.definitions) where
 
   started-quiet : (body : List Tree) → IfYields (started test body) IsQuiet
   started-quiet body =
-      map-yields (λ members. Unit {0}) IsQuiet (λ members. Goes (record { components = mtc_with test body members ∷ []; connections = []; forgotten = verdict.None })) (new_members test (mtc_of test) (first_snapshot test))
+      map-yields (λ members. Unit {0}) IsQuiet (λ members. Goes (record { components = mtc_with test body members ∷ []; connections = []; mappings = []; delivered = []; forgotten = verdict.None })) (new_members test (mtc_of test) (first_snapshot test))
       (λ members any. (refl, All-cons Fine (mtc_with test body members) [] refl (All-nil Fine))) (any-yields (new_members test (mtc_of test) (first_snapshot test)))
 
   start-of : (body : Option (List Tree)) → IfYields (outcome_and_then (started test) (or_unmet body)) IsQuiet

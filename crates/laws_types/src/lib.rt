@@ -19,6 +19,7 @@ ghost use Rattle.semantics.specs.Sites.{Site, scope_at};
 ghost use Rattle.semantics.specs.Snapshots.{Snapshot, Test, View, members_in, reading_in};
 ghost use Rattle.semantics.specs.Statements.{act};
 ghost use Rattle.semantics.specs.Steps.{Label, apply, next, step};
+ghost use Rattle.step_script.specs.Fitting.{FitsScript};
 ghost use Rattle.summary.specs.Run.{Run, end_of};
 ghost use Rattle.check_rules.specs.Rules.{AreWellTyped};
 ghost use Rattle.value_types.specs.Outcomes.{or_unmet, outcome_and_then};
@@ -62,23 +63,24 @@ pub fn runs_start_with_their_types()
 {}
 
 /// A step meets nothing that no checked module has, and leaves all values of their types: that of each statement, by whatever
-/// snapshot in which the component sees its own timers and fitting messages, and each expiry.
+/// snapshot in which the component sees its own timers and fitting messages, each expiry, and each message that comes in by a
+/// script that fits.
 pub fn steps_keep_types()
     ensures asked { (test : Test) (snapshot : Snapshot) (c : Going) (p : Path) (x : Component) (frame : Frame) (below : List Frame) → AreWellTyped test.definitions → StandsByRules test (Goes c) → StandsInOrder (Goes c) → StandsWithAllReferred test (Goes c) → StandsMarked test (Goes c) → FitsTypes test (Goes c) → component_at c p ≡ Some x → x.own.calls ≡ frame ∷ below → snapshot.itself ≡ x.itself → Sees test.definitions snapshot x.own frame → IfSome (apply test c x.itself (act test snapshot x.own)) (λ out. GivesOnly out (FitsTypes test)) }
-    ensures met { (test : Test) (c : Configuration) (label : Label) → AreWellTyped test.definitions → StandsByRules test c → StandsInOrder c → StandsWithAllReferred test c → StandsMarked test c → FitsTypes test c → IfSome (step test c label) (λ out. GivesOnly out (FitsTypes test)) }
-    ensures next { (test : Test) (c d : Configuration) (label : Label) → AreWellTyped test.definitions → StandsByRules test c → StandsInOrder c → StandsWithAllReferred test c → StandsMarked test c → FitsTypes test c → next test c label ≡ Some d → FitsTypes test d }
+    ensures met { (test : Test) (c : Configuration) (label : Label) → AreWellTyped test.definitions → FitsScript test → StandsByRules test c → StandsInOrder c → StandsWithAllReferred test c → StandsMarked test c → FitsTypes test c → IfSome (step test c label) (λ out. GivesOnly out (FitsTypes test)) }
+    ensures next { (test : Test) (c d : Configuration) (label : Label) → AreWellTyped test.definitions → FitsScript test → StandsByRules test c → StandsInOrder c → StandsWithAllReferred test c → StandsMarked test c → FitsTypes test c → next test c label ≡ Some d → FitsTypes test d }
 {}
 
 /// All values are of their types in each configuration that a run leads to, and the next step meets nothing that no checked
-/// module has.
+/// module has, where the script fits.
 #[tactic(auto, using(crate::proofs::Running::replay_fits, crate::proofs::Running::replay_meets))]
 pub fn runs_keep_types()
-    ensures replayed { (test : Test) (run : List Label) (c : Configuration) → AreWellTyped test.definitions → is_some (testcase_body (kind_at test.definitions test.testcase)) ≡ true → replay test run ≡ Ok c → FitsTypes test c }
-    ensures met { (test : Test) (run : List Label) (c : Configuration) (label : Label) → AreWellTyped test.definitions → is_some (testcase_body (kind_at test.definitions test.testcase)) ≡ true → replay test run ≡ Ok c → IfSome (step test c label) (λ out. GivesOnly out (FitsTypes test)) }
-    ensures ends { (test : Test) (run : Run Label) → AreWellTyped test.definitions → is_some (testcase_body (kind_at test.definitions test.testcase)) ≡ true → FitsTypes test (end_of (graph_of test) run) }
+    ensures replayed { (test : Test) (run : List Label) (c : Configuration) → AreWellTyped test.definitions → is_some (testcase_body (kind_at test.definitions test.testcase)) ≡ true → FitsScript test → replay test run ≡ Ok c → FitsTypes test c }
+    ensures met { (test : Test) (run : List Label) (c : Configuration) (label : Label) → AreWellTyped test.definitions → is_some (testcase_body (kind_at test.definitions test.testcase)) ≡ true → FitsScript test → replay test run ≡ Ok c → IfSome (step test c label) (λ out. GivesOnly out (FitsTypes test)) }
+    ensures ends { (test : Test) (run : Run Label) → AreWellTyped test.definitions → is_some (testcase_body (kind_at test.definitions test.testcase)) ≡ true → FitsScript test → FitsTypes test (end_of (graph_of test) run) }
 {}
 
-/// Every run of a test case of a module that breaks no rule stays well typed.
+/// Every run of a test case of a module that breaks no rule, with a script that fits, stays well typed.
 pub fn runs_stay_well_typed()
-    ensures { (test : Test) → AreWellTyped test.definitions → is_some (testcase_body (kind_at test.definitions test.testcase)) ≡ true → StaysWellTyped test }
+    ensures { (test : Test) → AreWellTyped test.definitions → is_some (testcase_body (kind_at test.definitions test.testcase)) ≡ true → FitsScript test → StaysWellTyped test }
 {}

@@ -32,6 +32,8 @@ use Rattle.ttcn_syntax.specs.declared.tree.statement.ForStart.{ForStart}
 use Rattle.ttcn_syntax.specs.declared.tree.statement.ForStart.TheVariants as for_start
 use Rattle.ttcn_syntax.specs.declared.tree.statement.LogItem.{LogItem}
 use Rattle.ttcn_syntax.specs.declared.tree.statement.LogItem.TheVariants as log_item
+use Rattle.ttcn_syntax.specs.declared.tree.statement.MapOperation.{MapOperation}
+use Rattle.ttcn_syntax.specs.declared.tree.statement.MapOperation.TheVariants as operation
 use Rattle.ttcn_syntax.specs.declared.tree.statement.PortRef.{PortRef}
 use Rattle.ttcn_syntax.specs.declared.tree.statement.PortSelector.{PortSelector}
 use Rattle.ttcn_syntax.specs.declared.tree.statement.PortSelector.TheVariants as port_selector
@@ -42,7 +44,7 @@ use Rattle.ttcn_syntax.specs.declared.tree.statement.Variables.{Variables}
 use Rattle.ttcn_syntax.specs.declared.tree.statement.Verdict.{Verdict}
 use Rattle.ttcn_syntax.specs.declared.tree.statement.Verdict.TheVariants as verdict
 use Rattle.parse_limits.specs.Groups.{Is}
-use Rattle.parse_grammar.specs.Grammar.{Ends, EndsInBrace, Parts, Phrase, Production, Spells, a_block, a_branch, a_call, a_component, a_conditional, a_constant, a_for_start, a_log_item, a_message, a_port_ref, a_reference, a_rhs, a_statement, a_timer, a_type, a_value, a_variable, an_action, an_alternative, an_assignment, an_event, an_operand, before_brace, before_semicolon, branches, commas, each, earlier, else_if, ended, in_brace, into, items, key, last, optional, phrase, separated, set_to, sym as a_symbol, the_constants, the_timers, the_variables, verdict_word, ◌▸◌, nil, one}
+use Rattle.parse_grammar.specs.Grammar.{Ends, EndsInBrace, Parts, Phrase, Production, Spells, a_block, a_branch, a_call, a_component, a_conditional, a_constant, a_for_start, a_log_item, a_message, a_port_ref, a_reference, a_rhs, a_statement, a_timer, a_type, a_value, a_variable, an_action, an_alternative, an_assignment, an_event, an_operand, before_brace, before_semicolon, branches, commas, each, earlier, else_if, ended, in_brace, into, items, key, last, map_word, optional, phrase, separated, set_to, sym as a_symbol, system_port, the_constants, the_timers, the_variables, verdict_word, ◌▸◌, nil, one}
 use Rattle.parse_reader.specs.Trees.{branch_at, conditional, statement_at}
 use Rattle.parse_grammar.specs.Grammar as spelled
 use Rattle.parse_reader.specs.internal.Reading.{Parser, at_brace, behind, head_token, is_word, same_symbol, same_word, second, sees, sees_word}
@@ -707,6 +709,10 @@ action_leads {rest = rest} (spelled.by spelled.act_stop (spelled.then (spelled.t
 action_leads {rest = rest} (spelled.by (spelled.act_log shown) (spelled.then (spelled.this {k = k} {rest = ts} is) more)) = leads_word _ k ts rest is (omega arith) (turn_shrinks more)
 action_leads {rest = rest} (spelled.by (spelled.act_setverdict v shown) (spelled.then (spelled.this {k = k} {rest = ts} is) more)) = leads_word _ k ts rest is (omega arith) (turn_shrinks more)
 action_leads {rest = rest} (spelled.by (spelled.act_connect a b) (spelled.then (spelled.this {k = k} {rest = ts} is) more)) = leads_word _ k ts rest is (omega arith) (turn_shrinks more)
+action_leads {rest = rest} (spelled.by (spelled.act_map operation.Map p q) (spelled.then (spelled.this {k = k} {rest = ts} is) more)) = leads_word _ k ts rest is (omega arith) (turn_shrinks more)
+action_leads {rest = rest} (spelled.by (spelled.act_map operation.Unmap p q) (spelled.then (spelled.this {k = k} {rest = ts} is) more)) = leads_word _ k ts rest is (omega arith) (turn_shrinks more)
+action_leads {rest = rest} (spelled.by (spelled.act_map_turned operation.Map p q) (spelled.then (spelled.this {k = k} {rest = ts} is) more)) = leads_word _ k ts rest is (omega arith) (turn_shrinks more)
+action_leads {rest = rest} (spelled.by (spelled.act_map_turned operation.Unmap p q) (spelled.then (spelled.this {k = k} {rest = ts} is) more)) = leads_word _ k ts rest is (omega arith) (turn_shrinks more)
 action_leads {rest = rest} (spelled.by (spelled.act_send port m to) (spelled.then (spelled.this {k = k} {rest = ts} is) more)) = leads_name port k ts rest is (turn_shrinks more)
 action_leads {ts = ts} {rest = rest} (spelled.by (spelled.act_start_component c f) (spelled.then {middle = middle} s more)) = leads_on ts middle rest (component_leads s) (turn_shrinks more)
 action_leads {rest = rest} (spelled.by (spelled.act_start_timer name) (spelled.then (spelled.this {k = k} {rest = ts} is) more)) = leads_name name k ts rest is (turn_shrinks more)
@@ -997,6 +1003,38 @@ connect_reads a b k o m c ts us rest is opening h comma more close =
     rw (expect_word_here word.Connect k (o ∷ ts) is) (rw (expect_here mark.LeftParen o ts opening) (rw h (rw (expect_here mark.Comma m us comma)
     (rw more (rw (expect_here mark.RightParen c rest close) refl)))))
 
+no_system : {p : PortRef} {ts rest : List Spanned} → Spells (phrase (a_port_ref p)) ts rest → sees_word word.System ts ≡ false
+no_system {ts = ts} (spelled.by (spelled.port_ref c port) (spelled.then {middle = middle} s more)) = not_first_word word.System ts middle (starts_component s) refl
+
+at_system : (q : List ℕ) (ts rest : List Spanned) → Known (system_port q) ts rest → sees_word word.System ts ≡ true
+at_system q ts rest (all (then (this {k = w} {rest = us} system) more)) = sees_word_here word.System w us system
+
+system_port_reads : (q : List ℕ) (ts rest : List Spanned) → Known (system_port q) ts rest → read_actions.system_port ts ≡ Some (q, rest)
+unfolding read_actions.system_port
+system_port_reads q ts rest (all (then (this {k = w} system) (then (this {k = e} colon) (then (this {k = n} name) end)))) =
+    rw (expect_word_here word.System w (e ∷ n ∷ rest) system) (rw (expect_here mark.Colon e (n ∷ rest) colon) (name_here q n rest name))
+
+port_first : (o : MapOperation) (p : PortRef) (q : List ℕ) (k b m c : Spanned) (ts us rest : List Spanned) → Is k (token.Word (map_word o)) → Is b (token.Symbol mark.LeftParen)
+    → sees_word word.System ts ≡ false → read_actions.port_ref ts ≡ Some (p, m ∷ us) → Is m (token.Symbol mark.Comma) → read_actions.system_port us ≡ Some (q, c ∷ rest)
+    → Is c (token.Symbol mark.RightParen) → read_actions.mapping (map_word o) o (k ∷ b ∷ ts) ≡ Some (action.Map (record { operation = o; port = p; system_port = q }), rest)
+unfolding read_actions.mapping
+port_first o p q k b m c ts us rest is opening other h comma more close =
+    rw (expect_word_here (map_word o) k (b ∷ ts) is) (rw (expect_here mark.LeftParen b ts opening) (rw other (rw h (rw (expect_here mark.Comma m us comma)
+    (rw more (rw (expect_here mark.RightParen c rest close) refl))))))
+
+system_first : (o : MapOperation) (p : PortRef) (q : List ℕ) (k b m c : Spanned) (ts us rest : List Spanned) → Is k (token.Word (map_word o)) → Is b (token.Symbol mark.LeftParen)
+    → sees_word word.System ts ≡ true → read_actions.system_port ts ≡ Some (q, m ∷ us) → Is m (token.Symbol mark.Comma) → read_actions.port_ref us ≡ Some (p, c ∷ rest)
+    → Is c (token.Symbol mark.RightParen) → read_actions.mapping (map_word o) o (k ∷ b ∷ ts) ≡ Some (action.Map (record { operation = o; port = p; system_port = q }), rest)
+unfolding read_actions.mapping
+system_first o p q k b m c ts us rest is opening system h comma more close =
+    rw (expect_word_here (map_word o) k (b ∷ ts) is) (rw (expect_here mark.LeftParen b ts opening) (rw system (rw h (rw (expect_here mark.Comma m us comma)
+    (rw more (rw (expect_here mark.RightParen c rest close) refl))))))
+
+mapping_at : (p : Parser (List Statement)) (o : MapOperation) (k : Spanned) (ts : List Spanned) → Is k (token.Word (map_word o))
+    → action_in p (k ∷ ts) ≡ read_actions.mapping (map_word o) o (k ∷ ts)
+mapping_at p operation.Map k ts is = action_at p k ts _ is
+mapping_at p operation.Unmap k ts is = action_at p k ts _ is
+
 send_reads : (port : List ℕ) (m : MessageTemplate) (to : Option ComponentRef) (w o c : Spanned) (ts us rest : List Spanned) → Is w (token.Word word.Send)
     → Is o (token.Symbol mark.LeftParen) → read_templates.message ts ≡ Some (m, c ∷ us) → Is c (token.Symbol mark.RightParen) → read_events.component_behind word.To us ≡ Some (to, rest)
     → read_actions.send port (w ∷ o ∷ ts) ≡ Some (action.Send (record { port = port; message = m; to = to }), rest)
@@ -1108,6 +1146,10 @@ action_reads (spelled.act_setverdict v shown) (then (this {k = k} is) (then (thi
     action_at (block_in d) k (o ∷ ts) _ is ∙ setverdict_reads v shown k o c ts rest is opening s close
 action_reads (spelled.act_connect a b) (then (this {k = k} is) (then (this {k = o} {rest = ts} opening) (then (by s1 claim1) (then (this {k = m} {rest = us} comma) (then (by s2 claim2) (then (this {k = c} {rest = rest} close) end)))))) = λ d w f ends.
     action_at (block_in d) k (o ∷ ts) _ is ∙ connect_reads a b k o m c ts us rest is opening claim1 comma claim2 close
+action_reads (spelled.act_map o p q) (then (this {k = k} is) (then (this {k = b} {rest = ts} opening) (then (by s claim) (then (this {k = m} {rest = us} comma) (then t (then (this {k = c} {rest = rest} close) end)))))) = λ d w f ends.
+    mapping_at (block_in d) o k (b ∷ ts) is ∙ port_first o p q k b m c ts us rest is opening (no_system s) claim comma (system_port_reads q us (c ∷ rest) t) close
+action_reads (spelled.act_map_turned o p q) (then (this {k = k} is) (then (this {k = b} {rest = ts} opening) (then s (then (this {k = m} {rest = us} comma) (then (by t claim) (then (this {k = c} {rest = rest} close) end)))))) = λ d w f ends.
+    mapping_at (block_in d) o k (b ∷ ts) is ∙ system_first o p q k b m c ts us rest is opening (at_system q ts (m ∷ us) s) (system_port_reads q ts (m ∷ us) s) comma claim close
 action_reads {rest = rest} (spelled.act_send port m to) (then (this {k = k} is) (then (this {k = e} dot) (then (this {k = w} sends) (then (this {k = o} {rest = ts} opening) (then (by s claim) (then (this {k = c} {rest = us} close) (then t end))))))) = λ d few f ends.
     (name_heads k (e ∷ w ∷ o ∷ ts) port is).acts (block_in d)
     ∙ named_member _ _ e (k ∷ e ∷ w ∷ o ∷ ts) (w ∷ o ∷ ts) (dot_no_call k e (w ∷ o ∷ ts) port is dot)

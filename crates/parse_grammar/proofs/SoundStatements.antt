@@ -16,18 +16,20 @@ use Rattle.ttcn_syntax.specs.declared.tree.statement.Action.{Action}
 use Rattle.ttcn_syntax.specs.declared.tree.statement.Action.TheVariants as action
 use Rattle.ttcn_syntax.specs.declared.tree.statement.Conditional.{Conditional}
 use Rattle.ttcn_syntax.specs.declared.tree.statement.LogItem.{LogItem}
+use Rattle.ttcn_syntax.specs.declared.tree.statement.MapOperation.{MapOperation}
+use Rattle.ttcn_syntax.specs.declared.tree.statement.MapOperation.TheVariants as operation
 use Rattle.ttcn_syntax.specs.declared.tree.statement.PortSelector.{PortSelector}
 use Rattle.ttcn_syntax.specs.declared.tree.statement.PortSelector.TheVariants as port_selector
 use Rattle.ttcn_syntax.specs.declared.tree.statement.Statement.{Statement}
 use Rattle.ttcn_syntax.specs.declared.tree.statement.Verdict.{Verdict}
 use Rattle.parse_limits.specs.Groups.{Is}
-use Rattle.parse_grammar.specs.Grammar.{InTurn, Part, Parts, Phrase, Spells, a_branch, a_call, a_component, a_conditional, a_constant, a_for_start, a_log_item, a_message, a_port, a_port_ref, a_reference, a_rhs, a_statement, a_timer, a_value, a_variable, an_action, an_alternative, an_assignment, an_event, an_operand, branches, by, commas, each, else_if, end, id, in_brackets, into, key, nil, one, optional, phrase, set_to, the_constants, the_timers, the_variables, this, turn, verdict_word, ◌▸◌}
+use Rattle.parse_grammar.specs.Grammar.{InTurn, Part, Parts, Phrase, Spells, a_branch, a_call, a_component, a_conditional, a_constant, a_for_start, a_log_item, a_message, a_port, a_port_ref, a_reference, a_rhs, a_statement, a_timer, a_value, a_variable, an_action, an_alternative, an_assignment, an_event, an_operand, branches, by, commas, each, else_if, end, id, in_brackets, into, key, map_word, nil, one, optional, phrase, set_to, the_constants, the_timers, the_variables, this, turn, verdict_word, ◌▸◌}
 use Rattle.parse_grammar.specs.Grammar as spelled
 use Rattle.parse_reader.specs.internal.Reading.{Parser, behind, ended, head_token, is_word, at_brace, second, sees, sees_word, after_semicolons}
 use Rattle.parse_reader.specs.internal.Values.{activation, call, calls}
 use Rattle.parse_reader.specs.internal.Declarations.{constant, constants, float, float_of, initial, timer, timers, variable, variables}
 use Rattle.parse_reader.specs.internal.Events.{all_done, an_event_by, any_port, bare, component_behind, event_behind, event_by, event_of_one, receive, received, redirect, sender, with_name, without_fields}
-use Rattle.parse_reader.specs.internal.Actions.{a_verdict, act_event, assigned_to, assignment, assignment_to, connect, deactivate, log, log_item_by, member_action, member_action_by, named_action, port_ref, return_, returns_nothing, send, setverdict, start, verdict_of}
+use Rattle.parse_reader.specs.internal.Actions.{a_verdict, act_event, assigned_to, assignment, assignment_to, connect, deactivate, log, log_item_by, mapping, member_action, member_action_by, named_action, port_ref, return_, returns_nothing, send, setverdict, start, system_port, verdict_of}
 use Rattle.parse_reader.specs.internal.Statements.{action_by, action_in, alt_by, alternative_by, block_by, block_if_any, block_in, branch_by, branches_by, conditional_by, do_by, else_block, else_ifs_from, for_by, for_start_, goes_on, guard, guarded_by, if_by, statement_by, while_by}
 use Rattle.parse_reader.specs.internal.Values as read_values
 use Rattle.parse_reader.specs.internal.Events as read_events
@@ -274,6 +276,23 @@ sound_connect ts =
     done (by (spelled.act_connect p q)
     (spelled.then s1 (spelled.then s2 (spelled.then s3 (spelled.then s4 (spelled.then s5 (spelled.then s6 end)))))))))))))
 
+sound_system_port : Sound spelled.system_port system_port
+unfolding system_port
+sound_system_port ts =
+    after (sound_expect_word word.System ts) (λ _ a s1. after (sound_expect mark.Colon a) (λ _ b s2. implied (sound_name b) (λ bytes c s3.
+    spelled.all (spelled.then s1 (spelled.then s2 (spelled.then s3 end))))))
+
+sound_mapping : (o : MapOperation) → Sound action_part (mapping (map_word o) o)
+unfolding mapping
+sound_mapping o ts =
+    after (sound_expect_word (map_word o) ts) (λ _ a s1. after (sound_expect mark.LeftParen a) (λ _ b s2. chosen (sees_word word.System b)
+    (λ _. after (sound_system_port b) (λ q c s3. after (sound_expect mark.Comma c) (λ _ d s4. after (sound_port_ref d) (λ p e s5.
+    after (sound_expect mark.RightParen e) (λ _ f s6. done (by (spelled.act_map_turned o p q)
+    (spelled.then s1 (spelled.then s2 (spelled.then s3 (spelled.then s4 (spelled.then s5 (spelled.then s6 end))))))))))))
+    (after (sound_port_ref b) (λ p c s3. after (sound_expect mark.Comma c) (λ _ d s4. after (sound_system_port d) (λ q e s5.
+    after (sound_expect mark.RightParen e) (λ _ f s6. done (by (spelled.act_map o p q)
+    (spelled.then s1 (spelled.then s2 (spelled.then s3 (spelled.then s4 (spelled.then s5 (spelled.then s6 end))))))))))))))
+
 sound_deactivate : Sound action_part deactivate
 unfolding deactivate
 sound_deactivate ts =
@@ -513,6 +532,8 @@ module _ (blocks : Parser (List Statement)) (sound : Sound block_part blocks) wh
   action_step k ts (token.Word word.Log) is = sound_log (k ∷ ts)
   action_step k ts (token.Word word.Setverdict) is = sound_setverdict (k ∷ ts)
   action_step k ts (token.Word word.Connect) is = sound_connect (k ∷ ts)
+  action_step k ts (token.Word word.Map) is = sound_mapping operation.Map (k ∷ ts)
+  action_step k ts (token.Word word.Unmap) is = sound_mapping operation.Unmap (k ∷ ts)
   action_step k ts (token.Word word.Activate) is = after (sound_activation (k ∷ ts)) (λ c a s. done (by (spelled.act_activate c) (parts_of s)))
   action_step k ts (token.Word word.Deactivate) is = sound_deactivate (k ∷ ts)
   action_step k ts _ is = sound_named_action (k ∷ ts)

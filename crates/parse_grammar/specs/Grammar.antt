@@ -49,6 +49,8 @@ use Rattle.ttcn_syntax.specs.declared.tree.statement.ForStart.{ForStart}
 use Rattle.ttcn_syntax.specs.declared.tree.statement.ForStart.TheVariants as for_start
 use Rattle.ttcn_syntax.specs.declared.tree.statement.LogItem.{LogItem}
 use Rattle.ttcn_syntax.specs.declared.tree.statement.LogItem.TheVariants as log_item
+use Rattle.ttcn_syntax.specs.declared.tree.statement.MapOperation.{MapOperation}
+use Rattle.ttcn_syntax.specs.declared.tree.statement.MapOperation.TheVariants as operation
 use Rattle.ttcn_syntax.specs.declared.tree.statement.PortRef.{PortRef}
 use Rattle.ttcn_syntax.specs.declared.tree.statement.PortSelector.{PortSelector}
 use Rattle.ttcn_syntax.specs.declared.tree.statement.PortSelector.TheVariants as port_selector
@@ -198,6 +200,11 @@ verdict_word verdict.Inconc = word.Inconc
 verdict_word verdict.Fail = word.Fail
 verdict_word verdict.Error = word.Error
 
+-- the word of each statement about mappings
+abbrev pub map_word : MapOperation → Word
+map_word operation.Map = word.Map
+map_word operation.Unmap = word.Unmap
+
 -- the word of each direction
 abbrev pub direction_word : Direction → Word
 direction_word direction.In = word.In
@@ -213,6 +220,10 @@ dotted field = turn (sym mark.Dot ▸ id field ▸ nil)
 -- '(' Expr ')'
 abbrev pub in_brackets : Expr → Part
 in_brackets e = turn (sym mark.LeftParen ▸ phrase (an_operand level.Or e) ▸ sym mark.RightParen ▸ nil)
+
+-- 'system' ':' Id
+abbrev pub system_port : List ℕ → Part
+system_port port = turn (key word.System ▸ sym mark.Colon ▸ id port ▸ nil)
 
 -- ':=' X
 abbrev pub set_to : {A : Type 0} → (A → Phrase) → A → Parts
@@ -403,6 +414,13 @@ pub data Production : Phrase → Parts → Type 0 where
       (key word.Setverdict ▸ sym mark.LeftParen ▸ commas (key (verdict_word v) ▸ each (λ i. phrase (a_log_item i)) is) ▸ sym mark.RightParen ▸ nil)
   act_connect : (a b : PortRef) → Production (an_action (action.Connect a b))
       (key word.Connect ▸ sym mark.LeftParen ▸ phrase (a_port_ref a) ▸ sym mark.Comma ▸ phrase (a_port_ref b) ▸ sym mark.RightParen ▸ nil)
+  -- ('map' | 'unmap') '(' CRef ':' Id ',' 'system' ':' Id ')', where the two ports stand in either order
+  act_map : (o : MapOperation) (p : PortRef) (q : List ℕ)
+      → Production (an_action (action.Map (record { operation = o; port = p; system_port = q })))
+      (key (map_word o) ▸ sym mark.LeftParen ▸ phrase (a_port_ref p) ▸ sym mark.Comma ▸ system_port q ▸ sym mark.RightParen ▸ nil)
+  act_map_turned : (o : MapOperation) (p : PortRef) (q : List ℕ)
+      → Production (an_action (action.Map (record { operation = o; port = p; system_port = q })))
+      (key (map_word o) ▸ sym mark.LeftParen ▸ system_port q ▸ sym mark.Comma ▸ phrase (a_port_ref p) ▸ sym mark.RightParen ▸ nil)
   act_send : (port : List ℕ) (m : MessageTemplate) (to : Option ComponentRef)
       → Production (an_action (action.Send (record { port = port; message = m; to = to })))
       (id port ▸ sym mark.Dot ▸ key word.Send ▸ sym mark.LeftParen ▸ phrase (a_message m) ▸ sym mark.RightParen

@@ -7,8 +7,8 @@ use crate::events::{bare, component_behind, event_behind};
 use parse_expressions::{call, component, expression, is_at_call, message, reference, rhs, value};
 use parse_reader::{Listed, ParseError, Parser, is_name, is_symbol};
 use ttcn_syntax::{
-    Action, Assignment, Boxed, ComponentRef, LogItem, Name, PortRef, Reference, Send, Seq, Symbol,
-    Token, Verdict, Word,
+    Action, Assignment, Boxed, ComponentRef, LogItem, MapOperation, Mapping, Name, PortRef,
+    Reference, Send, Seq, Symbol, Token, Verdict, Word,
 };
 
 /// A statement that begins with a name, `parser` or `mtc`.
@@ -171,6 +171,50 @@ fn port_ref(parser: &mut Parser<'_>) -> Result<PortRef, ParseError>
     parser.symbol(Symbol::Colon)?;
     let port = parser.name()?;
     Ok(PortRef { component, port })
+}
+
+/// A statement with this word, which does this to a mapping. Its two ports stand in either order.
+#[tactic(auto, unfolding(parse_reader::specs::internal::Actions::mapping))]
+pub(crate) fn mapping(
+    parser: &mut Parser<'_>,
+    word: Word,
+    operation: MapOperation,
+) -> Result<Action, ParseError>
+    ensures { Reads (spec.mapping word operation parser.old) result parser.new }
+{
+    parser.word(word)?;
+    parser.symbol(Symbol::LeftParen)?;
+    let mapping = if parser.is_at_word(Word::System) {
+        let system_port = system_port(parser)?;
+        parser.symbol(Symbol::Comma)?;
+        let port = port_ref(parser)?;
+        Mapping {
+            operation,
+            port,
+            system_port,
+        }
+    } else {
+        let port = port_ref(parser)?;
+        parser.symbol(Symbol::Comma)?;
+        let system_port = system_port(parser)?;
+        Mapping {
+            operation,
+            port,
+            system_port,
+        }
+    };
+    parser.symbol(Symbol::RightParen)?;
+    Ok(Action::Map(mapping))
+}
+
+/// A port of the system.
+#[tactic(auto, unfolding(parse_reader::specs::internal::Actions::system_port))]
+fn system_port(parser: &mut Parser<'_>) -> Result<Name, ParseError>
+    ensures { Reads (spec.system_port parser.old) result parser.new }
+{
+    parser.word(Word::System)?;
+    parser.symbol(Symbol::Colon)?;
+    parser.name()
 }
 
 #[tactic(auto, unfolding(parse_reader::specs::internal::Actions::deactivate))]

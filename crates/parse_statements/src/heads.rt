@@ -6,14 +6,15 @@ ghost use Rattle.ttcn_syntax.specs.declared.token.Token.TheVariants as token;
 ghost use Rattle.ttcn_syntax.specs.declared.token.Word.TheVariants as word_of;
 
 use crate::actions::{
-    assignment, connect, deactivate, log, named_action, return_value, setverdict,
+    assignment, connect, deactivate, log, mapping, named_action, return_value, setverdict,
 };
 use crate::declarations::{constants, timers, variables};
 use crate::events::{all_done, any_port, event};
 use parse_expressions::{activation, call, expression, is_at_call};
 use parse_reader::{ForHeader, Head, ParseError, Parser, Wait};
 use ttcn_syntax::{
-    Action, Alternative, Assignment, Expr, ForStart, Seq, Statement, Symbol, Token, Word,
+    Action, Alternative, Assignment, Expr, ForStart, MapOperation, Seq, Statement, Symbol, Token,
+    Word,
 };
 
 /// What a branch waits for, with the block behind it. An `[else]` has one.
@@ -82,6 +83,8 @@ fn simple_action(parser: &mut Parser<'_>, word: Word) -> Result<Action, ParseErr
         Word::Log => log(parser),
         Word::Setverdict => setverdict(parser),
         Word::Connect => connect(parser),
+        Word::Map => mapping(parser, Word::Map, MapOperation::Map),
+        Word::Unmap => mapping(parser, Word::Unmap, MapOperation::Unmap),
         Word::Activate => Ok(Action::Activate(activation(parser)?)),
         Word::Deactivate => deactivate(parser),
         Word::Repeat => {

@@ -1,14 +1,15 @@
 -- Labels of fine runs and their texts.
-use Rattle.std.proofs.Common.{◌≡◌, ◌≢◌, ℕ, false, List, [], ◌∷◌, ◌++◌, sym, refl, ap, ◌∙◌, append_assoc, arith, codes, get_or}
+use Rattle.std.proofs.Common.{◌≡◌, ℕ, false, List, [], ◌∷◌, ◌++◌, sym, refl, ap, ◌∙◌, append_assoc, arith, codes}
 use Rattle.report.specs.Labels.{fine_text, label_text, path_text}
 use Rattle.report.specs.Runs.{IsProperFine}
 use Rattle.report.specs.internal.Reader.{HasBareEnds}
-use Rattle.report.proofs.Wholes.{label_ends, label_same, name_ends, name_same}
+use Rattle.report.proofs.Wholes.{apart, label_ends, label_same, name_ends, name_same}
 use Rattle.step_labels.specs.declared.fine.FineLabel.{FineLabel}
 use Rattle.step_labels.specs.declared.fine.FineLabel.TheVariants.{Snap, Choose, Plain}
 use Rattle.step_labels.specs.declared.label.Label.{Label}
-use Rattle.step_labels.specs.declared.label.Label.TheVariants.{Statement, Expiry}
+use Rattle.step_labels.specs.declared.label.Label.TheVariants.{Delivery, Expiry, Statement}
 use Rattle.ttcn_syntax.specs.Characters.{is_blank}
+use Rattle.value_types.specs.declared.path.Path.{Path}
 
 -- a word before a text whose ends are bare
 behind_word : (first : ℕ) (others text : List ℕ) → is_blank first ≡ false → HasBareEnds text → HasBareEnds (first ∷ (others ++ text))
@@ -28,23 +29,25 @@ fine_ends (Snap path) proper = behind_word 115 (codes "nap ") (path_text path.nu
 fine_ends (Choose path) proper = behind_word 99 (codes "hoose ") (path_text path.numbers) refl (name_ends path.numbers proper)
 fine_ends (Plain label) proper = label_ends label proper
 
--- the text of a label begins with `m`
-first_byte : (label : Label) → (others : List ℕ) × (label_text label ≡ 109 ∷ others)
-first_byte (Statement path) = (_, refl)
-first_byte (Expiry path frame timer) = (_, refl)
+-- no label begins as a snapshot does, nor as a choice does
+no_snap : (text : List ℕ) (path : Path) (label : Label) → text ≡ fine_text (Snap path) → text ≡ label_text label → ⊥
+no_snap text path (Statement q) left right = apart text _ _ 0 (omega arith) left right
+no_snap text path (Expiry q frame timer) left right = apart text _ _ 0 (omega arith) left right
+no_snap text path (Delivery name) left right = apart text _ _ 1 (omega arith) left right
 
--- texts that begin with other bytes
-apart : (text one other : List ℕ) (a b : ℕ) → a ≢ b → text ≡ a ∷ one → text ≡ b ∷ other → ⊥
-apart text one other a b differ left right = differ (ap (λ t. get_or t 0 0) (sym left ∙ right))
+no_choice : (text : List ℕ) (path : Path) (label : Label) → text ≡ fine_text (Choose path) → text ≡ label_text label → ⊥
+no_choice text path (Statement q) left right = apart text _ _ 0 (omega arith) left right
+no_choice text path (Expiry q frame timer) left right = apart text _ _ 0 (omega arith) left right
+no_choice text path (Delivery name) left right = apart text _ _ 0 (omega arith) left right
 
 -- a text is that of one label of a fine run
 pub fine_same : (text : List ℕ) (one other : FineLabel) → IsProperFine one → IsProperFine other → text ≡ fine_text one → text ≡ fine_text other → one ≡ other
 fine_same text (Snap one) (Snap other) p q left right = ap Snap (name_same one other p q (let is : codes "snap " ++ path_text one.numbers ≡ codes "snap " ++ path_text other.numbers = sym left ∙ right in cc))
 fine_same text (Choose one) (Choose other) p q left right = ap Choose (name_same one other p q (let is : codes "choose " ++ path_text one.numbers ≡ codes "choose " ++ path_text other.numbers = sym left ∙ right in cc))
 fine_same text (Plain one) (Plain other) p q left right = ap Plain (label_same text one other p q left right)
-fine_same text (Snap one) (Choose other) p q left right = absurd (apart text _ _ 115 99 (omega arith) left right)
-fine_same text (Snap one) (Plain other) p q left right = let m = first_byte other in absurd (apart text _ m.0 115 109 (omega arith) left (right ∙ m.1))
-fine_same text (Choose one) (Snap other) p q left right = absurd (apart text _ _ 99 115 (omega arith) left right)
-fine_same text (Choose one) (Plain other) p q left right = let m = first_byte other in absurd (apart text _ m.0 99 109 (omega arith) left (right ∙ m.1))
-fine_same text (Plain one) (Snap other) p q left right = let m = first_byte one in absurd (apart text m.0 _ 109 115 (omega arith) (left ∙ m.1) right)
-fine_same text (Plain one) (Choose other) p q left right = let m = first_byte one in absurd (apart text m.0 _ 109 99 (omega arith) (left ∙ m.1) right)
+fine_same text (Snap one) (Choose other) p q left right = absurd (apart text _ _ 0 (omega arith) left right)
+fine_same text (Snap one) (Plain other) p q left right = absurd (no_snap text one other left right)
+fine_same text (Choose one) (Snap other) p q left right = absurd (apart text _ _ 0 (omega arith) left right)
+fine_same text (Choose one) (Plain other) p q left right = absurd (no_choice text one other left right)
+fine_same text (Plain one) (Snap other) p q left right = absurd (no_snap text other one right left)
+fine_same text (Plain one) (Choose other) p q left right = absurd (no_choice text other one right left)

@@ -1,18 +1,18 @@
 -- Labels and their texts.
-use Rattle.std.proofs.Common.{◌≡◌, ℕ, Bool, ltb, ◌||◌, ◌&&◌, false, true, true≢false, List, [], ◌∷◌, ◌++◌, Option, Some, None, sym, refl, ap, ◌∙◌, arith}
+use Rattle.std.proofs.Common.{◌≡◌, ◌≢◌, ℕ, Bool, ltb, ◌||◌, ◌&&◌, false, true, true≢false, List, [], ◌∷◌, ◌++◌, Option, Some, None, sym, refl, ap, ◌∙◌, arith, codes, get_or, subst}
 use Rattle.std.proofs.lemmas.Bool.Decides.{nat_tests}
 use Rattle.std.proofs.lemmas.List.Folds.{list_any-append}
 use Rattle.std.specs.Char.{encode_utf8}
 use Rattle.std.specs.Fmt.{decimal}
 use Rattle.std.specs.List.{AllByRecursion, flat_map, list_all, list_any}
-use Rattle.std.specs.Option.{MatchOption, option_map}
-use Rattle.report.specs.Labels.{expiry_text, label_text, name_text, number_text, path_text}
-use Rattle.report.specs.Runs.{IsProper, IsSmall, is_timer_name}
-use Rattle.report.specs.internal.Reader.{HasBareEnds, IsCut, IsNoExpiry, IsNoLabel, IsNoNumber, IsNoPath, IsPath, TellsExpiry, lacks}
+use Rattle.std.specs.Option.{IsSomeAnd, MatchOption}
+use Rattle.report.specs.Labels.{delivery_text, expiry_text, label_text, name_text, number_text, path_text}
+use Rattle.report.specs.Runs.{IsProper, IsSmall, is_identifier}
+use Rattle.report.specs.internal.Reader.{HasBareEnds, IsCut, IsNoExpiry, IsNoLabel, IsNoNumber, IsNoPath, IsPath, IsReadAs, TellsExpiry, TellsName}
 use Rattle.report.proofs.Cuts.{cut_none, cut_same, path_lacks_slash, path_same}
 use Rattle.report.proofs.Digits.{decimal_lacks, decimal_no_blank, number_same}
 use Rattle.step_labels.specs.declared.label.Label.{Label}
-use Rattle.step_labels.specs.declared.label.Label.TheVariants.{Statement, Expiry}
+use Rattle.step_labels.specs.declared.label.Label.TheVariants.{Delivery, Expiry, Statement}
 use Rattle.ttcn_syntax.specs.Characters.{is_blank, is_letter, is_word_byte}
 use Rattle.value_types.specs.declared.path.Path.{Path}
 
@@ -20,7 +20,7 @@ and_true : (a b : Bool) → (a && b) ≡ true → (a ≡ true) × (b ≡ true)
 and_true true b h = (refl, h)
 and_true false b h = absurd (cc)
 
--- ---- timers' names
+-- ---- the names of timers and system ports
 
 word_low : (b : ℕ) → is_word_byte b ≡ true → ltb b 128 ≡ true
 word_low b h = grind (arith, nat_tests)
@@ -28,9 +28,9 @@ word_low b h = grind (arith, nat_tests)
 letter_is_word : (b : ℕ) → is_letter b ≡ true → is_word_byte b ≡ true
 letter_is_word b h = rw h
 
-timer_words : (name : List ℕ) → is_timer_name name ≡ true → list_all is_word_byte name ≡ true
-timer_words [] h = refl
-timer_words (first ∷ others) h =
+identifier_words : (name : List ℕ) → is_identifier name ≡ true → list_all is_word_byte name ≡ true
+identifier_words [] h = refl
+identifier_words (first ∷ others) h =
     let parts = and_true (is_letter first) (list_all is_word_byte others) h in
     rw (letter_is_word first parts.0, parts.1)
 
@@ -41,12 +41,12 @@ words_plain (b ∷ name) h =
     let parts = and_true (is_word_byte b) (list_all is_word_byte name) h in
     rw (word_low b parts.0) (ap (λ t. b ∷ t) (words_plain name parts.1))
 
--- a timer's name is written as it is
-pub name_plain : (name : List ℕ) → is_timer_name name ≡ true → name_text name ≡ name
-name_plain name h = words_plain name (timer_words name h)
+-- such a name is written as it is
+pub name_plain : (name : List ℕ) → is_identifier name ≡ true → name_text name ≡ name
+name_plain name h = words_plain name (identifier_words name h)
 
-pub timer_name_read : (name others : List ℕ) (first : ℕ) (r : Bool) → name ≡ first ∷ others → is_letter first ≡ true → r ≡ list_all is_word_byte others → r ≡ is_timer_name name
-timer_name_read name others first r is letter read = read ∙ sym (ap is_timer_name is ∙ rw letter)
+pub identifier_read : (name others : List ℕ) (first : ℕ) (r : Bool) → name ≡ first ∷ others → is_letter first ≡ true → r ≡ list_all is_word_byte others → r ≡ is_identifier name
+identifier_read name others first r is letter read = read ∙ sym (ap is_identifier is ∙ rw letter)
 
 -- ---- the parts of a label's text
 
@@ -55,11 +55,8 @@ append-point [] name = refl
 append-point (d ∷ digits) name = ap (λ t. d ∷ t) (append-point digits name)
 
 -- the text of an expiry, behind the slash
-expiry_behind : (frame : ℕ) (timer : List ℕ) → is_timer_name timer ≡ true → expiry_text frame timer ≡ 47 ∷ (decimal frame ++ 46 ∷ timer)
+expiry_behind : (frame : ℕ) (timer : List ℕ) → is_identifier timer ≡ true → expiry_text frame timer ≡ 47 ∷ (decimal frame ++ 46 ∷ timer)
 expiry_behind frame timer h = ap (λ t. 47 ∷ t) (append-point (decimal frame) (name_text timer) ∙ ap (λ t. decimal frame ++ 46 ∷ t) (name_plain timer h))
-
-pub expiry_none_cut : (text : List ℕ) → lacks 46 text → IsNoExpiry text
-expiry_none_cut text no_point = λ frame timer tells. cut_none 46 text (decimal frame) timer no_point tells.2
 
 expiry_cut : (text before behind : List ℕ) (frame : ℕ) (timer : List ℕ) → IsCut 46 text before behind → TellsExpiry text frame timer → (before ≡ decimal frame) × (behind ≡ timer)
 expiry_cut text before behind frame timer cut tells =
@@ -68,24 +65,37 @@ expiry_cut text before behind frame timer cut tells =
 pub expiry_none_number : (text before behind : List ℕ) → IsCut 46 text before behind → IsNoNumber before → IsNoExpiry text
 expiry_none_number text before behind cut bad = λ frame timer tells. bad frame tells.0 (expiry_cut text before behind frame timer cut tells).0
 
-pub expiry_none_name : (text before behind : List ℕ) → IsCut 46 text before behind → is_timer_name behind ≡ false → IsNoExpiry text
+pub expiry_none_name : (text before behind : List ℕ) → IsCut 46 text before behind → is_identifier behind ≡ false → IsNoExpiry text
 expiry_none_name text before behind cut bad = λ frame timer tells.
-    true≢false (sym tells.1 ∙ (ap is_timer_name (sym (expiry_cut text before behind frame timer cut tells).1) ∙ bad))
+    true≢false (sym tells.1 ∙ (ap is_identifier (sym (expiry_cut text before behind frame timer cut tells).1) ∙ bad))
 
--- a text without a slash that tells no path is that of no label
-pub no_label_from_path : (text names : List ℕ) → text ≡ 109 ∷ 116 ∷ 99 ∷ names → lacks 47 names → IsNoPath names → IsNoLabel text
-no_label_from_path text names is no_slash bad (Statement path) proper whole =
-    let rest : names ≡ flat_map number_text path.numbers = cc in
-    bad path.numbers (proper, rest)
-no_label_from_path text names is no_slash bad (Expiry path frame timer) proper whole =
-    let rest : names ≡ flat_map number_text path.numbers ++ expiry_text frame timer = cc in
-    cut_none 47 names (flat_map number_text path.numbers) _ no_slash rest
+-- texts that differ at a place
+pub apart : (text one other : List ℕ) (k : ℕ) → get_or one k 0 ≢ get_or other k 0 → text ≡ one → text ≡ other → ⊥
+apart text one other k differ left right = differ (ap (λ t. get_or t k 0) (sym left ∙ right))
 
--- the label of a statement, whose text has no slash
-pub statement_read : (text names : List ℕ) (o : Option Path) → text ≡ 109 ∷ 116 ∷ 99 ∷ names → lacks 47 names → MatchOption o (IsNoPath names) (λ path. IsPath names path.numbers)
-    → MatchOption (option_map Statement o) (IsNoLabel text) (λ made. (text ≡ label_text made) × IsProper made)
-statement_read text names None is no_slash bad = no_label_from_path text names is no_slash bad
-statement_read text names (Some path) is no_slash good = (is ∙ ap (λ t. 109 ∷ 116 ∷ 99 ∷ t) good.1, good.0)
+-- a text that begins with `m` is that of no delivery
+no_delivery : (text others name : List ℕ) → text ≡ 109 ∷ others → text ≡ delivery_text name → ⊥
+no_delivery text others name begins whole = apart text (109 ∷ others) (delivery_text name) 0 (omega arith) begins whole
+
+-- what stands behind `system.` in the text of a label is the name of a system port
+delivered : (text name : List ℕ) → text ≡ codes "system." ++ name → (label : Label) → IsProper label → text ≡ label_text label → is_identifier name ≡ true
+delivered text name is (Statement path) proper whole = absurd (apart text _ _ 0 (omega arith) is whole)
+delivered text name is (Expiry path frame timer) proper whole = absurd (apart text _ _ 0 (omega arith) is whole)
+delivered text name is (Delivery q) proper whole =
+    let both : codes "system." ++ name ≡ codes "system." ++ name_text q = sym is ∙ whole in
+    let rest : name ≡ name_text q = cc in
+    ap is_identifier (rest ∙ name_plain q proper) ∙ proper
+
+-- the label of a delivery
+pub delivery_read : (text name : List ℕ) (o : Option (List ℕ)) (m : Option Label) → text ≡ codes "system." ++ name → TellsName name o
+    → MatchOption o (m ≡ None) (λ x. IsSomeAnd m (λ label. label ≡ Delivery x)) → IsReadAs label_text IsProper text m
+delivery_read text name None m is bad made =
+    subst (IsReadAs label_text IsProper text) (sym made) (λ label proper whole. true≢false (sym (delivered text name is label proper whole) ∙ bad))
+delivery_read text name (Some q) None is good made = absurd made
+delivery_read text name (Some q) (Some label) is good made =
+    let proper : is_identifier q ≡ true = ap is_identifier good.1 ∙ good.0 in
+    subst (λ l. IsReadAs label_text IsProper text (Some l)) (sym made)
+    (is ∙ ap (λ t. codes "system." ++ t) (sym good.1 ∙ sym (name_plain q proper)), proper)
 
 -- a label whose text has a slash is an expiry, and its path and its timer stand before and behind
 slashed : (text names path timer : List ℕ) → text ≡ 109 ∷ 116 ∷ 99 ∷ names → IsCut 47 names path timer → (label : Label) → IsProper label → text ≡ label_text label
@@ -98,6 +108,7 @@ slashed text names path timer is cut (Expiry p frame name) proper whole =
     let behind : names ≡ flat_map number_text p.numbers ++ 47 ∷ (decimal frame ++ 46 ∷ name) = rest ∙ ap (λ t. flat_map number_text p.numbers ++ t) (expiry_behind frame name proper.2) in
     let same = cut_same 47 path timer (flat_map number_text p.numbers) _ cut.0 (path_lacks_slash p.numbers proper.0) (sym cut.1 ∙ behind) in
     (p.numbers, frame, name, (proper.0, same.0), (proper.1, proper.2, same.1))
+slashed text names path timer is cut (Delivery name) proper whole = absurd (no_delivery text (116 ∷ 99 ∷ names) name is whole)
 
 pub no_label_from_expiry : (text names path timer : List ℕ) → text ≡ 109 ∷ 116 ∷ 99 ∷ names → IsCut 47 names path timer → IsNoExpiry timer → IsNoLabel text
 no_label_from_expiry text names path timer is cut bad = λ label proper whole.
@@ -143,10 +154,10 @@ path_no_blank : (ns : List ℕ) → AllByRecursion IsSmall ns → no_blank (flat
 path_no_blank [] all = refl
 path_no_blank (n ∷ ns) all = no_blank-append (decimal n) (flat_map number_text ns) (decimal_no_blank n all.0) (path_no_blank ns all.1)
 
-expiry_no_blank : (frame : ℕ) (timer : List ℕ) → IsSmall frame → is_timer_name timer ≡ true → no_blank (expiry_text frame timer)
+expiry_no_blank : (frame : ℕ) (timer : List ℕ) → IsSmall frame → is_identifier timer ≡ true → no_blank (expiry_text frame timer)
 expiry_no_blank frame timer small name =
     ap (list_any is_blank) (expiry_behind frame timer name)
-    ∙ no_blank-append (decimal frame) (46 ∷ timer) (decimal_no_blank frame small) (words_no_blank timer (timer_words timer name))
+    ∙ no_blank-append (decimal frame) (46 ∷ timer) (decimal_no_blank frame small) (words_no_blank timer (identifier_words timer name))
 
 ends : (x : ℕ) (xs : List ℕ) → no_blank (x ∷ xs) → (front : List ℕ) × (last : ℕ) × (x ∷ xs ≡ front ++ last ∷ []) × (is_blank last ≡ false)
 ends x [] h = ([], x, refl, (or_false (is_blank x) false h).0)
@@ -176,8 +187,16 @@ label_ends (Statement path) proper = name_ends path.numbers proper
 label_ends (Expiry path frame timer) proper =
     bare 109 (116 ∷ 99 ∷ (flat_map number_text path.numbers ++ expiry_text frame timer))
     (no_blank-append (flat_map number_text path.numbers) (expiry_text frame timer) (path_no_blank path.numbers proper.0) (expiry_no_blank frame timer proper.1 proper.2))
+label_ends (Delivery name) proper =
+    bare 115 (codes "ystem." ++ name_text name) (no_blank-append (codes "ystem.") (name_text name) refl (ap (list_any is_blank) (name_plain name proper) ∙ words_no_blank name (identifier_words name proper)))
 
 -- ---- a text is that of one label
+
+-- the name of a system port stands in one delivery's text
+delivery_same : (one other : List ℕ) → is_identifier one ≡ true → is_identifier other ≡ true → delivery_text one ≡ delivery_text other → one ≡ other
+delivery_same one other proper proper_other is =
+    let names : name_text one ≡ name_text other = cc in
+    sym (name_plain one proper) ∙ names ∙ name_plain other proper_other
 
 -- a name is that of one component
 pub name_same : (one other : Path) → AllByRecursion IsSmall one.numbers → AllByRecursion IsSmall other.numbers → path_text one.numbers ≡ path_text other.numbers → one ≡ other
@@ -208,3 +227,8 @@ label_same text (Statement p) (Statement q) one other left right = ap Statement 
 label_same text (Statement p) (Expiry q frame timer) one other left right = absurd (no_slash_slash p q frame timer one (sym left ∙ right))
 label_same text (Expiry p frame timer) (Statement q) one other left right = absurd (no_slash_slash q p frame timer other (sym right ∙ left))
 label_same text (Expiry p m name) (Expiry q n other_name) one other left right = expiry_same p q m n name other_name one other (sym left ∙ right)
+label_same text (Statement p) (Delivery name) one other left right = absurd (no_delivery text _ name left right)
+label_same text (Expiry p frame timer) (Delivery name) one other left right = absurd (no_delivery text _ name left right)
+label_same text (Delivery name) (Statement q) one other left right = absurd (no_delivery text _ name right left)
+label_same text (Delivery name) (Expiry q frame timer) one other left right = absurd (no_delivery text _ name right left)
+label_same text (Delivery name) (Delivery other_name) one other left right = ap Delivery (delivery_same name other_name one other (sym left ∙ right))

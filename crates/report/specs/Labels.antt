@@ -6,9 +6,9 @@ use Rattle.std.specs.List.{flat_map}
 use Rattle.step_labels.specs.declared.fine.FineLabel.{FineLabel}
 use Rattle.step_labels.specs.declared.fine.FineLabel.TheVariants.{Snap, Choose, Plain}
 use Rattle.step_labels.specs.declared.label.Label.{Label}
-use Rattle.step_labels.specs.declared.label.Label.TheVariants.{Statement, Expiry}
+use Rattle.step_labels.specs.declared.label.Label.TheVariants.{Delivery, Expiry, Statement}
 
--- a timer's name: each byte is written as the character of its code, so those below 128 stay as they are
+-- the name of a timer or of a system port: each byte is written as the character of its code, so those below 128 stay as they are
 abbrev pub name_text : List ℕ → List ℕ
 name_text name = flat_map encode_utf8 name
 
@@ -24,10 +24,15 @@ path_text numbers = codes "mtc" ++ flat_map number_text numbers
 abbrev pub expiry_text : ℕ → List ℕ → List ℕ
 expiry_text frame timer = codes "/" ++ decimal frame ++ codes "." ++ name_text timer
 
--- a label: its component's name, and the frame and the timer of an expiry
+-- a delivery, by the name of its system port: `system.q`
+abbrev pub delivery_text : List ℕ → List ℕ
+delivery_text system_port = codes "system." ++ name_text system_port
+
+-- a label: its component's name, and the frame and the timer of an expiry; or a delivery
 abbrev pub label_text : Label → List ℕ
 label_text (Statement path) = path_text path.numbers
 label_text (Expiry path frame timer) = path_text path.numbers ++ expiry_text frame timer
+label_text (Delivery system_port) = delivery_text system_port
 
 -- a label of a fine run: `snap mtc.1`, `choose mtc.1`, or a label
 abbrev pub fine_text : FineLabel → List ℕ

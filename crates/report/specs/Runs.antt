@@ -8,7 +8,7 @@ use Rattle.report.specs.Labels.{fine_text, label_text}
 use Rattle.step_labels.specs.declared.fine.FineLabel.{FineLabel}
 use Rattle.step_labels.specs.declared.fine.FineLabel.TheVariants.{Snap, Choose, Plain}
 use Rattle.step_labels.specs.declared.label.Label.{Label}
-use Rattle.step_labels.specs.declared.label.Label.TheVariants.{Statement, Expiry}
+use Rattle.step_labels.specs.declared.label.Label.TheVariants.{Delivery, Expiry, Statement}
 use Rattle.ttcn_syntax.specs.Characters.{is_blank, is_letter, is_word_byte}
 
 -- the numbers of labels are below 4294967296
@@ -19,15 +19,16 @@ IsSmall number = number < 2 ^ 32
 abbrev pub IsNumber : List ℕ → ℕ → Type 0
 IsNumber digits number = IsSmall number × (digits ≡ decimal number)
 
--- a timer's name: a letter, and letters, digits and `_` behind it
-abbrev pub is_timer_name : List ℕ → Bool
-is_timer_name [] = false
-is_timer_name (first ∷ others) = is_letter first && list_all is_word_byte others
+-- a name of a timer or of a system port: a letter, and letters, digits and `_` behind it
+abbrev pub is_identifier : List ℕ → Bool
+is_identifier [] = false
+is_identifier (first ∷ others) = is_letter first && list_all is_word_byte others
 
--- a label that a run file can hold: an expiry has a small frame number and a timer's name
+-- a label that a run file can hold: an expiry has a small frame number and a timer's name, a delivery a system port's name
 abbrev pub IsProper : Label → Type 0
 IsProper (Statement path) = AllByRecursion IsSmall path.numbers
-IsProper (Expiry path frame timer) = AllByRecursion IsSmall path.numbers × IsSmall frame × IsTrue (is_timer_name timer)
+IsProper (Expiry path frame timer) = AllByRecursion IsSmall path.numbers × IsSmall frame × IsTrue (is_identifier timer)
+IsProper (Delivery system_port) = IsTrue (is_identifier system_port)
 
 -- a label that the file of a fine run can hold
 abbrev pub IsProperFine : FineLabel → Type 0

@@ -1,4 +1,4 @@
-//! Reports on test cases, as text and as JSON, and run files.
+//! Reports on test cases, as text and as JSON, run files, and scripts.
 #![tactic(auto)]
 
 mod json;
@@ -14,6 +14,7 @@ pub use laws::{
     runs_read_one_way, texts_read_back,
 };
 pub use report::{Outcome, Report};
+pub use report_script::{ScriptError, read_script};
 pub use run::{RunError, read_fine, read_run};
 pub use step_labels::Standing;
 pub use text::{FineText, LabelText, PathText, PlaceText, to_text, word_of};

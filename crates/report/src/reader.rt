@@ -1,7 +1,7 @@
 //! Labels as run files write them.
 ghost use Rattle.report.specs.Labels.{fine_text, label_text, number_text};
-ghost use Rattle.report.specs.Runs.{IsNumber, IsProper, IsProperFine, IsSmall, is_timer_name};
-ghost use Rattle.report.specs.internal.Reader.{HasBareEnds, IsCut, IsName, IsNoExpiry, IsNoName, IsNoNumber, IsNoPath, IsPath, IsReadAs, TellsExpiry, lacks};
+ghost use Rattle.report.specs.Runs.{IsNumber, IsProper, IsProperFine, IsSmall, is_identifier};
+ghost use Rattle.report.specs.internal.Reader.{HasBareEnds, IsCut, IsName, IsNoExpiry, IsNoName, IsNoNumber, IsNoPath, IsPath, IsReadAs, TellsExpiry, TellsName, lacks};
 ghost use Rattle.ttcn_syntax.specs.Characters.{is_letter, is_word_byte};
 ghost use Rattle.std.specs.Prelude.{◌≡◌, IfOk, MatchOption, None, Some};
 
@@ -23,9 +23,9 @@ fn is_word_byte(byte: u8) -> bool
     is_letter(byte) || matches!(byte, b'0'..=b'9' | b'_')
 }
 
-/// Whether these bytes are a timer's name: a letter, and letters, digits and underscores behind it.
-fn is_timer_name(name: &[u8]) -> bool
-    ensures { result ≡ is_timer_name name.now }
+/// Whether these bytes are a name of a timer or of a system port: a letter, and letters, digits and underscores behind it.
+fn is_identifier(name: &[u8]) -> bool
+    ensures { result ≡ is_identifier name.now }
 {
     match name.split_first() {
         None => false,
@@ -96,6 +96,16 @@ fn path_with(alloc: Global, text: &[u8]) -> Result<Option<Path>, AllocError>
     }))
 }
 
+/// The name that these bytes are.
+fn name_of(alloc: Global, text: &[u8]) -> Result<Option<Name>, AllocError>
+    ensures { IfOk result (TellsName text.now) }
+{
+    if !is_identifier(text) {
+        return Ok(None);
+    }
+    Ok(Some(Name::new(alloc, text)?))
+}
+
 /// The frame and the timer of an expiry: the frame's number, a point and the timer's name.
 fn expiry_of(alloc: Global, text: &[u8]) -> Result<Option<(u32, Name)>, AllocError>
     ensures { IfOk result (λ expiry. MatchOption expiry (IsNoExpiry text.now) (λ e. TellsExpiry text.now e.0 e.1)) }
@@ -106,16 +116,19 @@ fn expiry_of(alloc: Global, text: &[u8]) -> Result<Option<(u32, Name)>, AllocErr
     let Some(frame) = number_of(frame) else {
         return Ok(None);
     };
-    if !is_timer_name(timer) {
+    let Some(timer) = name_of(alloc, timer)? else {
         return Ok(None);
-    }
-    Ok(Some((frame, Name::new(alloc, timer)?)))
+    };
+    Ok(Some((frame, timer)))
 }
 
 /// The label that is written so.
 fn label_of(alloc: Global, text: &[u8]) -> Result<Option<Label>, AllocError>
     ensures { IfOk result (IsReadAs label_text IsProper text.now) }
 {
+    if let Some(system_port) = text.strip_prefix(b"system.") {
+        return Ok(name_of(alloc, system_port)?.map(Label::Delivery));
+    }
     let Some(names) = text.strip_prefix(b"mtc") else {
         return Ok(None);
     };

@@ -11,7 +11,7 @@ use std::fmt;
 use step_labels::{FineLabel, Label, Standing};
 use ttcn_syntax::{Name, Span, Verdict};
 
-/// A timer's name, whose bytes are shown as the characters of these codes.
+/// The name of a timer or of a system port, whose bytes are shown as the characters of these codes.
 #[derive(Clone, Copy)]
 struct NameText<'a>(&'a Name);
 
@@ -19,7 +19,8 @@ struct NameText<'a>(&'a Name);
 #[derive(Clone, Copy)]
 pub struct PathText<'a>(pub &'a [u32]);
 
-/// A label as it is written in a run file: a component's name, or `mtc.1/0.t` for the expiry of a timer.
+/// A label as it is written in a run file: a component's name, `mtc.1/0.t` for the expiry of a timer, or `system.q` for a
+/// delivery.
 #[derive(Clone, Copy)]
 pub struct LabelText<'a>(pub &'a Label);
 
@@ -73,6 +74,7 @@ impl<'a> fmt::Display for LabelText<'a> {
                 let (path, timer) = (PathText(component.numbers.as_slice()), NameText(timer));
                 write!(f, "{path}/{frame}.{timer}")
             }
+            Label::Delivery(system_port) => write!(f, "system.{}", NameText(system_port)),
         }
     }
 }

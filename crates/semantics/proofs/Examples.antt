@@ -183,11 +183,13 @@ starts-holds : (test : Test) (t : Testcase) (port_type : List ℕ) (ports : List
         queues = empty_queues test.definitions (mtc_of test).component_type;
       } ∷ [];
       connections = [];
+      mappings = [];
+      delivered = [];
       forgotten = verdict.None;
     })
 starts-holds test t port_type ports is members =
     ap (λ k. settled (outcome_and_then (started test) (or_unmet (testcase_body k)))) is
-    ∙ ap (λ ms. settled (outcome_map (λ found. Goes (record { components = mtc_with test t.body found ∷ []; connections = []; forgotten = verdict.None })) (declared_in_turn (declared_member test (mtc_of test) (first_snapshot test)) ms empty_frame))) members
+    ∙ ap (λ ms. settled (outcome_map (λ found. Goes (record { components = mtc_with test t.body found ∷ []; connections = []; mappings = []; delivered = []; forgotten = verdict.None })) (declared_in_turn (declared_member test (mtc_of test) (first_snapshot test)) ms empty_frame))) members
 
 -- ---- two components
 
@@ -197,7 +199,7 @@ module _ (test : Test) (of : ℕ) (own other : Data) (frame : Frame) (below : Li
       → sent_value (mtc_stand test (two_running of (with_last own frame below (Doing site s Whole ∷ rest)) other waiting (linked ∷ [])) of own frame below (Doing site s Whole) rest) site send
       (sent_type (scope_at test.definitions site) send) ≡ Yields v
       → step test (Goes (two_running of (with_last own frame below (Doing site s Whole ∷ rest)) other waiting (linked ∷ []))) (OfStatement mtc_path)
-      ≡ Some (Yields (Goes (two_running of (uncovered (with_last own frame below rest)) other (waiting ++ record { value = v; sender = record { path = mtc_path; component_type = of } } ∷ []) (linked ∷ []))))
+      ≡ Some (Yields (Goes (two_running of (uncovered (with_last own frame below rest)) other (waiting ++ record { value = v; sender = Some (record { path = mtc_path; component_type = of }) } ∷ []) (linked ∷ []))))
   sends_behind-holds send v is port to sent =
       let now : Going = two_running of (with_last own frame below (Doing site s Whole ∷ rest)) other waiting (linked ∷ []) in
       let here : Stand = mtc_stand test now of own frame below (Doing site s Whole) rest in

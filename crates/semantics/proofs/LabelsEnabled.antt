@@ -8,15 +8,15 @@ use Rattle.std.proofs.lemmas.List.{get_or-map, length-map}
 use Rattle.std.proofs.lemmas.Slice.Eq.{bytes_eq-Decides}
 use Rattle.std.proofs.lemmas.Bool.Decides.{Decides-eqb}
 use Rattle.semantics.proofs.LabelOrder.{IsAbove, IsBelow, IsExpiry, calls-above, calls-below, expiries-of, names-alike}
-use Rattle.semantics.proofs.Pairs.{All-both, All-flat, pairs-head, pairs-tail}
-use Rattle.semantics.specs.Configurations.{Component, Data, Frame, Goes, Going, component_at, is_running_state, path_of, same_path}
-use Rattle.semantics.specs.Entries.{Entries, name_cmp}
-use Rattle.semantics.specs.Labels.{call_expiries, expiries, frame_expiries, labels, labels_of_component, statement_labels}
+use Rattle.semantics.proofs.Pairs.{All-both, All-flat, All-more, pairs-head, pairs-tail}
+use Rattle.semantics.specs.Configurations.{Component, Data, End, Frame, Goes, Going, component_at, is_running_state, path_of, same_path}
+use Rattle.semantics.specs.Entries.{Entries, Identifier, name_cmp}
+use Rattle.semantics.specs.Labels.{call_expiries, deliveries, delivery, expiries, frame_expiries, labels, labels_of_component, statement_labels}
 use Rattle.semantics.specs.Order.{HasTimersInOrder, IsOrdered, IsOrderedWithin}
 use Rattle.semantics.specs.Snapshots.{Test, snapshot_of}
 use Rattle.semantics.specs.Statements.{act}
 use Rattle.semantics.specs.Storing.{with_calls, with_members, with_timers}
-use Rattle.semantics.specs.Steps.{Expiry, Label, Statement, apply, exchanged, expire_in, touch, expired, expired_call, expired_frame, expiry_step, statement_step, step, step_in}
+use Rattle.semantics.specs.Steps.{Delivery, Expiry, Label, Statement, apply, come_in, delivery_step, exchanged, expire_in, touch, expired, expired_call, expired_frame, expiry_step, next_message, statement_step, step, step_in}
 use Rattle.value_types.specs.Frames.{entry, is_running}
 use Rattle.value_types.specs.Outcomes.{Yields}
 use Rattle.value_types.specs.declared.frame.TimerState.{TimerState}
@@ -150,6 +150,7 @@ frame-steps p n frame ordered P says =
 abbrev Expires : List Frame → Label → Type 0
 Expires calls (Statement q) = ⊥
 Expires calls (Expiry q n name) = is_some (expired_call n name calls) ≡ true
+Expires calls (Delivery name) = ⊥
 
 number-same : (n : ℕ) → nat_eq n n ≡ true
 number-same n = (Decides-eqb n n).1 refl
@@ -181,6 +182,7 @@ below-expires frame frames n name lt e =
 more-expires : (p : Path) (frame : Frame) (frames : List Frame) (label : Label) → IsBelow p (length frames + 1) label → Expires frames label → Expires (frame ∷ frames) label
 more-expires p frame frames (Statement q) below expires = expires
 more-expires p frame frames (Expiry q n name) below expires = below-expires frame frames n name below.1 expires
+more-expires p frame frames (Delivery name) below expires = expires
 
 calls-steps : (p : Path) (calls : List Frame) → All HasTimersInOrder calls → All (Expires calls) (call_expiries p calls)
 calls-steps p [] ordered = All-nil (Expires [])
@@ -211,12 +213,14 @@ call-label p n name (frame ∷ frames) e = call-told p n name frame frames (call
 abbrev MayExpire : Data → Label → Type 0
 MayExpire own (Statement q) = ⊥
 MayExpire own (Expiry q n name) = is_some (expired n name own) ≡ true
+MayExpire own (Delivery name) = ⊥
 
 member-expires : (own : Data) (name : List ℕ) → is_some (expired_frame name own.members) ≡ true → is_some (expired 0 name own) ≡ true
 member-expires own name e = some-map (λ members. with_members members own) (expired_frame name own.members) ∙ e
 
 call-may : (own : Data) (p : Path) (label : Label) → IsAbove p label → Expires own.calls label → MayExpire own label
 call-may own p (Statement q) above expires = expires
+call-may own p (Delivery name) above expires = expires
 call-may own p (Expiry q n name) above expires =
     ap (λ b. is_some (if b then option_map (λ members. with_members members own) (expired_frame name own.members) else option_map (λ calls. with_calls calls own) (expired_call n name own.calls))) (number-positive n above.1)
     ∙ some-map (λ calls. with_calls calls own) (expired_call n name own.calls) ∙ expires
@@ -266,6 +270,7 @@ expiry-step test c component found runs n name e =
 
 expiry-has : (test : Test) (c : Going) (component : Component) → IsFound c component → is_running_state component.state ≡ true → (label : Label) → IsExpiry (path_of component) label → MayExpire component.own label → HasStep test c label
 expiry-has test c component found runs (Statement q) is may = absurd is
+expiry-has test c component found runs (Delivery name) is may = absurd is
 expiry-has test c component found runs (Expiry q n name) is may =
     subst (λ x. HasStep test c (Expiry x n name)) (sym is) (expiry-step test c component found runs n name may)
 
@@ -281,14 +286,39 @@ labels-have test c component found ordered true runs =
     (All-both (IsExpiry (path_of component)) (MayExpire component.own) (HasStep test c) (expiry-has test c component found runs) (expiries component) (expiries-of component) (expiries-steps component ordered))
 labels-have test c component found ordered false runs = All-nil (HasStep test c)
 
-all-have : (test : Test) (c : Going) → IsOrdered c → All (HasStep test c) (flat_map (labels_of_component test c) c.components)
-all-have test c ordered =
+-- a delivery has a step where its mapping is found and a message is left
+delivery-if : (test : Test) (c : Going) (name : Identifier) (e : End) → entry c.mappings name ≡ Some e → (b : Bool) → is_some (next_message test c name) ≡ b
+    → All (HasStep test c) (if b then Delivery name ∷ [] else [])
+delivery-if test c name e found true left =
+    All-cons (HasStep test c) (Delivery name) []
+    (ap (λ o. is_some (option_and_then (λ e. option_map (λ v. Yields (Goes (come_in name e v c))) (next_message test c name)) o)) found
+    ∙ some-map (λ v. Yields (Goes (come_in name e v c))) (next_message test c name) ∙ left)
+    (All-nil (HasStep test c))
+delivery-if test c name e found false left = All-nil (HasStep test c)
+
+deliveries-have : (test : Test) (c : Going) → IsOrdered c → All (HasStep test c) (deliveries test c)
+deliveries-have test c ordered =
+    All-flat (HasStep test c) (delivery test c) c.mappings
+    (All-more (λ m. find (λ d. bytes_eq d.0 m.0) c.mappings ≡ Some m) (λ m. All (HasStep test c) (delivery test c m))
+    (λ m found. delivery-if test c m.0 m.1 (ap (option_map (λ d. d.1)) found) (is_some (next_message test c m.0)) refl)
+    c.mappings (finds-own (λ m. m.0) c.mappings ordered.mappings))
+
+components-have : (test : Test) (c : Going) → IsOrdered c → All (HasStep test c) (flat_map (labels_of_component test c) c.components)
+components-have test c ordered =
     All-flat (HasStep test c) (labels_of_component test c) c.components
     (All-both (IsFound c) IsOrderedWithin (λ component. All (HasStep test c) (labels_of_component test c component))
     (λ component found within. labels-have test c component found within (is_running_state component.state) refl)
     c.components (components-found c ordered) ordered.within)
 
+all-have : (test : Test) (c : Going) → IsOrdered c → All (HasStep test c) (labels test (Goes c))
+all-have test c ordered =
+    All-append (HasStep test c) (flat_map (labels_of_component test c) c.components) (deliveries test c) (components-have test c ordered) (deliveries-have test c ordered)
+
 -- ---- what has a step is among the labels
+
+-- a label of a component
+of-components : (test : Test) (c : Going) (label : Label) → Contains (flat_map (labels_of_component test c) c.components) label → Contains (labels test (Goes c)) label
+of-components test c label h = Contains-append_left (flat_map (labels_of_component test c) c.components) (deliveries test c) label h
 
 -- where a step is, the component runs
 runs-told : {A : Type 0} (component : Component) (o : Option A) (b : Bool) → is_running_state component.state ≡ b → is_some (if b then o else None) ≡ true → (is_running_state component.state ≡ true) × (is_some o ≡ true)
@@ -316,19 +346,37 @@ statement-in : (test : Test) (c : Going) (path : Path) (o : Option Component) �
 statement-in test c path None found e = absurd (let no = e in cc)
 statement-in test c path (Some component) found e =
     let same : path_of component ≡ path = same-path-is (path_of component) path (find-passes (λ other. same_path (path_of other) path) c.components component found) in
-    find-flat (λ other. same_path (path_of other) path) (labels_of_component test c) c.components component (Statement path) found
-    (subst (λ p. Contains (labels_of_component test c component) (Statement p)) same (statement-listed test c component e))
+    of-components test c (Statement path)
+    (find-flat (λ other. same_path (path_of other) path) (labels_of_component test c) c.components component (Statement path) found
+    (subst (λ p. Contains (labels_of_component test c component) (Statement p)) same (statement-listed test c component e)))
 
 expiry-in : (test : Test) (c : Going) (path : Path) (n : ℕ) (name : List ℕ) (o : Option Component) → component_at c path ≡ o → is_some (option_and_then (expiry_step c n name) o) ≡ true → Contains (labels test (Goes c)) (Expiry path n name)
 expiry-in test c path n name None found e = absurd (let no = e in cc)
 expiry-in test c path n name (Some component) found e =
     let same : path_of component ≡ path = same-path-is (path_of component) path (find-passes (λ other. same_path (path_of other) path) c.components component found) in
-    find-flat (λ other. same_path (path_of other) path) (labels_of_component test c) c.components component (Expiry path n name) found
-    (subst (λ p. Contains (labels_of_component test c component) (Expiry p n name)) same (expiry-listed test c component n name e))
+    of-components test c (Expiry path n name)
+    (find-flat (λ other. same_path (path_of other) path) (labels_of_component test c) c.components component (Expiry path n name) found
+    (subst (λ p. Contains (labels_of_component test c component) (Expiry p n name)) same (expiry-listed test c component n name e)))
+
+one-delivery : (b : Bool) (name : Identifier) → b ≡ true → Contains (if b then Delivery name ∷ [] else []) (Delivery name)
+one-delivery true name e = here (Delivery name) []
+one-delivery false name e = absurd (let no = e in cc)
+
+delivery-in : (test : Test) (c : Going) (name : Identifier) (o : Option (Identifier × End)) → find (λ d. bytes_eq d.0 name) c.mappings ≡ o
+    → is_some (option_and_then (λ e. option_map (λ v. Yields (Goes (come_in name e v c))) (next_message test c name)) (option_map (λ d. d.1) o)) ≡ true
+    → Contains (labels test (Goes c)) (Delivery name)
+delivery-in test c name None found e = absurd (let no = e in cc)
+delivery-in test c name (Some m) found e =
+    let named : m.0 ≡ name = (bytes_eq-Decides m.0 name).0 (find-passes (λ d. bytes_eq d.0 name) c.mappings m found) in
+    let left : is_some (next_message test c name) ≡ true = sym (some-map (λ v. Yields (Goes (come_in name m.1 v c))) (next_message test c name)) ∙ e in
+    Contains-append_right (flat_map (labels_of_component test c) c.components) (deliveries test c) (Delivery name)
+    (find-flat (λ d. bytes_eq d.0 name) (delivery test c) c.mappings m (Delivery name) found
+    (subst (λ n. Contains (if is_some (next_message test c n) then Delivery n ∷ [] else []) (Delivery name)) (sym named) (one-delivery (is_some (next_message test c name)) name left)))
 
 step-in : (test : Test) (c : Going) (label : Label) → HasStep test c label → Contains (labels test (Goes c)) label
 step-in test c (Statement path) e = statement-in test c path (component_at c path) refl e
 step-in test c (Expiry path n name) e = expiry-in test c path n name (component_at c path) refl e
+step-in test c (Delivery name) e = delivery-in test c name (find (λ d. bytes_eq d.0 name) c.mappings) refl e
 
 pub labels_enabled : (test : Test) (c : Going) → IsOrdered c → (label : Label) → Contains (labels test (Goes c)) label ↔ (is_some (step test (Goes c) label) ≡ true)
 labels_enabled test c ordered label = (λ h. All-contains (HasStep test c) (labels test (Goes c)) label (all-have test c ordered) h, step-in test c label)

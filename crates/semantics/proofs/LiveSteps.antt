@@ -1,15 +1,17 @@
 -- What is done among the components is the same from a configuration and from its live part.
-use Rattle.std.proofs.Common.{◌≡◌, Bool, true, false, ◌&&◌, not, List, [], ◌∷◌, ◌++◌, map, Option, Some, None, is_some, option_map, refl, sym, ap, ◌∙◌, if◌then◌else◌}
+use Rattle.std.proofs.Common.{◌≡◌, ℕ, Bool, true, false, ◌&&◌, not, List, [], ◌∷◌, ◌++◌, map, Option, Some, None, is_some, option_map, refl, sym, ap, ◌∙◌, if◌then◌else◌}
 use Rattle.std.specs.List.{filter, find, fold}
 use Rattle.std.specs.Ordering.{is_lt}
 use Rattle.std.proofs.lemmas.Slice.Eq.{bytes_eq-Decides}
 use Rattle.ttcn_syntax.specs.declared.tree.statement.Verdict.{Verdict}
 use Rattle.ttcn_syntax.specs.declared.tree.statement.Verdict.TheVariants as verdict
 use Rattle.semantics.proofs.Verdicts.{none_worse, worse_associates, worse_commutes, worse_none, worse_pairs}
-use Rattle.semantics.specs.Configurations.{Component, Connection, Going, component_at, is_terminated_state, path_of, path_cmp, same_path, worse}
+use Rattle.semantics.specs.Configurations.{Component, Connection, End, Going, Message, Terminated, component_at, is_terminated_state, path_of, path_cmp, same_path, worse}
+use Rattle.semantics.specs.Entries.{Entries, Identifier}
 use Rattle.semantics.specs.LiveParts.{forget_verdict, husk, is_live, live_component, live_going}
-use Rattle.semantics.specs.Steps.{add_connection, connection_cmp, insert, is_before, is_terminated_component, touch, unless_terminated, with_connection, with_new}
+use Rattle.semantics.specs.Steps.{add_connection, at_queue, come_in, connection_cmp, insert, is_before, is_terminated_component, put_behind, terminate, touch, unless_terminated, with_connection, with_delivery, with_mappings, with_new, with_state, without_component}
 use Rattle.value_types.specs.declared.path.Path.{Path}
+use Rattle.value_types.specs.declared.value.Value.{Value}
 
 -- ---- components
 
@@ -185,7 +187,7 @@ total-gentle f gentle (x ∷ xs) =
 
 -- a change of each component
 abbrev changed : (Component → Component) → Going → Going
-changed f c = record { components = map f c.components; connections = c.connections; forgotten = c.forgotten }
+changed f c = record { components = map f c.components; connections = c.connections; mappings = c.mappings; delivered = c.delivered; forgotten = c.forgotten }
 
 -- what is done has the same live part from a configuration and from its live part
 abbrev pub Keeps : (Going → Going) → Type 0
@@ -194,12 +196,12 @@ Keeps f = (c : Going) → live_going (f (live_going c)) ≡ live_going (f c)
 pub keeps-both : (f g : Going → Going) → Keeps f → Keeps g → Keeps (λ c. f (g c))
 keeps-both f g one other c = sym (one (g (live_going c))) ∙ ap (λ d. live_going (f d)) (other c) ∙ one (g c)
 
-abbrev going_of : List Component → List Connection → Verdict → Going
-going_of cs ks v = record { components = cs; connections = ks; forgotten = v }
+abbrev going_of : List Component → List Connection → Entries End → Entries ℕ → Verdict → Going
+going_of cs ks ms ns v = record { components = cs; connections = ks; mappings = ms; delivered = ns; forgotten = v }
 
 -- two configurations of equal parts
-going-alike : (cs ds : List Component) (ks ls : List Connection) (v w : Verdict) → cs ≡ ds → ks ≡ ls → v ≡ w → going_of cs ks v ≡ going_of ds ls w
-going-alike cs ds ks ls v w a b e = ap (λ xs. going_of xs ks v) a ∙ ap (λ xs. going_of ds xs v) b ∙ ap (going_of ds ls) e
+going-alike : (cs ds : List Component) (ks ls : List Connection) (ms : Entries End) (ns : Entries ℕ) (v w : Verdict) → cs ≡ ds → ks ≡ ls → v ≡ w → going_of cs ks ms ns v ≡ going_of ds ls ms ns w
+going-alike cs ds ks ls ms ns v w a b e = ap (λ xs. going_of xs ks ms ns v) a ∙ ap (λ xs. going_of ds xs ms ns v) b ∙ ap (going_of ds ls ms ns) e
 
 both-over : (a b c d : Bool) → (a ≡ true → c ≡ true) → (b ≡ true → d ≡ true) → not (c && d) ≡ true → not (a && b) ≡ true
 both-over true true c d one other e = absurd (let i = one refl in let j = other refl in cc)
@@ -208,7 +210,7 @@ both-over false b c d one other e = refl
 
 keeps-changed : (f : Component → Component) → IsGentle f → Keeps (changed f)
 keeps-changed f gentle c =
-    going-alike _ _ _ _ _ _ components connections forgotten
+    going-alike _ _ _ _ _ _ _ _ components connections forgotten
   where
     before : Going
     before = live_going c
@@ -275,9 +277,9 @@ id-gentle = record { path = λ x. refl; over = λ x e. refl }
 
 pub live-twice : (c : Going) → live_going (live_going c) ≡ live_going c
 live-twice c =
-    ap (λ xs. live_going (going_of xs (live_going c).connections (live_going c).forgotten)) (sym (map-same (live_going c).components))
+    ap (λ xs. live_going (going_of xs (live_going c).connections c.mappings c.delivered (live_going c).forgotten)) (sym (map-same (live_going c).components))
     ∙ keeps-changed (λ x. x) id-gentle c
-    ∙ ap (λ xs. live_going (going_of xs c.connections c.forgotten)) (map-same c.components)
+    ∙ ap (λ xs. live_going (going_of xs c.connections c.mappings c.delivered c.forgotten)) (map-same c.components)
 
 pub alike : (f : Going → Going) → Keeps f → (c d : Going) → live_going c ≡ live_going d → live_going (f c) ≡ live_going (f d)
 alike f keeps c d e = sym (keeps c) ∙ ap (λ x. live_going (f x)) e ∙ keeps d
@@ -379,11 +381,11 @@ total-live [] = refl
 total-live (x ∷ xs) = ap (λ v. worse v (total (map live_component xs))) (contribution-live x) ∙ none_worse (total (map live_component xs)) ∙ total-live xs
 
 abbrev new_if : Bool → Component → Going → Going
-new_if b new c = going_of (if b then c.components else insert new c.components) c.connections c.forgotten
+new_if b new c = going_of (if b then c.components else insert new c.components) c.connections c.mappings c.delivered c.forgotten
 
 keeps-new-if : (b : Bool) (new : Component) (c : Going) → is_some (component_at c (path_of new)) ≡ b → live_going (new_if b new (live_going c)) ≡ live_going (new_if b new c)
 keeps-new-if true new c is = live-twice c
-keeps-new-if false new c is = going-alike _ _ _ _ _ _ (insert-live new c.components) connections forgotten
+keeps-new-if false new c is = going-alike _ _ _ _ _ _ _ _ (insert-live new c.components) connections forgotten
   where
     none : is_new (path_of new) c.components ≡ true
     none = ap not is
@@ -438,7 +440,28 @@ added-live p new ks =
     ∙ sym (filter-append p (filter (under new) ks) (new ∷ filter (above new) ks))
 
 pub keeps_connection : (new : Connection) → Keeps (with_connection new)
-keeps_connection new c = going-alike _ _ _ _ _ _
+keeps_connection new c = going-alike _ _ _ _ _ _ _ _
     (map-twice live_component live_component live_component live-itself c.components)
     (filter-alike (is_live (live_going c)) (is_live c) (live-flags c) (add_connection new (filter (is_live c) c.connections)) ∙ added-live (is_live c) new c.connections)
     (ap (λ d. d.forgotten) (live-twice c))
+
+-- ---- mappings
+
+pub keeps_mappings : (change : Entries End → Entries End) → Keeps (λ c. with_mappings (change c.mappings) c)
+keeps_mappings change c = ap (with_mappings (change c.mappings)) (live-twice c)
+
+-- a component terminates
+pub keeps_terminated : (p : Path) → Keeps (terminate p)
+keeps_terminated p =
+    keeps-both (λ c. with_mappings (without_component p c.mappings) c) (λ c. touch c p (with_state Terminated)) (keeps_mappings (without_component p)) (keeps_touch (with_state Terminated) (λ x. refl) p)
+
+-- ---- deliveries
+
+pub keeps_delivery : (system_port : Identifier) → Keeps (with_delivery system_port)
+keeps_delivery system_port c = ap (with_delivery system_port) (live-twice c)
+
+pub keeps_behind : (message : Message) (e : End) → Keeps (put_behind message e)
+keeps_behind message e = keeps_touch (at_queue e.port (λ messages. messages ++ message ∷ [])) (λ x. refl) e.component
+
+pub keeps_come_in : (system_port : Identifier) (e : End) (v : Value) → Keeps (come_in system_port e v)
+keeps_come_in system_port e v = keeps-both (with_delivery system_port) (put_behind (record { value = v; sender = None }) e) (keeps_delivery system_port) (keeps_behind (record { value = v; sender = None }) e)

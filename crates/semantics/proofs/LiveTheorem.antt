@@ -4,16 +4,18 @@ use Rattle.std.specs.List.{filter, find, flat_map, fold, list_any}
 use Rattle.std.specs.Option.{option_and_then}
 use Rattle.ttcn_syntax.specs.declared.tree.statement.Verdict.{Verdict}
 use Rattle.ttcn_syntax.specs.declared.tree.statement.Verdict.TheVariants as verdict
-use Rattle.semantics.proofs.LiveSteps.{alike, by-state, component-live, contribution, contribution-alive, contribution-over, fold-total, found-over, is_over, keeps_connection, keeps_new, keeps_touch, live-alive, live-over, live-over-in, live-path, live-twice, map-same, map-twice, over_in, path-is, pick, total}
+use Rattle.semantics.proofs.LiveSteps.{alike, by-state, component-live, contribution, contribution-alive, contribution-over, fold-total, found-over, is_over, keeps_behind, keeps_come_in, keeps_connection, keeps_mappings, keeps_new, keeps_terminated, keeps_touch, live-alive, live-over, live-over-in, live-path, live-twice, map-same, map-twice, over_in, path-is, pick, total}
 use Rattle.semantics.proofs.Verdicts.{none_worse, worse_associates, worse_none, worse_pairs}
-use Rattle.semantics.specs.Configurations.{Component, Configuration, Connection, Created, Data, End, Ended, Frame, Goes, Going, Message, Running, State, Terminated, component_at, is_running_state, is_terminated_state, overall, path_of, same_path, worse}
-use Rattle.semantics.specs.Labels.{expiries, labels, labels_of_component, statement_labels}
+use Rattle.semantics.specs.Configurations.{Component, Configuration, Connection, Created, Data, End, Ended, Frame, Goes, Going, Message, Running, State, Terminated, component_at, is_running_state, is_terminated_state, overall, path_of, same_end, same_path, worse}
+use Rattle.semantics.specs.Entries.{Entries, Identifier, put}
+use Rattle.semantics.specs.Labels.{deliveries, expiries, labels, labels_of_component, statement_labels}
 use Rattle.semantics.specs.LiveParts.{forget_verdict, is_live, live_component, live_going, live_part}
 use Rattle.semantics.specs.Places.{blocked, branch_in, branch_of, branch_of_component, if_none, place_in_frames, place_of, place_of_frames, standings, unless_fault, with_place}
 use Rattle.semantics.specs.Runs.{mark_of}
 use Rattle.semantics.specs.Snapshots.{Test, mtc_of, snapshot_of}
-use Rattle.semantics.specs.Statements.{Act, Connects, Continues, Creates, Errs, Removes, Request, Requests, Sends, Starts, Stops, Waits, Worsens, act, same_end}
-use Rattle.semantics.specs.Steps.{Expiry, Label, Statement, addressed, apply, at_queue, begin, connect, connection, deliver, ending, exchanged, expired, expiry_step, if_running, is_double, is_terminated_at, is_terminated_component, next, opposite, peers, perform, send, settle, settled, start_component, start_created, start_in, statement_step, step, step_in, touch, with_connection, with_data, with_new, with_state, with_verdict, without_first}
+use Rattle.semantics.specs.Statements.{Act, Connects, Continues, Creates, Errs, Maps, Removes, Request, Requests, Sends, Starts, Stops, Unmaps, Waits, Worsens, act}
+use Rattle.semantics.specs.Steps.{Delivery, Expiry, Label, Statement, addressed, apply, at_queue, begin, come_in, connect, connection, deliver, delivery_step, ending, exchanged, expired, expiry_step, if_running, is_connected, is_double, is_kept_apart, is_kept_unmapped, is_mapped, is_terminated_at, is_terminated_component, map_port, maps_otherwise, next, next_message, opposite, peers, perform, put_behind, send, send_out, send_to_peer, settle, settled, start_component, start_created, start_in, statement_step, step, step_in, terminate, touch, unmap_port, with_connection, with_data, with_mappings, with_new, with_verdict, without_first}
+use Rattle.value_types.specs.Frames.{entry}
 use Rattle.value_types.specs.Outcomes.{Fails, Outcome, Yields, dynamic_error, outcome_map}
 use Rattle.value_types.specs.declared.path.Path.{Path}
 use Rattle.value_types.specs.declared.value.ComponentId.{ComponentId}
@@ -70,6 +72,41 @@ alike-over c d same p = sym (over-live c p) ∙ ap (λ x. is_terminated_at x p) 
 alike-peers : (c d : Going) → Alike c d → (e : End) → is_terminated_at c e.component ≡ false → peers c e ≡ peers d e
 alike-peers c d same e alive = sym (peers-live c e alive) ∙ ap (λ x. peers x e) same ∙ peers-live d e (sym (alike-over c d same e.component) ∙ alive)
 
+-- ---- connected ports of components that aren't terminated
+
+abbrev touches : End → Connection → Bool
+touches d k = same_end d k.one || same_end d k.other
+
+touches-none : (c : Going) (d : End) (k : Connection) → is_terminated_at c d.component ≡ false → is_live c k ≡ false → (a b : Bool) → same_end d k.one ≡ a → same_end d k.other ≡ b → (a || b) ≡ false
+touches-none c d k alive dead true b one other = absurd (let no : true ≡ false = sym (one-alive (is_terminated_at c k.one.component) (is_terminated_at c k.other.component) (not-over c d k.one alive one)) ∙ dead in cc)
+touches-none c d k alive dead false true one other = absurd (let no : true ≡ false = sym (other-alive (is_terminated_at c k.one.component) (is_terminated_at c k.other.component) (not-over c d k.other alive other)) ∙ dead in cc)
+touches-none c d k alive dead false false one other = refl
+
+connected-first : (c : Going) (d : End) (k : Connection) (ks : List Connection) → is_terminated_at c d.component ≡ false → (b : Bool) → is_live c k ≡ b
+    → list_any (touches d) (filter (is_live c) ks) ≡ list_any (touches d) ks
+    → list_any (touches d) (if b then k ∷ filter (is_live c) ks else filter (is_live c) ks) ≡ (touches d k || list_any (touches d) ks)
+connected-first c d k ks alive true is rest = ap (λ any. touches d k || any) rest
+connected-first c d k ks alive false is rest =
+    rest ∙ sym (ap (λ any. any || list_any (touches d) ks) (touches-none c d k alive is (same_end d k.one) (same_end d k.other) refl refl))
+
+connected-kept : (c : Going) (d : End) → is_terminated_at c d.component ≡ false → (ks : List Connection) → list_any (touches d) (filter (is_live c) ks) ≡ list_any (touches d) ks
+connected-kept c d alive [] = refl
+connected-kept c d alive (k ∷ ks) = connected-first c d k ks alive (is_live c k) refl (connected-kept c d alive ks)
+
+connected-live : (c : Going) (d : End) → is_terminated_at c d.component ≡ false → is_connected (live_going c) d ≡ is_connected c d
+connected-live c d alive = connected-kept c d alive c.connections
+
+alike-connected : (c d : Going) → Alike c d → (e : End) → is_terminated_at c e.component ≡ false → is_connected c e ≡ is_connected d e
+alike-connected c d same e alive = sym (connected-live c e alive) ∙ ap (λ x. is_connected x e) same ∙ connected-live d e (sym (alike-over c d same e.component) ∙ alive)
+
+-- ---- mappings
+
+alike-mappings : (c d : Going) → Alike c d → c.mappings ≡ d.mappings
+alike-mappings c d same = ap (λ x. x.mappings) same
+
+alike-mapped : (c d : Going) → Alike c d → (e : End) → is_mapped c e ≡ is_mapped d e
+alike-mapped c d same e = ap (list_any (λ m. same_end e m.1)) (alike-mappings c d same)
+
 -- ---- what is asked for
 
 abbrev live_outcome : Outcome Configuration → Outcome Configuration
@@ -77,14 +114,29 @@ live_outcome = outcome_map live_part
 
 deliver-alike : (c d : Going) → Alike c d → (m : Message) (ends : List End) → live_outcome (ending (deliver c m ends)) ≡ live_outcome (ending (deliver d m ends))
 deliver-alike c d same m [] = refl
-deliver-alike c d same m (e ∷ []) = ap (λ x. Yields (Goes x)) (alike (λ x. touch x e.component (at_queue e.port (λ messages. messages ++ m ∷ []))) (keeps_touch (at_queue e.port (λ messages. messages ++ m ∷ [])) (λ x. refl) e.component) c d same)
+deliver-alike c d same m (e ∷ []) = ap (λ x. Yields (Goes x)) (alike (put_behind m e) (keeps_behind m e) c d same)
 deliver-alike c d same m (e ∷ f ∷ ends) = refl
+
+send-out-alike : (c d : Going) → Alike c d → (to : Option Path) → live_outcome (ending (send_out c to)) ≡ live_outcome (ending (send_out d to))
+send-out-alike c d same None = ap (λ x. Yields (Goes x)) same
+send-out-alike c d same (Some path) = refl
+
+send-to-peer-alike : (c d : Going) → Alike c d → (sender : ComponentId) → is_terminated_at c sender.path ≡ false → (port : List ℕ) (to : Option Path) (v : Value)
+    → live_outcome (ending (send_to_peer c sender port to v)) ≡ live_outcome (ending (send_to_peer d sender port to v))
+send-to-peer-alike c d same sender alive port to v =
+    deliver-alike c d same (record { value = v; sender = Some sender }) (filter (addressed to) (peers c (record { component = sender.path; port = port })))
+    ∙ ap (λ ends. live_outcome (ending (deliver d (record { value = v; sender = Some sender }) (filter (addressed to) ends)))) (alike-peers c d same (record { component = sender.path; port = port }) alive)
+
+send-told : (b : Bool) (c d : Going) → Alike c d → (sender : ComponentId) → is_terminated_at c sender.path ≡ false → (port : List ℕ) (to : Option Path) (v : Value)
+    → live_outcome (ending (if b then send_out c to else send_to_peer c sender port to v)) ≡ live_outcome (ending (if b then send_out d to else send_to_peer d sender port to v))
+send-told true c d same sender alive port to v = send-out-alike c d same to
+send-told false c d same sender alive port to v = send-to-peer-alike c d same sender alive port to v
 
 send-alike : (c d : Going) → Alike c d → (sender : ComponentId) → is_terminated_at c sender.path ≡ false → (port : List ℕ) (to : Option Path) (v : Value)
     → live_outcome (ending (send c sender port to v)) ≡ live_outcome (ending (send d sender port to v))
 send-alike c d same sender alive port to v =
-    deliver-alike c d same (record { value = v; sender = sender }) (filter (addressed to) (peers c (record { component = sender.path; port = port })))
-    ∙ ap (λ ends. live_outcome (ending (deliver d (record { value = v; sender = sender }) (filter (addressed to) ends)))) (alike-peers c d same (record { component = sender.path; port = port }) alive)
+    send-told (is_mapped c (record { component = sender.path; port = port })) c d same sender alive port to v
+    ∙ ap (λ b. live_outcome (ending (if b then send_out d to else send_to_peer d sender port to v))) (alike-mapped c d same (record { component = sender.path; port = port }))
 
 -- the state of a component
 state-over : (s : State) → is_terminated_state s ≡ true → s ≡ Terminated
@@ -159,9 +211,9 @@ overall-live c =
     ∙ ap (worse c.forgotten) (verdicts-live c.components)
     ∙ sym (fold-verdicts c.forgotten c.components)
 
-stop-told : (b : Bool) (c d : Going) → Alike c d → (p : Path) → live_part (if b then Ended (overall c) else Goes (touch c p (with_state Terminated))) ≡ live_part (if b then Ended (overall d) else Goes (touch d p (with_state Terminated)))
+stop-told : (b : Bool) (c d : Going) → Alike c d → (p : Path) → live_part (if b then Ended (overall c) else Goes (terminate p c)) ≡ live_part (if b then Ended (overall d) else Goes (terminate p d))
 stop-told true c d same p = ap Ended (sym (overall-live c) ∙ ap overall same ∙ overall-live d)
-stop-told false c d same p = ap Goes (alike (λ x. touch x p (with_state Terminated)) (keeps_touch (with_state Terminated) (λ x. refl) p) c d same)
+stop-told false c d same p = ap Goes (alike (terminate p) (keeps_terminated p) c d same)
 
 -- ---- connecting
 
@@ -169,10 +221,14 @@ double-alike : (c d : Going) → Alike c d → (e f : End) → is_terminated_at 
 double-alike c d same e f alive = ap (list_any (λ peer. same_path peer.component f.component && not (bytes_eq peer.port f.port))) (alike-peers c d same e alive)
 
 refused-told : (c d : Going) → Alike c d → (e f : End) → (a b : Bool) → is_terminated_at c e.component ≡ a → is_terminated_at c f.component ≡ b
-    → (a || b || is_double c e f || is_double c f e) ≡ (a || b || is_double d e f || is_double d f e)
+    → (a || b || is_mapped c e || is_mapped c f || is_double c e f || is_double c f e) ≡ (a || b || is_mapped d e || is_mapped d f || is_double d e f || is_double d f e)
 refused-told c d same e f true b i j = refl
 refused-told c d same e f false true i j = refl
-refused-told c d same e f false false i j = ap (λ x. x || is_double c f e) (double-alike c d same e f i) ∙ ap (λ x. is_double d e f || x) (double-alike c d same f e j)
+refused-told c d same e f false false i j =
+    ap (λ x. x || is_mapped c f || is_double c e f || is_double c f e) (alike-mapped c d same e)
+    ∙ ap (λ x. is_mapped d e || x || is_double c e f || is_double c f e) (alike-mapped c d same f)
+    ∙ ap (λ x. is_mapped d e || is_mapped d f || x || is_double c f e) (double-alike c d same e f i)
+    ∙ ap (λ x. is_mapped d e || is_mapped d f || is_double d e f || x) (double-alike c d same f e j)
 
 connect-told : (b : Bool) (c d : Going) → Alike c d → (k : Connection) → live_outcome (ending (if b then dynamic_error else Yields (with_connection k c))) ≡ live_outcome (ending (if b then dynamic_error else Yields (with_connection k d)))
 connect-told true c d same k = refl
@@ -180,11 +236,35 @@ connect-told false c d same k = ap (λ x. Yields (Goes x)) (alike (with_connecti
 
 connect-alike : (c d : Going) → Alike c d → (e f : End) → live_outcome (ending (connect c e f)) ≡ live_outcome (ending (connect d e f))
 connect-alike c d same e f =
-    connect-told (is_terminated_at c e.component || is_terminated_at c f.component || is_double c e f || is_double c f e) c d same (connection e f)
+    connect-told (is_kept_apart c e f) c d same (connection e f)
     ∙ ap (λ b. live_outcome (ending (if b then dynamic_error else Yields (with_connection (connection e f) d))))
     (refused-told c d same e f (is_terminated_at c e.component) (is_terminated_at c f.component) refl refl
-    ∙ ap (λ a. a || is_terminated_at c f.component || is_double d e f || is_double d f e) (alike-over c d same e.component)
-    ∙ ap (λ b. is_terminated_at d e.component || b || is_double d e f || is_double d f e) (alike-over c d same f.component))
+    ∙ ap (λ a. a || is_terminated_at c f.component || is_mapped d e || is_mapped d f || is_double d e f || is_double d f e) (alike-over c d same e.component)
+    ∙ ap (λ b. is_terminated_at d e.component || b || is_mapped d e || is_mapped d f || is_double d e f || is_double d f e) (alike-over c d same f.component))
+
+-- ---- mapping
+
+unmapped-told : (c d : Going) → Alike c d → (e : End) (q : Identifier) → (a : Bool) → is_terminated_at c e.component ≡ a
+    → (a || is_connected c e || list_any (maps_otherwise e q) c.mappings) ≡ (a || is_connected d e || list_any (maps_otherwise e q) d.mappings)
+unmapped-told c d same e q true is = refl
+unmapped-told c d same e q false is =
+    ap (λ b. b || list_any (maps_otherwise e q) c.mappings) (alike-connected c d same e is)
+    ∙ ap (λ ms. is_connected d e || list_any (maps_otherwise e q) ms) (alike-mappings c d same)
+
+map-told : (b : Bool) (c d : Going) → Alike c d → (e : End) (q : Identifier)
+    → live_outcome (ending (if b then dynamic_error else Yields (with_mappings (put q e c.mappings) c))) ≡ live_outcome (ending (if b then dynamic_error else Yields (with_mappings (put q e d.mappings) d)))
+map-told true c d same e q = refl
+map-told false c d same e q = ap (λ x. Yields (Goes x)) (alike (λ x. with_mappings (put q e x.mappings) x) (keeps_mappings (put q e)) c d same)
+
+map-alike : (c d : Going) → Alike c d → (e : End) (q : Identifier) → live_outcome (ending (map_port c e q)) ≡ live_outcome (ending (map_port d e q))
+map-alike c d same e q =
+    map-told (is_kept_unmapped c e q) c d same e q
+    ∙ ap (λ b. live_outcome (ending (if b then dynamic_error else Yields (with_mappings (put q e d.mappings) d))))
+    (unmapped-told c d same e q (is_terminated_at c e.component) refl
+    ∙ ap (λ a. a || is_connected d e || list_any (maps_otherwise e q) d.mappings) (alike-over c d same e.component))
+
+unmap-alike : (c d : Going) → Alike c d → (e : End) (q : Identifier) → live_going (unmap_port c e q) ≡ live_going (unmap_port d e q)
+unmap-alike c d same e q = alike (λ x. unmap_port x e q) (keeps_mappings (filter (λ m. not (same_end e m.1 && bytes_eq m.0 q)))) c d same
 
 -- ---- what a component asks for
 
@@ -226,6 +306,8 @@ perform-live test c d same itself alive (Creates new) = ap (λ x. Yields (Goes x
 perform-live test c d same itself alive (Starts path frame) = start-alike c d same path frame
 perform-live test c d same itself alive (Stops path) = ap Yields (stop-told (same_path path (mtc_of test).path) c d same path)
 perform-live test c d same itself alive (Connects one other) = connect-alike c d same one other
+perform-live test c d same itself alive (Maps e q) = map-alike c d same e q
+perform-live test c d same itself alive (Unmaps e q) = ap (λ x. Yields (Goes x)) (unmap-alike c d same e q)
 
 apply-live : (test : Test) (c : Going) (itself : ComponentId) → is_terminated_at c itself.path ≡ false → (a : Act)
     → option_map live_outcome (apply test (live_going c) itself a) ≡ option_map live_outcome (apply test c itself a)
@@ -296,11 +378,23 @@ expiry-told : (c : Going) (number : ℕ) (name : List ℕ) (o : Option Component
 expiry-told c number name None = refl
 expiry-told c number name (Some x) = expiry-live c number name x
 
+delivery-told : (c : Going) (name : Identifier) (e : End) (o : Option Value)
+    → option_map live_outcome (option_map (λ v. Yields (Goes (come_in name e v (live_going c)))) o) ≡ option_map live_outcome (option_map (λ v. Yields (Goes (come_in name e v c))) o)
+delivery-told c name e None = refl
+delivery-told c name e (Some v) = ap (λ x. Some (Yields (Goes x))) (keeps_come_in name e v c)
+
+delivery-live : (test : Test) (c : Going) (name : Identifier) (o : Option End)
+    → option_map live_outcome (option_and_then (λ e. option_map (λ v. Yields (Goes (come_in name e v (live_going c)))) (next_message test (live_going c) name)) o)
+    ≡ option_map live_outcome (option_and_then (λ e. option_map (λ v. Yields (Goes (come_in name e v c))) (next_message test c name)) o)
+delivery-live test c name None = refl
+delivery-live test c name (Some e) = delivery-told c name e (next_message test c name)
+
 step-live : (test : Test) (c : Going) (label : Label) → option_map live_outcome (step_in test (live_going c) label) ≡ option_map live_outcome (step_in test c label)
 step-live test c (Statement p) =
     ap (λ o. option_map live_outcome (option_and_then (statement_step test (live_going c)) o)) (component-live c p) ∙ statement-told test c p (component_at c p) refl
 step-live test c (Expiry p number name) =
     ap (λ o. option_map live_outcome (option_and_then (expiry_step (live_going c) number name) o)) (component-live c p) ∙ expiry-told c number name (component_at c p)
+step-live test c (Delivery name) = delivery-live test c name (entry c.mappings name)
 
 pub steps_live : (test : Test) (c : Configuration) (label : Label) → option_map live_outcome (step test (live_part c) label) ≡ option_map live_outcome (step test c label)
 steps_live test (Ended v) label = refl
@@ -340,7 +434,7 @@ flat-twice f g h same (x ∷ xs) = ap (λ us. us ++ flat_map f (map g xs)) (same
 
 pub labels_live : (test : Test) (c : Configuration) → labels test (live_part c) ≡ labels test c
 labels_live test (Ended v) = refl
-labels_live test (Goes c) = flat-twice (labels_of_component test (live_going c)) live_component (labels_of_component test c) (labels-of-live test c) c.components
+labels_live test (Goes c) = ap (λ ls. ls ++ deliveries test c) (flat-twice (labels_of_component test (live_going c)) live_component (labels_of_component test c) (labels-of-live test c) c.components)
 
 -- ---- where labels lead, and what is seen
 
@@ -373,6 +467,7 @@ branch-told test c (Some x) = branch-of-live test c x
 branch-in : (test : Test) (c : Going) (label : Label) → branch_in test (live_going c) label ≡ branch_in test c label
 branch-in test c (Statement p) = ap (option_and_then (branch_of_component test (live_going c))) (component-live c p) ∙ branch-told test c (component_at c p)
 branch-in test c (Expiry p number name) = refl
+branch-in test c (Delivery name) = refl
 
 pub branch_live : (test : Test) (c : Configuration) (label : Label) → branch_of test (live_part c) label ≡ branch_of test c label
 branch_live test (Ended v) label = refl

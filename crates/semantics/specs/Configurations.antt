@@ -1,5 +1,5 @@
--- Configurations: the components with what each has of its own, the messages that wait at ports, and the connections (ES 201 873-1, 21 and 22, ES 201 873-4).
-use Rattle.std.specs.Prelude.{ℕ, Bool, true, false, List, map, Option, bytes_eq, if◌then◌else◌}
+-- Configurations: the components with what each has of its own, the messages that wait at ports, the connections and the mappings (ES 201 873-1, 9, 21 and 22, ES 201 873-4).
+use Rattle.std.specs.Prelude.{ℕ, Bool, true, false, ◌&&◌, List, map, Option, bytes_eq, if◌then◌else◌}
 use Rattle.std.specs.List.{find, fold}
 use Rattle.std.specs.Ordering.{nat_cmp, match_ordering}
 use Rattle.std.specs.declared.cmp.Ordering.{Ordering}
@@ -72,10 +72,10 @@ abbrev pub is_terminated_state : State → Bool
 is_terminated_state Terminated = true
 is_terminated_state _ = false
 
--- a message, and the component that sent it
+-- a message, and the component that sent it: none did where it came in at a system port
 pub record Message : Type 0 where
   pub value : Value
-  pub sender : ComponentId
+  pub sender : Option ComponentId
 
 -- a port with the messages that wait at it, the one that came first in front
 abbrev pub Queue : Type 0
@@ -115,6 +115,10 @@ same_path p q = bytes_eq p.numbers q.numbers
 abbrev pub end_cmp : End → End → Ordering
 end_cmp d e = match_ordering (path_cmp d.component e.component) Less (name_cmp d.port e.port) Greater
 
+-- two ends are one: the same port of the same component
+abbrev pub same_end : End → End → Bool
+same_end d e = same_path d.component e.component && bytes_eq d.port e.port
+
 -- ---- configurations
 
 -- a test case that goes on
@@ -123,6 +127,10 @@ pub record Going : Type 0 where
   pub components : List Component
   -- ascending
   pub connections : List Connection
+  -- the system ports that are mapped, each with the port that is mapped to it
+  pub mappings : Entries End
+  -- how many messages came in at each system port, where any did
+  pub delivered : Entries ℕ
   -- the worst verdict of the components of which nothing but their paths is left
   pub forgotten : Verdict
 
@@ -141,6 +149,8 @@ abbrev pub with_component : Going → Path → (Component → Component) → Goi
 with_component c path change = record {
   components = map (λ component. if same_path (path_of component) path then change component else component) c.components;
   connections = c.connections;
+  mappings = c.mappings;
+  delivered = c.delivered;
   forgotten = c.forgotten;
 }
 

@@ -120,10 +120,11 @@ abbrev pub redirected_value : Option Reference → Value → List Redirect
 redirected_value None v = []
 redirected_value (Some reference) v = record { reference = reference; value = v } ∷ []
 
--- what a `sender` redirect stores: a dynamic error where its target is not of the sender's component type
-abbrev pub redirected_sender : Scope → Option Reference → ComponentId → Outcome (List Redirect)
+-- what a `sender` redirect stores: a dynamic error where its target is not of the sender's component type, and where no component sent the message
+abbrev pub redirected_sender : Scope → Option Reference → Option ComponentId → Outcome (List Redirect)
 redirected_sender scope None sender = Yields []
-redirected_sender scope (Some reference) sender =
+redirected_sender scope (Some reference) None = dynamic_error
+redirected_sender scope (Some reference) (Some sender) =
     if fits_sender sender (target_at scope reference).data_type
     then Yields (record { reference = reference; value = value.Component sender } ∷ [])
     else dynamic_error
@@ -135,14 +136,19 @@ redirects scope receive message =
 
 -- ---- receives
 
+-- a component sent a message
+abbrev pub has_sent : ComponentId → Option ComponentId → Bool
+has_sent c None = false
+has_sent c (Some sender) = same_path c.path sender.path
+
 -- a message comes from a component: `null` matches none
-abbrev pub is_from : ComponentId → Value-F Value → Outcome Bool
-is_from sender (Value-F.Component c) = Yields (same_path c.path sender.path)
+abbrev pub is_from : Option ComponentId → Value-F Value → Outcome Bool
+is_from sender (Value-F.Component c) = Yields (has_sent c sender)
 is_from sender Value-F.Null = Yields false
 is_from sender _ = unmet
 
--- the sender of a message fits a `from` clause: without a clause each sender does
-abbrev pub from_fits : Reading → Option ComponentRef → ComponentId → Outcome Bool
+-- the sender of a message fits a `from` clause: without a clause each sender does, and a message that none sent
+abbrev pub from_fits : Reading → Option ComponentRef → Option ComponentId → Outcome Bool
 from_fits reading None sender = Yields true
 from_fits reading (Some reference) sender = outcome_and_then (λ v. is_from sender (out-Value v)) (component_at reading reference)
 

@@ -138,6 +138,8 @@ StartsTheTest = (test : Test) (t : Testcase) (port_type : List ℕ) (ports : Lis
         queues = empty_queues test.definitions (mtc_of test).component_type;
       } ∷ [];
       connections = [];
+      mappings = [];
+      delivered = [];
       forgotten = verdict.None;
     })
 
@@ -165,7 +167,7 @@ running_at path of own waiting = record { itself = record { path = path; compone
 
 -- the MTC and the first component that it created, at whose port these messages wait, and connections
 abbrev pub two_running : ℕ → Data → Data → List Message → List Connection → Going
-two_running of own other waiting connections = record { components = running_at mtc_path of own [] ∷ running_at child_path of other waiting ∷ []; connections = connections; forgotten = verdict.None }
+two_running of own other waiting connections = record { components = running_at mtc_path of own [] ∷ running_at child_path of other waiting ∷ []; connections = connections; mappings = []; delivered = []; forgotten = verdict.None }
 
 -- the ports of the MTC and of the first component that it created, connected
 abbrev pub linked : Connection
@@ -189,7 +191,7 @@ SendsBehind = (test : Test) (of : ℕ) (own other : Data) (frame : Frame) (below
     → sent_value (mtc_stand test (two_running of (with_last own frame below (Doing site s Whole ∷ rest)) other waiting (linked ∷ [])) of own frame below (Doing site s Whole) rest) site send
     (sent_type (scope_at test.definitions site) send) ≡ Yields v
     → step test (Goes (two_running of (with_last own frame below (Doing site s Whole ∷ rest)) other waiting (linked ∷ []))) (OfStatement mtc_path)
-    ≡ Some (Yields (Goes (two_running of (uncovered (with_last own frame below rest)) other (waiting ++ record { value = v; sender = record { path = mtc_path; component_type = of } } ∷ []) (linked ∷ []))))
+    ≡ Some (Yields (Goes (two_running of (uncovered (with_last own frame below rest)) other (waiting ++ record { value = v; sender = Some (record { path = mtc_path; component_type = of }) } ∷ []) (linked ∷ []))))
 
 -- `connect(c:p, self:p)` on the MTC, where the ports may be connected: they are, and the end at the MTC comes first
 abbrev pub ConnectsPorts : Type 0

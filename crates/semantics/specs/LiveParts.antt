@@ -35,6 +35,8 @@ abbrev pub live_going : Going → Going
 live_going c = record {
   components = map live_component c.components;
   connections = filter (is_live c) c.connections;
+  mappings = c.mappings;
+  delivered = c.delivered;
   forgotten = fold forget_verdict c.forgotten c.components;
 }
 

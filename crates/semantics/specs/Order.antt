@@ -23,7 +23,8 @@ pub record IsOrderedWithin (component : Component) : Type 0 where
   pub members : HasTimersInOrder component.own.members
   pub calls : All HasTimersInOrder component.own.calls
 
--- the components stand in the order of their paths, and the timers within each in the order of their names
+-- the components stand in the order of their paths, the timers within each in the order of their names, and the mappings in the order of the system ports' names
 pub record IsOrdered (c : Going) : Type 0 where
   pub components : Ascends (λ one other. path_cmp (path_of one) (path_of other)) c.components
   pub within : All IsOrderedWithin c.components
+  pub mappings : HasNamesInOrder c.mappings

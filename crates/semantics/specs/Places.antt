@@ -10,7 +10,7 @@ use Rattle.semantics.specs.Items.{Doing, Item, Whole}
 use Rattle.semantics.specs.Labels.{labels}
 use Rattle.semantics.specs.Snapshots.{Snapshot, Test, snapshot_of}
 use Rattle.semantics.specs.Statements.{Act, Errs, act, choice_at}
-use Rattle.semantics.specs.Steps.{Expiry, Label, Statement as OfStatement, if_running}
+use Rattle.semantics.specs.Steps.{Delivery, Expiry, Label, Statement as OfStatement, if_running}
 use Rattle.step_labels.specs.declared.standing.Standing.{Standing}
 
 -- ---- branches
@@ -41,10 +41,11 @@ abbrev pub branch_of_component : Test → Going → Component → Option Span
 branch_of_component test c component = if_running component
     (unless_fault (act test (snapshot_of c component) component.own) (place_in_frames test (snapshot_of c component) component.own component.own.calls))
 
--- the place of the branch that the step of a label takes in a test case that goes on; an expiry takes none
+-- the place of the branch that the step of a label takes in a test case that goes on; an expiry and a delivery take none
 abbrev pub branch_in : Test → Going → Label → Option Span
 branch_in test c (OfStatement path) = option_and_then (branch_of_component test c) (component_at c path)
 branch_in test c (Expiry path number name) = None
+branch_in test c (Delivery system_port) = None
 
 -- the place of the branch that the step of a label takes, where it takes one
 abbrev pub branch_of : Test → Configuration → Label → Option Span

@@ -37,7 +37,7 @@ mtc_with test body members = begin (body_frame test body) (new_component test (m
 -- the configuration in which the MTC alone begins this body, where its frame 0 can be made
 abbrev pub started : Test → List Statement → Outcome Configuration
 started test body =
-    outcome_map (λ members. Goes (record { components = mtc_with test body members ∷ []; connections = []; forgotten = verdict.None })) (new_members test (mtc_of test) (first_snapshot test))
+    outcome_map (λ members. Goes (record { components = mtc_with test body members ∷ []; connections = []; mappings = []; delivered = []; forgotten = verdict.None })) (new_members test (mtc_of test) (first_snapshot test))
 
 -- the configuration in which runs start: a fault in frame 0 ends the test case
 abbrev pub start : Test → Configuration

@@ -17,10 +17,15 @@ use Rattle.value_types.specs.declared.path.Path.{Path}
 use Rattle.value_types.specs.declared.value.ComponentId.{ComponentId}
 use Rattle.value_types.specs.declared.value.Value.{Value}
 
--- a test case of a module: the module's definitions, and the position of the test case among them
+-- what a script stands for at the system ports of a test case: the messages that come in at each, the first one in front
+abbrev pub Script : Type 0
+Script = Entries (List Value)
+
+-- a test case of a module, which runs with a script: the module's definitions, and the position of the test case among them
 pub record Test : Type 0 where
   pub definitions : List Definition
   pub testcase : ℕ
+  pub script : Script
 
 -- the position of the component type that a behaviour runs on; each test case says it
 abbrev pub type_said : Option ℕ → ℕ

@@ -1,7 +1,7 @@
 -- What the first remaining item of a component's last frame does in its step (ES 201 873-1, 16 and 19 to 24).
 use Rattle.std.specs.Prelude.{ℕ, ◌+◌, Bool, true, false, ◌&&◌, not, List, [], ◌∷◌, ◌++◌, length, nat_eq, nat_lt, bytes_eq, Option, Some, None, slice_get, if◌then◌else◌}
 use Rattle.std.specs.List.{filter, list_all, list_any}
-use Rattle.std.specs.Option.{option_and_then, option_map}
+use Rattle.std.specs.Option.{option_and_then, option_map, option_or}
 use Rattle.ttcn_syntax.specs.declared.tree.definition.Definition.{Definition}
 use Rattle.ttcn_syntax.specs.declared.tree.definition.DefinitionKind.{DefinitionKind}
 use Rattle.ttcn_syntax.specs.declared.tree.definition.DefinitionKind.TheVariants as kind
@@ -14,6 +14,9 @@ use Rattle.ttcn_syntax.specs.declared.tree.statement.Assignment.{Assignment}
 use Rattle.ttcn_syntax.specs.declared.tree.statement.Conditional.{Conditional, out-Conditional}
 use Rattle.ttcn_syntax.specs.declared.tree.statement.Constant.{Constant}
 use Rattle.ttcn_syntax.specs.declared.tree.statement.ForStart.TheVariants as for_start
+use Rattle.ttcn_syntax.specs.declared.tree.statement.MapOperation.{MapOperation}
+use Rattle.ttcn_syntax.specs.declared.tree.statement.MapOperation.TheVariants as operation
+use Rattle.ttcn_syntax.specs.declared.tree.statement.Mapping.{Mapping}
 use Rattle.ttcn_syntax.specs.declared.tree.statement.PortRef.{PortRef}
 use Rattle.ttcn_syntax.specs.declared.tree.statement.Send.{Send}
 use Rattle.ttcn_syntax.specs.declared.tree.statement.Statement.{Statement, out-Statement}
@@ -24,7 +27,7 @@ use Rattle.ttcn_syntax.specs.declared.tree.value.Call.{Call}
 use Rattle.ttcn_syntax.specs.declared.tree.value.Rhs.{Rhs}
 use Rattle.ttcn_syntax.specs.declared.tree.value.Rhs.TheVariants as rhs
 use Rattle.ttcn_syntax.specs.declared.tree.value.Value as written
-use Rattle.check_rules.specs.Calls.{altstep_meant, behaviour_meant, parameters_of, result_type_of}
+use Rattle.check_rules.specs.Calls.{altstep_meant, behaviour_meant, component_named, parameters_of, result_type_of}
 use Rattle.check_rules.specs.Targets as checked
 use Rattle.check_scope.specs.Names.{Scope, component_meant, kind_at, module_names, names_on, resolved}
 use Rattle.check_scope.specs.PortTypes.{agrees, types_of_port}
@@ -32,13 +35,13 @@ use Rattle.check_scope.specs.Typings.{type_known}
 use Rattle.check_scope.specs.declared.types.DataType.{DataType}
 use Rattle.check_rules.specs.Messages.{passage_at, port_meant, type_of_message}
 use Rattle.semantics.specs.Branches.{Judge, Written, frame_with, written_alt, written_defaults}
-use Rattle.semantics.specs.Configurations.{ActiveDefault, Component, Data, End, Frame, same_path}
+use Rattle.semantics.specs.Configurations.{ActiveDefault, Component, Data, End, Frame, same_end}
 use Rattle.semantics.specs.Creating.{child_of, new_component, new_members}
 use Rattle.semantics.specs.Entries.{Identifier}
 use Rattle.semantics.specs.Events.{Choice, Nothing, Refused, Taken, first_choice}
 use Rattle.semantics.specs.Items.{Does, Doing, From, Item, Last, Loop, Mark, Name, Part, Start, Target, Waiting, Whole, action_of, items, items_if_any, site_in_for, start_items}
 use Rattle.semantics.specs.Sites.{Site, beginning, scope_at}
-use Rattle.semantics.specs.Snapshots.{Snapshot, Test, last_view, reading_in}
+use Rattle.semantics.specs.Snapshots.{Snapshot, Test, last_view, reading_in, type_said}
 use Rattle.semantics.specs.Storing.{declare, declare_timer, forget, going_on, in_last, set_timer, store, target_meant, with_calls}
 use Rattle.semantics.specs.Taking.{port_taken, repeat_alt, taken}
 use Rattle.value_types.specs.Evaluation.{condition_of}
@@ -72,6 +75,10 @@ pub data Request : Type 0 where
   Stops : Path → Request
   -- two ports are connected
   Connects : End → End → Request
+  -- a port is mapped to a system port
+  Maps : End → Identifier → Request
+  -- a port is mapped to a system port no more
+  Unmaps : End → Identifier → Request
 
 -- what a component does in its step
 pub data Act : Type 0 where
@@ -328,37 +335,37 @@ act_return stand site (Some v) = acting (λ found. leave stand stand.below (Some
 abbrev pub component_meant_at : Stand → Site → ComponentRef → Outcome ComponentId
 component_meant_at stand site reference = component_referred (reads stand site) reference
 
--- the type of a port of a component type, if it has such a port
-abbrev pub port_type : List Definition → ComponentId → Identifier → Option (Option ℕ)
-port_type definitions c port = port_meant (names_on definitions c.component_type port)
+-- the type of a port of the component type at a position, if it has such a port
+abbrev pub port_type : List Definition → ℕ → Identifier → Option (Option ℕ)
+port_type definitions at port = port_meant (names_on definitions at port)
 
 -- the types of messages that go through a port
 abbrev pub types_at : List Definition → Bool → Option ℕ → List (Option DataType)
 types_at definitions incoming None = []
 types_at definitions incoming (Some at) = types_of_port (module_names definitions) incoming (kind_at definitions at)
 
--- a port that receives these types receives this one: not judged where it or one of them is unknown
+-- these types have this one: not judged where it or one of them is unknown
 abbrev pub takes : List (Option DataType) → Option DataType → Bool
-takes received None = true
-takes received (Some sent) = list_any (agrees sent) received
+takes types None = true
+takes types (Some one) = list_any (agrees one) types
+
+-- what a port of one type lists for a way is listed by a port of the other for a way, too: in (`true`) or out
+abbrev pub is_covered : List Definition → Bool → Option ℕ → Bool → Option ℕ → Bool
+is_covered definitions way one other_way other = list_all (takes (types_at definitions other_way other)) (types_at definitions way one)
 
 -- what a port of one type sends a port of the other receives
 abbrev pub suits : List Definition → Option ℕ → Option ℕ → Bool
-suits definitions sending receiving = list_all (takes (types_at definitions true receiving)) (types_at definitions false sending)
+suits definitions sending receiving = is_covered definitions false sending true receiving
 
 -- ports of two types suit each other: each sends only what the other receives, and a port that isn't there suits none
 abbrev pub suit_each_other : List Definition → Option (Option ℕ) → Option (Option ℕ) → Bool
 suit_each_other definitions (Some one) (Some other) = suits definitions one other && suits definitions other one
 suit_each_other definitions _ _ = false
 
--- two ends are one: the same port of the same component
-abbrev pub same_end : End → End → Bool
-same_end d e = same_path d.component e.component && bytes_eq d.port e.port
-
 -- the ports are there, aren't one, and each sends only what the other receives
 abbrev pub may_connect : List Definition → ComponentId → Identifier → ComponentId → Identifier → Bool
 may_connect definitions c p d q =
-    suit_each_other definitions (port_type definitions c p) (port_type definitions d q) &&
+    suit_each_other definitions (port_type definitions c.component_type p) (port_type definitions d.component_type q) &&
     not (same_end (record { component = c.path; port = p }) (record { component = d.path; port = q }))
 
 -- the connection of two ports is asked for: a dynamic error where they may not be connected
@@ -372,6 +379,44 @@ ask_connection stand c p d q =
 abbrev pub act_connect : Stand → Site → PortRef → PortRef → Act
 act_connect stand site one other =
     acting (λ c. acting (λ d. ask_connection stand c one.port d other.port) (component_meant_at stand site other.component)) (component_meant_at stand site one.component)
+
+-- ---- mappings
+
+-- the name of the component type whose ports are the system ports of a test case: the type behind `system`, or else the one that it runs on (9.1)
+abbrev pub system_name : Option DefinitionKind → Option Identifier
+system_name (Some (kind.Testcase t)) = option_or t.system (Some t.runs_on)
+system_name _ = None
+
+-- the position of that type
+abbrev pub system_type : Test → ℕ
+system_type test = type_said (component_named test.definitions (system_name (kind_at test.definitions test.testcase)))
+
+-- a port and a system port of these types may be mapped: the system port passes on what the port sends, and the port receives what comes in at the system port; a port that isn't there is never mapped
+abbrev pub is_mappable : List Definition → Option (Option ℕ) → Option (Option ℕ) → Bool
+is_mappable definitions (Some port) (Some system_port) =
+    is_covered definitions false port false system_port && is_covered definitions true system_port true port
+is_mappable definitions _ _ = false
+
+-- a port of a component may be mapped to a system port, as far as their types go
+abbrev pub may_map : Test → ComponentId → Identifier → Identifier → Bool
+may_map test c port system_port =
+    is_mappable test.definitions (port_type test.definitions c.component_type port) (port_type test.definitions (system_type test) system_port)
+
+-- a mapping of a port to a system port is asked for: a dynamic error where their types don't allow it
+abbrev pub ask_mapping : Stand → ComponentId → Identifier → Identifier → Act
+ask_mapping stand c port system_port =
+    if may_map stand.test c port system_port then Requests (Maps (record { component = c.path; port = port }) system_port) (done stand)
+    else Errs DynamicError
+
+-- what is asked for where an operation on mappings is done with a port of this component
+abbrev pub ask_operation : Stand → MapOperation → ComponentId → Identifier → Identifier → Act
+ask_operation stand operation.Map c port system_port = ask_mapping stand c port system_port
+ask_operation stand operation.Unmap c port system_port = Requests (Unmaps (record { component = c.path; port = port }) system_port) (done stand)
+
+-- `map` and `unmap`: the component is evaluated first
+abbrev pub act_map : Stand → Site → Mapping → Act
+act_map stand site m =
+    acting (λ c. ask_operation stand m.operation c m.port.port m.system_port) (component_meant_at stand site m.port.component)
 
 -- ---- sends
 
@@ -494,6 +539,7 @@ act_whole stand site s Action-F.Stop = Requests (Stops stand.snapshot.itself.pat
 act_whole stand site s (Action-F.Log logged) = go_on stand stand.rest
 act_whole stand site s (Action-F.Setverdict verdict reasons) = Requests (Worsens verdict) (done stand)
 act_whole stand site s (Action-F.Connect one other) = act_connect stand site one other
+act_whole stand site s (Action-F.Map m) = act_map stand site m
 act_whole stand site s (Action-F.Send send) = act_send stand site send
 act_whole stand site s (Action-F.StartComponent reference call) = act_start stand site reference call
 act_whole stand site s (Action-F.StartTimer name) = Requests Continues (set_timer stand.test site name timer.Running (done stand))

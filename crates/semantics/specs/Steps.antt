@@ -1,20 +1,20 @@
 -- Steps of configurations: what a component asks for is done among all components, and running timers expire (ES 201 873-1, 12, 20 to 23, ES 201 873-4).
-use Rattle.std.specs.Prelude.{ℕ, ◌+◌, Bool, true, false, ◌&&◌, ◌||◌, not, List, [], ◌∷◌, ◌++◌, length, bytes_eq, nat_eq, Option, Some, None, is_some, if◌then◌else◌}
+use Rattle.std.specs.Prelude.{ℕ, ◌+◌, Bool, true, false, ◌&&◌, ◌||◌, not, List, [], ◌∷◌, ◌++◌, length, bytes_eq, nat_eq, slice_get, Option, Some, None, is_some, if◌then◌else◌}
 use Rattle.std.specs.List.{filter, flat_map, list_any}
-use Rattle.std.specs.Option.{option_and_then, option_map}
+use Rattle.std.specs.Option.{option_and_then, option_map, unwrap_or}
 use Rattle.std.specs.Ordering.{is_lt, match_ordering}
 use Rattle.std.specs.declared.cmp.Ordering.{Ordering}
 use Rattle.std.specs.declared.cmp.Ordering.TheVariants.{Less, Greater}
 use Rattle.ttcn_syntax.specs.declared.tree.statement.Verdict.{Verdict}
 use Rattle.ttcn_syntax.specs.declared.tree.statement.Verdict.TheVariants as verdict
-use Rattle.semantics.specs.Configurations.{Component, Configuration, Connection, Created, Data, End, Ended, Frame, Goes, Going, Message, Queue, Running, State, Terminated, component_at, end_cmp, is_running_state, is_terminated_state, overall, path_cmp, path_of, same_path, with_component, worse}
-use Rattle.semantics.specs.Entries.{Entries, Identifier, put}
-use Rattle.semantics.specs.Snapshots.{Test, mtc_of, snapshot_of}
-use Rattle.semantics.specs.Statements.{Act, Connects, Continues, Creates, Errs, Removes, Request, Requests, Sends, Starts, Stops, Waits, Worsens, act, same_end}
+use Rattle.semantics.specs.Configurations.{Component, Configuration, Connection, Created, Data, End, Ended, Frame, Goes, Going, Message, Queue, Running, State, Terminated, component_at, end_cmp, is_running_state, is_terminated_state, overall, path_cmp, path_of, same_end, same_path, with_component, worse}
+use Rattle.semantics.specs.Entries.{Entries, Identifier, put, without}
+use Rattle.semantics.specs.Snapshots.{Script, Test, mtc_of, snapshot_of}
+use Rattle.semantics.specs.Statements.{Act, Connects, Continues, Creates, Errs, Maps, Removes, Request, Requests, Sends, Starts, Stops, Unmaps, Waits, Worsens, act}
 use Rattle.semantics.specs.Storing.{with_calls, with_members, with_timers}
 use Rattle.semantics.specs.Taking.{uncovered}
 pub use Rattle.step_labels.specs.declared.label.Label.{Label}
-pub use Rattle.step_labels.specs.declared.label.Label.TheVariants.{Expiry, Statement}
+pub use Rattle.step_labels.specs.declared.label.Label.TheVariants.{Delivery, Expiry, Statement}
 use Rattle.value_types.specs.Frames.{entry}
 use Rattle.value_types.specs.Outcomes.{Fails, Outcome, Yields, dynamic_error, outcome_map, unmet}
 use Rattle.value_types.specs.declared.frame.TimerState.{TimerState}
@@ -85,6 +85,8 @@ abbrev pub with_new : Component → Going → Going
 with_new new c = record {
   components = if is_some (component_at c (path_of new)) then c.components else insert new c.components;
   connections = c.connections;
+  mappings = c.mappings;
+  delivered = c.delivered;
   forgotten = c.forgotten;
 }
 
@@ -107,9 +109,21 @@ start_created c path frame (Some component) = start_in c path frame component.st
 abbrev pub start_component : Going → Path → Frame → Outcome Going
 start_component c path frame = start_created c path frame (component_at c path)
 
+-- a test case with other mappings
+abbrev pub with_mappings : Entries End → Going → Going
+with_mappings mappings c = record { components = c.components; connections = c.connections; mappings = mappings; delivered = c.delivered; forgotten = c.forgotten }
+
+-- mappings without those of the ports of the component with a path
+abbrev pub without_component : Path → Entries End → Entries End
+without_component path mappings = filter (λ m. not (same_path m.1.component path)) mappings
+
+-- a component terminates: it has no mappings any more
+abbrev pub terminate : Path → Going → Going
+terminate path c = with_mappings (without_component path c.mappings) (touch c path (with_state Terminated))
+
 -- the test case ends where the MTC stops, with the worst verdict of all; any other component terminates
 abbrev pub stop : Test → Going → Path → Configuration
-stop test c path = if same_path path (mtc_of test).path then Ended (overall c) else Goes (touch c path (with_state Terminated))
+stop test c path = if same_path path (mtc_of test).path then Ended (overall c) else Goes (terminate path c)
 
 -- ---- connections
 
@@ -127,7 +141,7 @@ add_connection new connections = filter (λ k. is_lt (connection_cmp k new)) con
 
 -- a test case in which this connection is there as well
 abbrev pub with_connection : Connection → Going → Going
-with_connection new c = record { components = c.components; connections = add_connection new c.connections; forgotten = c.forgotten }
+with_connection new c = record { components = c.components; connections = add_connection new c.connections; mappings = c.mappings; delivered = c.delivered; forgotten = c.forgotten }
 
 -- the end that a connection has opposite to another, if it has that
 abbrev pub opposite : End → Connection → List End
@@ -150,11 +164,40 @@ is_terminated_component (Some component) = is_terminated_state component.state
 abbrev pub is_terminated_at : Going → Path → Bool
 is_terminated_at c path = is_terminated_component (component_at c path)
 
--- two ports are connected: a dynamic error where a component is terminated, or one of the ports would be connected to two ports of one component
+-- a port is mapped
+abbrev pub is_mapped : Going → End → Bool
+is_mapped c d = list_any (λ m. same_end d m.1) c.mappings
+
+-- two ports may not be connected: a component is terminated, a port is mapped, or one of them would be connected to two ports of one component
+abbrev pub is_kept_apart : Going → End → End → Bool
+is_kept_apart c d e = is_terminated_at c d.component || is_terminated_at c e.component || is_mapped c d || is_mapped c e || is_double c d e || is_double c e d
+
+-- two ports are connected: a dynamic error where they may not be
 abbrev pub connect : Going → End → End → Outcome Going
-connect c d e =
-    if is_terminated_at c d.component || is_terminated_at c e.component || is_double c d e || is_double c e d then dynamic_error
-    else Yields (with_connection (connection d e) c)
+connect c d e = if is_kept_apart c d e then dynamic_error else Yields (with_connection (connection d e) c)
+
+-- ---- mappings
+
+-- a port is connected
+abbrev pub is_connected : Going → End → Bool
+is_connected c d = list_any (λ k. same_end d k.one || same_end d k.other) c.connections
+
+-- a mapping maps one of these two and not the other
+abbrev pub maps_otherwise : End → Identifier → Identifier × End → Bool
+maps_otherwise d system_port m = if same_end d m.1 then not (bytes_eq m.0 system_port) else bytes_eq m.0 system_port
+
+-- a port may not be mapped to a system port: its component is terminated, it is connected, or one of the two is mapped otherwise
+abbrev pub is_kept_unmapped : Going → End → Identifier → Bool
+is_kept_unmapped c d system_port = is_terminated_at c d.component || is_connected c d || list_any (maps_otherwise d system_port) c.mappings
+
+-- a port is mapped to a system port: a dynamic error where it may not be; a mapping that is there stays one
+abbrev pub map_port : Going → End → Identifier → Outcome Going
+map_port c d system_port =
+    if is_kept_unmapped c d system_port then dynamic_error else Yields (with_mappings (put system_port d c.mappings) c)
+
+-- this mapping goes, if it is there
+abbrev pub unmap_port : Going → End → Identifier → Going
+unmap_port c d system_port = with_mappings (filter (λ m. not (same_end d m.1 && bytes_eq m.0 system_port)) c.mappings) c
 
 -- ---- messages
 
@@ -163,16 +206,30 @@ abbrev pub addressed : Option Path → End → Bool
 addressed None e = true
 addressed (Some path) e = same_path path e.component
 
+-- a message goes behind those that wait at a port
+abbrev pub put_behind : Message → End → Going → Going
+put_behind message e c = touch c e.component (at_queue e.port (λ messages. messages ++ message ∷ []))
+
 -- a message goes behind those that wait at the only one of these ends: a dynamic error where it isn't only one
 abbrev pub deliver : Going → Message → List End → Outcome Going
 deliver c message [] = dynamic_error
-deliver c message (e ∷ []) = Yields (touch c e.component (at_queue e.port (λ messages. messages ++ message ∷ [])))
+deliver c message (e ∷ []) = Yields (put_behind message e c)
 deliver c message (d ∷ e ∷ ends) = dynamic_error
 
 -- a message goes to the one peer that it may go to: a dynamic error where there is none, or more than one
+abbrev pub send_to_peer : Going → ComponentId → Identifier → Option Path → Value → Outcome Going
+send_to_peer c sender port to v =
+    deliver c (record { value = v; sender = Some sender }) (filter (addressed to) (peers c (record { component = sender.path; port = port })))
+
+-- a message leaves the test system: a dynamic error where a component is named
+abbrev pub send_out : Going → Option Path → Outcome Going
+send_out c None = Yields c
+send_out c (Some path) = dynamic_error
+
+-- a message is sent: on a mapped port it leaves the test system
 abbrev pub send : Going → ComponentId → Identifier → Option Path → Value → Outcome Going
 send c sender port to v =
-    deliver c (record { value = v; sender = sender }) (filter (addressed to) (peers c (record { component = sender.path; port = port })))
+    if is_mapped c (record { component = sender.path; port = port }) then send_out c to else send_to_peer c sender port to v
 
 -- ---- what a component asks for
 
@@ -190,6 +247,8 @@ perform test c itself (Creates new) = Yields (Goes (with_new new c))
 perform test c itself (Starts path frame) = ending (start_component c path frame)
 perform test c itself (Stops path) = Yields (stop test c path)
 perform test c itself (Connects d e) = ending (connect c d e)
+perform test c itself (Maps d system_port) = ending (map_port c d system_port)
+perform test c itself (Unmaps d system_port) = Yields (Goes (unmap_port c d system_port))
 
 -- what a component does in its step: its own data change first, and then what it asks for is done among all components
 abbrev pub apply : Test → Going → ComponentId → Act → Option (Outcome Configuration)
@@ -221,6 +280,39 @@ expired number name own =
     if nat_eq number 0 then option_map (λ members. with_members members own) (expired_frame name own.members)
     else option_map (λ calls. with_calls calls own) (expired_call number name own.calls)
 
+-- ---- deliveries
+
+-- the messages that come in at a system port
+abbrev pub messages_at : Script → Identifier → List Value
+messages_at script system_port = unwrap_or (entry script system_port) []
+
+-- how many of them came in
+abbrev pub delivered_at : Entries ℕ → Identifier → ℕ
+delivered_at delivered system_port = unwrap_or (entry delivered system_port) 0
+
+-- the message that comes in next at a system port, where one is left
+abbrev pub next_message : Test → Going → Identifier → Option Value
+next_message test c system_port = slice_get (messages_at test.script system_port) (delivered_at c.delivered system_port)
+
+-- one more message came in at a system port
+abbrev pub with_delivery : Identifier → Going → Going
+with_delivery system_port c = record {
+  components = c.components;
+  connections = c.connections;
+  mappings = c.mappings;
+  delivered = put system_port (delivered_at c.delivered system_port + 1) c.delivered;
+  forgotten = c.forgotten;
+}
+
+-- a message comes in at a system port: it goes behind those that wait at the port that is mapped to it, and no component has sent it
+abbrev pub come_in : Identifier → End → Value → Going → Going
+come_in system_port e v c = with_delivery system_port (put_behind (record { value = v; sender = None }) e c)
+
+-- the delivery of the next message of a system port to the port that is mapped to it
+abbrev pub delivery_step : Test → Going → Identifier → Option (Outcome Configuration)
+delivery_step test c system_port =
+    option_and_then (λ e. option_map (λ v. Yields (Goes (come_in system_port e v c))) (next_message test c system_port)) (entry c.mappings system_port)
+
 -- ---- steps
 
 -- what was found, where a component runs
@@ -240,10 +332,11 @@ abbrev pub expiry_step : Going → ℕ → Identifier → Component → Option (
 expiry_step c number name component =
     if_running component (option_map (λ own. Yields (Goes (touch c (path_of component) (exchanged own)))) (expired number name component.own))
 
--- the step of a label in a test case that goes on, where the label is enabled: a label is of the first remaining statement of a component, or of the expiry of a timer of its frame of this number
+-- the step of a label in a test case that goes on, where the label is enabled: a label is of the first remaining statement of a component, of the expiry of a timer of its frame of this number, or of a delivery at a system port
 abbrev pub step_in : Test → Going → Label → Option (Outcome Configuration)
 step_in test c (Statement path) = option_and_then (statement_step test c) (component_at c path)
 step_in test c (Expiry path number name) = option_and_then (expiry_step c number name) (component_at c path)
+step_in test c (Delivery system_port) = delivery_step test c system_port
 
 -- the step of a label, where it has one: a test case that ended has none
 abbrev pub step : Test → Configuration → Label → Option (Outcome Configuration)

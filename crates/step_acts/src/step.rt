@@ -31,6 +31,7 @@ use step_forms::condition::{act_if, act_loop};
 use step_forms::connect::act_connect;
 use step_forms::end::{act_end, act_return};
 use step_forms::facts::{awaited, declared_type, goal, is_own, sent_type};
+use step_forms::mapping::act_map;
 use step_forms::marks::uncover;
 use step_forms::position::{first_at, go_on};
 use step_forms::send::{act_send, act_start, act_stop_of, act_timer_state};
@@ -39,8 +40,8 @@ use step_forms::stand::Stand;
 use step_snapshot::{Snapshot, TestCase};
 use ttcn_graph::{First, Part};
 use ttcn_syntax::{
-    Action, Assignment, Branch, Call, ComponentRef, Constant, Event, ForStart, Name, PortRef, Send,
-    Timer, Variable,
+    Action, Assignment, Branch, Call, ComponentRef, Constant, Event, ForStart, Mapping, Name,
+    PortRef, Send, Timer, Variable,
 };
 use value_types::{Fault, TimerState};
 
@@ -212,6 +213,20 @@ fn act_connecting(
     act_connect(alloc, stand, one, other)
 }
 
+/// A port is mapped or unmapped.
+fn act_mapping(
+    alloc: Global,
+    stand: &Stand<'_, '_>,
+    mapping: &Mapping,
+) -> Result<Option<Act>, Fault>
+    requires whole { part_of stand.now.part ≡ rules.Whole }
+    requires does { Does stand.now.statement.now (form.Map mapping.now) }
+    ensures asks { Asks (legend_of stand.now) (said.act_map (stand_by stand.now) (site_of stand.now) mapping.now) result }
+    ensures within { AsksWithin (extent_of stand.now.snapshot.now.test.now) result }
+{
+    act_map(alloc, stand, mapping)
+}
+
 // ---- parts of statements
 
 /// The whole of a statement.
@@ -236,6 +251,7 @@ fn act_whole(alloc: Global, stand: &Stand<'_, '_>) -> Result<Option<Act>, Fault>
         Action::Log(_) => go_on(alloc, stand, stand.rest),
         Action::Setverdict(verdict, _) => act_verdict(alloc, stand, *verdict),
         Action::Connect(one, other) => act_connecting(alloc, stand, one, other),
+        Action::Map(mapping) => act_mapping(alloc, stand, mapping),
         Action::Send(send) => act_sending(alloc, stand, send),
         Action::StartComponent(component, call) => act_start(alloc, stand, component, call),
         Action::StartTimer(name) => act_start_timer(alloc, stand, name),

@@ -131,10 +131,11 @@ only-sender : (b : Bool) (one stored : List Redirect) → cond b (Yields one) dy
 only-sender true one stored is = let same : one ≡ stored = cc in same
 only-sender false one stored is = absurd (let e = is in cc)
 
-sender-known : (names : List (List ℕ)) (scope : Scope) (reference : Option Reference) (sender : ComponentId) (stored : List Redirect) → redirected_sender scope reference sender ≡ Yields stored
+sender-known : (names : List (List ℕ)) (scope : Scope) (reference : Option Reference) (sender : Option ComponentId) (stored : List Redirect) → redirected_sender scope reference sender ≡ Yields stored
     → NoneIsMissing names (names_of_reference reference) → All (RedirectKnown names) stored
 sender-known names scope None sender stored is all = let same : [] ≡ stored = cc in subst (All (RedirectKnown names)) same (All-nil (RedirectKnown names))
-sender-known names scope (Some reference) sender stored is all =
+sender-known names scope (Some reference) None stored is all = absurd (let e = is in cc)
+sender-known names scope (Some reference) (Some sender) stored is all =
     let one : Redirect = record { reference = reference; value = value.Component sender } in
     subst (All (RedirectKnown names)) (only-sender (fits_sender sender (target_at scope reference).data_type) (one ∷ []) stored is)
     (All-cons (RedirectKnown names) one [] (first-known names [] reference.name all) (All-nil (RedirectKnown names)))

@@ -37,13 +37,18 @@ one-value test site (Some reference) v goal is =
 
 -- ---- the sender
 
-pub no-sender : (test : Test) (site : Site) (reference : Option Reference) (sender : ComponentId) → None ≡ goal_if_any test.definitions site reference
+pub no-sender : (test : Test) (site : Site) (reference : Option Reference) (sender : Option ComponentId) → None ≡ goal_if_any test.definitions site reference
     → redirected_sender (scope_at test.definitions site) reference sender ≡ Yields []
 no-sender test site None sender is = refl
 no-sender test site (Some reference) sender is = absurd (let e = is in cc)
 
+pub none-sent : (test : Test) (site : Site) (reference : Option Reference) (goal : Goal) → Some (goal_by goal) ≡ goal_if_any test.definitions site reference
+    → redirected_sender (scope_at test.definitions site) reference None ≡ Fails DynamicError
+none-sent test site None goal is = absurd (let e = is in cc)
+none-sent test site (Some reference) goal is = refl
+
 pub sender-refused : (test : Test) (site : Site) (reference : Option Reference) (sender : ComponentId) (goal : Goal) → Some (goal_by goal) ≡ goal_if_any test.definitions site reference
-    → fits_sender sender goal.wanted ≡ false → redirected_sender (scope_at test.definitions site) reference sender ≡ Fails DynamicError
+    → fits_sender sender goal.wanted ≡ false → redirected_sender (scope_at test.definitions site) reference (Some sender) ≡ Fails DynamicError
 sender-refused test site None sender goal is not = absurd (let e = is in cc)
 sender-refused test site (Some reference) sender goal is not =
     let same : goal_by goal ≡ goal_at test.definitions site reference = cc in
@@ -51,7 +56,7 @@ sender-refused test site (Some reference) sender goal is not =
 
 pub one-sender : (test : Test) (site : Site) (reference : Option Reference) (sender : ComponentId) (goal : Goal) → Some (goal_by goal) ≡ goal_if_any test.definitions site reference
     → fits_sender sender goal.wanted ≡ true
-    → (stored : List Redirect) × ((redirected_sender (scope_at test.definitions site) reference sender ≡ Yields stored) × AreStored test site ((target_of goal.target, value.Component sender) ∷ []) stored)
+    → (stored : List Redirect) × ((redirected_sender (scope_at test.definitions site) reference (Some sender) ≡ Yields stored) × AreStored test site ((target_of goal.target, value.Component sender) ∷ []) stored)
 one-sender test site None sender goal is fits = absurd (let e = is in cc)
 one-sender test site (Some reference) sender goal is fits =
     let same : goal_by goal ≡ goal_at test.definitions site reference = cc in (

@@ -38,11 +38,21 @@ fn type_of(value: &Value) -> Option<DataType>
     }
 }
 
+/// Whether a component sent a message.
+fn has_sent(component: &ComponentId, sender: &Option<ComponentId>) -> bool
+    ensures { result ≡ rules.has_sent component.now sender.now }
+{
+    match sender {
+        Some(sender) => component.path == sender.path,
+        None => false,
+    }
+}
+
 /// Whether a message comes from a component: `null` matches none.
 fn is_from(
     alloc: Global,
     reference: &Option<ComponentRef>,
-    sender: &ComponentId,
+    sender: &Option<ComponentId>,
     frame: &Frame<'_>,
 ) -> Result<bool, Fault>
     ensures { Gives (rules.from_fits (reading frame.now) reference.now sender.now) result }
@@ -51,7 +61,7 @@ fn is_from(
         return Ok(true);
     };
     match eval_component_reference(alloc, reference, frame) {
-        Ok(Value::Component(component)) => Ok(component.path == sender.path),
+        Ok(Value::Component(component)) => Ok(has_sent(&component, sender)),
         Ok(Value::Null) => Ok(false),
         Ok(_) => Err(Fault::Dynamic),
         Err(fault) => Err(fault),

@@ -63,10 +63,13 @@ pub(crate) fn redirects<'t, 'a>(
     let Some(goal) = &facts.sender else {
         return Ok(stored);
     };
-    if !fits_sender(&message.sender, goal.wanted) {
+    let Some(sender) = &message.sender else {
+        return Err(Fault::Dynamic);
+    };
+    if !fits_sender(sender, goal.wanted) {
         return Err(Fault::Dynamic);
     }
-    let sender = message.sender.try_clone(alloc)?;
+    let sender = sender.try_clone(alloc)?;
     stored.push(Stored {
         target: &goal.target,
         value: Value::Component(sender),

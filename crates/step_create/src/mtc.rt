@@ -15,7 +15,7 @@ ghost use Rattle.value_types.specs.Outcomes.{GivesBy};
 
 use crate::component::new_component;
 use crate::members::Maker;
-use config_parts::{Cells, Component, Config, Frame, Going, Shared, State, TryClone};
+use config_parts::{Cells, Component, Config, Frame, Going, Links, Shared, State, TryClone};
 use std::alloc::{AllocError, Global};
 use step_snapshot::TestCase;
 use ttcn_syntax::{DefinitionKind, Seq, Verdict};
@@ -75,9 +75,14 @@ fn alone(alloc: Global, mtc: Component) -> Result<Config, AllocError>
 {
     let mut components = Seq::new(alloc);
     components.push(mtc)?;
+    let links = Links {
+        connections: Seq::new(alloc),
+        mappings: Seq::new(alloc),
+        delivered: Seq::new(alloc),
+    };
     Ok(Config::Going(Going {
         components,
-        connections: Shared::new(alloc, Seq::new(alloc))?,
+        links: Shared::new(alloc, links)?,
         forgotten: Verdict::None,
     }))
 }

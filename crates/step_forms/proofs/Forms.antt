@@ -6,6 +6,7 @@ use Rattle.ttcn_syntax.specs.declared.tree.statement.Action.TheOpen.{Action-F}
 use Rattle.ttcn_syntax.specs.declared.tree.statement.Action.TheVariants as form
 use Rattle.ttcn_syntax.specs.declared.tree.expression.Reference.{Reference}
 use Rattle.ttcn_syntax.specs.declared.tree.statement.LogItem.{LogItem}
+use Rattle.ttcn_syntax.specs.declared.tree.statement.Mapping.{Mapping}
 use Rattle.ttcn_syntax.specs.declared.tree.statement.PortRef.{PortRef}
 use Rattle.ttcn_syntax.specs.declared.tree.statement.Send.{Send}
 use Rattle.ttcn_syntax.specs.declared.tree.statement.Statement.{Statement}
@@ -24,6 +25,9 @@ use Rattle.ttcn_graph.specs.internal.Drawing.{Does}
 
 pub does-Connect : (s : Statement) (one other : PortRef) → Does s (form.Connect one other) → action_of s ≡ Action-F.Connect one other
 does-Connect s one other is = ap out-Action (is ∙ sym (form.rolls-Connect one other)) ∙ out-roll-Action (Action-F.Connect one other)
+
+pub does-Map : (s : Statement) (m : Mapping) → Does s (form.Map m) → action_of s ≡ Action-F.Map m
+does-Map s m is = ap out-Action (is ∙ sym (form.rolls-Map m)) ∙ out-roll-Action (Action-F.Map m)
 
 pub does-Send : (s : Statement) (send : Send) → Does s (form.Send send) → action_of s ≡ Action-F.Send send
 does-Send s send is = ap out-Action (is ∙ sym (form.rolls-Send send)) ∙ out-roll-Action (Action-F.Send send)

@@ -9,6 +9,7 @@ pub mod create;
 pub mod end;
 pub mod evaluate;
 pub mod facts;
+pub mod mapping;
 pub mod marks;
 pub mod port_types;
 pub mod position;

@@ -95,20 +95,36 @@ fn agrees(one: DataType, other: Option<DataType>) -> bool
 }
 
 /// Whether a type is one of these, which aren't judged where they are unknown.
-fn is_among(sent: DataType, received: &[Option<DataType>]) -> bool
-    ensures { result ≡ list_any (spec.agrees sent) received.now }
+fn is_among(one: DataType, types: &[Option<DataType>]) -> bool
+    ensures { result ≡ list_any (spec.agrees one) types.now }
 {
-    received.iter().any(|other| agrees(sent, *other))
+    types.iter().any(|other| agrees(one, *other))
 }
 
-/// Whether a message of a type is received where messages of these types are.
-fn takes(received: &[Option<DataType>], sent: Option<DataType>) -> bool
-    ensures { result ≡ said.takes received.now sent }
+/// Whether these types have one, which isn't judged where it is unknown.
+fn takes(types: &[Option<DataType>], one: Option<DataType>) -> bool
+    ensures { result ≡ said.takes types.now one }
 {
-    match sent {
-        Some(sent) => is_among(sent, received),
+    match one {
+        Some(one) => is_among(one, types),
         None => true,
     }
+}
+
+/// Whether what a port of one type lists for a way, in or out, is listed by a port of the other for a way, too.
+fn is_covered(
+    alloc: Global,
+    definitions: &Definitions<'_>,
+    incoming: bool,
+    one: Option<usize>,
+    other_incoming: bool,
+    other: Option<usize>,
+) -> Result<bool, AllocError>
+    ensures { IfOk result (λ covered. covered ≡ said.is_covered definitions.now incoming one other_incoming other) }
+{
+    let listed = types_at(alloc, definitions, incoming, one)?;
+    let others = types_at(alloc, definitions, other_incoming, other)?;
+    Ok(listed.iter().all(|of| takes(&others, *of)))
 }
 
 /// Whether what a port of one type sends is received by a port of the other.
@@ -120,9 +136,7 @@ fn suits(
 ) -> Result<bool, AllocError>
     ensures { IfOk result (λ suited. suited ≡ said.suits definitions.now sending receiving) }
 {
-    let sent = types_at(alloc, definitions, false, sending)?;
-    let received = types_at(alloc, definitions, true, receiving)?;
-    Ok(sent.iter().all(|of| takes(&received, *of)))
+    is_covered(alloc, definitions, false, sending, true, receiving)
 }
 
 /// Whether two ports are there, and each sends only what the other receives.
@@ -137,6 +151,27 @@ pub fn suit_each_other(
     match (one, other) {
         (Some(one), Some(other)) => {
             Ok(suits(alloc, definitions, one, other)? && suits(alloc, definitions, other, one)?)
+        }
+        _ => Ok(false),
+    }
+}
+
+/// Whether a port and a system port are there and may be mapped: the system port passes on what the port sends, and the port
+/// receives what comes in at the system port.
+pub fn is_mappable(
+    alloc: Global,
+    definitions: &Definitions<'_>,
+    port: Option<Option<usize>>,
+    system_port: Option<Option<usize>>,
+) -> Result<bool, AllocError>
+    ensures { IfOk result (λ mappable. mappable ≡ said.is_mappable definitions.now port system_port) }
+{
+    match (port, system_port) {
+        (Some(port), Some(system_port)) => {
+            Ok(
+                is_covered(alloc, definitions, false, port, false, system_port)?
+                    && is_covered(alloc, definitions, true, system_port, true, port)?,
+            )
         }
         _ => Ok(false),
     }

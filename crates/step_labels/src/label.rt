@@ -10,7 +10,7 @@ use ttcn_syntax::Name;
 use value_types::Path;
 
 /// What a step is of. Labels are ordered by the component, then the statement before expiries, then by the frame, then by the
-/// timer's name.
+/// timer's name. Deliveries come last, by the name of the system port.
 #[derive(Debug, Drop)]
 pub enum Label {
     /// The first remaining statement of the component with this path.
@@ -21,6 +21,8 @@ pub enum Label {
         frame: u32,
         timer: Name,
     },
+    /// The next message of the system port of this name comes in.
+    Delivery(Name),
 }
 
 impl Label {
@@ -39,6 +41,7 @@ impl Label {
                 frame: *frame,
                 timer: timer.try_clone(alloc)?,
             }),
+            Label::Delivery(system_port) => Ok(Label::Delivery(system_port.try_clone(alloc)?)),
         }
     }
 }
@@ -104,6 +107,9 @@ impl Ord for Label {
                 .cmp(&other.numbers)
                 .then_with(|| frame.cmp(other_frame))
                 .then_with(|| timer.cmp(other_timer)),
+            (Label::Delivery(one), Label::Delivery(other)) => one.cmp(other),
+            (Label::Delivery(_), _) => Ordering::Greater,
+            (_, Label::Delivery(_)) => Ordering::Less,
         }
     }
 }

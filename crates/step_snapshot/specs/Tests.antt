@@ -8,7 +8,7 @@ use Rattle.config_parts.specs.Views.{Extent}
 
 -- the test case
 abbrev pub test_by : TestCase → snapshots.Test
-test_by t = record { definitions = t.definitions; testcase = t.position }
+test_by t = record { definitions = t.definitions; testcase = t.position; script = t.script.now }
 
 -- the lists of its positions, and the names of its slots
 abbrev pub legend_by : TestCase → Legend

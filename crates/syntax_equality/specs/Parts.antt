@@ -13,6 +13,9 @@ use Rattle.ttcn_syntax.specs.contracts.tree.statement.ForStart.{enum as start_en
 use Rattle.ttcn_syntax.specs.contracts.tree.statement.ForStartPartialEq.TheImpl as starts
 use Rattle.ttcn_syntax.specs.contracts.tree.statement.LogItem.{enum as item_enum}
 use Rattle.ttcn_syntax.specs.contracts.tree.statement.LogItemPartialEq.TheImpl as items
+use Rattle.ttcn_syntax.specs.contracts.tree.statement.MapOperation.{the_type as operation_type}
+use Rattle.ttcn_syntax.specs.contracts.tree.statement.MapOperationPartialEq.TheImpl as operations
+use Rattle.ttcn_syntax.specs.contracts.tree.statement.MappingPartialEq.TheImpl as mappings
 use Rattle.ttcn_syntax.specs.contracts.tree.statement.PortRefPartialEq.TheImpl as ports
 use Rattle.ttcn_syntax.specs.contracts.tree.statement.PortSelector.{enum as selector_enum}
 use Rattle.ttcn_syntax.specs.contracts.tree.statement.PortSelectorPartialEq.TheImpl as selectors
@@ -32,6 +35,8 @@ use Rattle.ttcn_syntax.specs.declared.tree.statement.ForStart.{ForStart}
 use Rattle.ttcn_syntax.specs.declared.tree.statement.ForStart.TheVariants as start
 use Rattle.ttcn_syntax.specs.declared.tree.statement.LogItem.{LogItem}
 use Rattle.ttcn_syntax.specs.declared.tree.statement.LogItem.TheVariants as item
+use Rattle.ttcn_syntax.specs.declared.tree.statement.MapOperation.{MapOperation}
+use Rattle.ttcn_syntax.specs.declared.tree.statement.Mapping.{Mapping}
 use Rattle.ttcn_syntax.specs.declared.tree.statement.PortRef.{PortRef}
 use Rattle.ttcn_syntax.specs.declared.tree.statement.PortSelector.{PortSelector}
 use Rattle.ttcn_syntax.specs.declared.tree.statement.PortSelector.TheVariants as selector
@@ -70,10 +75,23 @@ start_at (start.Assign assignment) = last (assignment_one assignment)
 pub start_one : (a : ForStart) → IsOne ForStart (starts.ghosts).eq a
 start_one a = variant_one start_enum (tests_of start_enum (starts.ghosts).eq) a (start_at a)
 
--- ---- messages, events, logs and verdicts
+-- ---- connections, mappings, messages, events, logs and verdicts
 
 pub port_one : (a : PortRef) → IsOne PortRef (ports.ghosts).eq a
 port_one a b h = let p = and_parts _ _ h in λ i. record { component = component_one a.component b.component p.0 i; port = name_one a.port b.port p.1 i }
+
+pub operation_one : (a : MapOperation) → IsOne MapOperation (operations.ghosts).eq a
+operation_one = same_true operation_type _
+
+pub mapping_one : (a : Mapping) → IsOne Mapping (mappings.ghosts).eq a
+mapping_one a b h =
+    let p = and_parts _ _ h in
+    let q = and_parts _ _ p.1 in
+    λ i. record {
+      operation = operation_one a.operation b.operation p.0 i;
+      port = port_one a.port b.port q.0 i;
+      system_port = name_one a.system_port b.system_port q.1 i;
+    }
 
 selector_at : (a : PortSelector) → OneAt selector_enum.parts (tests_of selector_enum (selectors.ghosts).eq) (selector_enum.as_values a)
 selector_at (selector.Named name) = last (name_one name)

@@ -5,7 +5,7 @@ use Rattle.std.specs.Cmp.Lexicographic.{pointwise}
 use Rattle.std.specs.Option.{option_eq}
 use Rattle.syntax_equality.specs.Equality.{IsOne, Known, OneAt, known_list_one, last, list_one, more, name_one, none, option_one, variant_one}
 use Rattle.syntax_equality.specs.Expressions.{component_one, expression_one, place_one, reference_one}
-use Rattle.syntax_equality.specs.Parts.{assignment_one, constants_one, event_one, item_one, port_one, send_one, start_one, timer_one, variables_one, verdict_one}
+use Rattle.syntax_equality.specs.Parts.{assignment_one, constants_one, event_one, item_one, mapping_one, port_one, send_one, start_one, timer_one, variables_one, verdict_one}
 use Rattle.syntax_equality.specs.Values.{call_one, value_one}
 use Rattle.ttcn_syntax.specs.contracts.name.NamePartialEq.TheImpl as names
 use Rattle.ttcn_syntax.specs.contracts.tree.expression.ComponentRefPartialEq.TheImpl as components
@@ -26,6 +26,7 @@ use Rattle.ttcn_syntax.specs.contracts.tree.statement.ConstantsPartialEq.TheImpl
 use Rattle.ttcn_syntax.specs.contracts.tree.statement.EventPartialEq.TheImpl as events
 use Rattle.ttcn_syntax.specs.contracts.tree.statement.ForStartPartialEq.TheImpl as starts
 use Rattle.ttcn_syntax.specs.contracts.tree.statement.LogItemPartialEq.TheImpl as items
+use Rattle.ttcn_syntax.specs.contracts.tree.statement.MappingPartialEq.TheImpl as mappings
 use Rattle.ttcn_syntax.specs.contracts.tree.statement.PortRefPartialEq.TheImpl as ports
 use Rattle.ttcn_syntax.specs.contracts.tree.statement.SendPartialEq.TheImpl as sends
 use Rattle.ttcn_syntax.specs.contracts.tree.statement.StatementPartialEq.TheImpl as statements
@@ -109,18 +110,21 @@ each = (
                                 (
                                   λ a b. (ports.ghosts).eq a.0 b.0 && (ports.ghosts).eq a.1.0 b.1.0,
                                   (
-                                    λ a b. (sends.ghosts).eq a.0 b.0,
+                                    λ a b. (mappings.ghosts).eq a.0 b.0,
                                     (
-                                      λ a b. (components.ghosts).eq a.0 b.0 && (calls.ghosts).eq a.1.0 b.1.0,
+                                      λ a b. (sends.ghosts).eq a.0 b.0,
                                       (
-                                        λ a b. (names.ghosts).eq a.0 b.0,
+                                        λ a b. (components.ghosts).eq a.0 b.0 && (calls.ghosts).eq a.1.0 b.1.0,
                                         (
-                                          λ a b. (components.ghosts).eq a.0 b.0,
+                                          λ a b. (names.ghosts).eq a.0 b.0,
                                           (
-                                            λ a b. (calls.ghosts).eq a.0 b.0,
+                                            λ a b. (components.ghosts).eq a.0 b.0,
                                             (
-                                              λ a b. option_eq (references.ghosts).eq a.0 b.0,
-                                              tt,
+                                              λ a b. (calls.ghosts).eq a.0 b.0,
+                                              (
+                                                λ a b. option_eq (references.ghosts).eq a.0 b.0,
+                                                tt,
+                                              ),
                                             ),
                                           ),
                                         ),
@@ -223,6 +227,7 @@ action_level Action-F.Stop = none
 action_level (Action-F.Log items) = last (list_one _ item_one items)
 action_level (Action-F.Setverdict verdict items) = more (verdict_one verdict) (last (list_one _ item_one items))
 action_level (Action-F.Connect first second) = more (port_one first) (last (port_one second))
+action_level (Action-F.Map mapping) = last (mapping_one mapping)
 action_level (Action-F.Send send) = last (send_one send)
 action_level (Action-F.StartComponent component call) = more (component_one component) (last (call_one call))
 action_level (Action-F.StartTimer name) = last (name_one name)

@@ -1,8 +1,8 @@
 //! Declarations, events and other parts of statements, without blocks.
 use crate::Exact;
 use ttcn_syntax::{
-    Assignment, Constant, Constants, Event, ForStart, LogItem, PortRef, PortSelector, Receive,
-    Send, Timer, Variable, Variables, Verdict,
+    Assignment, Constant, Constants, Event, ForStart, LogItem, MapOperation, Mapping, PortRef,
+    PortSelector, Receive, Send, Timer, Variable, Variables, Verdict,
 };
 
 impl Exact for Variable {
@@ -51,6 +51,18 @@ impl Exact for PortRef {
     ghost use Rattle.syntax_equality.specs.Parts.{port_one};
 
     ghost exact = { port_one };
+}
+
+impl Exact for MapOperation {
+    ghost use Rattle.syntax_equality.specs.Parts.{operation_one};
+
+    ghost exact = { operation_one };
+}
+
+impl Exact for Mapping {
+    ghost use Rattle.syntax_equality.specs.Parts.{mapping_one};
+
+    ghost exact = { mapping_one };
 }
 
 impl Exact for PortSelector {

@@ -1,8 +1,11 @@
 //! The calls that ask for memory, with what they are asked.
 use crate::given::Given;
-use crate::texts::{FINE_RUN_OF_RACE, ONE, RACE, REPORT_ON_ONE, REPORT_ON_RACE, RUN_OF_RACE};
+use crate::texts::{
+    FINE_RUN_OF_RACE, MAPPED, ONE, RACE, REPORT_ON_MAPPED, REPORT_ON_ONE, REPORT_ON_RACE,
+    RUN_OF_RACE, SCRIPT,
+};
 use explore::{NoGate, Plan};
-use report::{RunError, read_fine, read_run};
+use report::{RunError, ScriptError, read_fine, read_run, read_script};
 use std::alloc::{AllocError, Global};
 use std::thread::Threads;
 use step_labels::{FineLabel, Label};
@@ -13,7 +16,7 @@ use ttcn_syntax::{LexError, Spanned, lex};
 use ttcn_types::{CheckError, Program, TestId, check};
 use ttcnx::{
     Counted, Fault, LineError, Report, StreamFault, check_text, coarsen_text, double_text,
-    fault_line, read_line, replay_text, run_stream, run_text, to_json, to_text,
+    fault_line, read_line, replay_text, run_script, run_stream, run_text, to_json, to_text,
 };
 
 /// The words of a command line.
@@ -35,6 +38,8 @@ pub enum Call {
     /// `run_text` with so many workers, of the module of one component or of the race.
     RunOne(u64),
     RunRace(u64),
+    /// `run_script` with so many workers, of a module with a system port.
+    RunScript(u64),
     RunStream,
     Lex,
     Parse,
@@ -46,6 +51,7 @@ pub enum Call {
     DoubleText,
     ReadRun,
     ReadFine,
+    ReadScript,
     ReadLine,
     FaultLine,
     NewMachine,
@@ -65,11 +71,13 @@ pub enum Call {
 }
 
 /// All of them, with their names.
-pub const CALLS: [(&str, Call); 28] = [
+pub const CALLS: [(&str, Call); 31] = [
     ("run_text of one component, 1 worker", Call::RunOne(1)),
     ("run_text of one component, 4 workers", Call::RunOne(4)),
     ("run_text of the race, 1 worker", Call::RunRace(1)),
     ("run_text of the race, 4 workers", Call::RunRace(4)),
+    ("run_script, 1 worker", Call::RunScript(1)),
+    ("run_script, 4 workers", Call::RunScript(4)),
     ("run_stream", Call::RunStream),
     ("lex", Call::Lex),
     ("parse", Call::Parse),
@@ -80,6 +88,7 @@ pub const CALLS: [(&str, Call); 28] = [
     ("double_text", Call::DoubleText),
     ("read_run", Call::ReadRun),
     ("read_fine", Call::ReadFine),
+    ("read_script", Call::ReadScript),
     ("read_line", Call::ReadLine),
     ("fault_line", Call::FaultLine),
     ("Machine::new", Call::NewMachine),
@@ -205,6 +214,18 @@ impl From<ReplayError> for Refusal {
     }
 }
 
+impl From<ScriptError> for Refusal {
+    fn from(error: ScriptError) -> Refusal {
+        match error {
+            ScriptError::Memory => Refusal::Memory,
+            ScriptError::TooLarge
+            | ScriptError::BadJson
+            | ScriptError::NoSuchPort
+            | ScriptError::BadMessage => Refusal::Other,
+        }
+    }
+}
+
 impl From<CoarsenError> for Refusal {
     fn from(error: CoarsenError) -> Refusal {
         match error {
@@ -236,6 +257,10 @@ impl Call {
             Call::RunRace(workers) => {
                 Given::Report(run_text(rt, alloc, race, "T", &plan(13, workers), &NoGate)?)
             }
+            Call::RunScript(workers) => {
+                let (text, script, plan) = (MAPPED.as_bytes(), SCRIPT.as_bytes(), plan(9, workers));
+                Given::Report(run_script(rt, alloc, text, script, "T", &plan, &NoGate)?)
+            }
             Call::RunStream => Given::Bytes(streamed(rt, alloc)?),
             Call::Lex => {
                 lex(alloc, race)?;
@@ -253,11 +278,20 @@ impl Call {
                 check_text(alloc, race)?;
                 Given::Nothing
             }
-            Call::ReplayText => Given::Bytes(replay_text(alloc, race, "T", run)?),
-            Call::CoarsenText => Given::Bytes(coarsen_text(alloc, race, "T", fine_run)?),
-            Call::DoubleText => Given::Bytes(double_text(alloc, race, "T", run)?),
+            Call::ReplayText => Given::Bytes(replay_text(alloc, race, "T", run, b"{}")?),
+            Call::CoarsenText => Given::Bytes(coarsen_text(alloc, race, "T", fine_run, b"{}")?),
+            Call::DoubleText => Given::Bytes(double_text(alloc, race, "T", run, b"{}")?),
             Call::ReadRun => Given::Run(read_run(alloc, run)?),
             Call::ReadFine => Given::FineRun(read_fine(alloc, fine_run)?),
+            Call::ReadScript => {
+                read_script(
+                    alloc,
+                    SCRIPT.as_bytes(),
+                    subjects.program,
+                    subjects.testcase,
+                )?;
+                Given::Nothing
+            }
             Call::ReadLine => {
                 read_line(alloc, &WORDS)?;
                 Given::Nothing
@@ -288,6 +322,7 @@ impl Call {
     pub fn wanted(self) -> Option<&'static str> {
         match self {
             Call::RunOne(_) => Some(REPORT_ON_ONE),
+            Call::RunScript(_) => Some(REPORT_ON_MAPPED),
             Call::RunRace(_) | Call::RunStream | Call::ToText => Some(REPORT_ON_RACE),
             Call::ReadRun | Call::Coarsen | Call::CoarsenText => Some(RUN_OF_RACE),
             Call::Labels => Some("mtc\n"),
@@ -328,6 +363,7 @@ fn streamed<R: Threads + Sync>(rt: &R, alloc: Global) -> Result<Vec<u8>, StreamF
         alloc,
         &mut reader,
         &mut writer,
+        b"{}",
         "T",
         &plan,
         false,

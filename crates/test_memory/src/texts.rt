@@ -105,3 +105,48 @@ choose mtc
 mtc
 mtc
 ";
+
+/// A port that is mapped to a system port, at which two messages come in.
+pub const MAPPED: &str = "module Y {
+type port P message { in integer; out boolean }
+type component C { port P p; timer t := 1.0 }
+testcase T() runs on C system C {
+map(self:p, system:p);
+p.send(true);
+t.start;
+alt {
+[] p.receive(1) { setverdict(pass) }
+[] p.receive { setverdict(fail) }
+[] t.timeout { setverdict(inconc) }
+}
+}
+}
+";
+
+/// The script of these messages.
+pub const SCRIPT: &str = "{\"p\":[{\"integer\":1},{\"integer\":2}]}";
+
+/// The report on all its runs of at most 9 steps.
+pub const REPORT_ON_MAPPED: &str = "testcase T
+steps 9
+configurations 29
+complete yes
+verdict pass 7
+  mtc
+  mtc
+  mtc
+  system.p
+  mtc
+  mtc
+  mtc
+verdict inconc 7
+  mtc
+  mtc
+  mtc
+  mtc/0.t
+  mtc
+  mtc
+  mtc
+branch 9:1
+branch 11:1
+";

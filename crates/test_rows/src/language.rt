@@ -1,12 +1,14 @@
-//! Answers of the checker, of the parser, and of evaluation.
+//! Answers of the checker, of the parser, of evaluation, and of the reader of scripts.
 mod evaluation;
 mod notation;
 mod parsing;
 mod question;
+mod scripts;
 
 use evaluation::answer_of_module;
 pub use parsing::parsed;
 use question::answered;
+pub use scripts::scripted;
 use std::alloc::{AllocError, Global};
 use test_refusals::{Refusal, program};
 use ttcn_parse::parse;

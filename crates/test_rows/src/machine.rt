@@ -10,7 +10,9 @@ mod words;
 
 use behind::{compared_forms, seen_behind};
 use graph::picture_of;
+use report::read_script;
 use runs::compared;
+use spelled::LabelNames;
 use std::alloc::{AllocError, Global};
 use test_corpus::Settings;
 use test_refusals::program;
@@ -33,7 +35,11 @@ pub fn answer_of_machine(
     let Some(testcase) = program.testcase(settings.get("testcase").unwrap_or("T")) else {
         return String::from_str(alloc, "no test case");
     };
-    let machine = Machine::new(alloc, &program, testcase)?;
+    let script = settings.get("script").unwrap_or("{}");
+    let Ok(script) = read_script(alloc, script.as_bytes(), &program, testcase) else {
+        return String::from_str(alloc, "no script");
+    };
+    let machine = Machine::with_script(alloc, &program, testcase, &script)?;
     answer_behind(alloc, &machine, settings)
 }
 
@@ -52,8 +58,11 @@ fn answer_behind(
     let Some(steps) = steps(settings) else {
         return String::from_str(alloc, "no steps");
     };
-    let timers = names(alloc, settings.get("timers").unwrap_or(""))?;
-    compared(alloc, machine, steps, timers.as_slice())
+    let names = LabelNames {
+        timers: names(alloc, settings.get("timers").unwrap_or(""))?,
+        ports: names(alloc, settings.get("ports").unwrap_or(""))?,
+    };
+    compared(alloc, machine, steps, &names)
 }
 
 /// How long runs may be, unless that isn't set or is no number.

@@ -6,7 +6,7 @@ mod machine;
 mod program;
 
 use anyhow::Result;
-use language::{checked, evaluated, parsed};
+use language::{checked, evaluated, parsed, scripted};
 use machine::answer_of_machine;
 use program::answer_of;
 use std::alloc::AllocError;
@@ -31,8 +31,10 @@ impl<R: AllocGlobal + Threads + Sync> Subject<R> for Layers {
             "limit",
             "lines",
             "piece",
+            "ports",
             "run",
             "runfile",
+            "script",
             "steps",
             "testcase",
             "timers",
@@ -48,6 +50,7 @@ impl<R: AllocGlobal + Threads + Sync> Subject<R> for Layers {
             Some("evaluation") => evaluated(alloc, text, settings.get("definitions")),
             Some("machine") => answer_of_machine(alloc, text, settings),
             Some("parser") => parsed(alloc, text, settings),
+            Some("script") => scripted(alloc, text, settings),
             Some(who) => format!(in alloc; "nothing is answered by {who}"),
         }
     }

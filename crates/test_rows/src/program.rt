@@ -13,7 +13,7 @@ use std::alloc::{AllocError, Global};
 use std::thread::Threads;
 use test_corpus::Settings;
 use ttcnx::{
-    Fault, Report, check_answer, coarsen_text, double_text, fault_line, replay_text, run_text,
+    Fault, Report, check_answer, coarsen_text, double_text, fault_line, replay_text, run_script,
     status, to_json, to_text,
 };
 
@@ -57,11 +57,11 @@ fn answer_by_run_file(
     settings: &Settings<'_>,
 ) -> Result<String, AllocError> {
     let run = run_file_of(alloc, settings)?;
-    let name = testcase(settings);
+    let (run, name, script) = (run.as_bytes(), testcase(settings), script(settings));
     let answer = match settings.get("command") {
-        Some("coarsen") => coarsen_text(alloc, text, name, run.as_bytes()),
-        Some("double") => double_text(alloc, text, name, run.as_bytes()),
-        _ => replay_text(alloc, text, name, run.as_bytes()),
+        Some("coarsen") => coarsen_text(alloc, text, name, run, script),
+        Some("double") => double_text(alloc, text, name, run, script),
+        _ => replay_text(alloc, text, name, run, script),
     };
     match answer {
         Ok(printed) => match str::from_utf8(printed.as_slice()) {
@@ -121,8 +121,9 @@ fn answer_under<R: Threads + Sync>(
     settings: &Settings<'_>,
     plan: &Plan,
 ) -> Result<String, AllocError> {
-    match run_text(rt, alloc, text, testcase(settings), plan, &NoGate) {
-        Ok(report) => match lost_run(alloc, text, testcase(settings), &report)? {
+    let (name, script) = (testcase(settings), script(settings));
+    match run_script(rt, alloc, text, script, name, plan, &NoGate) {
+        Ok(report) => match lost_run(alloc, text, name, script, &report)? {
             None => shown(alloc, &report, settings),
             Some(verdict) => format!(in alloc; "the run to {verdict} is lost by its doubling"),
         },
@@ -143,6 +144,11 @@ fn shown(alloc: Global, report: &Report, settings: &Settings<'_>) -> Result<Stri
 /// The name of the test case.
 fn testcase<'a>(settings: &Settings<'a>) -> &'a str {
     settings.get("testcase").unwrap_or("T")
+}
+
+/// The script: one by which nothing comes in, where the row has none.
+fn script<'a>(settings: &Settings<'a>) -> &'a [u8] {
+    settings.get("script").unwrap_or("{}").as_bytes()
 }
 
 /// What is printed, without the end of its last line: the answer of a row has none.

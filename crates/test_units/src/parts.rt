@@ -1,8 +1,8 @@
 //! Configurations to pack.
 use std::alloc::{AllocError, Global};
 use ttcn_config::{
-    ActiveDefault, Cells, Component, Config, Connection, Data, End, Frame, Going, Message, Queue,
-    Shared, State,
+    ActiveDefault, Cells, Component, Config, Connection, Data, End, Frame, Going, Links, Message,
+    Queue, Shared, State,
 };
 use ttcn_syntax::{Seq, Verdict};
 use ttcn_values::{ComponentId, Path, Slot, TimerState, Value};
@@ -80,9 +80,14 @@ fn component(alloc: Global, own: Data, queues: Seq<Queue>) -> Result<Component, 
 fn going(alloc: Global, component: Component) -> Result<Going, AllocError> {
     let mut components = Seq::new(alloc);
     components.push(component)?;
+    let links = Links {
+        connections: Seq::new(alloc),
+        mappings: Seq::new(alloc),
+        delivered: Seq::new(alloc),
+    };
     Ok(Going {
         components,
-        connections: Shared::new(alloc, Seq::new(alloc))?,
+        links: Shared::new(alloc, links)?,
         forgotten: Verdict::None,
     })
 }
@@ -121,10 +126,10 @@ fn active_default(alloc: Global) -> Result<ActiveDefault, AllocError> {
     })
 }
 
-fn message(alloc: Global) -> Result<Message, AllocError> {
+fn message(alloc: Global, sender: Option<ComponentId>) -> Result<Message, AllocError> {
     Ok(Message {
         value: record(alloc)?,
-        sender: name(alloc, &[1])?,
+        sender,
     })
 }
 
@@ -132,6 +137,24 @@ fn end(alloc: Global, numbers: &[u32]) -> Result<End, AllocError> {
     Ok(End {
         component: path(alloc, numbers)?,
         port: 7,
+    })
+}
+
+/// Two ports are connected, and one more is mapped to a system port, at which messages came in.
+fn links(alloc: Global) -> Result<Links, AllocError> {
+    let mut connections = Seq::new(alloc);
+    connections.push(Connection {
+        one: end(alloc, &[])?,
+        other: end(alloc, &[0])?,
+    })?;
+    let mut mappings = Seq::new(alloc);
+    mappings.push((9, end(alloc, &[1])?))?;
+    let mut delivered = Seq::new(alloc);
+    delivered.push((9, 20_000))?;
+    Ok(Links {
+        connections,
+        mappings,
+        delivered,
     })
 }
 
@@ -145,8 +168,9 @@ pub fn large(alloc: Global, forgotten: Verdict) -> Result<Config, AllocError> {
     own.defaults.push(active_default(alloc)?)?;
     own.activations = 2;
     let mut messages = queue(alloc, 8);
-    messages.messages.push(message(alloc)?)?;
-    messages.messages.push(message(alloc)?)?;
+    let sender = name(alloc, &[1])?;
+    messages.messages.push(message(alloc, Some(sender))?)?;
+    messages.messages.push(message(alloc, None)?)?;
     let mut queues = one_queue(alloc)?;
     queues.push(messages)?;
     let mut going = going(alloc, component(alloc, own, queues)?)?;
@@ -154,12 +178,7 @@ pub fn large(alloc: Global, forgotten: Verdict) -> Result<Config, AllocError> {
     other.itself = name(alloc, &[0])?;
     other.state = State::Created;
     going.components.push(other)?;
-    let mut connections = Seq::new(alloc);
-    connections.push(Connection {
-        one: end(alloc, &[])?,
-        other: end(alloc, &[0])?,
-    })?;
-    going.connections = Shared::new(alloc, connections)?;
+    going.links = Shared::new(alloc, links(alloc)?)?;
     going.forgotten = forgotten;
     Ok(Config::Going(going))
 }
@@ -177,7 +196,7 @@ pub fn long(alloc: Global) -> Result<Config, AllocError> {
     for number in 0..100_000 {
         messages.messages.push(Message {
             value: Value::Integer(number),
-            sender: name(alloc, &[1])?,
+            sender: Some(name(alloc, &[1])?),
         })?;
     }
     let mut queues = one_queue(alloc)?;

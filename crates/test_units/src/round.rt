@@ -23,7 +23,7 @@ const SMALL: &[u8] = &[
     0, 0, 1, // no defaults, none activated, a child
     1, 1, // running, pass
     1, 7, 0, // a queue of port 7, empty
-    0, 0, // no connections, and nothing forgotten
+    0, 0, 0, 0, // no connections, no mappings, nothing delivered, and nothing forgotten
 ];
 
 #[test]

@@ -4,6 +4,6 @@
 pub use config_canonical::{canon, canon_owned};
 pub use config_packed::{Packed, pack, unpack};
 pub use config_parts::{
-    ActiveDefault, Cells, Component, Config, Connection, Data, End, Frame, Going, Message, Queue,
-    Shared, State, TryClone,
+    ActiveDefault, Cells, Component, Config, Connection, Data, End, Frame, Going, Links, Message,
+    Queue, Shared, State, TryClone,
 };

@@ -127,6 +127,7 @@ module _ (definitions : List Definition) (s : Statement)
   one-of site (Action-F.Log logged) is = one-item definitions site s (Action-F.Log logged) is refl refl
   one-of site (Action-F.Setverdict verdict reasons) is = one-item definitions site s (Action-F.Setverdict verdict reasons) is refl refl
   one-of site (Action-F.Connect one other) is = one-item definitions site s (Action-F.Connect one other) is refl refl
+  one-of site (Action-F.Map m) is = one-item definitions site s (Action-F.Map m) is refl refl
   one-of site (Action-F.Send send) is = one-item definitions site s (Action-F.Send send) is refl refl
   one-of site (Action-F.StartComponent reference call) is = one-item definitions site s (Action-F.StartComponent reference call) is refl refl
   one-of site (Action-F.StartTimer timer) is = one-item definitions site s (Action-F.StartTimer timer) is refl refl
@@ -165,6 +166,7 @@ module _ (definitions : List Definition) (site : Site) (s : Statement) (rest : L
   no-ways-of (Action-F.Log logged) is = part-is definitions site s rest rules.Whole (Action-F.Log logged) is
   no-ways-of (Action-F.Setverdict verdict reasons) is = part-is definitions site s rest rules.Whole (Action-F.Setverdict verdict reasons) is
   no-ways-of (Action-F.Connect one other) is = part-is definitions site s rest rules.Whole (Action-F.Connect one other) is
+  no-ways-of (Action-F.Map m) is = part-is definitions site s rest rules.Whole (Action-F.Map m) is
   no-ways-of (Action-F.Send send) is = part-is definitions site s rest rules.Whole (Action-F.Send send) is
   no-ways-of (Action-F.StartComponent reference call) is = part-is definitions site s rest rules.Whole (Action-F.StartComponent reference call) is
   no-ways-of (Action-F.StartTimer timer) is = part-is definitions site s rest rules.Whole (Action-F.StartTimer timer) is

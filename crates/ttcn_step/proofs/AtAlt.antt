@@ -4,7 +4,7 @@ use Rattle.std.proofs.lemmas.Option.{same_Some}
 use Rattle.laws_fine.specs.Fine.{begins_with_alt, is_at_alt, is_found, is_of_alt, stands_at_alt}
 use Rattle.semantics.specs.Configurations.{is_running_state}
 use Rattle.semantics.specs.Snapshots.{Test}
-use Rattle.semantics.specs.Steps.{Expiry, Label, Statement}
+use Rattle.semantics.specs.Steps.{Delivery, Expiry, Label, Statement}
 use Rattle.config_parts.specs.Legend.{Legend, component_by, frame_by, going_by, state_by}
 use Rattle.config_parts.specs.declared.component.Component.{Component}
 use Rattle.config_parts.specs.declared.config.Going.{Going}
@@ -38,6 +38,9 @@ module _ (l : Legend) (test : Test) (going : Going) (label : Label) where
 
   pub expiry-not : (path : Path) (number : ℕ) (name : List ℕ) → label ≡ Expiry path number name → false ≡ IsOf label
   expiry-not path number name is = sym (ap IsOf is)
+
+  pub delivery-not : (name : List ℕ) → label ≡ Delivery name → false ≡ IsOf label
+  delivery-not name is = sym (ap IsOf is)
 
   pub missing-not : (path : Path) → label ≡ Statement path → Searched path.numbers going.components ≡ None → false ≡ IsOf label
   missing-not path is none = sym (ap IsOf is ∙ ap (is_found (stands_at_alt test)) (said-found l test going path None none))

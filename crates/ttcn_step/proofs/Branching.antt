@@ -8,7 +8,7 @@ use Rattle.semantics.specs.Configurations.{is_running_state}
 use Rattle.semantics.specs.Places.{branch_in, branch_of_component, place_in_frames, unless_fault}
 use Rattle.semantics.specs.Snapshots.{Test, snapshot_of}
 use Rattle.semantics.specs.Statements.{act}
-use Rattle.semantics.specs.Steps.{Expiry, Label, Statement}
+use Rattle.semantics.specs.Steps.{Delivery, Expiry, Label, Statement}
 use Rattle.step_snapshot.specs.Tests.{legend_by, test_by}
 use Rattle.step_snapshot.specs.declared.test_case.TestCase.{TestCase}
 use Rattle.config_parts.specs.Legend.{Legend, component_by, going_by}
@@ -50,6 +50,9 @@ module _ (legend : Legend) (test : Test) (going : Going) (label : Label) where
 
   pub expiry-takes-none : (path : Path) (number : ℕ) (name : List ℕ) → label ≡ Expiry path number name → None ≡ Branch label
   expiry-takes-none path number name is = sym (ap Branch is)
+
+  pub delivery-takes-none : (name : List ℕ) → label ≡ Delivery name → None ≡ Branch label
+  delivery-takes-none name is = sym (ap Branch is)
 
   pub missing-takes-none : (path : Path) → label ≡ Statement path → Searched path.numbers going.components ≡ None → None ≡ Branch label
   missing-takes-none path is none = sym (ap Branch is ∙ ap (option_and_then (branch_of_component test (going_by legend going))) (said-found legend test going path None none))

@@ -7,7 +7,7 @@ use Rattle.laws_fine.specs.Fine.{FineLabel}
 use Rattle.semantics.specs.Configurations.{Configuration, Ended, Goes}
 use Rattle.semantics.specs.Runs.{option_elim, replay, replay_from}
 use Rattle.semantics.specs.Snapshots.{Test}
-use Rattle.semantics.specs.Steps.{Expiry, Label, Statement, next}
+use Rattle.semantics.specs.Steps.{Delivery, Expiry, Label, Statement, next}
 use Rattle.ttcn_step.proofs.Coarsening.{has-led}
 use Rattle.ttcn_step.proofs.Replaying.{Left, next-left}
 use Rattle.ttcn_step.specs.FineAnswers.{Doubles, HasLed}
@@ -20,6 +20,7 @@ use Rattle.value_types.specs.declared.path.Path.{Path}
 in-front : (b : Bool) (label : Label) (others : List FineLabel) → doubled_label b label others ≡ doubled_label b label [] ++ others
 in-front true (Statement path) others = refl
 in-front true (Expiry path number name) others = refl
+in-front true (Delivery name) others = refl
 in-front false label others = refl
 
 -- one label more
@@ -40,6 +41,11 @@ doubled-more test run place label c d fine new whole less read leads grows holds
 pub expiry-no-alt : (test : Test) (c : Configuration) (label : Label) (path : Path) (number : ℕ) (name : List ℕ) → label ≡ Expiry path number name → is_alt_in test c label ≡ false
 expiry-no-alt test (Ended v) label path number name is = refl
 expiry-no-alt test (Goes c) label path number name is = ap (is_alt_in test (Goes c)) is
+
+-- nor is a delivery
+pub delivery-no-alt : (test : Test) (c : Configuration) (label : Label) (name : List ℕ) → label ≡ Delivery name → is_alt_in test c label ≡ false
+delivery-no-alt test (Ended v) label name is = refl
+delivery-no-alt test (Goes c) label name is = ap (is_alt_in test (Goes c)) is
 
 -- ---- the end
 

@@ -28,19 +28,19 @@ use Rattle.value_types.specs.declared.path.Path.{Path}
 
 -- no slot stands for a name that has none
 module _ (legend : Legend) (names : List (List ℕ)) (name : List ℕ) (are : AreNames legend names) (missing : ¬ Contains names name) where
-  other-name : (slot : ℕ) → slot < length names → (b : Bool) → bytes_eq (legend.names slot) name ≡ b → bytes_eq (legend.names slot) name ≡ false
+  pub other-name : (slot : ℕ) → slot < length names → (b : Bool) → bytes_eq (legend.names slot) name ≡ b → bytes_eq (legend.names slot) name ≡ false
   other-name slot less true is =
       absurd (missing (slot, less, get_or_from_slice_get names slot (legend.names slot) name (are slot less) ∙ (bytes_eq-Decides (legend.names slot) name).0 is))
   other-name slot less false is = is
 
-  first-other : {A : Type 0} (e : ℕ × A) (o : Option (List ℕ × A)) (b : Bool) → b ≡ false → o ≡ None → (if b then Some (legend.names e.0, e.1) else o) ≡ None
-  first-other e o true is none = absurd (let no = is in cc)
-  first-other e o false is none = none
+  pub first-other : {A : Type 0} (a : A) (o : Option A) (b : Bool) → b ≡ false → o ≡ None → (if b then Some a else o) ≡ None
+  first-other a o true is none = absurd (let no = is in cc)
+  first-other a o false is none = none
 
   none-found : {A : Type 0} (es : List (ℕ × A)) → AreWithin (length names) es → find (λ e. bytes_eq e.0 name) (entries_by legend es) ≡ None
   none-found [] within = refl
   none-found {A} (e ∷ es) within =
-      first-other e (find (λ e. bytes_eq e.0 name) (entries_by legend es)) (bytes_eq (legend.names e.0) name)
+      first-other (legend.names e.0, e.1) (find (λ e. bytes_eq e.0 name) (entries_by legend es)) (bytes_eq (legend.names e.0) name)
       (other-name e.0 (All-head (λ (x : ℕ × A). x.0 < length names) e es within) (bytes_eq (legend.names e.0) name) refl)
       (none-found es (All-tail (λ (x : ℕ × A). x.0 < length names) e es within))
 

@@ -131,6 +131,8 @@ module _ (stand : Stand) (own : KeepsFrameLimit stand.own) (below : length stand
     stops_last = λ under. (tt, none-kept);
     stops = λ reference c meant. (tt, done-kept);
     connects = λ one other c d first second may. (tt, done-kept);
+    maps = λ m c meant may. (tt, done-kept);
+    unmaps = λ m c meant. (tt, done-kept);
   }
 
 -- ---- steps of a component

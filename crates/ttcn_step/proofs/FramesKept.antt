@@ -1,5 +1,5 @@
 -- All components have no more frames than the limit behind each step.
-use Rattle.std.proofs.Common.{lit<, ◌≡◌, ℕ, ◌<◌, List, [], ◌∙◌, map, length, Option, Some, None, IfSome, option_map, sym, ap, subst}
+use Rattle.std.proofs.Common.{lit<, ◌≡◌, ℕ, ◌<◌, List, [], ◌∷◌, ◌++◌, ◌∙◌, map, length, Option, Some, None, IfSome, option_map, sym, ap, subst}
 use Rattle.std.specs.List.{All}
 use Rattle.std.proofs.lemmas.List.Elements.{All-cons, All-nil}
 use Rattle.laws_steps.proofs.Applying.{Anyhow, AppliesEach, IfGoes, Leads, OwnHas, applied, applies-each, touch-each}
@@ -11,7 +11,7 @@ use Rattle.semantics.specs.Configurations.{Component, Configuration, Data, Ended
 use Rattle.semantics.specs.Runs.{mtc_with, start}
 use Rattle.semantics.specs.Snapshots.{Snapshot, Test, snapshot_of}
 use Rattle.semantics.specs.Statements.{Act, Errs, Requests, Waits, act, most}
-use Rattle.semantics.specs.Steps.{Label, apply, exchanged, expired, next, settled}
+use Rattle.semantics.specs.Steps.{Label, apply, at_queue, exchanged, expired, next, settled}
 use Rattle.ttcn_step.proofs.FrameLimits.{AsksWithinLimit, asked-kept, uncovered-kept}
 use Rattle.ttcn_step.specs.FrameLimit.{AllKeepFrameLimit, KeepsFrameLimit}
 use Rattle.value_types.specs.declared.path.Path.{Path}
@@ -71,6 +71,8 @@ steps-kept test c is = record {
   asked = λ p x found runs. asked-leads test c c x.itself p x (snapshot_of c x) is is found;
   expires = λ p x number name own found runs changed.
       touch-each IsKept c (path_of x) (exchanged own) (λ y kept. some-of KeepsFrameLimit (expired number name x.own) own changed (expired-kept number name x.own (kept-at c p x is found))) is;
+  comes = λ system_port e v mapped found.
+      touch-each IsKept c e.component (at_queue e.port (λ messages. messages ++ record { value = v; sender = None } ∷ [])) (λ y kept. kept) is;
 }
 
 -- in the words of the law

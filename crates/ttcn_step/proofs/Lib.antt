@@ -2,6 +2,7 @@ pub mod AtAlt
 pub mod Branching
 pub mod Choosing
 pub mod Coarsening
+pub mod Delivering
 pub mod Doubling
 pub mod Enabled
 pub mod Expiring

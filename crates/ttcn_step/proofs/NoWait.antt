@@ -84,6 +84,8 @@ module _ (stand : Stand) (site : Site) (s : Statement) (part : Part) (plain : pa
     stops_last = λ under. tt;
     stops = λ reference c meant. tt;
     connects = λ one other c d first second may. tt;
+    maps = λ m c meant may. tt;
+    unmaps = λ m c meant. tt;
   }
 
 -- ---- steps of a component

@@ -25,7 +25,7 @@ pub passed : {X Y : Type 0} (F : List X → List Y) (xs : List X) (i : ℕ) (x :
     → F (x ∷ drop (i + 1) xs) ≡ part ++ F (drop (i + 1) xs) → part ≡ [] → F (drop i xs) ≡ all → F (drop (i + 1) xs) ≡ all
 passed F xs i x part all less read made none holds = grown F xs i x [] [] part all less read made (sym none) holds
 
-first-none : {Y : Type 0} (part rest : List Y) → part ++ rest ≡ [] → part ≡ []
+pub first-none : {Y : Type 0} (part rest : List Y) → part ++ rest ≡ [] → part ≡ []
 first-none [] rest none = refl
 first-none (y ∷ part) rest none = cc
 
@@ -35,7 +35,7 @@ pub left-over : {X Y : Type 0} (F : List X → List Y) (xs : List X) (i : ℕ) (
 left-over F xs i x part all less read made some holds none =
     some (first-none part (F (drop (i + 1) xs)) (sym made ∙ ap (λ y. F (y ∷ drop (i + 1) xs)) read ∙ sym (at_drop_more F xs i x less) ∙ holds ∙ none))
 
-second-none : {Y : Type 0} (part rest : List Y) → part ++ rest ≡ [] → rest ≡ []
+pub second-none : {Y : Type 0} (part rest : List Y) → part ++ rest ≡ [] → rest ≡ []
 second-none [] rest none = none
 second-none (y ∷ part) rest none = cc
 

@@ -9,7 +9,7 @@ use Rattle.semantics.proofs.LabelOrder.{names-alike}
 use Rattle.semantics.proofs.Pairs.{All-both, All-more, pairs-head, pairs-tail}
 use Rattle.semantics.specs.Configurations as rules
 use Rattle.semantics.specs.Configurations.{component_at, is_running_state, path_cmp, path_of, same_path}
-use Rattle.semantics.specs.Labels.{expiries, labels, labels_of_component, statement_labels}
+use Rattle.semantics.specs.Labels.{deliveries, expiries, labels, labels_of_component, statement_labels}
 use Rattle.semantics.specs.Order.{IsOrdered}
 use Rattle.semantics.specs.Snapshots.{Test}
 use Rattle.semantics.specs.Steps.{Label, Statement, next, settled, statement_step}
@@ -99,8 +99,11 @@ module _ (test : Test) (c : rules.Going) where
       ∙ sym (leads-append (labels_of_component test c x) (flat_map (labels_of_component test c) xs))
 
   -- the candidates lead where the enabled labels lead
-  pub candidates-lead : IsOrdered c → Leads (candidates c) ≡ Leads (labels test (rules.Goes c))
-  candidates-lead ordered = all-lead c.components (all-found c.components ordered.components)
+  pub candidates-lead : IsOrdered c → Leads (candidates test c) ≡ Leads (labels test (rules.Goes c))
+  candidates-lead ordered =
+      leads-append (flat_map candidates_of c.components) (deliveries test c)
+      ∙ ap (λ found. found ++ Leads (deliveries test c)) (all-lead c.components (all-found c.components ordered.components))
+      ∙ sym (leads-append (flat_map (labels_of_component test c) c.components) (deliveries test c))
 
 -- ---- all enabled labels lead somewhere
 
@@ -160,7 +163,7 @@ leads-more test c before label found grown more holds =
 
 -- ---- all successors
 
-module _ (machine : Machine) (going : Going) (kept : List Label) (ordered : StandsInOrder (said machine (config.Going going))) (same : kept ≡ candidates (going_by (legend machine) going)) where
+module _ (machine : Machine) (going : Going) (kept : List Label) (ordered : StandsInOrder (said machine (config.Going going))) (same : kept ≡ candidates machine.test (going_by (legend machine) going)) where
   abbrev Found : rules.Configuration
   Found = rules.Goes (going_by (legend machine) going)
 

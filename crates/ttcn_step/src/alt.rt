@@ -105,5 +105,6 @@ pub(crate) fn is_of_alt(test: &TestCase<'_>, going: &Going, label: &Label) -> bo
             None => false,
         },
         Label::Expiry { .. } => false,
+        Label::Delivery(_) => false,
     }
 }

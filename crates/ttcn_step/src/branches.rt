@@ -58,6 +58,7 @@ fn branch_in(
             None => Ok(None),
         },
         Label::Expiry { .. } => Ok(None),
+        Label::Delivery(_) => Ok(None),
     }
 }
 

@@ -40,6 +40,7 @@ fn alt_of<'b>(test: &TestCase<'_>, config: &Config, label: &'b Label) -> Option<
             }
         }
         Label::Expiry { .. } => None,
+        Label::Delivery(_) => None,
     }
 }
 

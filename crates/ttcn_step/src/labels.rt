@@ -1,6 +1,6 @@
 //! The labels of a configuration (ES 201 873-4).
 ghost use Rattle.std.specs.Prelude.{◌≡◌, ◌↔◌, ◌<◌, ◌++◌, [], IfOk, IsTrue, OnOk, length, map, true};
-ghost use Rattle.std.specs.List.{All};
+ghost use Rattle.std.specs.List.{All, flat_map};
 ghost use Rattle.semantics.specs.Configurations as rules;
 ghost use Rattle.semantics.specs.Labels as said_labels;
 ghost use Rattle.semantics.specs.Statements.{most};
@@ -14,6 +14,7 @@ ghost use Rattle.ttcn_step.specs.Machines.{Fits, machine_of, said};
 ghost use Rattle.ttcn_step.specs.internal.Steps as spec;
 ghost use Rattle.value_types.specs.Frames.{is_running};
 
+use crate::delivery::push_deliveries;
 use crate::plain::stands_at_plain;
 use crate::step::{has_step, is_running, slots_are_ordered};
 use config_parts::{Cells, Component, Config, Frame, Going};
@@ -24,7 +25,7 @@ use ttcn_syntax::Name;
 use value_types::{Path, Slot, TimerState};
 
 /// The name of a slot.
-fn name_of(alloc: Global, test: &TestCase<'_>, slot: Slot) -> Result<Name, AllocError>
+pub(crate) fn name_of(alloc: Global, test: &TestCase<'_>, slot: Slot) -> Result<Name, AllocError>
     requires { slot < length test.now.names }
     ensures { IfOk result (λ name. name ≡ (legend_by test.now).names slot) }
 {
@@ -140,15 +141,29 @@ fn push_component(
     push_expiries(alloc, test, component, labels)
 }
 
-/// The enabled labels of a configuration that goes on.
-fn labels_of(alloc: Global, test: &TestCase<'_>, going: &Going) -> Result<Vec<Label>, AllocError>
+/// The enabled labels of the components of a configuration.
+fn component_labels(
+    alloc: Global,
+    test: &TestCase<'_>,
+    going: &Going,
+) -> Result<Vec<Label>, AllocError>
     requires { Fits (machine_of test.now) (config.Going going.now) }
-    ensures { IfOk result (λ found. found.items ≡ said_labels.labels (test_by test.now) (rules.Goes (going_by (legend_by test.now) going.now))) }
+    ensures { IfOk result (λ found. found.items ≡ flat_map (said_labels.labels_of_component (test_by test.now) (going_by (legend_by test.now) going.now)) (going_by (legend_by test.now) going.now).components) }
 {
     let mut labels = Vec::new(alloc);
     for component in going.components.as_slice() {
         push_component(alloc, test, going, component, &mut labels)?;
     }
+    Ok(labels)
+}
+
+/// The enabled labels of a configuration that goes on.
+fn labels_of(alloc: Global, test: &TestCase<'_>, going: &Going) -> Result<Vec<Label>, AllocError>
+    requires { Fits (machine_of test.now) (config.Going going.now) }
+    ensures { IfOk result (λ found. found.items ≡ said_labels.labels (test_by test.now) (rules.Goes (going_by (legend_by test.now) going.now))) }
+{
+    let mut labels = component_labels(alloc, test, going)?;
+    push_deliveries(alloc, test, going, &mut labels)?;
     Ok(labels)
 }
 
@@ -186,7 +201,7 @@ fn labels_at(
 
 /// Whether a component runs that stands at no `alt`: it has a step, and nothing has to be evaluated to know it.
 fn has_plain_step(test: &TestCase<'_>, going: &Going) -> bool
-    ensures { result ≡ true → ¬ (said_labels.labels (test_by test.now) (rules.Goes (going_by (legend_by test.now) going.now)) ≡ []) }
+    ensures { result ≡ true → ¬ (flat_map (said_labels.labels_of_component (test_by test.now) (going_by (legend_by test.now) going.now)) (going_by (legend_by test.now) going.now).components ≡ []) }
 {
     for component in going.components.as_slice() {
         if is_running(component.state) && stands_at_plain(test, component) {
@@ -196,11 +211,11 @@ fn has_plain_step(test: &TestCase<'_>, going: &Going) -> bool
     false
 }
 
-/// Whether no label of a configuration that goes on is enabled. Nothing is evaluated where a component stands at no `alt`,
+/// Whether no label of a component of a configuration is enabled. Nothing is evaluated where a component stands at no `alt`,
 /// and the components behind the first that has a label are not asked.
-fn is_stuck_going(alloc: Global, test: &TestCase<'_>, going: &Going) -> Result<bool, AllocError>
+fn are_stuck(alloc: Global, test: &TestCase<'_>, going: &Going) -> Result<bool, AllocError>
     requires { Fits (machine_of test.now) (config.Going going.now) }
-    ensures { IfOk result (λ stuck. IsTrue stuck ↔ said_labels.labels (test_by test.now) (rules.Goes (going_by (legend_by test.now) going.now)) ≡ []) }
+    ensures { IfOk result (λ stuck. IsTrue stuck ↔ flat_map (said_labels.labels_of_component (test_by test.now) (going_by (legend_by test.now) going.now)) (going_by (legend_by test.now) going.now).components ≡ []) }
 {
     if has_plain_step(test, going) {
         return Ok(false);
@@ -212,6 +227,19 @@ fn is_stuck_going(alloc: Global, test: &TestCase<'_>, going: &Going) -> Result<b
         }
     }
     Ok(true)
+}
+
+/// Whether no label of a configuration that goes on is enabled.
+fn is_stuck_going(alloc: Global, test: &TestCase<'_>, going: &Going) -> Result<bool, AllocError>
+    requires { Fits (machine_of test.now) (config.Going going.now) }
+    ensures { IfOk result (λ stuck. IsTrue stuck ↔ said_labels.labels (test_by test.now) (rules.Goes (going_by (legend_by test.now) going.now)) ≡ []) }
+{
+    if !are_stuck(alloc, test, going)? {
+        return Ok(false);
+    }
+    let mut deliveries = Vec::new(alloc);
+    push_deliveries(alloc, test, going, &mut deliveries)?;
+    Ok(deliveries.is_empty())
 }
 
 /// Whether no label of a configuration is enabled.

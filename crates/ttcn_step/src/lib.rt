@@ -4,6 +4,7 @@
 mod alt;
 mod branches;
 mod coarsen;
+mod delivery;
 mod double;
 mod error;
 mod fine;
@@ -25,5 +26,6 @@ pub use laws::{canonical_forms_fit, labels_are_enabled};
 pub use limit::frames_keep_the_limit;
 pub use machine::Machine;
 pub use step_labels::{FineLabel, Label, Standing};
+pub use step_script::Script;
 pub use successor::Successor;
 pub use value_types::Path;

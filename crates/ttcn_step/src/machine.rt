@@ -24,6 +24,7 @@ use config_parts::Config;
 use std::alloc::{AllocError, Global};
 use std::marker::Model;
 use step_labels::{FineLabel, Label, Standing};
+use step_script::Script;
 use step_snapshot::TestCase;
 use ttcn_syntax::Span;
 
@@ -45,27 +46,43 @@ impl<'a> Model for Machine<'a> {
     ghost use Rattle.ttcn_syntax.specs.contracts.tree.statement.Branch as branch;
     ghost use Rattle.ttcn_syntax.specs.contracts.tree.statement.Statement as statement;
     ghost use Rattle.ttcn_syntax.specs.contracts.tree.template.Template as template;
-    ghost use Rattle.ttcn_syntax.specs.contracts.tree.value.Value as value;
+    ghost use Rattle.ttcn_syntax.specs.contracts.tree.value.Value as tree_value;
+    ghost use Rattle.value_types.specs.contracts.value.Value as value;
     ghost use Rattle.ttcn_step.specs.Machines as definition;
 
     ghost Value = { definition.Machine };
 
-    ghost coded = { Prim.hlevel (codes, action.the_row.coded, branch.the_row.coded, statement.the_row.coded, template.the_row.coded, value.the_row.coded) };
+    ghost coded = { Prim.hlevel (codes, action.the_row.coded, branch.the_row.coded, statement.the_row.coded, template.the_row.coded, tree_value.the_row.coded, value.the_row.coded) };
 
     ghost view = { λ machine. definition.machine_of machine.test };
 }
 
 impl<'a> Machine<'a> {
-    /// What runs a test case of a program. A program with more names than 32 bits can count is
-    /// refused as if an allocation failed.
+    /// What runs a test case of a program, at whose system ports nothing comes in. A program with more names than 32 bits
+    /// can count is refused as if an allocation failed.
     pub fn new(
         alloc: Global,
         program: &'a Program,
         testcase: TestId,
     ) -> Result<Machine<'a>, AllocError>
-        ensures { IfOk result (λ machine. machine.test ≡ record { definitions = program.now.definitions; testcase = testcase }) }
+        ensures { IfOk result (λ machine. machine.test ≡ record { definitions = program.now.definitions; testcase = testcase; script = [] }) }
     {
-        let test = testcases::testcase_at(alloc, program, testcase.position())?;
+        let test = testcases::testcase_at(alloc, program, testcase.position(), &[])?;
+        Ok(Machine { test })
+    }
+
+    /// What runs a test case of a program, at whose system ports the messages of a script come in. A program with more names
+    /// than 32 bits can count is refused as if an allocation failed.
+    pub fn with_script(
+        alloc: Global,
+        program: &'a Program,
+        testcase: TestId,
+        script: &'a Script,
+    ) -> Result<Machine<'a>, AllocError>
+        ensures { IfOk result (λ machine. machine.test ≡ record { definitions = program.now.definitions; testcase = testcase; script = script.now.ports }) }
+    {
+        let ports = script.ports.as_slice();
+        let test = testcases::testcase_at(alloc, program, testcase.position(), ports)?;
         Ok(Machine { test })
     }
 

@@ -9,12 +9,13 @@ ghost use Rattle.semantics.specs.Steps as steps;
 ghost use Rattle.step_snapshot.specs.Tests.{extent_of, legend_by, test_by};
 ghost use Rattle.config_parts.specs.Acts.{HasPathsInOrder, IsUncovered, act_by};
 ghost use Rattle.config_parts.specs.Legend.{IsLegend, Legend, component_by, config_by, going_by, state_by};
-ghost use Rattle.config_parts.specs.Views.{AreAllWithin, AreNames, Extent, IsActWithin, IsConfigWithin, IsWithin};
+ghost use Rattle.config_parts.specs.Views.{AreNames, Extent, IsActWithin, IsConfigWithin, IsGoingWithin, IsWithin};
 ghost use Rattle.config_parts.specs.declared.config.Config.TheVariants as config;
 ghost use Rattle.ttcn_step.specs.Answers.{Leads};
 ghost use Rattle.ttcn_step.specs.Machines.{Fits, machine_of, said};
 ghost use Rattle.ttcn_step.specs.internal.Steps as spec;
 
+use crate::delivery::delivery_named;
 use crate::error::StepError;
 use crate::plain::stands_at_plain;
 use config_parts::{Act, Component, Config, Going, State, TryClone, names_make_legends};
@@ -113,7 +114,7 @@ pub(crate) fn done(
 ) -> Result<Config, AllocError>
     ensures behind { (legend : Legend) (test : Test) → IsLegend legend → HasPathsInOrder going.now → IsUncovered (act_by legend act)
         → IfOk result (λ after. spec.IsBehind legend (steps.apply test (going_by legend going.now) itself.now (act_by legend act)) (Some after)) }
-    ensures within { (size : Extent) → AreAllWithin size going.now.components → IsActWithin size act → IfOk result (IsConfigWithin size) }
+    ensures within { (size : Extent) → IsGoingWithin size going.now → IsActWithin size act → IfOk result (IsConfigWithin size) }
 {
     let copy = going.try_clone(alloc)?;
     match copy.apply(alloc, itself, act) {
@@ -131,7 +132,7 @@ fn statement(
     component: &Component,
 ) -> Result<Option<Config>, AllocError>
     requires ordered { HasPathsInOrder going.now }
-    requires all { AreAllWithin (extent_of test.now) going.now.components }
+    requires all { IsGoingWithin (extent_of test.now) going.now }
     requires within { IsWithin (extent_of test.now) component.now.own }
     ensures behind { IfOk result (spec.IsBehind (legend_by test.now) (steps.statement_step (test_by test.now) (going_by (legend_by test.now) going.now) (component_by (legend_by test.now) component.now))) }
     ensures within { IfOk result (λ after. IfSome after (IsConfigWithin (extent_of test.now))) }
@@ -161,7 +162,7 @@ fn expiry(
     timer: Slot,
 ) -> Result<Option<Config>, AllocError>
     requires ordered { HasPathsInOrder going.now }
-    requires all { AreAllWithin (extent_of test.now) going.now.components }
+    requires all { IsGoingWithin (extent_of test.now) going.now }
     requires within { timer < length test.now.names }
     ensures behind { IfOk result (spec.IsBehind (legend_by test.now) (steps.step_in (test_by test.now) (going_by (legend_by test.now) going.now) (steps.Expiry path.now frame ((legend_by test.now).names timer)))) }
     ensures within { IfOk result (λ after. IfSome after (IsConfigWithin (extent_of test.now))) }
@@ -185,7 +186,7 @@ fn expiry_named(
     timer: &Name,
 ) -> Result<Option<Config>, AllocError>
     requires ordered { HasPathsInOrder going.now }
-    requires all { AreAllWithin (extent_of test.now) going.now.components }
+    requires all { IsGoingWithin (extent_of test.now) going.now }
     ensures behind { IfOk result (spec.IsBehind (legend_by test.now) (steps.step_in (test_by test.now) (going_by (legend_by test.now) going.now) (steps.Expiry path.now frame timer.now))) }
     ensures within { IfOk result (λ after. IfSome after (IsConfigWithin (extent_of test.now))) }
 {
@@ -217,6 +218,7 @@ pub(crate) fn step(
             frame,
             timer,
         } => expiry_named(alloc, test, going, component, *frame, timer),
+        Label::Delivery(system_port) => delivery_named(alloc, test, going, system_port),
     }
 }
 

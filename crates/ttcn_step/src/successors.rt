@@ -1,6 +1,6 @@
 //! Where the enabled labels of a configuration lead (ES 201 873-4).
 ghost use Rattle.std.specs.Prelude.{◌≡◌, ◌++◌, ◌∷◌, [], IfOk, OnOk, map};
-ghost use Rattle.std.specs.List.{All};
+ghost use Rattle.std.specs.List.{All, flat_map};
 ghost use Rattle.semantics.specs.Configurations as rules;
 ghost use Rattle.semantics.specs.Labels as said_labels;
 ghost use Rattle.step_snapshot.specs.Tests.{legend_by, test_by};
@@ -11,6 +11,7 @@ ghost use Rattle.ttcn_step.specs.Machines.{Fits, machine_of, said};
 ghost use Rattle.ttcn_step.specs.internal.Steps as spec;
 ghost use Rattle.ttcn_step.specs.internal.Successors as pairs;
 
+use crate::delivery::push_deliveries;
 use crate::labels::push_candidates;
 use crate::step::step;
 use crate::successor::Successor;
@@ -19,15 +20,29 @@ use std::alloc::{AllocError, Global};
 use step_labels::Label;
 use step_snapshot::TestCase;
 
-/// The labels that a configuration may have.
-fn candidates(alloc: Global, test: &TestCase<'_>, going: &Going) -> Result<Vec<Label>, AllocError>
+/// The labels that the components of a configuration may have.
+fn component_candidates(
+    alloc: Global,
+    test: &TestCase<'_>,
+    going: &Going,
+) -> Result<Vec<Label>, AllocError>
     requires { Fits (machine_of test.now) (config.Going going.now) }
-    ensures { IfOk result (λ found. found.items ≡ spec.candidates (going_by (legend_by test.now) going.now)) }
+    ensures { IfOk result (λ found. found.items ≡ flat_map spec.candidates_of (going_by (legend_by test.now) going.now).components) }
 {
     let mut labels = Vec::new(alloc);
     for component in going.components.as_slice() {
         push_candidates(alloc, test, component, &mut labels)?;
     }
+    Ok(labels)
+}
+
+/// The labels that a configuration may have.
+fn candidates(alloc: Global, test: &TestCase<'_>, going: &Going) -> Result<Vec<Label>, AllocError>
+    requires { Fits (machine_of test.now) (config.Going going.now) }
+    ensures { IfOk result (λ found. found.items ≡ spec.candidates (test_by test.now) (going_by (legend_by test.now) going.now)) }
+{
+    let mut labels = component_candidates(alloc, test, going)?;
+    push_deliveries(alloc, test, going, &mut labels)?;
     Ok(labels)
 }
 

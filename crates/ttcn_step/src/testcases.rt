@@ -1,9 +1,11 @@
 //! Test cases of programs, with all that their steps need.
 ghost use Rattle.std.specs.Prelude.{◌≡◌, ℕ, ◌<◌, ◌^◌, [], IfOk, get_or, length};
 ghost use Rattle.std.specs.Option.{option_map};
+ghost use Rattle.check_rules.specs.Calls.{component_named};
 ghost use Rattle.check_scope.specs.Names.{component_meant, kind_at};
 ghost use Rattle.semantics.specs.Sites as sites;
 ghost use Rattle.semantics.specs.Snapshots as rules;
+ghost use Rattle.semantics.specs.Statements as said;
 ghost use Rattle.step_snapshot.specs.Slots.{NoneIsMissing};
 ghost use Rattle.step_snapshot.specs.Tests.{test_by};
 ghost use Rattle.graph_names.specs.Known.{names_of, names_of_kind};
@@ -15,7 +17,7 @@ use std::alloc::{AllocError, Global};
 use step_snapshot::TestCase;
 use ttcn_graph::{Graphs, compile};
 use ttcn_syntax::{DefinitionKind, Name, Seq};
-use value_types::{ComponentId, Path};
+use value_types::{ComponentId, Path, Value};
 
 /// The name of the component type that a behaviour runs on, where it says so.
 fn component_name<'a>(kind: Option<&'a DefinitionKind>) -> Option<&'a Name>
@@ -37,19 +39,47 @@ fn type_meant(meaning: Option<Meaning>) -> usize
     }
 }
 
-/// The position of the component type that the behaviour at a position runs on.
-fn type_of(definitions: &Definitions<'_>, position: usize) -> usize
-    ensures { result ≡ rules.type_said (sites.runs_on definitions.now position) }
+/// The position of the component type of a name, where there is one.
+fn type_named(definitions: &Definitions<'_>, name: Option<&Name>) -> usize
+    ensures { result ≡ rules.type_said (component_named definitions.now (option_map (λ name. name.now) name.entry)) }
 {
-    match component_name(definitions.kind(position)) {
+    match name {
         Some(name) => type_meant(definitions.meaning(name.as_bytes())),
         None => 0,
     }
 }
 
+/// The position of the component type that the behaviour at a position runs on.
+fn type_of(definitions: &Definitions<'_>, position: usize) -> usize
+    ensures { result ≡ rules.type_said (sites.runs_on definitions.now position) }
+{
+    type_named(definitions, component_name(definitions.kind(position)))
+}
+
+/// The name of the component type whose ports are the system ports of a test case: that behind `system`, or else that of the
+/// type that it runs on.
+fn system_name<'a>(kind: Option<&'a DefinitionKind>) -> Option<&'a Name>
+    ensures { option_map (λ name. name.now) result ≡ said.system_name (option_map (λ kind. kind.now) kind.entry) }
+{
+    match kind {
+        Some(DefinitionKind::Testcase(testcase)) => match &testcase.system {
+            Some(name) => Some(name),
+            None => Some(&testcase.runs_on),
+        },
+        _ => None,
+    }
+}
+
+/// The position of the component type whose ports are the system ports of the test case at a position.
+fn system_type(definitions: &Definitions<'_>, position: usize) -> usize
+    ensures { (script : rules.Script) → result ≡ said.system_type (record { definitions = definitions.now; testcase = position; script = script }) }
+{
+    type_named(definitions, system_name(definitions.kind(position)))
+}
+
 /// The component that runs the test case at a position.
 fn mtc_of(alloc: Global, definitions: &Definitions<'_>, position: usize) -> ComponentId
-    ensures { result ≡ rules.mtc_of (record { definitions = definitions.now; testcase = position }) }
+    ensures { (script : rules.Script) → result ≡ rules.mtc_of (record { definitions = definitions.now; testcase = position; script = script }) }
 {
     ComponentId {
         path: Path {
@@ -75,25 +105,29 @@ fn slots_of(alloc: Global, graphs: &Graphs<'_>) -> Result<Names, AllocError>
     Ok(names)
 }
 
-/// The test case at a position of a program.
+/// The test case at a position of a program, which runs with a script.
 pub(crate) fn testcase_at<'a>(
     alloc: Global,
     program: &'a Program,
     position: usize,
+    script: &'a [(Name, Seq<Value>)],
 ) -> Result<TestCase<'a>, AllocError>
-    ensures { IfOk result (λ test. test_by test ≡ record { definitions = program.now.definitions; testcase = position }) }
+    ensures { IfOk result (λ test. test_by test ≡ record { definitions = program.now.definitions; testcase = position; script = script.now }) }
 {
     let _module = program.module();
     let definitions = program.definitions(alloc)?;
     let graphs = compile(alloc, program)?;
     let names = slots_of(alloc, &graphs)?;
     let mtc = mtc_of(alloc, &definitions, position);
+    let system_type = system_type(&definitions, position);
     Ok(TestCase {
         definitions,
         graphs,
         names,
         position,
         mtc,
+        system_type,
+        script,
         nothing: Cells::new(alloc),
     })
 }

@@ -42,6 +42,7 @@ word_spelling Used.Integer = codes "integer"
 word_spelling Used.Ispresent = codes "ispresent"
 word_spelling Used.Language = codes "language"
 word_spelling Used.Log = codes "log"
+word_spelling Used.Map = codes "map"
 word_spelling Used.Message = codes "message"
 word_spelling Used.Mod = codes "mod"
 word_spelling Used.Module = codes "module"
@@ -77,6 +78,7 @@ word_spelling Used.Timer = codes "timer"
 word_spelling Used.To = codes "to"
 word_spelling Used.True = codes "true"
 word_spelling Used.Type = codes "type"
+word_spelling Used.Unmap = codes "unmap"
 word_spelling Used.Value = codes "value"
 word_spelling Used.Var = codes "var"
 word_spelling Used.While = codes "while"
@@ -118,7 +120,6 @@ left_out_spelling LeftOut.Kill = codes "kill"
 left_out_spelling LeftOut.Killed = codes "killed"
 left_out_spelling LeftOut.Label = codes "label"
 left_out_spelling LeftOut.Length = codes "length"
-left_out_spelling LeftOut.Map = codes "map"
 left_out_spelling LeftOut.Match = codes "match"
 left_out_spelling LeftOut.Modifies = codes "modifies"
 left_out_spelling LeftOut.Modulepar = codes "modulepar"
@@ -142,7 +143,6 @@ left_out_spelling LeftOut.Superset = codes "superset"
 left_out_spelling LeftOut.Trigger = codes "trigger"
 left_out_spelling LeftOut.Union = codes "union"
 left_out_spelling LeftOut.Universal = codes "universal"
-left_out_spelling LeftOut.Unmap = codes "unmap"
 left_out_spelling LeftOut.Valueof = codes "valueof"
 left_out_spelling LeftOut.Verdicttype = codes "verdicttype"
 left_out_spelling LeftOut.Xor4b = codes "xor4b"
@@ -151,9 +151,9 @@ left_out_spelling LeftOut.Xor4b = codes "xor4b"
 abbrev pub words_of_length : ℕ → List Word
 words_of_length n =
     if n == 2 then (Used.Do ∷ Used.If ∷ Used.In ∷ Used.On ∷ Used.Or ∷ Used.To ∷ []) else
-    if n == 3 then (Used.All ∷ Used.Alt ∷ Used.And ∷ Used.Any ∷ Used.For ∷ Used.Log ∷ Used.Mod ∷ Used.Mtc ∷ Used.Not ∷ Used.Out ∷ Used.Rem ∷ Used.Var ∷ Used.Xor ∷ []) else
+    if n == 3 then (Used.All ∷ Used.Alt ∷ Used.And ∷ Used.Any ∷ Used.For ∷ Used.Log ∷ Used.Map ∷ Used.Mod ∷ Used.Mtc ∷ Used.Not ∷ Used.Out ∷ Used.Rem ∷ Used.Var ∷ Used.Xor ∷ []) else
     if n == 4 then (Used.Done ∷ Used.Else ∷ Used.Fail ∷ Used.From ∷ Used.None ∷ Used.Null ∷ Used.Omit ∷ Used.Pass ∷ Used.Port ∷ Used.Runs ∷ Used.SelfWord ∷ Used.Send ∷ Used.Stop ∷ Used.True ∷ Used.Type ∷ Used.With ∷ []) else
-    if n == 5 then (Used.Const ∷ Used.Error ∷ Used.False ∷ Used.Inout ∷ Used.Start ∷ Used.Timer ∷ Used.Value ∷ Used.While ∷ []) else
+    if n == 5 then (Used.Const ∷ Used.Error ∷ Used.False ∷ Used.Inout ∷ Used.Start ∷ Used.Timer ∷ Used.Unmap ∷ Used.Value ∷ Used.While ∷ []) else
     if n == 6 then (Used.Create ∷ Used.Inconc ∷ Used.Module ∷ Used.Record ∷ Used.Repeat ∷ Used.Return ∷ Used.Sender ∷ Used.System ∷ []) else
     if n == 7 then (Used.Altstep ∷ Used.Boolean ∷ Used.Connect ∷ Used.Control ∷ Used.Default ∷ Used.Integer ∷ Used.Message ∷ Used.Receive ∷ Used.Running ∷ Used.Timeout ∷ []) else
     if n == 8 then (Used.Activate ∷ Used.Function ∷ Used.Infinity ∷ Used.Language ∷ Used.Optional ∷ Used.Template ∷ Used.Testcase ∷ []) else
@@ -165,9 +165,9 @@ words_of_length n =
 abbrev pub left_out_of_length : ℕ → List LeftOutWord
 left_out_of_length n =
     if n == 2 then (LeftOut.Of ∷ []) else
-    if n == 3 then (LeftOut.Map ∷ LeftOut.Set ∷ []) else
+    if n == 3 then (LeftOut.Set ∷ []) else
     if n == 4 then (LeftOut.Call ∷ LeftOut.Case ∷ LeftOut.Goto ∷ LeftOut.Halt ∷ LeftOut.Kill ∷ LeftOut.Or4b ∷ LeftOut.Read ∷ []) else
-    if n == 5 then (LeftOut.Alive ∷ LeftOut.And4b ∷ LeftOut.Break ∷ LeftOut.Catch ∷ LeftOut.Check ∷ LeftOut.Clear ∷ LeftOut.Float ∷ LeftOut.Group ∷ LeftOut.Label ∷ LeftOut.Match ∷ LeftOut.Not4b ∷ LeftOut.Raise ∷ LeftOut.Reply ∷ LeftOut.Union ∷ LeftOut.Unmap ∷ LeftOut.Xor4b ∷ []) else
+    if n == 5 then (LeftOut.Alive ∷ LeftOut.And4b ∷ LeftOut.Break ∷ LeftOut.Catch ∷ LeftOut.Check ∷ LeftOut.Clear ∷ LeftOut.Float ∷ LeftOut.Group ∷ LeftOut.Label ∷ LeftOut.Match ∷ LeftOut.Not4b ∷ LeftOut.Raise ∷ LeftOut.Reply ∷ LeftOut.Union ∷ LeftOut.Xor4b ∷ []) else
     if n == 6 then (LeftOut.Action ∷ LeftOut.Friend ∷ LeftOut.Import ∷ LeftOut.Killed ∷ LeftOut.Length ∷ LeftOut.Public ∷ LeftOut.Select ∷ LeftOut.Subset ∷ []) else
     if n == 7 then (LeftOut.Address ∷ LeftOut.Anytype ∷ LeftOut.Execute ∷ LeftOut.Extends ∷ LeftOut.Getcall ∷ LeftOut.Pattern ∷ LeftOut.Private ∷ LeftOut.Trigger ∷ LeftOut.Valueof ∷ []) else
     if n == 8 then (LeftOut.Continue ∷ LeftOut.External ∷ LeftOut.Getreply ∷ LeftOut.Modifies ∷ LeftOut.Superset ∷ []) else

@@ -28,9 +28,9 @@ pub use tree::{
     Action, Alternative, Altstep, Assignment, Bound, Branch, Call, ComponentRef, ComponentType,
     Conditional, Constant, Constants, Definition, DefinitionKind, Direction, EnumNumber,
     EnumeratedType, Enumerator, Event, Expr, Field, FieldTemplate, FieldValue, ForStart, Function,
-    Link, LogItem, Member, MemberVariable, MessageTemplate, Module, Parameter, PortMessages,
-    PortRef, PortSelector, PortType, Receive, RecordType, Reference, Rhs, Send, Statement,
-    Template, TemplateBody, TemplateDefinition, Testcase, Timer, TypeName, Value, Variable,
-    Variables, Verdict,
+    Link, LogItem, MapOperation, Mapping, Member, MemberVariable, MessageTemplate, Module,
+    Parameter, PortMessages, PortRef, PortSelector, PortType, Receive, RecordType, Reference, Rhs,
+    Send, Statement, Template, TemplateBody, TemplateDefinition, Testcase, Timer, TypeName, Value,
+    Variable, Variables, Verdict,
 };
 pub use words::LeftOutWord;

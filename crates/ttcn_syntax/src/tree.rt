@@ -19,7 +19,8 @@ pub use definition::{
 pub use expression::{ComponentRef, Expr, Link, Reference};
 pub use statement::{
     Action, Alternative, Assignment, Branch, Conditional, Constant, Constants, Event, ForStart,
-    LogItem, PortRef, PortSelector, Receive, Send, Statement, Timer, Variable, Variables, Verdict,
+    LogItem, MapOperation, Mapping, PortRef, PortSelector, Receive, Send, Statement, Timer,
+    Variable, Variables, Verdict,
 };
 pub use template::{Bound, FieldTemplate, MessageTemplate, Template, TemplateBody};
 pub use value::{Call, FieldValue, Rhs, TypeName, Value};

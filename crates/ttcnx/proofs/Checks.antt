@@ -119,6 +119,7 @@ one_of_tokens tokens a b (broken {tree = tree} {rule = r} is least) (broken {tre
 same_fault : (f : Fault) → SameFault f f
 same_fault (fault.Refused why place) = refl
 same_fault fault.NoSuchTestCase = refl
+same_fault (fault.BadScript why) = refl
 same_fault (fault.BadLabel line) = refl
 same_fault (fault.NotEnabled label) = refl
 same_fault (fault.NotFine label) = refl

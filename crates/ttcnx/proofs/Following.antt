@@ -15,29 +15,29 @@ use Rattle.ttcn_step.specs.Machines.{Machine, said}
 use Rattle.ttcn_step.specs.declared.error.ReplayError.{ReplayError}
 use Rattle.ttcn_step.specs.declared.error.ReplayError.TheVariants as replaying
 use Rattle.ttcnx.specs.Fault.{listing_fault, replay_fault}
-use Rattle.ttcnx.specs.Named.{HasNoTest, IsTestOf}
+use Rattle.ttcnx.specs.Named.{HasNoTest, IsTestOf, Source}
 use Rattle.ttcnx.specs.Replayed.{Answer, IsReplay, bad_label, lacking, named, not_enabled, replayed, replayed_text}
 use Rattle.ttcnx.specs.declared.fault.Fault.{Fault}
 use Rattle.ttcnx.specs.declared.fault.Fault.TheVariants as fault
 
 -- the fault is that an allocation failed, or what is answered
-abbrev pub Answers : List ℕ → List ℕ → List ℕ → Fault → Type 0
-Answers text name run why = (◌≡◌ {A = Answer} (Err why) (Err fault.Memory)) ⊎ IsReplay text name run (Err why)
+abbrev pub Answers : Source → List ℕ → List ℕ → Fault → Type 0
+Answers given name run why = (◌≡◌ {A = Answer} (Err why) (Err fault.Memory)) ⊎ IsReplay given name run (Err why)
 
-pub name_answers : (text name run : List ℕ) (why : Fault) → (why ≡ fault.Memory) ⊎ HasNoTest text name why → Answers text name run why
-name_answers text name run why (inl is) = inl (ap Err is)
-name_answers text name run why (inr is) = inr (lacking is)
+pub name_answers : (given : Source) (name run : List ℕ) (why : Fault) → (why ≡ fault.Memory) ⊎ HasNoTest given name why → Answers given name run why
+name_answers given name run why (inl is) = inl (ap Err is)
+name_answers given name run why (inr is) = inr (lacking is)
 
-pub listing_answers : (text name run : List ℕ) (test : Test) (e : RunError) → IsTestOf text name test → TellsError (lines_of run) e → Answers text name run (listing_fault e)
-listing_answers text name run test (listing.BadLabel line) is bad = inr (named is (bad_label bad))
-listing_answers text name run test listing.Memory is bad = inl refl
+pub listing_answers : (given : Source) (name run : List ℕ) (test : Test) (e : RunError) → IsTestOf given name test → TellsError (lines_of run) e → Answers given name run (listing_fault e)
+listing_answers given name run test (listing.BadLabel line) is bad = inr (named is (bad_label bad))
+listing_answers given name run test listing.Memory is bad = inl refl
 
-pub replay_answers : (text name run : List ℕ) (machine : Machine) (labels : List Label) (e : ReplayError) → IsTestOf text name machine.test → ReadsRun (lines_of run) labels
-    → Ends machine (replay machine.test labels) (Err e) → Answers text name run (replay_fault e)
-replay_answers text name run machine labels (replaying.NotEnabled number) is reads ends = inr (named is (not_enabled labels reads ends))
-replay_answers text name run machine labels replaying.Memory is reads ends = inl refl
+pub replay_answers : (given : Source) (name run : List ℕ) (machine : Machine) (labels : List Label) (e : ReplayError) → IsTestOf given name machine.test → ReadsRun (lines_of run) labels
+    → Ends machine (replay machine.test labels) (Err e) → Answers given name run (replay_fault e)
+replay_answers given name run machine labels (replaying.NotEnabled number) is reads ends = inr (named is (not_enabled labels reads ends))
+replay_answers given name run machine labels replaying.Memory is reads ends = inl refl
 
-pub end_answers : (text name run : List ℕ) (machine : Machine) (labels : List Label) (config : Config) (bytes : Vec ℕ Global) → IsTestOf text name machine.test
+pub end_answers : (given : Source) (name run : List ℕ) (machine : Machine) (labels : List Label) (config : Config) (bytes : Vec ℕ Global) → IsTestOf given name machine.test
     → ReadsRun (lines_of run) labels → Ends machine (replay machine.test labels) (Ok config) → bytes.items ≡ replayed_text machine.test labels (said machine config)
-    → (◌≡◌ {A = Answer} (Ok bytes) (Err fault.Memory)) ⊎ IsReplay text name run (Ok bytes)
-end_answers text name run machine labels config bytes is reads ends told = inr (named is (replayed labels (said machine config) reads ends told))
+    → (◌≡◌ {A = Answer} (Ok bytes) (Err fault.Memory)) ⊎ IsReplay given name run (Ok bytes)
+end_answers given name run machine labels config bytes is reads ends told = inr (named is (replayed labels (said machine config) reads ends told))

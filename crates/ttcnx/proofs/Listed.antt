@@ -17,7 +17,7 @@ use Rattle.ttcn_syntax.specs.declared.tree.statement.Verdict.{Verdict}
 use Rattle.ttcn_syntax.specs.declared.tree.statement.Verdict.TheVariants as verdict
 use Rattle.check_rules.specs.Programs.{test_case_named}
 use Rattle.check_rules.specs.Rules.{AreWellTyped}
-use Rattle.ttcnx.specs.Named.{IsTestOf}
+use Rattle.ttcnx.specs.Named.{IsTestOf, Source}
 use Rattle.ttcnx.specs.Tells.{Lists, TellsOfRuns, all_verdicts, labels_in, outcome_of, outcomes_of}
 
 abbrev Kept : Type 0
@@ -106,19 +106,15 @@ lists_all test n report every v = (
 
 -- ---- of a text
 
-test-is : (tree : Module) (o : Option ℕ) (test : Test) → option_map (λ at. record { definitions = tree.definitions; testcase = at }) o ≡ Some test → test.definitions ≡ tree.definitions
-test-is tree None test e = absurd (let no = e in cc)
-test-is tree (Some at) test e = let same : record { definitions = tree.definitions; testcase = at } ≡ test = (let found = e in cc) in ap (λ (t : Test). t.definitions) (sym same)
-
 -- the module of a text breaks no rule
-pub well-typed : (text name : List ℕ) (test : Test) → IsTestOf text name test → AreWellTyped test.definitions
-well-typed text name test is = subst AreWellTyped (sym (test-is is.tree (test_case_named is.tree.definitions name) test is.is_named)) is.is_text.well_typed
+pub well-typed : (given : Source) (name : List ℕ) (test : Test) → IsTestOf given name test → AreWellTyped test.definitions
+well-typed given name test is = subst AreWellTyped (sym is.is_case.of_tree) is.is_case.is_text.well_typed
 
 -- a report that is true of the runs of every greater bound lists the verdicts of runs and of fine runs
-pub lists_verdicts : (text name : List ℕ) (test : Test) (n : ℕ) (report : Report) → IsTestOf text name test → ((bound : ℕ) → n ≤ bound → TellsOfRuns test bound report) → (v : Verdict)
+pub lists_verdicts : (given : Source) (name : List ℕ) (test : Test) (n : ℕ) (report : Report) → IsTestOf given name test → ((bound : ℕ) → n ≤ bound → TellsOfRuns test bound report) → (v : Verdict)
     → (Lists report v ↔ EndsWith test v) × (Lists report v ↔ EndsFinelyWith test v)
-lists_verdicts text name test n report is every v =
+lists_verdicts given name test n report is every v =
     let listed = lists_all test n report every v in
     let runs = ends_as_runs test v in
-    let fine = same_verdicts test v (well-typed text name test is) in
+    let fine = same_verdicts test v (well-typed given name test is) in
     ((λ lists. runs.1 (listed.0 lists), λ ends. listed.1 (runs.0 ends)), (λ lists. fine.1 (runs.1 (listed.0 lists)), λ ends. listed.1 (runs.0 (fine.0 ends))))

@@ -13,6 +13,7 @@ use Rattle.ttcn_step.specs.FineAnswers.{HasEnded, LeadTo}
 use Rattle.ttcnx.proofs.OneAnswer.{not_both, one_reason, one_test}
 use Rattle.ttcnx.proofs.OneReplay.{err_is, one_end}
 use Rattle.ttcnx.specs.Converted.{HasOneConversion, IsCoarsened, IsConverted, IsDoubled, OfFineRun, OfPlainRun, bad_fine_label, bad_plain_label, coarsened, doubling, fine_lines, label_lines, not_ended, not_fine, stopped, with_test, without_test}
+use Rattle.ttcnx.specs.Named.{Source}
 use Rattle.ttcnx.specs.Replayed.{Answer, SameReplay}
 use Rattle.ttcnx.specs.declared.fault.Fault.TheVariants as fault
 
@@ -74,17 +75,17 @@ module _ (test : Test) (run : List ℕ) where
   one_of_plain a b (doubling labels reads ends told) (doubling others also too told_too) =
       told ∙ ap (λ ls. fine_lines (doubled test ls)) (run_same (lines_of run) labels others reads also) ∙ sym told_too
 
--- ---- texts and names
+-- ---- what is given, and names
 
-one-conversion : (Of : Test → Answer → Type 0) → ((test : Test) (a b : Answer) → Of test a → Of test b → SameReplay a b) → (text name : List ℕ) → HasOneConversion (IsConverted Of text name)
-one-conversion Of each text name a b (without_test {why = one} why) (without_test {why = other} too) = one_reason text name one other why too
-one-conversion Of each text name a b (without_test {why = one} why) (with_test {test = test} is more) = absurd (not_both text name test one is why)
-one-conversion Of each text name a b (with_test {test = test} is more) (without_test {why = one} why) = absurd (not_both text name test one is why)
-one-conversion Of each text name a b (with_test {test = test} is more) (with_test {test = other} too more_too) =
-    each other a b (subst (λ t. Of t a) (one_test text name test other is too) more) more_too
+one-conversion : (Of : Test → Answer → Type 0) → ((test : Test) (a b : Answer) → Of test a → Of test b → SameReplay a b) → (given : Source) (name : List ℕ) → HasOneConversion (IsConverted Of given name)
+one-conversion Of each given name a b (without_test {why = one} why) (without_test {why = other} too) = one_reason given name one other why too
+one-conversion Of each given name a b (without_test {why = one} why) (with_test {test = test} is more) = absurd (not_both given name test one is why)
+one-conversion Of each given name a b (with_test {test = test} is more) (without_test {why = one} why) = absurd (not_both given name test one is why)
+one-conversion Of each given name a b (with_test {test = test} is more) (with_test {test = other} too more_too) =
+    each other a b (subst (λ t. Of t a) (one_test given name test other is too) more) more_too
 
-pub one_coarsened : (text name run : List ℕ) → HasOneConversion (IsCoarsened text name run)
-one_coarsened text name run = one-conversion (OfFineRun run) (λ test. one_of_fine test run) text name
+pub one_coarsened : (given : Source) (name run : List ℕ) → HasOneConversion (IsCoarsened given name run)
+one_coarsened given name run = one-conversion (OfFineRun run) (λ test. one_of_fine test run) given name
 
-pub one_doubled : (text name run : List ℕ) → HasOneConversion (IsDoubled text name run)
-one_doubled text name run = one-conversion (OfPlainRun run) (λ test. one_of_plain test run) text name
+pub one_doubled : (given : Source) (name run : List ℕ) → HasOneConversion (IsDoubled given name run)
+one_doubled given name run = one-conversion (OfPlainRun run) (λ test. one_of_plain test run) given name

@@ -8,6 +8,7 @@ use Rattle.semantics.specs.Configurations.{Configuration}
 use Rattle.semantics.specs.Runs.{replay}
 use Rattle.semantics.specs.Snapshots.{Test}
 use Rattle.ttcnx.specs.Replayed.{Answer, HasOneReplay, OfRun, SameReplay, bad_label, lacking, named, not_enabled, replayed, replayed_text}
+use Rattle.ttcnx.specs.Named.{Source}
 use Rattle.ttcnx.specs.declared.fault.Fault.TheVariants as fault
 use Rattle.ttcnx.proofs.OneAnswer.{not_both, one_reason, one_test}
 
@@ -42,10 +43,10 @@ module _ (test : Test) (run : List ℕ) where
       told ∙ ap (λ labels. replayed_text test labels c) (run_same (lines_of run) labels others reads also)
       ∙ ap (replayed_text test others) (ok_is (one_end labels others (Ok c) (Ok d) reads also ends too)) ∙ sym told_too
 
-pub one_replay : (text name run : List ℕ) → HasOneReplay text name run
-one_replay text name run a b (lacking {why = one} why) (lacking {why = other} too) = one_reason text name one other why too
-one_replay text name run a b (lacking {why = one} why) (named {test = test} is more) = absurd (not_both text name test one is why)
-one_replay text name run a b (named {test = test} is more) (lacking {why = one} why) = absurd (not_both text name test one is why)
-one_replay text name run a b (named {test = test} is more) (named {test = other} too more_too) =
-    let same = one_test text name test other is too in
+pub one_replay : (given : Source) (name run : List ℕ) → HasOneReplay given name run
+one_replay given name run a b (lacking {why = one} why) (lacking {why = other} too) = one_reason given name one other why too
+one_replay given name run a b (lacking {why = one} why) (named {test = test} is more) = absurd (not_both given name test one is why)
+one_replay given name run a b (named {test = test} is more) (lacking {why = one} why) = absurd (not_both given name test one is why)
+one_replay given name run a b (named {test = test} is more) (named {test = other} too more_too) =
+    let same = one_test given name test other is too in
     one_of_run other run a b (subst (λ test. OfRun test run a) same more) more_too

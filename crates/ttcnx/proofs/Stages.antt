@@ -1,5 +1,5 @@
 -- What each stage of the work answers.
-use Rattle.std.proofs.Common.{◌≡◌, ℕ, ◌<◌, ◌≤◌, List, length, refl, sym, ap, subst, inl, inr}
+use Rattle.std.proofs.Common.{◌≡◌, ◌≢◌, ℕ, ◌<◌, ◌≤◌, List, [], length, refl, sym, ap, subst, inl, inr}
 use Rattle.std.specs.Prelude.{◌⊎◌, ◌↔◌, Some, None, Result, Ok, Err, IfErr}
 use Rattle.std.specs.Option.{option_map}
 use Rattle.std.specs.Result.{IsErr, IsErrAnd}
@@ -9,17 +9,21 @@ use Rattle.search_layer.specs.declared.plan.ExploreError.{ExploreError}
 use Rattle.search_layer.specs.declared.plan.ExploreError.TheVariants as searching
 use Rattle.search_layer.specs.declared.plan.Plan.{Plan}
 use Rattle.laws_live.specs.Parts.{CountsParts}
+use Rattle.report_script.specs.Scripts.{script_said}
+use Rattle.report_script.specs.declared.error.ScriptError.{ScriptError}
+use Rattle.report_script.specs.declared.error.ScriptError.TheVariants as scripting
 use Rattle.semantics.specs.Snapshots.{Test}
 use Rattle.ttcn_syntax.specs.Cut.{Stops, at_fault, past_gap, past_token, no_piece, unended_comment, unended_text, number_too_large}
 use Rattle.ttcn_syntax.specs.Limits.{longest_text}
 use Rattle.ttcn_syntax.specs.declared.error.LexError.{LexError}
+use Rattle.ttcn_syntax.specs.declared.tree.definition.Definition.{Definition}
 use Rattle.ttcn_syntax.specs.declared.tree.definition.Module.{Module}
 use Rattle.check_rules.specs.Programs.{test_case_named}
 use Rattle.ttcn_syntax.specs.declared.error.LexError.TheVariants as lexical
 use Rattle.ttcnx.specs.Answer.{Answer, IsAnswer, lacking, named, too_many}
 use Rattle.ttcnx.specs.Checked.{IsRefusedWith}
-use Rattle.ttcnx.specs.Fault.{explore_fault}
-use Rattle.ttcnx.specs.Named.{HasNoTest, IsTestOf, refused, test_named}
+use Rattle.ttcnx.specs.Fault.{explore_fault, script_fault}
+use Rattle.ttcnx.specs.Named.{HasNoCase, HasNoTest, IsCaseOf, IsTestOf, Source, caseless, refused, unscripted}
 use Rattle.ttcnx.specs.declared.fault.Fault.{Fault}
 use Rattle.ttcnx.specs.declared.fault.Fault.TheVariants as fault
 
@@ -59,30 +63,37 @@ cut_is_short text tokens exactly = short text (Ok tokens) exactly (λ h. cc)
 -- ---- the test case
 
 -- a text of no well-typed module has no test case
-pub text_lacks : (text name : List ℕ) (why : Fault) → (why ≡ fault.Memory) ⊎ IsRefusedWith text why → (why ≡ fault.Memory) ⊎ HasNoTest text name why
+pub text_lacks : (text name : List ℕ) (why : Fault) → (why ≡ fault.Memory) ⊎ IsRefusedWith text why → (why ≡ fault.Memory) ⊎ HasNoCase text name why
 text_lacks text name why (inl is) = inl is
 text_lacks text name why (inr is) = inr (refused is)
 
--- the test case that a name means in a module
-pub is_named : (tree : Module) (name : List ℕ) (id : ℕ) → Some id ≡ test_case_named tree.definitions name → test_named tree name ≡ Some (record { definitions = tree.definitions; testcase = id })
-is_named tree name id found = ap (λ o. option_map (λ at. record { definitions = tree.definitions; testcase = at }) o) (sym found)
+-- without a test case there is none with a script
+pub case_lacks : (given : Source) (name : List ℕ) (why : Fault) → (why ≡ fault.Memory) ⊎ HasNoCase given.text name why → (why ≡ fault.Memory) ⊎ HasNoTest given name why
+case_lacks given name why (inl is) = inl is
+case_lacks given name why (inr is) = inr (caseless is)
 
-pub is_nameless : (tree : Module) (name : List ℕ) → None ≡ test_case_named tree.definitions name → test_named tree name ≡ None
-is_nameless tree name found = ap (λ o. option_map (λ at. record { definitions = tree.definitions; testcase = at }) o) (sym found)
+-- nor is there one where the script is refused
+pub script_lacks : (given : Source) (name : List ℕ) {definitions : List Definition} {at : ℕ} (error : ScriptError) → IsCaseOf given.text name definitions at
+    → (error ≢ scripting.Memory → script_said definitions at given.script ≡ Err error) → (script_fault error ≡ fault.Memory) ⊎ HasNoTest given name (script_fault error)
+script_lacks given name scripting.TooLarge is refused_so = inr (unscripted is (refused_so (λ same. cc)))
+script_lacks given name scripting.BadJson is refused_so = inr (unscripted is (refused_so (λ same. cc)))
+script_lacks given name scripting.NoSuchPort is refused_so = inr (unscripted is (refused_so (λ same. cc)))
+script_lacks given name scripting.BadMessage is refused_so = inr (unscripted is (refused_so (λ same. cc)))
+script_lacks given name scripting.Memory is refused_so = inl refl
 
 -- ---- the search
 
 -- there is no test case
-pub name_answers : (text name : List ℕ) (plan : Plan) (why : Fault) → IsWithinLimits plan → (why ≡ fault.Memory) ⊎ HasNoTest text name why
-    → (◌≡◌ {A = Answer} (Err why) (Err fault.Memory)) ⊎ IsAnswer text name plan (Err why)
-name_answers text name plan why fine (inl is) = inl (ap Err is)
-name_answers text name plan why fine (inr is) = inr (lacking fine is)
+pub name_answers : (given : Source) (name : List ℕ) (plan : Plan) (why : Fault) → IsWithinLimits plan → (why ≡ fault.Memory) ⊎ HasNoTest given name why
+    → (◌≡◌ {A = Answer} (Err why) (Err fault.Memory)) ⊎ IsAnswer given name plan (Err why)
+name_answers given name plan why fine (inl is) = inl (ap Err is)
+name_answers given name plan why fine (inr is) = inr (lacking fine is)
 
 -- a refusal of the search
-pub search_answers : (text name : List ℕ) (plan : Plan) (test : Test) (e : ExploreError) → IsWithinLimits plan → IsTestOf text name test
+pub search_answers : (given : Source) (name : List ℕ) (plan : Plan) (test : Test) (e : ExploreError) → IsWithinLimits plan → IsTestOf given name test
     → (e ≡ searching.BadPlan → IsWithinLimits plan → ⊥)
     → (e ≡ searching.TooMany → (count : ℕ) × CountsParts test plan.steps count × (plan.limit < count))
-    → (◌≡◌ {A = Answer} (Err (explore_fault e)) (Err fault.Memory)) ⊎ IsAnswer text name plan (Err (explore_fault e))
-search_answers text name plan test searching.BadPlan fine is out many = absurd (out refl fine)
-search_answers text name plan test searching.TooMany fine is out many = let more = many refl in inr (named fine is (too_many more.1 more.2))
-search_answers text name plan test searching.Memory fine is out many = inl refl
+    → (◌≡◌ {A = Answer} (Err (explore_fault e)) (Err fault.Memory)) ⊎ IsAnswer given name plan (Err (explore_fault e))
+search_answers given name plan test searching.BadPlan fine is out many = absurd (out refl fine)
+search_answers given name plan test searching.TooMany fine is out many = let more = many refl in inr (named fine is (too_many more.1 more.2))
+search_answers given name plan test searching.Memory fine is out many = inl refl

@@ -1,5 +1,5 @@
--- What is answered for a text, the name of a test case and a plan, unless an allocation fails. Stage by stage: the plan, the
--- text and its module, the test case.
+-- What is answered for a module, a script, the name of a test case and a plan, unless an allocation fails. Stage by stage: the
+-- plan, the module's text, the script, the test case.
 use Rattle.std.specs.Prelude.{◌≡◌, ℕ, ◌<◌, List, Result, Ok, Err}
 use Rattle.search_layer.specs.Limits.{IsWithinLimits}
 use Rattle.search_layer.specs.declared.plan.Plan.{Plan}
@@ -9,7 +9,7 @@ use Rattle.report.specs.Texts.{report_text}
 use Rattle.report.specs.declared.report.Report.{Report}
 use Rattle.semantics.specs.Snapshots.{Test}
 use Rattle.ttcnx.specs.Fault.{SameFault}
-use Rattle.ttcnx.specs.Named.{HasNoTest, IsTestOf}
+use Rattle.ttcnx.specs.Named.{HasNoTest, IsTestOf, Source}
 use Rattle.ttcnx.specs.Tells.{Tells}
 use Rattle.ttcnx.specs.declared.fault.Fault.{Fault}
 use Rattle.ttcnx.specs.declared.fault.Fault.TheVariants as fault
@@ -27,14 +27,14 @@ pub data OfTestCase (test : Test) (name : List ℕ) (plan : Plan) : Answer → T
   told : {report : Report} → Tells test name plan report → OfTestCase test name plan (Ok report)
 
 -- what is answered
-pub data IsAnswer (text name : List ℕ) (plan : Plan) : Answer → Type 0 where
+pub data IsAnswer (given : Source) (name : List ℕ) (plan : Plan) : Answer → Type 0 where
   -- the plan is beyond its limits
-  beyond : (IsWithinLimits plan → ⊥) → IsAnswer text name plan (Err fault.BadPlan)
-  -- the plan is within its limits, and the text has no test case of the name: why
-  lacking : {why : Fault} → IsWithinLimits plan → HasNoTest text name why → IsAnswer text name plan (Err why)
-  -- the plan is within its limits, and the text has a test case of the name: the answer for it
-  named : {test : Test} {answer : Answer} → IsWithinLimits plan → IsTestOf text name test → OfTestCase test name plan answer
-      → IsAnswer text name plan answer
+  beyond : (IsWithinLimits plan → ⊥) → IsAnswer given name plan (Err fault.BadPlan)
+  -- the plan is within its limits, and there is no test case of the name with the script: why
+  lacking : {why : Fault} → IsWithinLimits plan → HasNoTest given name why → IsAnswer given name plan (Err why)
+  -- the plan is within its limits, and there is one: the answer for it
+  named : {test : Test} {answer : Answer} → IsWithinLimits plan → IsTestOf given name test → OfTestCase test name plan answer
+      → IsAnswer given name plan answer
 
 -- answers that tell the same: reports of one text, as text and as JSON, or faults of one kind
 abbrev pub SameAnswer : Answer → Answer → Type 0
@@ -43,7 +43,7 @@ SameAnswer (Ok report) (Err other) = ⊥
 SameAnswer (Err one) (Ok other) = ⊥
 SameAnswer (Err one) (Err other) = SameFault one other
 
--- a text, a name and a plan have one answer at most
-abbrev pub HasOneAnswer : List ℕ → List ℕ → Plan → Type 0
-HasOneAnswer text name plan = (answer other : Answer) → IsAnswer text name plan answer → IsAnswer text name plan other
+-- a module, a script, a name and a plan have one answer at most
+abbrev pub HasOneAnswer : Source → List ℕ → Plan → Type 0
+HasOneAnswer given name plan = (answer other : Answer) → IsAnswer given name plan answer → IsAnswer given name plan other
     → SameAnswer answer other

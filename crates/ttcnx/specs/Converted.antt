@@ -17,7 +17,7 @@ use Rattle.semantics.specs.Configurations.{Configuration}
 use Rattle.semantics.specs.Runs.{replay}
 use Rattle.semantics.specs.Snapshots.{Test}
 use Rattle.ttcn_step.specs.FineAnswers.{HasEnded, LeadTo}
-use Rattle.ttcnx.specs.Named.{HasNoTest, IsTestOf}
+use Rattle.ttcnx.specs.Named.{HasNoTest, IsTestOf, Source}
 use Rattle.ttcnx.specs.Replayed.{Answer, SameReplay}
 use Rattle.ttcnx.specs.declared.fault.Fault.{Fault}
 use Rattle.ttcnx.specs.declared.fault.Fault.TheVariants as fault
@@ -61,22 +61,22 @@ pub data OfPlainRun (run : List ℕ) (test : Test) : Answer → Type 0 where
   doubling : {text : Vec ℕ Global} {c : Configuration} (labels : List Label) → ReadsRun (lines_of run) labels → replay test labels ≡ Ok c
       → text.items ≡ fine_lines (doubled test labels) → OfPlainRun run test (Ok text)
 
--- ---- texts and names
+-- ---- what is given, and names
 
 -- what is answered, by what is answered for a test case
-pub data IsConverted (Of : Test → Answer → Type 0) (text name : List ℕ) : Answer → Type 0 where
-  -- the text has no test case of the name: why
-  without_test : {why : Fault} → HasNoTest text name why → IsConverted Of text name (Err why)
-  -- the text has a test case of the name: the answer for it
-  with_test : {test : Test} {answer : Answer} → IsTestOf text name test → Of test answer → IsConverted Of text name answer
+pub data IsConverted (Of : Test → Answer → Type 0) (given : Source) (name : List ℕ) : Answer → Type 0 where
+  -- there is no test case of the name with the script: why
+  without_test : {why : Fault} → HasNoTest given name why → IsConverted Of given name (Err why)
+  -- there is one: the answer for it
+  with_test : {test : Test} {answer : Answer} → IsTestOf given name test → Of test answer → IsConverted Of given name answer
 
 -- the run that a fine run stands for, or why there is none
-abbrev pub IsCoarsened : List ℕ → List ℕ → List ℕ → Answer → Type 0
-IsCoarsened text name run answer = IsConverted (OfFineRun run) text name answer
+abbrev pub IsCoarsened : Source → List ℕ → List ℕ → Answer → Type 0
+IsCoarsened given name run answer = IsConverted (OfFineRun run) given name answer
 
 -- the doubling of a run, or why there is none
-abbrev pub IsDoubled : List ℕ → List ℕ → List ℕ → Answer → Type 0
-IsDoubled text name run answer = IsConverted (OfPlainRun run) text name answer
+abbrev pub IsDoubled : Source → List ℕ → List ℕ → Answer → Type 0
+IsDoubled given name run answer = IsConverted (OfPlainRun run) given name answer
 
 -- there is one answer at most
 abbrev pub HasOneConversion : (Answer → Type 0) → Type 0

@@ -17,10 +17,14 @@ use Rattle.ttcn_step.specs.declared.error.ReplayError.TheVariants as replaying
 use Rattle.ttcn_types.specs.declared.error.CheckError.{CheckError}
 use Rattle.ttcn_types.specs.declared.error.CheckError.TheVariants as typing
 use Rattle.check_scope.specs.Numbers.{name_of, number_of}
+use Rattle.report_script.specs.declared.error.ScriptError.{ScriptError}
+use Rattle.report_script.specs.declared.error.ScriptError.TheVariants as scripting
 use Rattle.ttcnx.specs.declared.fault.Refusal.{Refusal}
 use Rattle.ttcnx.specs.declared.fault.Refusal.TheVariants.{BadByte, OpenComment, OpenText, IntegerTooLarge, TextTooLong, Unexpected, TooDeep, LeftOut, Broken}
+use Rattle.ttcnx.specs.declared.fault.ScriptRefusal.{ScriptRefusal}
+use Rattle.ttcnx.specs.declared.fault.ScriptRefusal.TheVariants.{BadJson, BadMessage, NoSuchPort, TooLarge}
 use Rattle.ttcnx.specs.declared.fault.Fault.{Fault}
-use Rattle.ttcnx.specs.declared.fault.Fault.TheVariants.{Refused, NoSuchTestCase, BadLabel, NotEnabled, NotFine, NotEnded, TooMany, BadPlan, Memory, CannotRead, CannotWrite}
+use Rattle.ttcnx.specs.declared.fault.Fault.TheVariants.{Refused, NoSuchTestCase, BadScript, BadLabel, NotEnabled, NotFine, NotEnded, TooMany, BadPlan, Memory, CannotRead, CannotWrite}
 
 -- number and name of a refusal
 abbrev pub refusal_text : Refusal → List ℕ
@@ -34,10 +38,18 @@ refusal_text TooDeep = codes "P2 TooDeep"
 refusal_text LeftOut = codes "P3 LeftOut"
 refusal_text (Broken rule) = codes "C" ++ decimal (number_of rule) ++ codes " " ++ name_of rule
 
+-- number and name of a refusal of a script
+abbrev pub script_text : ScriptRefusal → List ℕ
+script_text BadJson = codes "J1 BadJson"
+script_text NoSuchPort = codes "J2 NoSuchPort"
+script_text BadMessage = codes "J3 BadMessage"
+script_text TooLarge = codes "J4 TooLarge"
+
 -- the line that tells of a fault
 abbrev pub fault_text : Fault → List ℕ
 fault_text (Refused refusal place) = codes "refused " ++ refusal_text refusal ++ codes " at " ++ place_text place
 fault_text NoSuchTestCase = codes "refused U1 NoSuchTestCase"
+fault_text (BadScript why) = codes "refused " ++ script_text why
 fault_text (BadLabel line) = codes "refused N1 BadLabel at line " ++ decimal line
 fault_text (NotEnabled label) = codes "refused N2 NotEnabled at label " ++ decimal label
 fault_text (NotFine label) = codes "refused F1 NotFine at label " ++ decimal label
@@ -52,6 +64,7 @@ fault_text CannotWrite = codes "cannot write"
 abbrev pub status_of : Fault → ℕ
 status_of (Refused refusal place) = 1
 status_of NoSuchTestCase = 1
+status_of (BadScript why) = 1
 status_of (BadLabel line) = 1
 status_of (NotEnabled label) = 1
 status_of (NotFine label) = 1
@@ -89,6 +102,14 @@ grammar_fault reading.Memory = Memory
 abbrev pub typing_fault : CheckError → Fault
 typing_fault (typing.Broken rule place) = Refused (Broken rule) place
 typing_fault (typing.Memory error) = Memory
+
+-- the fault of a script that is refused
+abbrev pub script_fault : ScriptError → Fault
+script_fault scripting.TooLarge = BadScript TooLarge
+script_fault scripting.BadJson = BadScript BadJson
+script_fault scripting.NoSuchPort = BadScript NoSuchPort
+script_fault scripting.BadMessage = BadScript BadMessage
+script_fault scripting.Memory = Memory
 
 -- the fault of a search that gives no answer
 abbrev pub explore_fault : ExploreError → Fault

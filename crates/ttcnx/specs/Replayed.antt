@@ -1,5 +1,5 @@
--- What is answered for a text, the name of a test case and a run file, unless an allocation fails. Stage by stage: the text and
--- its module, the lines of the run file, their labels.
+-- What is answered for a module, a script, the name of a test case and a run file, unless an allocation fails. Stage by stage:
+-- the module's text, the script, the lines of the run file, their labels.
 use Rattle.std.specs.Prelude.{◌≡◌, ℕ, List, [], ◌∷◌, ◌++◌, codes, length, Result, Ok, Err}
 use Rattle.std.specs.Fmt.{decimal}
 use Rattle.std.specs.declared.alloc.Global.{Global}
@@ -12,7 +12,7 @@ use Rattle.semantics.specs.Labels.{labels}
 use Rattle.semantics.specs.Runs.{replay}
 use Rattle.semantics.specs.Snapshots.{Test}
 use Rattle.ttcnx.specs.Fault.{SameFault}
-use Rattle.ttcnx.specs.Named.{HasNoTest, IsTestOf}
+use Rattle.ttcnx.specs.Named.{HasNoTest, IsTestOf, Source}
 use Rattle.ttcnx.specs.declared.fault.Fault.{Fault}
 use Rattle.ttcnx.specs.declared.fault.Fault.TheVariants as fault
 
@@ -46,11 +46,11 @@ pub data OfRun (test : Test) (run : List ℕ) : Answer → Type 0 where
       → text.items ≡ replayed_text test labels c → OfRun test run (Ok text)
 
 -- what is answered
-pub data IsReplay (text name run : List ℕ) : Answer → Type 0 where
-  -- the text has no test case of the name: why
-  lacking : {why : Fault} → HasNoTest text name why → IsReplay text name run (Err why)
-  -- the text has a test case of the name: the answer for it
-  named : {test : Test} {answer : Answer} → IsTestOf text name test → OfRun test run answer → IsReplay text name run answer
+pub data IsReplay (given : Source) (name run : List ℕ) : Answer → Type 0 where
+  -- there is no test case of the name with the script: why
+  lacking : {why : Fault} → HasNoTest given name why → IsReplay given name run (Err why)
+  -- there is one: the answer for it
+  named : {test : Test} {answer : Answer} → IsTestOf given name test → OfRun test run answer → IsReplay given name run answer
 
 -- answers that tell the same
 abbrev pub SameReplay : Answer → Answer → Type 0
@@ -59,6 +59,6 @@ SameReplay (Ok text) (Err other) = ⊥
 SameReplay (Err one) (Ok other) = ⊥
 SameReplay (Err one) (Err other) = SameFault one other
 
--- a text, a name and a run file have one answer at most
-abbrev pub HasOneReplay : List ℕ → List ℕ → List ℕ → Type 0
-HasOneReplay text name run = (answer other : Answer) → IsReplay text name run answer → IsReplay text name run other → SameReplay answer other
+-- a module, a script, a name and a run file have one answer at most
+abbrev pub HasOneReplay : Source → List ℕ → List ℕ → Type 0
+HasOneReplay given name run = (answer other : Answer) → IsReplay given name run answer → IsReplay given name run other → SameReplay answer other

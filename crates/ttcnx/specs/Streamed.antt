@@ -1,5 +1,5 @@
--- What happens where a reader gives the text of a module and a writer takes the report, and what is answered. Stage by stage: the
--- plan, the text, its answer, the report.
+-- What happens where a reader gives the text of a module and a writer takes the report, and what is answered for it with a script.
+-- Stage by stage: the plan, the text, its answer, the report.
 use Rattle.std.specs.Prelude.{◌≡◌, ℕ, ◌+◌, List, take, ⊤, IfSome, Bool, if◌then◌else◌, Option, Result, Ok, Err}
 use Rattle.report.specs.Json.{json_text}
 use Rattle.report.specs.Texts.{report_text}
@@ -12,6 +12,7 @@ use Rattle.ttcnx_streams.specs.declared.reading.ReadError.{ReadError}
 use Rattle.ttcnx_streams.specs.declared.reading.ReadError.TheVariants as reading
 use Rattle.ttcn_syntax.specs.Limits.{longest_text}
 use Rattle.ttcnx.specs.Answer.{IsAnswer}
+use Rattle.ttcnx.specs.Named.{source}
 use Rattle.ttcnx.specs.declared.fault.Fault.{Fault}
 use Rattle.ttcnx.specs.declared.fault.Fault.TheVariants as fault
 use Rattle.ttcnx.specs.declared.stream.StreamFault.{StreamFault}
@@ -44,22 +45,22 @@ pub record HasOneText (before after : Device) : Type 0 where
   pub first_bytes : (text : List ℕ) → WasRead enough before after text → IfSome before.bytes (λ bytes. text ≡ take enough bytes)
 
 -- what happens, and what is answered
-pub data IsStreamed (name : List ℕ) (plan : Plan) (json : Bool) (before after : Streams) : Result ⊤ StreamFault → Type 0 where
+pub data IsStreamed (script name : List ℕ) (plan : Plan) (json : Bool) (before after : Streams) : Result ⊤ StreamFault → Type 0 where
   -- the plan is beyond its limits: nothing is read
-  beyond : (IsWithinLimits plan → ⊥) → after ≡ before → IsStreamed name plan json before after (Err (stream.Refused fault.BadPlan))
+  beyond : (IsWithinLimits plan → ⊥) → after ≡ before → IsStreamed script name plan json before after (Err (stream.Refused fault.BadPlan))
   -- a read fails: nothing is written
   unread : IsWithinLimits plan → BrokeOff enough before.reader after.reader → after.writer ≡ before.writer
-      → IsStreamed name plan json before after (Err stream.Read)
+      → IsStreamed script name plan json before after (Err stream.Read)
   -- there is no memory: some text was read, and nothing is written
   starved : IsWithinLimits plan → Stopped enough before.reader after.reader → after.writer ≡ before.writer
-      → IsStreamed name plan json before after (Err (stream.Refused fault.Memory))
+      → IsStreamed script name plan json before after (Err (stream.Refused fault.Memory))
   -- the text that was read has no report: why; nothing is written
-  refused : {text : List ℕ} {why : Fault} → IsWithinLimits plan → WasRead enough before.reader after.reader text → IsAnswer text name plan (Err why)
-      → after.writer ≡ before.writer → IsStreamed name plan json before after (Err (stream.Refused why))
+  refused : {text : List ℕ} {why : Fault} → IsWithinLimits plan → WasRead enough before.reader after.reader text → IsAnswer (source text script) name plan (Err why)
+      → after.writer ≡ before.writer → IsStreamed script name plan json before after (Err (stream.Refused why))
   -- a write fails: a beginning of the report on the text that was read, perhaps all of it, is written
   cut_short : {text : List ℕ} {report : Report} → IsWithinLimits plan → WasRead enough before.reader after.reader text
-      → IsAnswer text name plan (Ok report) → TookPart before.writer after.writer (told_as json report)
-      → IsStreamed name plan json before after (Err stream.Write)
+      → IsAnswer (source text script) name plan (Ok report) → TookPart before.writer after.writer (told_as json report)
+      → IsStreamed script name plan json before after (Err stream.Write)
   -- the report on the text that was read is written
   written : {text : List ℕ} {report : Report} → IsWithinLimits plan → WasRead enough before.reader after.reader text
-      → IsAnswer text name plan (Ok report) → Took before.writer after.writer (told_as json report) → IsStreamed name plan json before after (Ok tt)
+      → IsAnswer (source text script) name plan (Ok report) → Took before.writer after.writer (told_as json report) → IsStreamed script name plan json before after (Ok tt)

@@ -6,9 +6,10 @@ ghost use Rattle.report.specs.Texts.{line};
 ghost use Rattle.ttcn_syntax.specs.Limits.{longest_text};
 ghost use Rattle.ttcnx.specs.Converted.{HasOneConversion, IsCoarsened, IsDoubled};
 ghost use Rattle.ttcnx.specs.Fault.{lexical_fault};
+ghost use Rattle.ttcnx.specs.Named.{source};
 
 use crate::fault::Fault;
-use crate::testcase::testcase_of;
+use crate::testcase::test_of;
 use report::{FineText, LabelText, read_fine, read_run};
 use std::alloc::{AllocError, Global};
 use std::fmt;
@@ -16,42 +17,54 @@ use step_labels::{FineLabel, Label};
 use ttcn_step::Machine;
 use ttcn_syntax::LexError;
 
-/// What the command `coarsen` prints for a module, the name of a test case and the file of a fine run: the labels of the run
-/// that it stands for, a line each. Refusals come in the order of the work: the text, its tokens, its module, the name, the run
-/// file, the first label that can't follow, a test case that has not ended.
+/// What the command `coarsen` prints for a module, the name of a test case, the file of a fine run and a script: the labels of
+/// the run that it stands for, a line each. Refusals come in the order of the work: the text, its tokens, its module, the name,
+/// the script, the run file, the first label that can't follow, a test case that has not ended.
 #[tactic(auto, using(crate::proofs::OneConversion::one_coarsened))]
-pub fn coarsen_text(alloc: Global, text: &[u8], name: &str, run: &[u8]) -> Result<Vec<u8>, Fault>
-    ensures answer { (result ≡ Err Fault.Memory) ⊎ IsCoarsened text.now name.now run.now result }
+pub fn coarsen_text(
+    alloc: Global,
+    text: &[u8],
+    name: &str,
+    run: &[u8],
+    script: &[u8],
+) -> Result<Vec<u8>, Fault>
+    ensures answer { (result ≡ Err Fault.Memory) ⊎ IsCoarsened (source text.now script.now) name.now run.now result }
 
-    // A text, a name and a run file have one answer: so each answer is given exactly where it is said to be.
-    ensures one { HasOneConversion (IsCoarsened text.now name.now run.now) }
+    // What is given, a name and a run file have one answer: so each answer is given exactly where it is said to be.
+    ensures one { HasOneConversion (IsCoarsened (source text.now script.now) name.now run.now) }
 
     // This is decided before memory is asked for.
     ensures too_long { longest_text < length text.now → result ≡ Err (lexical_fault LexError.TextTooLong) }
 {
-    let (program, testcase) = testcase_of(alloc, text, name)?;
+    let (program, testcase, script) = test_of(alloc, text, name, script)?;
     let labels = read_fine(alloc, run)?;
-    let machine = Machine::new(alloc, &program, testcase)?;
+    let machine = Machine::with_script(alloc, &program, testcase, &script)?;
     let run = machine.coarsen(alloc, labels.as_slice())?;
     Ok(LabelLines(run.as_slice()).to_string(alloc)?.into_bytes())
 }
 
-/// What the command `double` prints for a module, the name of a test case and a run file: the labels of the run's doubling, a
-/// line each. Refusals come in the order of the work: the text, its tokens, its module, the name, the run file, the first label
-/// that is not enabled.
+/// What the command `double` prints for a module, the name of a test case, a run file and a script: the labels of the run's
+/// doubling, a line each. Refusals come in the order of the work: the text, its tokens, its module, the name, the script, the
+/// run file, the first label that is not enabled.
 #[tactic(auto, using(crate::proofs::OneConversion::one_doubled))]
-pub fn double_text(alloc: Global, text: &[u8], name: &str, run: &[u8]) -> Result<Vec<u8>, Fault>
-    ensures answer { (result ≡ Err Fault.Memory) ⊎ IsDoubled text.now name.now run.now result }
+pub fn double_text(
+    alloc: Global,
+    text: &[u8],
+    name: &str,
+    run: &[u8],
+    script: &[u8],
+) -> Result<Vec<u8>, Fault>
+    ensures answer { (result ≡ Err Fault.Memory) ⊎ IsDoubled (source text.now script.now) name.now run.now result }
 
-    // A text, a name and a run file have one answer: so each answer is given exactly where it is said to be.
-    ensures one { HasOneConversion (IsDoubled text.now name.now run.now) }
+    // What is given, a name and a run file have one answer: so each answer is given exactly where it is said to be.
+    ensures one { HasOneConversion (IsDoubled (source text.now script.now) name.now run.now) }
 
     // This is decided before memory is asked for.
     ensures too_long { longest_text < length text.now → result ≡ Err (lexical_fault LexError.TextTooLong) }
 {
-    let (program, testcase) = testcase_of(alloc, text, name)?;
+    let (program, testcase, script) = test_of(alloc, text, name, script)?;
     let labels = read_run(alloc, run)?;
-    let machine = Machine::new(alloc, &program, testcase)?;
+    let machine = Machine::with_script(alloc, &program, testcase, &script)?;
     let fine = machine.double(alloc, labels.as_slice())?;
     Ok(FineLines(fine.as_slice()).to_string(alloc)?.into_bytes())
 }

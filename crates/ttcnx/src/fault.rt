@@ -1,10 +1,10 @@
 //! Why there is no answer: the line that tells it, and the status that the program exits with.
 ghost use Rattle.std.specs.Prelude.{◌≡◌, Some, IfOk, string_bytes};
-ghost use Rattle.ttcnx.specs.Fault.{fault_text, refusal_text, status_of};
+ghost use Rattle.ttcnx.specs.Fault.{fault_text, refusal_text, script_text, status_of};
 
 use check_rules::Rule;
 use explore::ExploreError;
-use report::{PlaceText, RunError};
+use report::{PlaceText, RunError, ScriptError};
 use std::alloc::{AllocError, AllocFailed, Global};
 use std::fmt;
 use ttcn_parse::ParseError;
@@ -27,12 +27,23 @@ pub enum Refusal {
     Broken(Rule),
 }
 
+/// Why a text is no script of a test case.
+#[derive(Clone, Copy, Debug, PartialEq, Eq)]
+pub enum ScriptRefusal {
+    BadJson,
+    NoSuchPort,
+    BadMessage,
+    TooLarge,
+}
+
 /// Why there is no answer.
 #[derive(Debug, Drop)]
 pub enum Fault {
     /// The text is no module; the place is that of the fault.
     Refused(Refusal, Span),
     NoSuchTestCase,
+    /// The script is none of the test case.
+    BadScript(ScriptRefusal),
     /// The line of a run file of this number, counted from 1, is no label.
     BadLabel(usize),
     /// The label of a run of this number, counted from 1, is not enabled where it stands.
@@ -70,6 +81,19 @@ impl fmt::Display for Refusal {
     }
 }
 
+impl fmt::Display for ScriptRefusal {
+    ghost output = { λ refusal. Some (script_text refusal) };
+
+    fn fmt<W: fmt::Write>(&self, f: &mut fmt::Formatter<W>) -> fmt::Result {
+        f.write_str(match self {
+            ScriptRefusal::BadJson => "J1 BadJson",
+            ScriptRefusal::NoSuchPort => "J2 NoSuchPort",
+            ScriptRefusal::BadMessage => "J3 BadMessage",
+            ScriptRefusal::TooLarge => "J4 TooLarge",
+        })
+    }
+}
+
 impl fmt::Display for Fault {
     ghost output = { λ fault. Some (fault_text fault) };
 
@@ -79,6 +103,7 @@ impl fmt::Display for Fault {
                 write!(f, "refused {refusal} at {}", PlaceText(*place))
             }
             Fault::NoSuchTestCase => f.write_str("refused U1 NoSuchTestCase"),
+            Fault::BadScript(refusal) => write!(f, "refused {refusal}"),
             Fault::BadLabel(line) => write!(f, "refused N1 BadLabel at line {line}"),
             Fault::NotEnabled(label) => write!(f, "refused N2 NotEnabled at label {label}"),
             Fault::NotFine(label) => write!(f, "refused F1 NotFine at label {label}"),
@@ -108,6 +133,7 @@ pub fn status(fault: &Fault) -> u8
     match fault {
         Fault::Refused(..)
         | Fault::NoSuchTestCase
+        | Fault::BadScript(_)
         | Fault::BadLabel(_)
         | Fault::NotEnabled(_)
         | Fault::NotFine(_)
@@ -154,6 +180,22 @@ impl From<LexError> for Fault {
             LexError::OpenText(place) => Fault::Refused(Refusal::OpenText, place),
             LexError::IntegerTooLarge(place) => Fault::Refused(Refusal::IntegerTooLarge, place),
             LexError::Memory => Fault::Memory,
+        }
+    }
+}
+
+impl From<ScriptError> for Fault {
+    ghost use Rattle.ttcnx.specs.Fault.{script_fault};
+
+    ghost from_gives = { λ error fault. fault ≡ script_fault error };
+
+    fn from(error: ScriptError) -> Fault {
+        match error {
+            ScriptError::TooLarge => Fault::BadScript(ScriptRefusal::TooLarge),
+            ScriptError::BadJson => Fault::BadScript(ScriptRefusal::BadJson),
+            ScriptError::NoSuchPort => Fault::BadScript(ScriptRefusal::NoSuchPort),
+            ScriptError::BadMessage => Fault::BadScript(ScriptRefusal::BadMessage),
+            ScriptError::Memory => Fault::Memory,
         }
     }
 }

@@ -6,12 +6,12 @@ ghost use Rattle.report.specs.Texts.{line};
 ghost use Rattle.semantics.specs.Snapshots.{Test};
 ghost use Rattle.ttcn_syntax.specs.Limits.{longest_text};
 ghost use Rattle.ttcnx.specs.Fault.{lexical_fault};
-ghost use Rattle.ttcnx.specs.Named.{IsTestOf};
+ghost use Rattle.ttcnx.specs.Named.{IsTestOf, source};
 ghost use Rattle.ttcnx.specs.Replayed.{HasOneReplay, IsReplay, ending_text, open_or_blocked};
 ghost use Rattle.laws_types.specs.Runs.{StaysWellTyped};
 
 use crate::fault::Fault;
-use crate::testcase::testcase_of;
+use crate::testcase::test_of;
 use report::{read_run, word_of};
 use std::alloc::{AllocError, Global};
 use std::fmt;
@@ -20,25 +20,31 @@ use ttcn_config::Config;
 use ttcn_step::Machine;
 use ttcn_syntax::LexError;
 
-/// What the command `replay` prints for a module, the name of a test case and a run file. Refusals come in the order of
-/// the work: the text, its tokens, its module, the name, the run file, the first label that is not enabled.
+/// What the command `replay` prints for a module, the name of a test case, a run file and a script. Refusals come in the order
+/// of the work: the text, its tokens, its module, the name, the script, the run file, the first label that is not enabled.
 #[tactic(auto, using(crate::proofs::OneReplay::one_replay))]
-pub fn replay_text(alloc: Global, text: &[u8], name: &str, run: &[u8]) -> Result<Vec<u8>, Fault>
-    ensures answer { (result ≡ Err Fault.Memory) ⊎ IsReplay text.now name.now run.now result }
+pub fn replay_text(
+    alloc: Global,
+    text: &[u8],
+    name: &str,
+    run: &[u8],
+    script: &[u8],
+) -> Result<Vec<u8>, Fault>
+    ensures answer { (result ≡ Err Fault.Memory) ⊎ IsReplay (source text.now script.now) name.now run.now result }
 
-    // A text, a name and a run file have one answer: so each answer is given exactly where it is said to be.
-    ensures one { HasOneReplay text.now name.now run.now }
+    // What is given, a name and a run file have one answer: so each answer is given exactly where it is said to be.
+    ensures one { HasOneReplay (source text.now script.now) name.now run.now }
 
     // In every run, however long, each value is of the type of its name, nothing is met that no checked module has, and only a
     // dynamic error ends with verdict `error`.
-    ensures stays_well_typed { (test : Test) → IsTestOf text.now name.now test → StaysWellTyped test }
+    ensures stays_well_typed { (test : Test) → IsTestOf (source text.now script.now) name.now test → StaysWellTyped test }
 
     // This is decided before memory is asked for.
     ensures too_long { longest_text < length text.now → result ≡ Err (lexical_fault LexError.TextTooLong) }
 {
-    let (program, testcase) = testcase_of(alloc, text, name)?;
+    let (program, testcase, script) = test_of(alloc, text, name, script)?;
     let labels = read_run(alloc, run)?;
-    let machine = Machine::new(alloc, &program, testcase)?;
+    let machine = Machine::with_script(alloc, &program, testcase, &script)?;
     let config = machine.replay(alloc, labels.as_slice())?;
     let count = labels.len();
     let ending = ending_of(alloc, &machine, &config)?;

@@ -1,5 +1,5 @@
-//! From the text of a module to the report on one of its test cases.
-ghost use Rattle.std.specs.Prelude.{◌≡◌, ℕ, ◌<◌, ◌≤◌, ◌⊎◌, ◌↔◌, length, Err, IfOk, IsErrOf, IsTrue, string_bytes};
+//! From the text of a module, and of a script, to the report on a test case.
+ghost use Rattle.std.specs.Prelude.{◌≡◌, ℕ, ◌<◌, ◌≤◌, ◌⊎◌, ◌↔◌, codes, length, Err, IfOk, IsErrOf, IsTrue, string_bytes};
 ghost use Rattle.std.specs.List.{filter_map, zip};
 ghost use Rattle.laws_fine.specs.Verdicts.{EndsFinelyWith, EndsWith};
 ghost use Rattle.search_layer.specs.Limits.{IsWithinLimits};
@@ -8,12 +8,12 @@ ghost use Rattle.ttcn_syntax.specs.Limits.{longest_text};
 ghost use Rattle.ttcn_syntax.specs.declared.tree.statement.Verdict as tree;
 ghost use Rattle.ttcnx.specs.Answer.{HasOneAnswer, IsAnswer};
 ghost use Rattle.ttcnx.specs.Fault.{lexical_fault};
-ghost use Rattle.ttcnx.specs.Named.{IsTestOf};
+ghost use Rattle.ttcnx.specs.Named.{IsTestOf, source};
 ghost use Rattle.ttcnx.specs.Tells.{Lists, TellsOfRuns, all_verdicts, outcome_of};
 ghost use Rattle.laws_types.specs.Runs.{StaysWellTyped};
 
 use crate::fault::Fault;
-use crate::testcase::testcase_of;
+use crate::testcase::test_of;
 use explore::{Gate, Plan};
 use report::{Outcome, Report};
 use std::alloc::{AllocError, Global};
@@ -32,9 +32,8 @@ const VERDICTS: [Verdict; 5] = [
     Verdict::Error,
 ];
 
-/// Explores the runs of the test case of this name. Refusals come in the order of the work: the plan, the text, its
-/// tokens, its module, the name, the number of configurations.
-#[tactic(auto, using(crate::proofs::OneAnswer::one_answer))]
+/// Explores the runs of the test case of this name, at whose system ports nothing comes in: what `run_script` answers for the
+/// script `{}`.
 pub fn run_text<G: Gate, R: Threads + Sync>(
     rt: &R,
     alloc: Global,
@@ -43,22 +42,59 @@ pub fn run_text<G: Gate, R: Threads + Sync>(
     plan: &Plan,
     gate: &G,
 ) -> Result<Report, Fault>
-    ensures answer { (result ≡ Err Fault.Memory) ⊎ IsAnswer text.now name.now plan.now result }
+    ensures answer { (result ≡ Err Fault.Memory) ⊎ IsAnswer (source text.now (codes "{}")) name.now plan.now result }
 
-    // A text, a name and a plan have one answer: so each answer is given exactly where it is said to be.
-    ensures one { HasOneAnswer text.now name.now plan.now }
+    // What is given, a name and a plan have one answer: so each answer is given exactly where it is said to be.
+    ensures one { HasOneAnswer (source text.now (codes "{}")) name.now plan.now }
 
     // Where it is complete, the report is true of the runs of every greater bound.
-    ensures every_bound { IfOk result (λ report. IsTrue report.complete → (test : Test) → IsTestOf text.now name.now test
+    ensures every_bound { IfOk result (λ report. IsTrue report.complete → (test : Test) → IsTestOf (source text.now (codes "{}")) name.now test
         → (bound : ℕ) → plan.now.steps ≤ bound → TellsOfRuns test bound report) }
 
     // It then lists the verdicts of all runs, which are those of all fine runs: there snapshot and choice are two steps.
-    ensures every_verdict { IfOk result (λ report. IsTrue report.complete → (test : Test) → IsTestOf text.now name.now test
+    ensures every_verdict { IfOk result (λ report. IsTrue report.complete → (test : Test) → IsTestOf (source text.now (codes "{}")) name.now test
         → (v : tree.Verdict) → (Lists report v ↔ EndsWith test v) × (Lists report v ↔ EndsFinelyWith test v)) }
 
     // In every run, however long, each value is of the type of its name, nothing is met that no checked module has, and only a
     // dynamic error ends with verdict `error`.
-    ensures stays_well_typed { (test : Test) → IsTestOf text.now name.now test → StaysWellTyped test }
+    ensures stays_well_typed { (test : Test) → IsTestOf (source text.now (codes "{}")) name.now test → StaysWellTyped test }
+
+    // These two are decided before memory is asked for.
+    ensures bad_plan { IsErrOf result Fault.BadPlan ↔ (IsWithinLimits plan.now → ⊥) }
+    ensures too_long { IsWithinLimits plan.now → longest_text < length text.now
+        → result ≡ Err (lexical_fault LexError.TextTooLong) }
+{
+    run_script(rt, alloc, text, b"{}", name, plan, gate)
+}
+
+/// Explores the runs of the test case of this name, at whose system ports the messages of a script come in. Refusals come in
+/// the order of the work: the plan, the text, its tokens, its module, the name, the script, the number of configurations.
+#[tactic(auto, using(crate::proofs::OneAnswer::one_answer))]
+pub fn run_script<G: Gate, R: Threads + Sync>(
+    rt: &R,
+    alloc: Global,
+    text: &[u8],
+    script: &[u8],
+    name: &str,
+    plan: &Plan,
+    gate: &G,
+) -> Result<Report, Fault>
+    ensures answer { (result ≡ Err Fault.Memory) ⊎ IsAnswer (source text.now script.now) name.now plan.now result }
+
+    // What is given, a name and a plan have one answer: so each answer is given exactly where it is said to be.
+    ensures one { HasOneAnswer (source text.now script.now) name.now plan.now }
+
+    // Where it is complete, the report is true of the runs of every greater bound.
+    ensures every_bound { IfOk result (λ report. IsTrue report.complete → (test : Test) → IsTestOf (source text.now script.now) name.now test
+        → (bound : ℕ) → plan.now.steps ≤ bound → TellsOfRuns test bound report) }
+
+    // It then lists the verdicts of all runs, which are those of all fine runs: there snapshot and choice are two steps.
+    ensures every_verdict { IfOk result (λ report. IsTrue report.complete → (test : Test) → IsTestOf (source text.now script.now) name.now test
+        → (v : tree.Verdict) → (Lists report v ↔ EndsWith test v) × (Lists report v ↔ EndsFinelyWith test v)) }
+
+    // In every run, however long, each value is of the type of its name, nothing is met that no checked module has, and only a
+    // dynamic error ends with verdict `error`.
+    ensures stays_well_typed { (test : Test) → IsTestOf (source text.now script.now) name.now test → StaysWellTyped test }
 
     // These two are decided before memory is asked for.
     ensures bad_plan { IsErrOf result Fault.BadPlan ↔ (IsWithinLimits plan.now → ⊥) }
@@ -68,8 +104,8 @@ pub fn run_text<G: Gate, R: Threads + Sync>(
     if !plan.is_within_limits() {
         return Err(Fault::BadPlan);
     }
-    let (program, testcase) = testcase_of(alloc, text, name)?;
-    let machine = Machine::new(alloc, &program, testcase)?;
+    let (program, testcase, script) = test_of(alloc, text, name, script)?;
+    let machine = Machine::with_script(alloc, &program, testcase, &script)?;
     let found = explore_runs(rt, alloc, &machine, plan, gate)?;
     Ok(report_of(alloc, name, plan.steps, found)?)
 }

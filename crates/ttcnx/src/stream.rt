@@ -3,10 +3,11 @@ ghost use Rattle.std.specs.Prelude.{◌≡◌, ℕ, ◌<◌, ◌-◌, ◌^◌, L
 ghost use Rattle.search_layer.specs.Limits.{IsWithinLimits};
 ghost use Rattle.ttcnx_streams.specs.Transfers.{device_by};
 ghost use Rattle.ttcnx.specs.Answer.{HasOneAnswer};
+ghost use Rattle.ttcnx.specs.Named.{source};
 ghost use Rattle.ttcnx.specs.Streamed.{HasOneText, IsStreamed, streams_by, enough, told_as};
 
 use crate::fault::Fault;
-use crate::run::run_text;
+use crate::run::run_script;
 use explore::{Gate, Plan};
 use report::{Report, to_json, to_text};
 use std::alloc::{AllocError, Global};
@@ -77,7 +78,8 @@ impl From<WriteError> for StreamFault {
     }
 }
 
-/// Reads the text of a module, explores the runs of the test case of this name, and writes the report, as text or as JSON. The
+/// Reads the text of a module, explores the runs of the test case of this name with a script, and writes the report, as text or
+/// as JSON. The
 /// plan is judged before the first read, and nothing is written before the whole report is there. Each failed call of the
 /// reader or the writer ends this one, an interruption too.
 #[tactic(auto, using(crate::proofs::Streams::one_text))]
@@ -86,6 +88,7 @@ pub fn run_stream<R: Read, W: Write, G: Gate, T: Threads + Sync>(
     alloc: Global,
     reader: &mut Counted<R>,
     writer: &mut Counted<W>,
+    script: &[u8],
     name: &str,
     plan: &Plan,
     json: bool,
@@ -93,11 +96,11 @@ pub fn run_stream<R: Read, W: Write, G: Gate, T: Threads + Sync>(
 ) -> Result<(), StreamFault>
     requires reads { reader.old.failed < 2 ^ 64 - 1 }
     requires writes { writer.old.failed < 2 ^ 64 - 1 }
-    ensures streamed { IsStreamed name.now plan.now json (streams_by R.remaining W.contents reader.old writer.old)
+    ensures streamed { IsStreamed script.now name.now plan.now json (streams_by R.remaining W.contents reader.old writer.old)
         (streams_by R.remaining W.contents reader.new writer.new) result }
 
-    // A text, a name and a plan have one answer, and a reader whose bytes are known gives one text.
-    ensures one { (text : List ℕ) → HasOneAnswer text name.now plan.now }
+    // What is given, a name and a plan have one answer, and a reader whose bytes are known gives one text.
+    ensures one { (text : List ℕ) → HasOneAnswer (source text script.now) name.now plan.now }
     ensures known { HasOneText (device_by R.remaining reader.old) (device_by R.remaining reader.new) }
 
     // A plan beyond its limits leaves both as they were, and all but a failed write leaves the writer so.
@@ -108,7 +111,7 @@ pub fn run_stream<R: Read, W: Write, G: Gate, T: Threads + Sync>(
         return Err(StreamFault::Refused(Fault::BadPlan));
     }
     let text = read_up_to(alloc, reader, ENOUGH)?;
-    let report = run_text(rt, alloc, &text, name, plan, gate)?;
+    let report = run_script(rt, alloc, &text, script, name, plan, gate)?;
     let told = told_as(alloc, &report, json)?;
     Ok(write_whole(writer, told.as_bytes())?)
 }

@@ -6,7 +6,7 @@ use std::alloc::AllocGlobal;
 use std::io::{self, Error, ErrorKind, Read, Write};
 use std::test::Fail;
 use std::thread::Threads;
-use ttcnx::{Counted, Fault, Refusal, StreamFault, run_stream};
+use ttcnx::{Counted, Fault, Refusal, StreamFault, fault_line, run_stream};
 
 const TEXT: &str = "module M {
 type component C {}
@@ -25,6 +25,47 @@ verdict pass 2
 
 const REPORT_IN_JSON: &str =
     "{\"blocked\":[],\"branches\":[],\"complete\":true,\"configurations\":3,\"steps\":2,\"testcase\":\"T\",\"verdicts\":[{\"run\":[\"mtc\",\"mtc\"],\"verdict\":\"pass\"}]}\n";
+
+/// A test case that waits for what comes in at its system port, or for a timer.
+const SYSTEM: &str = "module Y {
+type port P message { in integer; out boolean }
+type component C { port P p; timer t := 1.0 }
+testcase T() runs on C system C {
+map(self:p, system:p);
+p.send(true);
+t.start;
+alt {
+[] p.receive(1) { setverdict(pass) }
+[] p.receive { setverdict(fail) }
+[] t.timeout { setverdict(inconc) }
+}
+}
+}
+";
+
+const REPORT_UNDER_A_SCRIPT: &str = "testcase T
+steps 9
+configurations 29
+complete yes
+verdict pass 7
+  mtc
+  mtc
+  mtc
+  system.p
+  mtc
+  mtc
+  mtc
+verdict inconc 7
+  mtc
+  mtc
+  mtc
+  mtc/0.t
+  mtc
+  mtc
+  mtc
+branch 9:1
+branch 11:1
+";
 
 const PLAN: Plan = Plan {
     steps: 2,
@@ -112,7 +153,7 @@ fn sound<T>(inner: T, step: usize) -> Counted<Faulty<T>>
     Counted::new(Faulty::new(inner, step, 0, Trouble::Fails))
 }
 
-/// Writes the report on a test case of the text that the reader gives, as text.
+/// Writes the report on a test case of the text that the reader gives, as text. No script is given.
 fn stream<R, D, E>(
     rt: &R,
     reader: &mut Counted<D>,
@@ -132,6 +173,7 @@ where
         rt.alloc(),
         reader,
         writer,
+        b"{}",
         testcase,
         plan,
         false,
@@ -151,6 +193,7 @@ fn reports_go_through(rt: HostRuntime) -> Result<(), Fail> {
                 alloc,
                 &mut reader,
                 &mut writer,
+                b"{}",
                 "T",
                 &PLAN,
                 json,
@@ -163,6 +206,67 @@ fn reports_go_through(rt: HostRuntime) -> Result<(), Fail> {
             let written = writer.into_inner().inner;
             assert!(rt; written.as_slice() == want.as_bytes(), "{step}");
         }
+    }
+    Ok(())
+}
+
+#[test]
+fn messages_of_a_script_come_in(rt: HostRuntime) -> Result<(), Fail> {
+    let alloc = rt.alloc();
+    let script = "{\"p\":[{\"integer\":1},{\"integer\":2}]}";
+    let plan = Plan { steps: 9, ..PLAN };
+    let mut reader = sound(SYSTEM.as_bytes(), 30);
+    let mut writer = sound(Vec::new(alloc), 30);
+    let done = run_stream(
+        &rt,
+        alloc,
+        &mut reader,
+        &mut writer,
+        script.as_bytes(),
+        "T",
+        &plan,
+        false,
+        &NoGate,
+    );
+    assert!(rt; done.is_ok(), "{done:?}");
+    let written = writer.into_inner().inner;
+    assert!(rt;
+        written.as_slice() == REPORT_UNDER_A_SCRIPT.as_bytes(),
+        "the report"
+    );
+    Ok(())
+}
+
+/// A script is judged behind the test case's name.
+#[test]
+fn refused_scripts_write_nothing(rt: HostRuntime) -> Result<(), Fail> {
+    let alloc = rt.alloc();
+    for (text, testcase, script, want) in [
+        (TEXT, "t", "{", "refused U1 NoSuchTestCase"),
+        (TEXT, "T", "{", "refused J1 BadJson"),
+        (TEXT, "T", "[]", "refused J2 NoSuchPort"),
+        (TEXT, "T", "{\"p\":[]}", "refused J2 NoSuchPort"),
+        (SYSTEM, "T", "{\"p\":[1]}", "refused J3 BadMessage"),
+    ] {
+        let mut reader = sound(text.as_bytes(), 30);
+        let mut writer = sound(Vec::new(alloc), 30);
+        let done = run_stream(
+            &rt,
+            alloc,
+            &mut reader,
+            &mut writer,
+            script.as_bytes(),
+            testcase,
+            &PLAN,
+            false,
+            &NoGate,
+        );
+        let line = match &done {
+            Err(StreamFault::Refused(fault)) => fault_line(alloc, fault)?,
+            _ => String::from_str(alloc, "no refusal")?,
+        };
+        assert!(rt; line.as_str() == want, "{script}: {line}");
+        assert!(rt; writer.into_inner().calls == 0, "{script}");
     }
     Ok(())
 }

@@ -1,11 +1,11 @@
 //! The lines of faults, the statuses that they lead to, and the texts of errors.
-use report::RunError;
+use report::{RunError, ScriptError};
 use std::alloc::{AllocError, Global};
 use std::fmt::Display;
 use std::test::Fail;
 use ttcn_step::{CoarsenError, ReplayError, StepError};
 use ttcn_syntax::Span;
-use ttcnx::{Fault, LineError, Refusal, Rule, fault_line, status};
+use ttcnx::{Fault, LineError, Refusal, Rule, ScriptRefusal, fault_line, status};
 
 #[test]
 fn fault_lines(rt: HostRuntime) -> Result<(), Fail> {
@@ -55,6 +55,26 @@ fn fault_lines(rt: HostRuntime) -> Result<(), Fail> {
     }
     let others = [
         (Fault::NoSuchTestCase, "refused U1 NoSuchTestCase", 1),
+        (
+            Fault::BadScript(ScriptRefusal::TooLarge),
+            "refused J4 TooLarge",
+            1,
+        ),
+        (
+            Fault::BadScript(ScriptRefusal::BadJson),
+            "refused J1 BadJson",
+            1,
+        ),
+        (
+            Fault::BadScript(ScriptRefusal::NoSuchPort),
+            "refused J2 NoSuchPort",
+            1,
+        ),
+        (
+            Fault::BadScript(ScriptRefusal::BadMessage),
+            "refused J3 BadMessage",
+            1,
+        ),
         (Fault::BadLabel(2), "refused N1 BadLabel at line 2", 1),
         (Fault::NotEnabled(7), "refused N2 NotEnabled at label 7", 1),
         (Fault::NotFine(8), "refused F1 NotFine at label 8", 1),
@@ -86,6 +106,17 @@ fn errors_have_their_texts(rt: HostRuntime) -> Result<(), Fail> {
     let alloc = rt.alloc();
     assert!(rt; has_text(alloc, &RunError::BadLabel(7), "line 7 is no label")?);
     assert!(rt; has_text(alloc, &RunError::Memory, "no memory")?);
+    assert!(rt; has_text(alloc, &ScriptError::TooLarge, "the script is too large")?);
+    assert!(rt; has_text(alloc, &ScriptError::BadJson, "the script is no JSON")?);
+    assert!(rt; has_text(alloc, &ScriptError::NoSuchPort, "no such system port")?);
+    assert!(rt;
+        has_text(
+            alloc,
+            &ScriptError::BadMessage,
+            "no message of the system port"
+        )?
+    );
+    assert!(rt; has_text(alloc, &ScriptError::Memory, "no memory")?);
     assert!(rt; has_text(alloc, &StepError::NotEnabled, "the label is not enabled")?);
     assert!(rt; has_text(alloc, &StepError::Memory, "no memory")?);
     assert!(rt; has_text(alloc, &ReplayError::NotEnabled(7), "label 7 is not enabled")?);

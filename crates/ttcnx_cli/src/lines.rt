@@ -14,7 +14,8 @@ fn commands(rt: HostRuntime) -> Result<(), Fail> {
         piece: 256,
     };
     let line = read_line(rt.alloc(), &RUN)?;
-    let is_read = matches!(&line, Line::Run { file, testcase, plan: found, json: false }
+    let is_read =
+        matches!(&line, Line::Run { file, testcase, script: None, plan: found, json: false }
         if file.as_str() == "a b.ttcn" && testcase.as_str() == "T" && *found == plan);
     assert!(rt; is_read, "{line:?}");
     let words = [
@@ -37,26 +38,72 @@ fn commands(rt: HostRuntime) -> Result<(), Fail> {
         piece: 65_536,
     };
     let line = read_line(rt.alloc(), &words)?;
-    let is_read = matches!(&line, Line::Run { file, testcase, plan: found, json: true }
+    let is_read =
+        matches!(&line, Line::Run { file, testcase, script: None, plan: found, json: true }
         if file.as_str() == "f" && testcase.as_str() == "" && *found == plan);
     assert!(rt; is_read, "{line:?}");
     let words = ["replay", "f", "--run", "a run", "--testcase", "T"];
     let line = read_line(rt.alloc(), &words)?;
-    let is_read = matches!(&line, Line::Replay { file, testcase, run }
+    let is_read = matches!(&line, Line::Replay { file, testcase, script: None, run }
         if file.as_str() == "f" && testcase.as_str() == "T" && run.as_str() == "a run");
     assert!(rt; is_read, "{line:?}");
     let words = ["coarsen", "--testcase", "T", "f", "--run", "a run"];
     let line = read_line(rt.alloc(), &words)?;
-    let is_read = matches!(&line, Line::Coarsen { file, testcase, run }
+    let is_read = matches!(&line, Line::Coarsen { file, testcase, script: None, run }
         if file.as_str() == "f" && testcase.as_str() == "T" && run.as_str() == "a run");
     assert!(rt; is_read, "{line:?}");
     let words = ["double", "--testcase", "T", "f", "--run", "a run"];
     let line = read_line(rt.alloc(), &words)?;
-    let is_read = matches!(&line, Line::Double { file, testcase, run }
+    let is_read = matches!(&line, Line::Double { file, testcase, script: None, run }
         if file.as_str() == "f" && testcase.as_str() == "T" && run.as_str() == "a run");
     assert!(rt; is_read, "{line:?}");
     let line = read_line(rt.alloc(), &["check", "a b.ttcn"])?;
     let is_read = matches!(&line, Line::Check { file } if file.as_str() == "a b.ttcn");
+    assert!(rt; is_read, "{line:?}");
+    Ok(())
+}
+
+/// Each command about a test case takes the file of a script.
+#[test]
+fn scripts(rt: HostRuntime) -> Result<(), Fail> {
+    let alloc = rt.alloc();
+    let words = [
+        "run",
+        "f",
+        "--testcase",
+        "T",
+        "--steps",
+        "1",
+        "--script",
+        "a b.json",
+    ];
+    let line = read_line(alloc, &words)?;
+    let is_read = matches!(&line, Line::Run { file, script: Some(script), .. }
+        if file.as_str() == "f" && script.as_str() == "a b.json");
+    assert!(rt; is_read, "{line:?}");
+    let words = ["replay", "--script=s", "f", "--testcase", "T", "--run", "g"];
+    let line = read_line(alloc, &words)?;
+    let is_read = matches!(&line, Line::Replay { file, script: Some(script), run, .. }
+        if file.as_str() == "f" && script.as_str() == "s" && run.as_str() == "g");
+    assert!(rt; is_read, "{line:?}");
+    let words = [
+        "coarsen",
+        "f",
+        "--testcase",
+        "T",
+        "--run",
+        "g",
+        "--script",
+        "f",
+    ];
+    let line = read_line(alloc, &words)?;
+    let is_read = matches!(&line, Line::Coarsen { file, script: Some(script), run, .. }
+        if file.as_str() == "f" && script.as_str() == "f" && run.as_str() == "g");
+    assert!(rt; is_read, "{line:?}");
+    let words = ["double", "f", "--testcase", "T", "--script=", "--run", "g"];
+    let line = read_line(alloc, &words)?;
+    let is_read = matches!(&line, Line::Double { file, script: Some(script), run, .. }
+        if file.as_str() == "f" && script.as_str() == "" && run.as_str() == "g");
     assert!(rt; is_read, "{line:?}");
     Ok(())
 }
@@ -82,12 +129,13 @@ fn faulty_lines(rt: HostRuntime) -> Result<(), Fail> {
         let refused = matches!(read_line(alloc, &words), Err(LineError::Bad(_)));
         assert!(rt; refused, "{name} {value}");
     }
-    let lines: [&[&str]; 14] = [
+    let lines: [&[&str]; 17] = [
         &[],
         &["walk"],
         &["check"],
         &["check", "f", "g"],
         &["check", "f", "--steps", "1"],
+        &["check", "f", "--script", "s"],
         &["run"],
         &["run", "f", "--testcase", "T"],
         &["run", "f", "g", "--testcase", "T", "--steps", "1"],
@@ -101,8 +149,21 @@ fn faulty_lines(rt: HostRuntime) -> Result<(), Fail> {
             "--json",
             "yes",
         ],
+        &["run", "f", "--testcase", "T", "--steps", "1", "--script"],
         &["replay", "f", "--testcase", "T"],
         &["replay", "f", "--run", "g"],
+        &[
+            "replay",
+            "f",
+            "--testcase",
+            "T",
+            "--run",
+            "g",
+            "--script",
+            "s",
+            "--script",
+            "s",
+        ],
         &["coarsen", "f", "--testcase", "T"],
         &["double", "f", "--run", "g"],
         &[

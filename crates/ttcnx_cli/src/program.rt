@@ -11,8 +11,11 @@ use ttcnx::{
     fault_line, read_line, replay_text, run_stream, status,
 };
 
-/// How many bytes of a module are read: a text that has them all is refused as too long.
+/// How many bytes of a module or a script are read: a text that has them all is refused as too long.
 const ENOUGH: u64 = LONGEST_TEXT as u64 + 1;
+
+/// The script of a command that is given none: nothing comes in.
+const NO_SCRIPT: &[u8] = b"{}";
 
 /// Why a command line was not answered.
 #[derive(Debug, Drop)]
@@ -93,40 +96,50 @@ where
         Line::Run {
             file,
             testcase,
+            script,
             plan,
             json,
-        } => explore(rt, file, testcase.as_str(), &plan, json),
+        } => {
+            let script = read_script(rt, script)?;
+            explore(rt, &script, file, testcase.as_str(), &plan, json)
+        }
         Line::Replay {
             file,
             testcase,
+            script,
             run,
         } => {
-            let (text, run) = read_both(rt, file, run)?;
+            let given = read_all(rt, script, file, run)?;
+            let name = testcase.as_str();
             print(
                 rt,
-                &replay_text(rt.alloc(), &text, testcase.as_str(), &run)?,
+                &replay_text(rt.alloc(), &given.module, name, &given.run, &given.script)?,
             )
         }
         Line::Coarsen {
             file,
             testcase,
+            script,
             run,
         } => {
-            let (text, run) = read_both(rt, file, run)?;
+            let given = read_all(rt, script, file, run)?;
+            let name = testcase.as_str();
             print(
                 rt,
-                &coarsen_text(rt.alloc(), &text, testcase.as_str(), &run)?,
+                &coarsen_text(rt.alloc(), &given.module, name, &given.run, &given.script)?,
             )
         }
         Line::Double {
             file,
             testcase,
+            script,
             run,
         } => {
-            let (text, run) = read_both(rt, file, run)?;
+            let given = read_all(rt, script, file, run)?;
+            let name = testcase.as_str();
             print(
                 rt,
-                &double_text(rt.alloc(), &text, testcase.as_str(), &run)?,
+                &double_text(rt.alloc(), &given.module, name, &given.run, &given.script)?,
             )
         }
     }
@@ -140,8 +153,16 @@ fn print<R: Print>(rt: &R, bytes: &[u8]) -> Result<(), Fault> {
     }
 }
 
-/// Explores the runs of a test case of the module in a file, and writes the report to the standard output.
-fn explore<R>(rt: &R, file: String, testcase: &str, plan: &Plan, json: bool) -> Result<(), Fault>
+/// Explores the runs of a test case of the module in a file under a script, and writes the report to the standard
+/// output.
+fn explore<R>(
+    rt: &R,
+    script: &[u8],
+    file: String,
+    testcase: &str,
+    plan: &Plan,
+    json: bool,
+) -> Result<(), Fault>
 where
     R: Files + Print + AllocGlobal + Threads + Sync,
 {
@@ -155,6 +176,7 @@ where
         rt.alloc(),
         &mut reader,
         &mut writer,
+        script,
         testcase,
         plan,
         json,
@@ -167,15 +189,37 @@ where
     }
 }
 
-/// The bytes of a module, and those of a run file.
-fn read_both<R: Files + AllocGlobal>(
+/// What a command about a run reads: the bytes of a script, of a module and of a run file.
+#[derive(Drop)]
+struct Given {
+    script: Vec<u8>,
+    module: Vec<u8>,
+    run: Vec<u8>,
+}
+
+/// Reads the files of a command about a run, the script first.
+fn read_all<R: Files + AllocGlobal>(
     rt: &R,
+    script: Option<String>,
     file: String,
     run: String,
-) -> Result<(Vec<u8>, Vec<u8>), Fault> {
-    let text = read_bytes(rt, file, ENOUGH)?;
+) -> Result<Given, Fault> {
+    let script = read_script(rt, script)?;
+    let module = read_bytes(rt, file, ENOUGH)?;
     let run = read_bytes(rt, run, u64::MAX)?;
-    Ok((text, run))
+    Ok(Given {
+        script,
+        module,
+        run,
+    })
+}
+
+/// The bytes of the script, which is read before all other files.
+fn read_script<R: Files + AllocGlobal>(rt: &R, file: Option<String>) -> Result<Vec<u8>, Fault> {
+    match file {
+        Some(file) => read_bytes(rt, file, ENOUGH),
+        None => Ok(Vec::from_slice(rt.alloc(), NO_SCRIPT)?),
+    }
 }
 
 /// The words of the command line, the program's name first.

@@ -98,16 +98,19 @@ run_fills = (
     (
       record { own = refl; action = refl; full = inr (inl (omega arith)); defaults = tt },
       (
-        record { own = refl; action = refl; full = inr (inl (omega arith)); defaults = refl },
+        record { own = refl; action = refl; full = inr (inl (omega arith)); defaults = tt },
         (
           record { own = refl; action = refl; full = inr (inl (omega arith)); defaults = refl },
           (
             record { own = refl; action = refl; full = inr (inl (omega arith)); defaults = refl },
             (
-              record { own = refl; action = refl; full = inr (inr tt); defaults = refl },
+              record { own = refl; action = refl; full = inr (inl (omega arith)); defaults = refl },
               (
-                record { own = refl; action = refl; full = inl refl; defaults = tt },
-                tt,
+                record { own = refl; action = refl; full = inr (inr tt); defaults = refl },
+                (
+                  record { own = refl; action = refl; full = inl refl; defaults = tt },
+                  tt,
+                ),
               ),
             ),
           ),
@@ -129,8 +132,11 @@ run_file_fills = (
     (
       record { own = refl; action = refl; full = inr (inl (omega arith)); defaults = tt },
       (
-        record { own = refl; action = refl; full = inl refl; defaults = tt },
-        tt,
+        record { own = refl; action = refl; full = inr (inl (omega arith)); defaults = tt },
+        (
+          record { own = refl; action = refl; full = inl refl; defaults = tt },
+          tt,
+        ),
       ),
     ),
   ),
@@ -150,12 +156,12 @@ run_given words e =
       file = text_from _ _ (v.0 (inl refl));
       testcase = text_from _ _ (v.1.0 (inl refl));
       plan = record {
-        steps = number_from _ _ 0 100000 refl (v.1.1.0 (inl refl));
-        limit = number_from _ _ 1 10000000 refl (v.1.1.1.0 (inr tt));
-        workers = number_from _ _ 1 64 refl (v.1.1.1.1.0 (inr tt));
-        piece = number_from _ _ 1 65536 refl (v.1.1.1.1.1.0 (inr tt));
+        steps = number_from _ _ 0 100000 refl (v.1.1.1.0 (inl refl));
+        limit = number_from _ _ 1 10000000 refl (v.1.1.1.1.0 (inr tt));
+        workers = number_from _ _ 1 64 refl (v.1.1.1.1.1.0 (inr tt));
+        piece = number_from _ _ 1 65536 refl (v.1.1.1.1.1.1.0 (inr tt));
       };
-      json = flag_from _ _ refl (v.1.1.1.1.1.1.0 (inr tt));
+      json = flag_from _ _ refl (v.1.1.1.1.1.1.1.0 (inr tt));
     }
 
 run_file_given : (s : Shape) → s.rules ≡ run_file_rules → (words : List Text) → level_fault s [] nothing_held words false [] ≡ [] → GivesRunFile (rows_after s.rules [] words)
@@ -166,7 +172,7 @@ run_file_given s is words e =
     record {
       file = text_from rows _ (v.0 (inl refl));
       testcase = text_from rows _ (v.1.0 (inl refl));
-      run = text_from rows _ (v.1.1.0 (inl refl));
+      run = text_from rows _ (v.1.1.1.0 (inl refl));
     }
 
 -- ---- the subcommand at which the walk stops

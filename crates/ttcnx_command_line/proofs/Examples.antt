@@ -1,5 +1,5 @@
 -- What `ttcnx_app` makes of words that are written out.
-use Rattle.std.proofs.Common.{◌≡◌, refl, true, List, [], ◌∷◌, Some, Option, option_map, codes}
+use Rattle.std.proofs.Common.{◌≡◌, refl, true, List, [], ◌∷◌, None, Some, Option, option_map, codes}
 use Rattle.clap.specs.Walk.{Row, Text, first_of, one_of}
 use Rattle.clap.specs.Simple.{subcommand_of}
 use Rattle.clap.specs.Faults.{fault_of}
@@ -30,6 +30,21 @@ options_and_defaults : (value_in (codes "steps") (subcommand_of ttcnx_app (run_w
 unfolding clap_on_literals
 options_and_defaults = (refl, refl, refl, refl, refl)
 
+abbrev script_in : Text → List Text → Option (Option Text)
+script_in name more = option_map (λ p. first_of (codes "script") p.1)
+    (subcommand_of ttcnx_app (name ∷ codes "x1.ttcn" ∷ codes "--testcase" ∷ codes "TC" ∷ more))
+
+a_script_is_read : (script_in (codes "run") (codes "--steps=8" ∷ codes "--script=s.json" ∷ []) ≡ Some (Some (codes "s.json")))
+    × (script_in (codes "replay") (codes "--script" ∷ codes "s.json" ∷ codes "--run=r.txt" ∷ []) ≡ Some (Some (codes "s.json")))
+    × (script_in (codes "coarsen") (codes "--run=r.txt" ∷ codes "--script" ∷ codes "s.json" ∷ []) ≡ Some (Some (codes "s.json")))
+    × (script_in (codes "double") (codes "--run=r.txt" ∷ codes "--script=s.json" ∷ []) ≡ Some (Some (codes "s.json")))
+unfolding clap_on_literals
+a_script_is_read = (refl, refl, refl, refl)
+
+a_script_may_be_left_out : (script_in (codes "run") (codes "--steps=8" ∷ []) ≡ Some None) × (script_in (codes "double") (codes "--run=r.txt" ∷ []) ≡ Some None)
+unfolding clap_on_literals
+a_script_may_be_left_out = (refl, refl)
+
 abbrev run_file_in : Text → Option (Option Text)
 run_file_in name = option_map (λ p. first_of (codes "run") p.1)
     (subcommand_of ttcnx_app (name ∷ codes "x1.ttcn" ∷ codes "--run" ∷ codes "r.txt" ∷ codes "--testcase" ∷ codes "TC" ∷ []))
@@ -46,6 +61,10 @@ a_run_file_is_needed = refl
 steps_are_needed : fault_of ttcnx_app (run_words []) ≡ MissingRequiredArgument ∷ []
 unfolding clap_on_literals
 steps_are_needed = refl
+
+check_takes_no_script : fault_of ttcnx_app (codes "check" ∷ codes "x1.ttcn" ∷ codes "--script=s.json" ∷ []) ≡ UnknownArgument ∷ []
+unfolding clap_on_literals
+check_takes_no_script = refl
 
 steps_have_a_most : fault_of ttcnx_app (run_words (codes "--steps=100001" ∷ [])) ≡ ValueValidation ∷ []
 unfolding clap_on_literals

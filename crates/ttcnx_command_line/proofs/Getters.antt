@@ -9,7 +9,7 @@ use Rattle.clap.specs.Values.{IsUnsignedIn, bool_text}
 use Rattle.clap.specs.Walk.{Row, Text, rows_of}
 use Rattle.clap.specs.declared.parser.matches.Found.{Found}
 use Rattle.clap.proofs.WalkLemmas.{first_value-rows, one_text-rows}
-use Rattle.ttcnx_command_line.specs.Command.{IsFlag, IsNumber, IsText}
+use Rattle.ttcnx_command_line.specs.Command.{IsFlag, IsNumber, IsText, IsTextIfGiven}
 use Rattle.ttcnx_command_line.specs.internal.Given.{GivesFlag, GivesNumber, GivesText}
 
 -- `get_str` has a text where the argument has one
@@ -26,6 +26,10 @@ pub text_copied : (f : Found) (id : Text) (o : Option (Bor Text)) (s : Bor Text)
 text_copied f id o s copy got is same =
     let here : Some s.now ≡ first_value f id = ap (option_map (λ (x : Bor Text). x.now)) (sym is) ∙ got in
     sym (first_value-rows f id) ∙ sym here ∙ ap Some (sym same)
+
+-- `get_str` has no text only where the argument has none
+pub none_given : (f : Found) (id : Text) (o : Option (Bor Text)) → option_map (λ s. s.now) o ≡ first_value f id → o ≡ None → IsTextIfGiven (rows_of f) id None
+none_given f id o got is = sym (first_value-rows f id) ∙ sym got ∙ ap (option_map (λ (x : Bor Text). x.now)) is
 
 -- what a type of numbers reads of a numeral that fits
 reads : {E : Type 0} (G : List ℕ → Result ℕ E → Type 0) (low high : ℕ) (t : Text) (o : Option ℕ) → ReadsOne G t o

@@ -34,12 +34,14 @@ json_flag = record (new_rule (codes "json")) { long = Some (codes "json"); actio
 abbrev pub check_app : App
 check_app = with_rule (new_app (codes "check")) file_word
 
--- a command about a test case: `name FILE --testcase NAME`
+-- a command about a test case: `name FILE --testcase NAME`, with the option `--script FILE`
 abbrev pub testcase_app : Text → App
-testcase_app name =
-    with_rule (with_rule (new_app name) file_word) (needed_option (codes "testcase"))
+testcase_app name = with_rule (with_rule (with_rule (new_app name)
+    file_word)
+    (needed_option (codes "testcase")))
+    (value_option (codes "script"))
 
--- `run FILE --testcase NAME --steps N`, with the options of a plan and the flag `--json`
+-- `run FILE --testcase NAME --steps N`, with the options of a script and a plan and the flag `--json`
 abbrev pub run_app : App
 run_app = with_rule (with_rule (with_rule (with_rule (with_rule (testcase_app (codes "run"))
     steps_option)
@@ -48,7 +50,7 @@ run_app = with_rule (with_rule (with_rule (with_rule (with_rule (testcase_app (c
     (number_option (codes "piece") 65536 (codes "256")))
     json_flag
 
--- a command about a run of a test case: `name FILE --testcase NAME --run FILE`
+-- a command about a run of a test case: `name FILE --testcase NAME --run FILE`, with the option `--script FILE`
 abbrev pub run_file_app : Text → App
 run_file_app name = with_rule (testcase_app name) (needed_option (codes "run"))
 

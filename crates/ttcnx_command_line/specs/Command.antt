@@ -1,5 +1,5 @@
 -- What a command line asks for, and why it is refused.
-use Rattle.std.specs.Prelude.{◌≡◌, ◌≢◌, ℕ, Bool, List, Some, codes, option_map, string_bytes}
+use Rattle.std.specs.Prelude.{◌≡◌, ◌≢◌, ℕ, Bool, List, Option, Some, codes, option_map, string_bytes}
 use Rattle.std.specs.Str.Parse.{digits_value, without_leading_plus}
 use Rattle.clap.specs.Walk.{Row, Text, first_of, one_of}
 use Rattle.clap.specs.Values.{bool_text}
@@ -16,22 +16,26 @@ use Rattle.ttcnx_command_line.specs.declared.command.LineError.TheVariants.{Help
 -- how far a command explores is within the limits
 abbrev pub StaysWithinLimits : Line → Type 0
 StaysWithinLimits (Check file) = Unit {0}
-StaysWithinLimits (Run file testcase plan json) = IsWithinLimits plan
-StaysWithinLimits (Replay file testcase run) = Unit {0}
-StaysWithinLimits (Coarsen file testcase run) = Unit {0}
-StaysWithinLimits (Double file testcase run) = Unit {0}
+StaysWithinLimits (Run file testcase script plan json) = IsWithinLimits plan
+StaysWithinLimits (Replay file testcase script run) = Unit {0}
+StaysWithinLimits (Coarsen file testcase script run) = Unit {0}
+StaysWithinLimits (Double file testcase script run) = Unit {0}
 
 -- the subcommand that asks for this line
 abbrev pub subcommand_for : Line → Text
 subcommand_for (Check file) = codes "check"
-subcommand_for (Run file testcase plan json) = codes "run"
-subcommand_for (Replay file testcase run) = codes "replay"
-subcommand_for (Coarsen file testcase run) = codes "coarsen"
-subcommand_for (Double file testcase run) = codes "double"
+subcommand_for (Run file testcase script plan json) = codes "run"
+subcommand_for (Replay file testcase script run) = codes "replay"
+subcommand_for (Coarsen file testcase script run) = codes "coarsen"
+subcommand_for (Double file testcase script run) = codes "double"
 
 -- `text` is the value that the matches have for the argument `id`
 abbrev pub IsText : List Row → Text → Text → Type 0
 IsText matches id text = first_of id matches ≡ Some text
+
+-- `text` is the value that the matches have for the argument `id`, where they have one, and else it is none
+abbrev pub IsTextIfGiven : List Row → Text → Option Text → Type 0
+IsTextIfGiven matches id text = first_of id matches ≡ text
 
 -- `n` is the number that the value of the argument `id` writes in decimal digits
 abbrev pub IsNumber : List Row → Text → ℕ → Type 0
@@ -49,25 +53,28 @@ pub record HasNumbers (matches : List Row) (plan : Plan) : Type 0 where
   pub workers : IsNumber matches (codes "workers") plan.workers
   pub piece : IsNumber matches (codes "piece") plan.piece
 
--- the values of a command about a run: the file of the module, the test case, and the file of the run
-abbrev pub HasRunFile : List Row → Text → Text → Text → Type 0
-HasRunFile matches file testcase run = IsText matches (codes "FILE") file
+-- the values of a command about a run: the file of the module, the test case, the file of the script where one
+-- is given, and the file of the run
+abbrev pub HasRunFile : List Row → Text → Text → Option Text → Text → Type 0
+HasRunFile matches file testcase script run = IsText matches (codes "FILE") file
     × IsText matches (codes "testcase") testcase
+    × IsTextIfGiven matches (codes "script") script
     × IsText matches (codes "run") run
 
 -- each part of the line is the value that the subcommand's matches have for the argument of its name
 abbrev pub HasValues : List Row → Line → Type 0
 HasValues matches (Check file) = IsText matches (codes "FILE") (string_bytes file)
-HasValues matches (Run file testcase plan json) = IsText matches (codes "FILE") (string_bytes file)
+HasValues matches (Run file testcase script plan json) = IsText matches (codes "FILE") (string_bytes file)
     × IsText matches (codes "testcase") (string_bytes testcase)
+    × IsTextIfGiven matches (codes "script") (option_map string_bytes script)
     × HasNumbers matches plan
     × IsFlag matches (codes "json") json
-HasValues matches (Replay file testcase run) =
-    HasRunFile matches (string_bytes file) (string_bytes testcase) (string_bytes run)
-HasValues matches (Coarsen file testcase run) =
-    HasRunFile matches (string_bytes file) (string_bytes testcase) (string_bytes run)
-HasValues matches (Double file testcase run) =
-    HasRunFile matches (string_bytes file) (string_bytes testcase) (string_bytes run)
+HasValues matches (Replay file testcase script run) = HasRunFile matches
+    (string_bytes file) (string_bytes testcase) (option_map string_bytes script) (string_bytes run)
+HasValues matches (Coarsen file testcase script run) = HasRunFile matches
+    (string_bytes file) (string_bytes testcase) (option_map string_bytes script) (string_bytes run)
+HasValues matches (Double file testcase script run) = HasRunFile matches
+    (string_bytes file) (string_bytes testcase) (option_map string_bytes script) (string_bytes run)
 
 -- the error fits the faults that clap finds in the words: help is given where that is one of them,
 -- words are refused where another is, and memory may run out at any words

@@ -7,8 +7,8 @@ ghost use Rattle.clap.specs.Walk.{texts};
 ghost use Rattle.search_layer.specs.Limits.{IsWithinLimits};
 ghost use Rattle.ttcnx_command_line.specs.App.{ttcnx_app};
 ghost use Rattle.ttcnx_command_line.specs.Command.{HasNumbers, HasRunFile, HasValues, IsExplained, IsFlag};
-ghost use Rattle.ttcnx_command_line.specs.Command.{IsMemory, IsNumber, IsText, StaysWithinLimits};
-ghost use Rattle.ttcnx_command_line.specs.Command.{subcommand_for};
+ghost use Rattle.ttcnx_command_line.specs.Command.{IsMemory, IsNumber, IsText, IsTextIfGiven};
+ghost use Rattle.ttcnx_command_line.specs.Command.{StaysWithinLimits, subcommand_for};
 ghost use Rattle.ttcnx_command_line.specs.internal.Answer.{IsAnswer};
 ghost use Rattle.ttcnx_command_line.specs.internal.Given.{GivesCommand, GivesFlag, GivesNumber};
 ghost use Rattle.ttcnx_command_line.specs.internal.Given.{GivesPlan, GivesRun, GivesRunFile, GivesText};
@@ -31,6 +31,8 @@ pub enum Line {
     Run {
         file: String,
         testcase: String,
+        /// The file of the script, where one is given.
+        script: Option<String>,
         plan: Plan,
         /// Whether the report is written as JSON.
         json: bool,
@@ -39,6 +41,8 @@ pub enum Line {
     Replay {
         file: String,
         testcase: String,
+        /// The file of the script, where one is given.
+        script: Option<String>,
         /// The file of the run.
         run: String,
     },
@@ -46,6 +50,8 @@ pub enum Line {
     Coarsen {
         file: String,
         testcase: String,
+        /// The file of the script, where one is given.
+        script: Option<String>,
         /// The file of the fine run.
         run: String,
     },
@@ -53,6 +59,8 @@ pub enum Line {
     Double {
         file: String,
         testcase: String,
+        /// The file of the script, where one is given.
+        script: Option<String>,
         /// The file of the run.
         run: String,
     },
@@ -128,6 +136,7 @@ fn line_of(alloc: Global, matches: &ArgMatches<'_>) -> Result<Line, AllocError>
         return Ok(Line::Run {
             file: text_of(alloc, given, "FILE")?,
             testcase: text_of(alloc, given, "testcase")?,
+            script: text_if_given(alloc, given, "script")?,
             plan: plan_of(given),
             json: flag_of(given, "json"),
         });
@@ -137,6 +146,7 @@ fn line_of(alloc: Global, matches: &ArgMatches<'_>) -> Result<Line, AllocError>
         return Ok(Line::Replay {
             file: parts.file,
             testcase: parts.testcase,
+            script: parts.script,
             run: parts.run,
         });
     }
@@ -145,6 +155,7 @@ fn line_of(alloc: Global, matches: &ArgMatches<'_>) -> Result<Line, AllocError>
         return Ok(Line::Coarsen {
             file: parts.file,
             testcase: parts.testcase,
+            script: parts.script,
             run: parts.run,
         });
     }
@@ -153,6 +164,7 @@ fn line_of(alloc: Global, matches: &ArgMatches<'_>) -> Result<Line, AllocError>
     Ok(Line::Double {
         file: parts.file,
         testcase: parts.testcase,
+        script: parts.script,
         run: parts.run,
     })
 }
@@ -162,17 +174,20 @@ fn line_of(alloc: Global, matches: &ArgMatches<'_>) -> Result<Line, AllocError>
 struct RunFile {
     file: String,
     testcase: String,
+    script: Option<String>,
     run: String,
 }
 
 fn run_file_of(alloc: Global, given: &ArgMatches<'_>) -> Result<RunFile, AllocError>
     requires { GivesRunFile (rows_of (found_of given.now)) }
     ensures { IfOk result (λ parts. HasRunFile (rows_of (found_of given.now))
-        (string_bytes parts.file) (string_bytes parts.testcase) (string_bytes parts.run)) }
+        (string_bytes parts.file) (string_bytes parts.testcase)
+        (option_map string_bytes parts.script) (string_bytes parts.run)) }
 {
     Ok(RunFile {
         file: text_of(alloc, given, "FILE")?,
         testcase: text_of(alloc, given, "testcase")?,
+        script: text_if_given(alloc, given, "script")?,
         run: text_of(alloc, given, "run")?,
     })
 }
@@ -197,6 +212,21 @@ fn text_of(alloc: Global, given: &ArgMatches<'_>, id: &str) -> Result<String, Al
         IsText (rows_of (found_of given.now)) id.now (string_bytes text)) }
 {
     String::from_str(alloc, given.get_str(id).unwrap())
+}
+
+/// The text of an argument that may be left out.
+fn text_if_given(
+    alloc: Global,
+    given: &ArgMatches<'_>,
+    id: &str,
+) -> Result<Option<String>, AllocError>
+    ensures { IfOk result (λ text.
+        IsTextIfGiven (rows_of (found_of given.now)) id.now (option_map string_bytes text)) }
+{
+    match given.get_str(id) {
+        Some(text) => Ok(Some(String::from_str(alloc, text)?)),
+        None => Ok(None),
+    }
 }
 
 fn number_of(given: &ArgMatches<'_>, id: &str) -> u64

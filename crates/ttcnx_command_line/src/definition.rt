@@ -2,8 +2,8 @@
 ghost use Rattle.std.specs.Prelude.{◌≡◌, IfOk, false};
 ghost use Rattle.clap.specs.Words.{app_of, rule_of};
 ghost use Rattle.clap.specs.declared.builder.command.Command.TheViews.{out-Command as fields_of};
-ghost use Rattle.ttcnx_command_line.specs.App.{check_app, file_word, needed_option, number_option};
-ghost use Rattle.ttcnx_command_line.specs.App.{run_app, run_file_app, steps_option, ttcnx_app};
+ghost use Rattle.ttcnx_command_line.specs.App.{check_app, file_word, json_flag, needed_option, number_option};
+ghost use Rattle.ttcnx_command_line.specs.App.{run_app, run_file_app, steps_option, ttcnx_app, value_option};
 ghost use Rattle.std.specs.Prelude.{codes};
 
 use clap::{Arg, ArgAction, Command, value_parser};
@@ -62,19 +62,16 @@ fn run_command<'a>(alloc: Global) -> Result<Command<'a>, AllocError>
     let piece = number(alloc, "piece", 65_536, "256").help(
         "How many candidates a worker takes at once: 1 to 65536",
     );
-    let json = Arg::new(alloc, "json")
-        .long("json")
-        .action(ArgAction::SetTrue)
-        .help("Writes the report as JSON");
     Command::new(alloc, "run")
         .about("Explores the runs of a test case")
         .arg(file(alloc))?
         .arg(testcase(alloc))?
+        .arg(script(alloc))?
         .arg(steps(alloc))?
         .arg(limit)?
         .arg(workers)?
         .arg(piece)?
-        .arg(json)
+        .arg(json(alloc))
 }
 
 /// A command about a run of a test case, which stands in a file.
@@ -96,6 +93,7 @@ fn run_file_command<'a>(
         .about(about)
         .arg(file(alloc))?
         .arg(testcase(alloc))?
+        .arg(script(alloc))?
         .arg(run)
 }
 
@@ -121,6 +119,17 @@ fn testcase<'a>(alloc: Global) -> Arg<'a>
         .help("The name of the test case")
 }
 
+/// The file of a script, which may be left out.
+fn script<'a>(alloc: Global) -> Arg<'a>
+    ensures rule { rule_of result ≡ value_option (codes "script") }
+    ensures local { result.global ≡ false }
+{
+    Arg::new(alloc, "script")
+        .long("script")
+        .value_name("FILE")
+        .help("The file of a script: what comes in at the system ports")
+}
+
 /// The number of steps, which has to be given.
 fn steps<'a>(alloc: Global) -> Arg<'a>
     ensures rule { rule_of result ≡ steps_option }
@@ -144,4 +153,15 @@ fn number<'a>(alloc: Global, name: &'a str, most: u32, default: &'a str) -> Arg<
         .value_name("N")
         .value_parser(value_parser!(u64).range(1..=i64::from(most)))
         .default_value(default)
+}
+
+/// The flag that asks for a report as JSON.
+fn json<'a>(alloc: Global) -> Arg<'a>
+    ensures rule { rule_of result ≡ json_flag }
+    ensures local { result.global ≡ false }
+{
+    Arg::new(alloc, "json")
+        .long("json")
+        .action(ArgAction::SetTrue)
+        .help("Writes the report as JSON")
 }

@@ -9,7 +9,7 @@ use Rattle.semantics.specs.Labels.{labels}
 use Rattle.semantics.specs.LiveParts.{live_part}
 use Rattle.semantics.specs.Places.{blocked, branch_of, standings}
 use Rattle.semantics.specs.Snapshots.{Test}
-use Rattle.semantics.specs.Steps.{Expiry, Statement}
+use Rattle.semantics.specs.Steps.{Delivery, Expiry, Statement}
 use Rattle.ttcnx_runs.specs.Going.{GoesOn}
 use Rattle.config_packed.specs.Packs.{first_position, position_in}
 use Rattle.config_parts.specs.declared.component.Component.{Component}
@@ -30,6 +30,11 @@ use Rattle.value_types.specs.declared.path.Path.{Path}
 pub expiry-none : (test : Test) (c : Configuration) (path : Path) (number : ℕ) (name : List ℕ) → branch_of test c (Expiry path number name) ≡ None
 expiry-none test (Ended v) path number name = refl
 expiry-none test (Goes c) path number name = refl
+
+-- nor does a delivery
+pub delivery-none : (test : Test) (c : Configuration) (name : List ℕ) → branch_of test c (Delivery name) ≡ None
+delivery-none test (Ended v) name = refl
+delivery-none test (Goes c) name = refl
 
 -- where nothing is known of a position, or nothing may be chosen there
 TakesNoneFrom : Machine → Option ℕ → Type 0

@@ -1,7 +1,7 @@
 -- Configurations of the code that `==` finds equal are one.
 use Rattle.std.proofs.Common.{◌≡◌, ℕ, Bool, true, true≢false, ◌&&◌, nat_eq, sym, ap}
 use Rattle.std.proofs.lemmas.Bool.{and_parts}
-use Rattle.syntax_equality.specs.Equality.{IsOne, list_one, number_one}
+use Rattle.syntax_equality.specs.Equality.{IsOne, list_one, number_one, option_one}
 use Rattle.syntax_equality.specs.Parts.{verdict_one}
 use Rattle.value_types.specs.Values.{equal}
 use Rattle.config_parts.specs.contracts.component.ComponentPartialEq.TheImpl as components
@@ -14,6 +14,7 @@ use Rattle.config_parts.specs.contracts.config.ConfigPartialEq.TheImpl as config
 use Rattle.config_parts.specs.contracts.config.GoingPartialEq.TheImpl as goings
 use Rattle.config_parts.specs.contracts.connection.ConnectionPartialEq.TheImpl as connections
 use Rattle.config_parts.specs.contracts.connection.EndPartialEq.TheImpl as ends
+use Rattle.config_parts.specs.contracts.connection.LinksPartialEq.TheImpl as linked
 use Rattle.config_parts.specs.contracts.frame.ActiveDefaultPartialEq.TheImpl as defaults
 use Rattle.config_parts.specs.contracts.frame.CellsPartialEq.TheImpl as cells
 use Rattle.config_parts.specs.contracts.frame.DataPartialEq.TheImpl as data_of
@@ -27,6 +28,7 @@ use Rattle.config_parts.specs.declared.config.Config.TheVariants as config
 use Rattle.config_parts.specs.declared.config.Going.{Going}
 use Rattle.config_parts.specs.declared.connection.Connection.{Connection}
 use Rattle.config_parts.specs.declared.connection.End.{End}
+use Rattle.config_parts.specs.declared.connection.Links.{Links}
 use Rattle.config_parts.specs.declared.frame.ActiveDefault.{ActiveDefault}
 use Rattle.config_parts.specs.declared.frame.Cells.{Cells}
 use Rattle.config_parts.specs.declared.frame.Data.{Data}
@@ -81,7 +83,7 @@ state_one : (a : State) → IsOne State (states.ghosts).eq a
 state_one = same_true state_type _
 
 message_one : (a : Message) → IsOne Message (messages.ghosts).eq a
-message_one a b h = let p = and_parts _ _ h in λ i. record { value = value_one a.value b.value p.0 i; sender = identity_one a.sender b.sender p.1 i }
+message_one a b h = let p = and_parts _ _ h in λ i. record { value = value_one a.value b.value p.0 i; sender = option_one _ identity_one a.sender b.sender p.1 i }
 
 queue_one : (a : Queue) → IsOne Queue (queues.ghosts).eq a
 queue_one a b h = let p = and_parts _ _ h in λ i. record { port = number_one a.port b.port p.0 i; messages = list_one _ message_one a.messages b.messages p.1 i }
@@ -100,13 +102,23 @@ component_one a b h =
       queues = list_one _ queue_one a.queues b.queues s.1 i;
     }
 
--- ---- connections
+-- ---- connections and mappings
 
 end_one : (a : End) → IsOne End (ends.ghosts).eq a
 end_one a b h = let p = and_parts _ _ h in λ i. record { component = path_one a.component b.component p.0 i; port = number_one a.port b.port p.1 i }
 
 connection_one : (a : Connection) → IsOne Connection (connections.ghosts).eq a
 connection_one a b h = let p = and_parts _ _ h in λ i. record { one = end_one a.one b.one p.0 i; other = end_one a.other b.other p.1 i }
+
+links_one : (a : Links) → IsOne Links (linked.ghosts).eq a
+links_one a b h =
+    let p = and_parts _ _ h in
+    let q = and_parts _ _ p.1 in
+    λ i. record {
+      connections = list_one _ connection_one a.connections b.connections p.0 i;
+      mappings = list_one _ (entry_one (ends.ghosts).eq end_one) a.mappings b.mappings q.0 i;
+      delivered = list_one _ (entry_one nat_eq number_one) a.delivered b.delivered q.1 i;
+    }
 
 -- ---- configurations
 
@@ -116,7 +128,7 @@ going_one a b h =
     let q = and_parts _ _ p.1 in
     λ i. record {
       components = list_one _ component_one a.components b.components p.0 i;
-      connections = list_one _ connection_one a.connections b.connections q.0 i;
+      links = links_one a.links b.links q.0 i;
       forgotten = verdict_one a.forgotten b.forgotten q.1 i;
     }
 

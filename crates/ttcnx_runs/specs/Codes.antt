@@ -1,7 +1,7 @@
 -- The configuration of the code that stands for one of the rules: positions for lists of what remains to be done, slots for names.
 use Rattle.std.specs.Prelude.{ℕ, zero, suc, ◌+◌, Bool, List, [], map, length, get_or, bytes_eq, if◌then◌else◌}
 use Rattle.semantics.specs.Configurations as rules
-use Rattle.semantics.specs.Entries.{Entries}
+use Rattle.semantics.specs.Entries.{Entries, Identifier}
 use Rattle.semantics.specs.Items.{Item}
 use Rattle.config_parts.specs.Names.{name_of}
 use Rattle.config_parts.specs.Views.{Extent}
@@ -68,7 +68,7 @@ data_code lists names own = record {
   children = own.children;
 }
 
--- ---- components and connections
+-- ---- components, connections and mappings
 
 -- the state of a component
 abbrev pub state_code : rules.State → State
@@ -94,7 +94,7 @@ component_code lists names component = record {
   queues = map (queue_code names) component.queues;
 }
 
--- an end of a connection, with the slot of its port
+-- a port that is connected or mapped, by its slot
 abbrev pub end_code : List (List ℕ) → rules.End → End
 end_code names e = record { component = e.component; port = slot_of names e.port }
 
@@ -102,13 +102,21 @@ end_code names e = record { component = e.component; port = slot_of names e.port
 abbrev pub connection_code : List (List ℕ) → rules.Connection → Connection
 connection_code names k = record { one = end_code names k.one; other = end_code names k.other }
 
+-- a mapping: the slot of its system port, and the port that is mapped to it
+abbrev pub mapping_code : List (List ℕ) → Identifier × rules.End → ℕ × End
+mapping_code names m = (slot_of names m.0, end_code names m.1)
+
 -- ---- configurations
 
 -- a test case that goes on
 abbrev pub going_code : List (List Item) → List (List ℕ) → rules.Going → Going
 going_code lists names going = record {
   components = map (component_code lists names) going.components;
-  connections = map (connection_code names) going.connections;
+  links = record {
+    connections = map (connection_code names) going.connections;
+    mappings = map (mapping_code names) going.mappings;
+    delivered = entries_code names going.delivered;
+  };
   forgotten = going.forgotten;
 }
 

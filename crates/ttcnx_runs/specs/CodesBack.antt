@@ -12,9 +12,9 @@ use Rattle.semantics.proofs.Pairs.{All-more}
 use Rattle.semantics.specs.Entries.{name_cmp}
 use Rattle.semantics.specs.Items.{Item}
 use Rattle.config_parts.proofs.Naming.{make_legend}
-use Rattle.config_parts.specs.Legend.{component_by, config_by, connection_by, data_by, default_by, end_by, entries_by, frame_by, frame_with, going_by, message_by, queue_by, state_by}
+use Rattle.config_parts.specs.Legend.{component_by, config_by, connection_by, data_by, default_by, end_by, entries_by, frame_by, frame_with, going_by, mapping_by, message_by, queue_by, state_by}
 use Rattle.config_parts.specs.Names.{AreInOrder, legend_of, name_of, names_behind, zeros}
-use Rattle.config_parts.specs.Views.{AreAllWithin, IsConfigWithin, IsFrameWithin, IsWithin}
+use Rattle.config_parts.specs.Views.{IsConfigWithin, IsFrameWithin, IsGoingWithin, IsWithin}
 use Rattle.config_parts.specs.declared.component.Component.{Component}
 use Rattle.config_parts.specs.declared.component.Message.{Message}
 use Rattle.config_parts.specs.declared.component.Queue.{Queue}
@@ -30,7 +30,7 @@ use Rattle.config_parts.specs.declared.frame.Cells.{Cells}
 use Rattle.config_parts.specs.declared.frame.Data.{Data}
 use Rattle.config_parts.specs.declared.frame.Frame.{Frame}
 use Rattle.ttcnx_runs.specs.CodeEquality.{config_itself, config_one, equal_configs}
-use Rattle.ttcnx_runs.specs.Codes.{cells_code, code_of, component_code, connection_code, data_code, default_code, end_code, entries_code, first_below, frame_code, going_code, message_code, position_of, queue_code, size_of, slot_of, state_code}
+use Rattle.ttcnx_runs.specs.Codes.{cells_code, code_of, component_code, connection_code, data_code, default_code, end_code, entries_code, first_below, frame_code, going_code, mapping_code, message_code, position_of, queue_code, size_of, slot_of, state_code}
 use Rattle.ttcnx_runs.specs.SameConfigurations.{configuration_itself, configuration_one, name_itself, same_configuration}
 use Rattle.ttcnx_runs.specs.SameItems.{items_itself, items_one, same_items}
 use native.Mathlib.Nat.{suc_inj}
@@ -143,12 +143,19 @@ module _ (lists : List (List Item)) (names : List (List ℕ)) (different : AreDi
   connection_back : (k : Connection) → connection_code names (connection_by (legend_of lists names) k) ≡ k
   connection_back k = λ i. record { one = end_back k.one i; other = end_back k.other i }
 
-  going_back : (going : Going) → AreAllWithin (size_of lists names) going.components → going_code lists names (going_by (legend_of lists names) going) ≡ going
+  mapping_back : (m : ℕ × End) → mapping_code names (mapping_by (legend_of lists names) m) ≡ m
+  mapping_back m = λ i. (slot_back names ordered m.0 i, end_back m.1 i)
+
+  going_back : (going : Going) → IsGoingWithin (size_of lists names) going → going_code lists names (going_by (legend_of lists names) going) ≡ going
   going_back going within = λ i. record {
     components =
         list_back (component_code lists names) (component_by (legend_of lists names)) going.components
-        (All-more (λ component. IsWithin (size_of lists names) component.own) (λ component. component_code lists names (component_by (legend_of lists names) component) ≡ component) component_back going.components within) i;
-    connections = each_back (connection_code names) (connection_by (legend_of lists names)) connection_back going.connections i;
+        (All-more (λ component. IsWithin (size_of lists names) component.own) (λ component. component_code lists names (component_by (legend_of lists names) component) ≡ component) component_back going.components within.components) i;
+    links = record {
+      connections = each_back (connection_code names) (connection_by (legend_of lists names)) connection_back going.links.connections i;
+      mappings = each_back (mapping_code names) (mapping_by (legend_of lists names)) mapping_back going.links.mappings i;
+      delivered = entries_back going.links.delivered i;
+    };
     forgotten = going.forgotten;
   }
 

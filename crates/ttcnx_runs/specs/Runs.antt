@@ -4,7 +4,7 @@ use Rattle.laws_order.specs.Order.{StandsInOrder}
 use Rattle.semantics.specs.Configurations.{Configuration}
 use Rattle.ttcn_step.specs.FrameLimit.{AllKeepFrameLimit}
 
--- components, names, timers and connections stand in their order, no mark stands first, and no component has more frames than the limit
+-- components, names, timers, connections and mappings stand in their order, no mark stands first, and no component has more frames than the limit
 pub record FitsRuns (c : Configuration) : Type 0 where
   pub ordered : StandsInOrder c
   pub frames : AllKeepFrameLimit c

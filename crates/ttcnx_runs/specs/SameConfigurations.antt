@@ -3,6 +3,7 @@ use Rattle.std.proofs.Common.{◌≡◌, ℕ, Bool, true, false, true≢false, �
 use Rattle.std.proofs.lemmas.Bool.{and_parts}
 use Rattle.std.specs.Cmp.{IsEquivalence, IsPartialEquivalence, decided, partial_equiv_from_equiv}
 use Rattle.std.specs.Cmp.Lexicographic.{nat_list_eq_equiv, pointwise}
+use Rattle.std.specs.Option.{option_eq}
 use Rattle.ttcn_syntax.specs.contracts.tree.statement.VerdictEq.TheImpl.Laws as verdict_laws
 use Rattle.ttcn_syntax.specs.contracts.tree.statement.VerdictPartialEq.TheImpl as verdicts
 use Rattle.ttcn_syntax.specs.declared.tree.statement.Verdict.{Verdict}
@@ -15,11 +16,11 @@ use Rattle.value_types.specs.declared.frame.TimerState.{TimerState}
 use Rattle.value_types.specs.declared.path.Path.{Path}
 use Rattle.value_types.specs.declared.value.ComponentId.{ComponentId}
 use Rattle.value_types.specs.declared.value.Value.{Value}
-use Rattle.syntax_equality.specs.Equality.{list_one, name_one, number_one}
+use Rattle.syntax_equality.specs.Equality.{list_one, name_one, number_one, option_one}
 use Rattle.syntax_equality.specs.Parts.{verdict_one}
 use Rattle.semantics.specs.Configurations.{ActiveDefault, Component, Configuration, Connection, Created, Data, End, Ended, Frame, Goes, Going, Message, Queue, Running, State, Terminated, same_path}
 use Rattle.semantics.specs.Entries.{Entries}
-use Rattle.ttcnx_runs.specs.SameItems.{items_itself, items_one, list_itself, number_itself, same_items}
+use Rattle.ttcnx_runs.specs.SameItems.{items_itself, items_one, list_itself, number_itself, option_itself, same_items}
 use denote.Enum.Bare.{same_true}
 
 -- entries are the same: one by one they have the same names, and the same by a test on what names have
@@ -64,7 +65,7 @@ same_state _ _ = false
 
 -- messages are the same
 abbrev pub same_message : Message → Message → Bool
-same_message a b = equal a.value b.value && same_identity a.sender b.sender
+same_message a b = equal a.value b.value && option_eq same_identity a.sender b.sender
 
 -- ports are the same, and the messages that wait at them
 abbrev pub same_queue : Queue → Queue → Bool
@@ -79,7 +80,7 @@ same_component a b =
     (same_verdict a.verdict b.verdict &&
     pointwise same_queue a.queues b.queues)))
 
--- ends of connections are the same
+-- ports that are connected or mapped are the same
 abbrev pub same_end : End → End → Bool
 same_end a b = same_path a.component b.component && bytes_eq a.port b.port
 
@@ -92,7 +93,9 @@ abbrev pub same_going : Going → Going → Bool
 same_going a b =
     pointwise same_component a.components b.components &&
     (pointwise same_connection a.connections b.connections &&
-    same_verdict a.forgotten b.forgotten)
+    (same_entries same_end a.mappings b.mappings &&
+    (same_entries nat_eq a.delivered b.delivered &&
+    same_verdict a.forgotten b.forgotten)))
 
 -- configurations are the same
 abbrev pub same_configuration : Configuration → Configuration → Bool
@@ -199,10 +202,10 @@ state_itself Running = refl
 state_itself Terminated = refl
 
 message_one : (a b : Message) → same_message a b ≡ true → a ≡ b
-message_one a b h = let p = and_parts _ _ h in λ i. record { value = value_one a.value b.value p.0 i; sender = identity_one a.sender b.sender p.1 i }
+message_one a b h = let p = and_parts _ _ h in λ i. record { value = value_one a.value b.value p.0 i; sender = option_one same_identity identity_one a.sender b.sender p.1 i }
 
 message_itself : (a : Message) → same_message a a ≡ true
-message_itself a = λ i. value_itself a.value i && identity_itself a.sender i
+message_itself a = λ i. value_itself a.value i && option_itself same_identity identity_itself a.sender i
 
 queue_one : (a b : Queue) → same_queue a b ≡ true → a ≡ b
 queue_one a b h = let p = and_parts _ _ h in λ i. (name_one a.0 b.0 p.0 i, list_one same_message message_one a.1 b.1 p.1 i)
@@ -252,17 +255,23 @@ going_one : (a b : Going) → same_going a b ≡ true → a ≡ b
 going_one a b h =
     let p = and_parts _ _ h in
     let q = and_parts _ _ p.1 in
+    let r = and_parts _ _ q.1 in
+    let s = and_parts _ _ r.1 in
     λ i. record {
       components = list_one same_component component_one a.components b.components p.0 i;
       connections = list_one same_connection connection_one a.connections b.connections q.0 i;
-      forgotten = verdict_one a.forgotten b.forgotten q.1 i;
+      mappings = entries_one same_end end_one a.mappings b.mappings r.0 i;
+      delivered = entries_one nat_eq number_one a.delivered b.delivered s.0 i;
+      forgotten = verdict_one a.forgotten b.forgotten s.1 i;
     }
 
 going_itself : (a : Going) → same_going a a ≡ true
 going_itself a =
     λ i. list_itself same_component component_itself a.components i &&
     (list_itself same_connection connection_itself a.connections i &&
-    verdict_laws.laws-law.refl a.forgotten i)
+    (entries_itself same_end end_itself a.mappings i &&
+    (entries_itself nat_eq number_itself a.delivered i &&
+    verdict_laws.laws-law.refl a.forgotten i)))
 
 pub configuration_one : (c d : Configuration) → same_configuration c d ≡ true → c ≡ d
 configuration_one (Ended v) (Ended w) h = ap Ended (verdict_one v w h)

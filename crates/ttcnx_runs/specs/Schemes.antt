@@ -11,4 +11,4 @@ pub record IsMachine (machine : Machine) : Type 0 where
 
 -- a machine of an empty module, which has no lists and no names
 abbrev pub no_machine : Machine
-no_machine = record { test = record { definitions = []; testcase = 0 }; lists = []; names = [] }
+no_machine = record { test = record { definitions = []; testcase = 0; script = [] }; lists = []; names = [] }

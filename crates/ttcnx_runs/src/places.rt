@@ -28,6 +28,7 @@ fn may_take_branch<K: Scheme>(
             None => Ok(false),
         },
         Label::Expiry { .. } => Ok(false),
+        Label::Delivery(_) => Ok(false),
     }
 }
 

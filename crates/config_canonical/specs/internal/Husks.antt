@@ -10,6 +10,7 @@ use Rattle.config_parts.specs.declared.component.State.{State}
 use Rattle.config_parts.specs.declared.component.State.TheVariants as state
 use Rattle.config_parts.specs.declared.config.Going.{Going}
 use Rattle.config_parts.specs.declared.connection.Connection.{Connection}
+use Rattle.config_parts.specs.declared.connection.Links.{Links}
 use Rattle.value_types.specs.declared.path.Path.{Path}
 
 abbrev pub badness : Verdict → ℕ
@@ -42,6 +43,10 @@ is_dead components k = not (is_live components k)
 abbrev pub live_connections : List Component → List Connection → List Connection
 live_connections components connections = filter (is_live components) connections
 
+-- all mappings stay, and how many messages came in
+abbrev pub live_links : List Component → Links → Links
+live_links components links = record { connections = live_connections components links.connections; mappings = links.mappings; delivered = links.delivered }
+
 abbrev pub forget : Verdict → Component → Verdict
 forget v component = if is_over component then worse v component.verdict else v
 
@@ -66,6 +71,6 @@ live_components components = map live_component components
 abbrev pub live_going : Going → Going
 live_going going = record {
   components = live_components going.components;
-  connections = live_connections going.components going.connections;
+  links = live_links going.components going.links;
   forgotten = forgotten going.forgotten going.components;
 }

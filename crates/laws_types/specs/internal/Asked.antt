@@ -1,11 +1,11 @@
 -- What a component asks for in its step, where all values are of their types.
-use Rattle.std.specs.Prelude.{◌≡◌, ◌⊎◌, ℕ, true, [], ◌∷◌, is_some}
+use Rattle.std.specs.Prelude.{◌≡◌, ◌⊎◌, ℕ, true, [], ◌∷◌, Option, is_some}
 use Rattle.std.specs.List.{All}
 use Rattle.ttcn_syntax.specs.declared.tree.expression.ComponentRef.{ComponentRef}
 use Rattle.semantics.specs.Configurations.{Data, Frame, Going, component_at, path_of, same_path}
 use Rattle.semantics.specs.Sites.{Site}
 use Rattle.semantics.specs.Snapshots.{Snapshot, Test, last_view, reading_in}
-use Rattle.semantics.specs.Statements.{Act, Connects, Continues, Creates, Errs, Removes, Requests, Sends, Starts, Stops, Waits, Worsens}
+use Rattle.semantics.specs.Statements.{Act, Connects, Continues, Creates, Errs, Maps, Removes, Requests, Sends, Starts, Stops, Unmaps, Waits, Worsens}
 use Rattle.value_types.specs.Outcomes.{DynamicError, Unmet, Yields}
 use Rattle.value_types.specs.Readings.{component_referred}
 use Rattle.value_types.specs.declared.path.Path.{Path}
@@ -32,11 +32,13 @@ FitsAct test component_type at P (Errs Unmet) = ⊥
 FitsAct test component_type at P (Requests Continues own) = FitsData test.definitions component_type own
 FitsAct test component_type at P (Requests (Worsens v) own) = FitsData test.definitions component_type own
 FitsAct test component_type at P (Requests (Removes port) own) = FitsData test.definitions component_type own
-FitsAct test component_type at P (Requests (Sends port to v) own) = ((sender : ComponentId) → FitsMessage test.definitions (record { value = v; sender = sender })) × FitsData test.definitions component_type own
+FitsAct test component_type at P (Requests (Sends port to v) own) = ((sender : Option ComponentId) → FitsMessage test.definitions (record { value = v; sender = sender })) × FitsData test.definitions component_type own
 FitsAct test component_type at P (Requests (Creates new) own) = FitsComponent test.definitions new × FitsData test.definitions component_type own
 FitsAct test component_type at P (Requests (Starts path frame) own) = FitsStart test P path frame × FitsData test.definitions component_type own
 FitsAct test component_type at P (Requests (Stops path) own) = FitsOwn test.definitions component_type own × ((path ≡ at) ⊎ HasFrames own.calls)
 FitsAct test component_type at P (Requests (Connects d e) own) = FitsData test.definitions component_type own
+FitsAct test component_type at P (Requests (Maps d system_port) own) = FitsData test.definitions component_type own
+FitsAct test component_type at P (Requests (Unmaps d system_port) own) = FitsData test.definitions component_type own
 
 -- ---- what is found
 

@@ -4,6 +4,7 @@ use Rattle.ttcn_syntax.specs.declared.token.Symbol.TheVariants as mark
 use Rattle.ttcn_syntax.specs.declared.token.Token.{Token}
 use Rattle.ttcn_syntax.specs.declared.token.Token.TheVariants as token
 use Rattle.ttcn_syntax.specs.declared.token.Spanned.{Spanned}
+use Rattle.ttcn_syntax.specs.declared.token.Word.{Word}
 use Rattle.ttcn_syntax.specs.declared.token.Word.TheVariants as word
 use Rattle.ttcn_syntax.specs.declared.tree.expression.ComponentRef.{ComponentRef}
 use Rattle.ttcn_syntax.specs.declared.tree.expression.ComponentRef.TheVariants as component_ref
@@ -13,10 +14,11 @@ use Rattle.ttcn_syntax.specs.declared.tree.statement.Action.TheVariants as actio
 use Rattle.ttcn_syntax.specs.declared.tree.statement.Assignment.{Assignment}
 use Rattle.ttcn_syntax.specs.declared.tree.statement.LogItem.{LogItem}
 use Rattle.ttcn_syntax.specs.declared.tree.statement.LogItem.TheVariants as log_item
+use Rattle.ttcn_syntax.specs.declared.tree.statement.MapOperation.{MapOperation}
 use Rattle.ttcn_syntax.specs.declared.tree.statement.PortRef.{PortRef}
 use Rattle.ttcn_syntax.specs.declared.tree.statement.Verdict.{Verdict}
 use Rattle.ttcn_syntax.specs.declared.tree.statement.Verdict.TheVariants as verdict
-use Rattle.parse_reader.specs.internal.Reading.{Parser, pure, refuse, head_token, sees, behind, eat, expect, expect_word, token_by, name, separated, separated_until, ◌>>=◌, ◌>>◌}
+use Rattle.parse_reader.specs.internal.Reading.{Parser, pure, refuse, head_token, sees, sees_word, behind, eat, expect, expect_word, token_by, name, separated, separated_until, ◌>>=◌, ◌>>◌}
 use Rattle.parse_reader.specs.internal.Expressions.{reference, component, expression}
 use Rattle.parse_reader.specs.internal.Values.{a_value, call, calls, a_rhs}
 use Rattle.parse_reader.specs.internal.Templates.{message}
@@ -89,6 +91,32 @@ connect = do
   b ← port_ref
   expect mark.RightParen
   pure (action.Connect a b)
+
+-- 'system' ':' Id
+unfoldable pub system_port : Parser (List ℕ)
+system_port = do
+  expect_word word.System
+  expect mark.Colon
+  name
+
+-- this word '(' (PortRef ',' SystemPort | SystemPort ',' PortRef) ')'
+unfoldable pub mapping : Word → MapOperation → Parser Action
+mapping w operation = do
+  expect_word w
+  expect mark.LeftParen
+  λ ts. if sees_word word.System ts
+      then (do
+        q ← system_port
+        expect mark.Comma
+        p ← port_ref
+        expect mark.RightParen
+        pure (action.Map (record { operation = operation; port = p; system_port = q }))) ts
+      else (do
+        p ← port_ref
+        expect mark.Comma
+        q ← system_port
+        expect mark.RightParen
+        pure (action.Map (record { operation = operation; port = p; system_port = q }))) ts
 
 -- 'deactivate' ['(' Reference ')']
 unfoldable pub deactivate : Parser Action

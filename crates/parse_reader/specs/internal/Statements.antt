@@ -15,6 +15,7 @@ use Rattle.ttcn_syntax.specs.declared.tree.statement.Branch.{Branch}
 use Rattle.ttcn_syntax.specs.declared.tree.statement.Conditional.{Conditional}
 use Rattle.ttcn_syntax.specs.declared.tree.statement.ForStart.{ForStart}
 use Rattle.ttcn_syntax.specs.declared.tree.statement.ForStart.TheVariants as for_start
+use Rattle.ttcn_syntax.specs.declared.tree.statement.MapOperation.TheVariants as operation
 use Rattle.ttcn_syntax.specs.declared.tree.statement.Statement.{Statement}
 use Rattle.parse_reader.specs.Trees.{branch_at, conditional, statement_at}
 use Rattle.parse_reader.specs.declared.heads.Head.{Head}
@@ -26,7 +27,7 @@ use Rattle.parse_reader.specs.internal.Expressions.{expression}
 use Rattle.parse_reader.specs.internal.Values.{call, calls, activation}
 use Rattle.parse_reader.specs.internal.Declarations.{variables, constants, timers}
 use Rattle.parse_reader.specs.internal.Events.{any_port, all_done, an_event}
-use Rattle.parse_reader.specs.internal.Actions.{log, setverdict, connect, deactivate, return_, assignment, named_action}
+use Rattle.parse_reader.specs.internal.Actions.{log, setverdict, connect, mapping, deactivate, return_, assignment, named_action}
 
 -- ---- statements
 
@@ -216,6 +217,8 @@ action_by blocks (Some (token.Word word.Stop)) = λ ts. Some (action.Stop, behin
 action_by blocks (Some (token.Word word.Log)) = log
 action_by blocks (Some (token.Word word.Setverdict)) = setverdict
 action_by blocks (Some (token.Word word.Connect)) = connect
+action_by blocks (Some (token.Word word.Map)) = mapping word.Map operation.Map
+action_by blocks (Some (token.Word word.Unmap)) = mapping word.Unmap operation.Unmap
 action_by blocks (Some (token.Word word.Activate)) = do
   c ← activation
   pure (action.Activate c)
@@ -251,6 +254,8 @@ simple_by (Some (token.Word word.Stop)) = λ ts. Some (action.Stop, behind ts)
 simple_by (Some (token.Word word.Log)) = log
 simple_by (Some (token.Word word.Setverdict)) = setverdict
 simple_by (Some (token.Word word.Connect)) = connect
+simple_by (Some (token.Word word.Map)) = mapping word.Map operation.Map
+simple_by (Some (token.Word word.Unmap)) = mapping word.Unmap operation.Unmap
 simple_by (Some (token.Word word.Activate)) = do
   c ← activation
   pure (action.Activate c)

@@ -5,7 +5,7 @@ use Rattle.std.specs.List.{AllByRecursion, flat_map, list_any}
 use Rattle.report.specs.declared.run.Content.{Content}
 use Rattle.report.specs.declared.run.Content.TheVariants as content
 use Rattle.report.specs.Labels.{label_text, number_text, path_text}
-use Rattle.report.specs.Runs.{IsProper, IsSmall, has_text, is_timer_name}
+use Rattle.report.specs.Runs.{IsProper, IsSmall, has_text, is_identifier}
 use Rattle.ttcn_syntax.specs.Characters.{is_blank}
 
 -- no byte is the mark
@@ -26,7 +26,11 @@ abbrev pub IsNoPath : List ℕ → Type 0
 IsNoPath text = (numbers : List ℕ) → ¬ IsPath text numbers
 
 abbrev pub TellsExpiry : List ℕ → ℕ → List ℕ → Type 0
-TellsExpiry text frame timer = IsSmall frame × IsTrue (is_timer_name timer) × (text ≡ decimal frame ++ 46 ∷ timer)
+TellsExpiry text frame timer = IsSmall frame × IsTrue (is_identifier timer) × (text ≡ decimal frame ++ 46 ∷ timer)
+
+-- the name that these bytes are
+abbrev pub TellsName : List ℕ → Option (List ℕ) → Type 0
+TellsName text name = MatchOption name (is_identifier text ≡ false) (λ made. IsTrue (is_identifier text) × (made ≡ text))
 
 abbrev pub IsNoExpiry : List ℕ → Type 0
 IsNoExpiry text = (frame : ℕ) (timer : List ℕ) → ¬ TellsExpiry text frame timer

@@ -21,4 +21,4 @@ mtc_at t position members =
 
 -- a test case with one component
 abbrev pub going_alone : Component → Config
-going_alone mtc = config.Going (record { components = mtc ∷ []; connections = []; forgotten = verdict.None })
+going_alone mtc = config.Going (record { components = mtc ∷ []; links = record { connections = []; mappings = []; delivered = [] }; forgotten = verdict.None })

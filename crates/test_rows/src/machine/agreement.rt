@@ -2,19 +2,18 @@
 ghost use Rattle.ttcn_step.specs.Machines.{Fits};
 
 use crate::machine::runs::extended;
-use crate::machine::spelled::spelled;
+use crate::machine::spelled::{LabelNames, spelled};
 use std::alloc::{AllocError, Global};
 use step_labels::Label;
 use ttcn_config::Config;
 use ttcn_step::{Machine, ReplayError, StepError, Successor};
-use ttcn_syntax::Name;
 
 /// Whether the calls say the same of the configuration behind a run: which labels of those that can be spelled are enabled,
 /// and where they lead.
 pub fn agrees(
     alloc: Global,
     machine: &Machine<'_>,
-    timers: &[Name],
+    names: &LabelNames,
     run: &[Label],
 ) -> Result<bool, AllocError> {
     let config = match machine.replay(alloc, run) {
@@ -23,7 +22,7 @@ pub fn agrees(
         Err(ReplayError::Memory) => return Err(AllocError),
     };
     let labels = machine.labels(alloc, &config)?;
-    let spelled = spelled(alloc, &config, timers)?;
+    let spelled = spelled(alloc, &config, names)?;
     if !labels.iter().all(|label| spelled.contains(label)) {
         return Ok(false);
     }
@@ -117,7 +116,7 @@ fn labels_agree(
         let next = next(alloc, machine, config, label)?;
         let agrees = next.is_some() == enabled.contains(label)
             && leads(alloc, machine, run, label, &next)?
-            && takes_no_branch_by_expiry(alloc, machine, config, label)?;
+            && takes_branch_by_statement_alone(alloc, machine, config, label)?;
         if !agrees {
             return Ok(false);
         }
@@ -161,8 +160,8 @@ fn leads(
     }
 }
 
-/// Whether a label is no expiry, or takes no branch.
-fn takes_no_branch_by_expiry(
+/// Whether a label is that of a statement, or takes no branch.
+fn takes_branch_by_statement_alone(
     alloc: Global,
     machine: &Machine<'_>,
     config: &Config,

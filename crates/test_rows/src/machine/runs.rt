@@ -1,10 +1,10 @@
 //! All runs up to a number of steps, layer by layer.
 use crate::machine::agreement::agrees;
+use crate::machine::spelled::LabelNames;
 use report::LabelText;
 use std::alloc::{AllocError, Global};
 use step_labels::Label;
 use ttcn_step::{Machine, ReplayError};
-use ttcn_syntax::Name;
 
 /// Whether the calls of a machine say the same behind each run of at most so many steps, or the first run behind which they
 /// differ.
@@ -12,17 +12,17 @@ pub fn compared(
     alloc: Global,
     machine: &Machine<'_>,
     steps: u64,
-    timers: &[Name],
+    names: &LabelNames,
 ) -> Result<String, AllocError> {
     let mut layer = Vec::new(alloc);
     layer.push(Vec::new(alloc))?;
     for _ in 0..steps {
-        if let Some(run) = first_that_differs(alloc, machine, timers, layer.as_slice())? {
+        if let Some(run) = first_that_differs(alloc, machine, names, layer.as_slice())? {
             return differs_behind(alloc, run);
         }
         layer = next_layer(alloc, machine, layer.as_slice())?;
     }
-    match first_that_differs(alloc, machine, timers, layer.as_slice())? {
+    match first_that_differs(alloc, machine, names, layer.as_slice())? {
         Some(run) => differs_behind(alloc, run),
         None => String::from_str(alloc, "alike"),
     }
@@ -32,11 +32,11 @@ pub fn compared(
 fn first_that_differs<'a>(
     alloc: Global,
     machine: &Machine<'_>,
-    timers: &[Name],
+    names: &LabelNames,
     layer: &'a [Vec<Label>],
 ) -> Result<Option<&'a [Label]>, AllocError> {
     for run in layer {
-        if !agrees(alloc, machine, timers, run.as_slice())? {
+        if !agrees(alloc, machine, names, run.as_slice())? {
             return Ok(Some(run.as_slice()));
         }
     }

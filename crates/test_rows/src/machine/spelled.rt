@@ -5,10 +5,24 @@ use ttcn_config::{Component, Config};
 use ttcn_syntax::{Name, Seq};
 use ttcn_values::Path;
 
-/// The labels that can be spelled with these names of timers: those of each component and of a child that it hasn't created
-/// yet, with a frame more than the component has. Where the test case has ended, those of an MTC without frames.
-pub fn spelled(alloc: Global, config: &Config, timers: &[Name]) -> Result<Vec<Label>, AllocError> {
+/// The names with which labels are spelled.
+#[derive(Drop)]
+pub struct LabelNames {
+    pub timers: Vec<Name>,
+    /// Of system ports.
+    pub ports: Vec<Name>,
+}
+
+/// The labels that can be spelled with these names: those of each component and of a child that it hasn't created yet, with a
+/// frame more than the component has, and the deliveries. Where the test case has ended, those of an MTC without frames, and
+/// the deliveries.
+pub fn spelled(
+    alloc: Global,
+    config: &Config,
+    names: &LabelNames,
+) -> Result<Vec<Label>, AllocError> {
     let mut labels = Vec::new(alloc);
+    let timers = names.timers.as_slice();
     match config {
         Config::Ended(_) => push_labels(alloc, &[], 0, timers, &mut labels)?,
         Config::Going(going) => {
@@ -16,6 +30,9 @@ pub fn spelled(alloc: Global, config: &Config, timers: &[Name]) -> Result<Vec<La
                 push_component(alloc, component, timers, &mut labels)?;
             }
         }
+    }
+    for port in names.ports.as_slice() {
+        labels.push(Label::Delivery(port.try_clone(alloc)?))?;
     }
     Ok(labels)
 }

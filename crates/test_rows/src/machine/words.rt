@@ -1,7 +1,7 @@
 //! What stands first in a list, in words.
 use std::alloc::{AllocError, Global};
 use ttcn_graph::{First, Part};
-use ttcn_syntax::{Action, Statement};
+use ttcn_syntax::{Action, MapOperation, Statement};
 
 /// The first item of a list, in words.
 pub fn item_text(alloc: Global, first: First<'_, '_>) -> Result<String, AllocError> {
@@ -31,6 +31,13 @@ fn part_text(alloc: Global, word: &str, part: Part) -> Result<String, AllocError
     }
 }
 
+fn word_of_operation(operation: MapOperation) -> &'static str {
+    match operation {
+        MapOperation::Map => "map",
+        MapOperation::Unmap => "unmap",
+    }
+}
+
 /// What a statement does, in a word.
 fn word_of(statement: &Statement) -> &'static str {
     match &statement.action {
@@ -51,6 +58,7 @@ fn word_of(statement: &Statement) -> &'static str {
         Action::Log(_) => "log",
         Action::Setverdict(_, _) => "setverdict",
         Action::Connect(_, _) => "connect",
+        Action::Map(mapping) => word_of_operation(mapping.operation),
         Action::Send(_) => "send",
         Action::StartComponent(_, _) => "start",
         Action::StartTimer(_) => "timer start",

@@ -8,11 +8,12 @@ pub fn lost_run(
     alloc: Global,
     text: &[u8],
     name: &str,
+    script: &[u8],
     report: &Report,
 ) -> Result<Option<&'static str>, AllocError> {
     for outcome in &report.outcomes {
         let run = run_file(alloc, outcome)?;
-        if !comes_back(alloc, text, name, run.as_bytes()) {
+        if !comes_back(alloc, text, name, script, run.as_bytes()) {
             return Ok(Some(word_of(outcome.verdict)));
         }
     }
@@ -30,11 +31,11 @@ fn run_file(alloc: Global, outcome: &Outcome) -> Result<String, AllocError> {
 }
 
 /// Whether the doubling of a run stands for this run.
-fn comes_back(alloc: Global, text: &[u8], name: &str, run: &[u8]) -> bool {
-    let Ok(doubled) = double_text(alloc, text, name, run) else {
+fn comes_back(alloc: Global, text: &[u8], name: &str, script: &[u8], run: &[u8]) -> bool {
+    let Ok(doubled) = double_text(alloc, text, name, run, script) else {
         return false;
     };
-    match coarsen_text(alloc, text, name, doubled.as_slice()) {
+    match coarsen_text(alloc, text, name, doubled.as_slice(), script) {
         Ok(coarse) => coarse.as_slice() == run,
         Err(_) => false,
     }

@@ -1,10 +1,10 @@
 -- Steps, as the private functions know them.
-use Rattle.std.specs.Prelude.{◌≡◌, List, [], ◌∷◌, Option, if◌then◌else◌}
+use Rattle.std.specs.Prelude.{◌≡◌, List, [], ◌∷◌, ◌++◌, Option, if◌then◌else◌}
 use Rattle.std.specs.List.{filter_map, flat_map}
 use Rattle.std.specs.Option.{option_map}
 use Rattle.semantics.specs.Configurations as rules
 use Rattle.semantics.specs.Configurations.{is_running_state, path_of}
-use Rattle.semantics.specs.Labels.{expiries}
+use Rattle.semantics.specs.Labels.{deliveries, expiries}
 use Rattle.semantics.specs.Snapshots.{Test, snapshot_of}
 use Rattle.semantics.specs.Statements as said
 use Rattle.semantics.specs.Steps.{Label, Statement, next, settled}
@@ -37,5 +37,5 @@ leads test c labels = filter_map (lead test c) labels
 abbrev pub candidates_of : rules.Component → List Label
 candidates_of component = if is_running_state component.state then Statement (path_of component) ∷ expiries component else []
 
-abbrev pub candidates : rules.Going → List Label
-candidates c = flat_map candidates_of c.components
+abbrev pub candidates : Test → rules.Going → List Label
+candidates test c = flat_map candidates_of c.components ++ deliveries test c

@@ -47,6 +47,8 @@ pub enum Action {
     Log(Seq<LogItem>),
     Setverdict(Verdict, Seq<LogItem>),
     Connect(PortRef, PortRef),
+    /// `map` or `unmap`: of a component's port and a port of the system.
+    Map(Mapping),
     Send(Send),
     /// `c.start(f(1))`
     StartComponent(ComponentRef, Call),
@@ -281,6 +283,31 @@ impl Drop for PortRef {
         let PortRef {
             component: _component,
             port: _port,
+        } = self;
+    }
+}
+
+/// What is done to a mapping (sections 21.1.1 and 21.1.2).
+#[derive(Clone, Copy, Debug, PartialEq, Eq, Hash)]
+pub enum MapOperation {
+    Map,
+    Unmap,
+}
+
+/// A component's port and a port of the system, which are mapped or unmapped.
+#[derive(PartialEq, Eq)]
+pub struct Mapping {
+    pub operation: MapOperation,
+    pub port: PortRef,
+    pub system_port: Name,
+}
+
+impl Drop for Mapping {
+    fn drop(self) {
+        let Mapping {
+            operation: _operation,
+            port: _port,
+            system_port: _system_port,
         } = self;
     }
 }

@@ -10,7 +10,9 @@ use Rattle.ttcnx_runs.specs.declared.scheme.Scheme.{Ghosts}
 use Rattle.config_packed.specs.contracts.packed.Packed as packed
 use Rattle.config_parts.specs.contracts.frame.Cells as cells
 use Rattle.value_types.proofs.value.Value.TheLaws.TheKnot as values
+use Rattle.ttcn_syntax.specs.contracts.seq.Seq as seq
 use Rattle.value_types.specs.contracts.value.ComponentId as id
+use Rattle.value_types.specs.contracts.value.Value as value
 
 pub id-sync : IsSync id.the_field.row
 id-sync = search (crosses, sendable) depth 60 fits 20000
@@ -31,3 +33,6 @@ state-send K g = view_send (inside.the_row K g) _ _ _ _
 pub state-sync : (K : RattleType) (g : Ghosts K.Denot) → IsSync (state.the_row K g)
 state-sync K g = view_sync (inside.the_row K g) _ _ _ _
     (recorded_sync (inside.the_field K g).row _ _ (inside.the_type K g).to_one (struct_sync (shape (inside.the_type K g)) (packed-sync, (search (crosses, sendable) depth 60 fits 20000, (phantom.the_field_sync K, tt)))))
+
+pub messages-sync : IsSync (seq.the_field value.the_row).row
+messages-sync = search (crosses, values.crosses, sendable) depth 60 fits 20000

@@ -29,6 +29,7 @@ use Rattle.ttcn_syntax.specs.contracts.tree.statement.Constants as constants
 use Rattle.ttcn_syntax.specs.contracts.tree.statement.Event as event
 use Rattle.ttcn_syntax.specs.contracts.tree.statement.ForStart as forStart
 use Rattle.ttcn_syntax.specs.contracts.tree.statement.LogItem as logItem
+use Rattle.ttcn_syntax.specs.contracts.tree.statement.Mapping as mapping
 use Rattle.ttcn_syntax.specs.contracts.tree.statement.PortRef as portRef
 use Rattle.ttcn_syntax.specs.contracts.tree.statement.Send as send
 use Rattle.ttcn_syntax.specs.contracts.tree.statement.Statement as statement
@@ -98,6 +99,9 @@ verdict-sync = search in_statements depth 60 fits 20000
 portRef-sync : IsSync portRef.the_field.row
 portRef-sync = search in_statements depth 60 fits 20000
 
+mapping-sync : IsSync mapping.the_field.row
+mapping-sync = search in_statements depth 60 fits 20000
+
 send-sync : IsSync send.the_field.row
 send-sync = search in_statements depth 60 fits 20000
 
@@ -117,10 +121,10 @@ span-sync : IsSync span.the_field.row
 span-sync = search in_statements depth 60 fits 20000
 
 branch-sync : IsSync branch.the_field.row
-branch-sync = statements.sync-Branch variables-sync constants-sync timers-sync assignment-sync call-sync event-sync seq-sync option-seq-sync expression-sync forStart-sync valueOption-sync logItems-sync verdict-sync portRef-sync send-sync componentRef-sync name-field-sync referenceOption-sync expressionOption-sync span-sync
+branch-sync = statements.sync-Branch variables-sync constants-sync timers-sync assignment-sync call-sync event-sync seq-sync option-seq-sync expression-sync forStart-sync valueOption-sync logItems-sync verdict-sync portRef-sync mapping-sync send-sync componentRef-sync name-field-sync referenceOption-sync expressionOption-sync span-sync
 
 pub statement-sync : IsSync statement.the_field.row
-statement-sync = statements.sync-Statement variables-sync constants-sync timers-sync assignment-sync call-sync event-sync seq-sync option-seq-sync expression-sync forStart-sync valueOption-sync logItems-sync verdict-sync portRef-sync send-sync componentRef-sync name-field-sync referenceOption-sync expressionOption-sync span-sync
+statement-sync = statements.sync-Statement variables-sync constants-sync timers-sync assignment-sync call-sync event-sync seq-sync option-seq-sync expression-sync forStart-sync valueOption-sync logItems-sync verdict-sync portRef-sync mapping-sync send-sync componentRef-sync name-field-sync referenceOption-sync expressionOption-sync span-sync
 
 -- what definitions hold
 ruleset in_definitions = (statement-sync, branch-sync, constants-sync, in_statements)

@@ -6,5 +6,5 @@ use Rattle.config_parts.proofs.act.done.Goals as goal
 
 pub returns : goal.returns
 returns c =
-    let P : List Component → Type 0 = λ components. done.Answers (done.perform components c.args.going.connections c.args.going.forgotten c.args.itself.now c.args.act.request) c.performed.result in
+    let P : List Component → Type 0 = λ components. done.Answers (done.perform components c.args.going.links c.args.going.forgotten c.args.itself.now c.args.act.request) c.performed.result in
     subst P (c.in_ok-settle.ensures ∙ ap (λ components. touch components c.args.itself.now.path (with_own c.args.act.own)) c.into_vec-components.ensures) c.performed.ensures

@@ -5,5 +5,5 @@ use Rattle.report.proofs.reader.expiry_of.Goals as goal
 pub returns-in_default-number_of : goal.returns-in_default-number_of
 returns-in_default-number_of c = expiry_none_number c.args.text.now c.in-Some.frame.now c.in-Some.timer.now (search rules) (search rules)
 
-pub returns-then-not-is_timer_name : goal.returns-then-not-is_timer_name
-returns-then-not-is_timer_name c = expiry_none_name c.args.text.now c.in-Some.frame.now c.in-Some.timer.now (search rules) (search rules)
+pub returns-in_default-2 : goal.returns-in_default-2
+returns-in_default-2 c = expiry_none_name c.args.text.now c.in-Some.frame.now c.in-Some.timer.now (search rules) (search rules)

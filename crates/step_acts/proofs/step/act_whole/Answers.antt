@@ -1,6 +1,6 @@
 use Rattle.std.proofs.Common.{List, [], subst}
 use Rattle.step_forms.proofs.Conditions.{loop-asks}
-use Rattle.step_forms.proofs.Forms.{does-Connect, does-StartComponent, whole-asks}
+use Rattle.step_forms.proofs.Forms.{does-Connect, does-Map, does-StartComponent, whole-asks}
 use Rattle.step_forms.proofs.Standing.{first-known, known-there}
 use Rattle.step_acts.proofs.step.act_whole.Goals as goal
 use Rattle.step_forms.specs.Asks.{Asks}
@@ -37,6 +37,12 @@ returns-in-Connect-clause-asks c =
     let one = c.in-Connect.one in
     let other = c.in-Connect.other in
     whole-asks (legend_of s) (stand_by s) (site_of s) s.statement.now (Action-F.Connect one other) c.act_connecting.result (does-Connect s.statement.now one other c.in-Connect.is) c.act_connecting.ensures.asks
+
+pub returns-in-Map-clause-asks : goal.returns-in-Map-clause-asks
+returns-in-Map-clause-asks c =
+    let s = c.args.stand.now in
+    let m = c.in-Map.mapping in
+    whole-asks (legend_of s) (stand_by s) (site_of s) s.statement.now (Action-F.Map m) c.act_mapping.result (does-Map s.statement.now m c.in-Map.is) c.act_mapping.ensures.asks
 
 pub returns-in-StartComponent-clause-asks : goal.returns-in-StartComponent-clause-asks
 returns-in-StartComponent-clause-asks c =

@@ -1,6 +1,6 @@
 use Rattle.std.proofs.Common.{Some, None}
 use Rattle.step_snapshot.specs.Tests.{legend_by, test_by}
-use Rattle.ttcn_step.proofs.AtAlt.{expiry-not, found-of, missing-not}
+use Rattle.ttcn_step.proofs.AtAlt.{delivery-not, expiry-not, found-of, missing-not}
 use Rattle.ttcn_step.proofs.Found.{searched}
 use Rattle.ttcn_step.proofs.alt.is_of_alt.Goals as goal
 
@@ -8,6 +8,11 @@ pub returns-in-Expiry : goal.returns-in-Expiry
 returns-in-Expiry c =
     let t = c.args.test.now in
     expiry-not (legend_by t) (test_by t) c.args.going.now c.args.label.now _ _ _ c.in-Expiry.is
+
+pub returns-in-Delivery : goal.returns-in-Delivery
+returns-in-Delivery c =
+    let t = c.args.test.now in
+    delivery-not (legend_by t) (test_by t) c.args.going.now c.args.label.now _ c.in-Delivery.is
 
 pub returns-in-Some : goal.returns-in-Some
 returns-in-Some c =

@@ -41,7 +41,7 @@ asked-requires-clause-ordered c = paths-in-order (legend_by c.args.test.now) c.a
 pub asked-requires-clause-within : goal.asked-requires-clause-within
 asked-requires-clause-within c =
     let entry = c.args.entry.now in
-    found-within (extent_of c.args.test.now) entry.path.numbers entry.taken.components c.in-Some.asking.now c.requires.taken.within
+    found-within (extent_of c.args.test.now) entry.path.numbers entry.taken.components c.in-Some.asking.now c.requires.taken.within.components
     (searched entry.path.numbers c.as_slice.result.now entry.taken.components c.component_of.result (Some c.in-Some.asking) c.component_of.ensures c.as_slice.ensures c.in-Some.is)
 
 pub follow-requires : goal.follow-requires

@@ -1,5 +1,5 @@
 use Rattle.std.proofs.Common.{subst, sym}
-use Rattle.config_parts.specs.Views.{AreAllWithin}
+use Rattle.config_parts.specs.Views.{IsGoingWithin}
 use Rattle.config_parts.specs.declared.config.Going.{Going}
 use Rattle.ttcn_step.proofs.Stepping.{copy-behind, copy-fails, order-of-copy}
 use Rattle.ttcn_step.proofs.step.done.Goals as goal
@@ -13,7 +13,7 @@ returns-in-Ok-clause-behind c legend test is order gone =
 
 pub returns-in-Ok-clause-within : goal.returns-in-Ok-clause-within
 returns-in-Ok-clause-within c size all asked =
-    c.in-Ok.ensures.within size (let P : Going → Type 0 = λ g. AreAllWithin size g.components in subst P (sym c.in_ok-copy.ensures) all) asked
+    c.in-Ok.ensures.within size (let P : Going → Type 0 = λ g. IsGoingWithin size g in subst P (sym c.in_ok-copy.ensures) all) asked
 
 pub returns-in-Err-Dynamic-clause-behind : goal.returns-in-Err-Dynamic-clause-behind
 returns-in-Err-Dynamic-clause-behind c legend test is order gone =

@@ -1,7 +1,7 @@
 use Rattle.std.proofs.Common.{subst, sym}
 use Rattle.semantics.specs.Steps.{Expiry}
 use Rattle.step_snapshot.specs.Tests.{extent_of, legend_by, test_by}
-use Rattle.config_parts.specs.Views.{AreAllWithin}
+use Rattle.config_parts.specs.Views.{IsGoingWithin}
 use Rattle.config_parts.specs.declared.config.Going.{Going}
 use Rattle.ttcn_step.proofs.Stepping.{copy-expires, copy-rests, order-of-copy}
 use Rattle.ttcn_step.proofs.step.expiry.Goals as goal
@@ -18,7 +18,7 @@ returns-then-branch-clause-behind c =
 pub returns-then-branch-clause-within : goal.returns-then-branch-clause-within
 returns-then-branch-clause-within c =
     let size = extent_of c.args.test.now in
-    c.in_ok-expire.ensures.within size c.requires.within (let P : Going → Type 0 = λ g. AreAllWithin size g.components in subst P (sym c.in_ok-copy.ensures) c.requires.all) c.if-branch.true
+    c.in_ok-expire.ensures.within size c.requires.within (let P : Going → Type 0 = λ g. IsGoingWithin size g in subst P (sym c.in_ok-copy.ensures) c.requires.all) c.if-branch.true
 
 pub returns-else-branch-clause-behind : goal.returns-else-branch-clause-behind
 returns-else-branch-clause-behind c =

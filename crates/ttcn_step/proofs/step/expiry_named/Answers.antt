@@ -7,4 +7,4 @@ use Rattle.ttcn_step.proofs.step.expiry_named.Goals as goal
 pub returns-in-None-clause-behind : goal.returns-in-None-clause-behind
 returns-in-None-clause-behind c =
     let t = c.args.test.now in
-    sym (ap (option_map settled) (no-expiry (legend_by t) t.names c.args.timer.now c.slots_are_ordered.ensures.names c.in-None.ensures.missing (test_by t) c.args.going.now c.args.path.now (length t.graphs.lists) c.args.frame c.requires.all))
+    sym (ap (option_map settled) (no-expiry (legend_by t) t.names c.args.timer.now c.slots_are_ordered.ensures.names c.in-None.ensures.missing (test_by t) c.args.going.now c.args.path.now (length t.graphs.lists) c.args.frame c.requires.all.components))

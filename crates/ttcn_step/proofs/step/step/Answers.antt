@@ -1,5 +1,5 @@
 use Rattle.std.proofs.Common.{Option, Some, None, IfSome}
-use Rattle.semantics.specs.Steps.{Expiry, statement_step, step_in}
+use Rattle.semantics.specs.Steps.{Delivery, Expiry, statement_step, step_in}
 use Rattle.step_snapshot.specs.Tests.{extent_of, legend_by, test_by}
 use Rattle.config_parts.specs.Legend.{component_by, going_by}
 use Rattle.config_parts.specs.Views.{IsConfigWithin}
@@ -26,7 +26,7 @@ statement-requires-clause-ordered c = paths-in-order (legend_by c.args.test.now)
 pub statement-requires-clause-within : goal.statement-requires-clause-within
 statement-requires-clause-within c =
     let path = c.in-Statement.path in
-    found-within (extent_of c.args.test.now) path.numbers c.args.going.now.components c.in-Some.component.now c.requires.within
+    found-within (extent_of c.args.test.now) path.numbers c.args.going.now.components c.in-Some.component.now c.requires.within.components
     (searched path.numbers c.as_slice.result.now c.args.going.now.components c.component_of.result (Some c.in-Some.component) c.component_of.ensures c.as_slice.ensures c.in-Some.is)
 
 pub expiry_named-requires-clause-ordered : goal.expiry_named-requires-clause-ordered
@@ -67,3 +67,23 @@ returns-in-Expiry-clause-fits c =
     ok-both (Stepped (legend_by t) (test_by t) c.args.going.now c.args.label.now) (λ (after : Option Config). IfSome after (IsConfigWithin (extent_of t))) (λ (after : Option Config). IfSome after (Fits (machine_of t))) c.expiry_named.result
     (λ after. fits-behind (machine_of t) (config.Going c.args.going.now) c.args.label.now after c.requires)
     (returns-in-Expiry-clause-behind c) c.expiry_named.ensures.within
+
+pub delivery_named-requires-clause-ordered : goal.delivery_named-requires-clause-ordered
+delivery_named-requires-clause-ordered c = paths-in-order (legend_by c.args.test.now) c.args.going.now c.requires.ordered.ordered
+
+pub returns-in-Delivery-clause-behind : goal.returns-in-Delivery-clause-behind
+returns-in-Delivery-clause-behind c =
+    let t = c.args.test.now in
+    let legend = legend_by t in
+    let going = c.args.going.now in
+    let delivery = Delivery c.in-Delivery.system_port in
+    ok-more (IsBehind legend (step_in (test_by t) (going_by legend going) delivery)) (Stepped legend (test_by t) going c.args.label.now) c.delivery_named.result
+    (behind-same legend (test_by t) going c.args.label.now delivery c.in-Delivery.is)
+    c.delivery_named.ensures.behind
+
+pub returns-in-Delivery-clause-fits : goal.returns-in-Delivery-clause-fits
+returns-in-Delivery-clause-fits c =
+    let t = c.args.test.now in
+    ok-both (Stepped (legend_by t) (test_by t) c.args.going.now c.args.label.now) (λ (after : Option Config). IfSome after (IsConfigWithin (extent_of t))) (λ (after : Option Config). IfSome after (Fits (machine_of t))) c.delivery_named.result
+    (λ after. fits-behind (machine_of t) (config.Going c.args.going.now) c.args.label.now after c.requires)
+    (returns-in-Delivery-clause-behind c) c.delivery_named.ensures.within

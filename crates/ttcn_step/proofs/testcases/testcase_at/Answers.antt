@@ -10,7 +10,8 @@ pub invariant_of-result : goal.invariant_of-result
 invariant_of-result c = record {
   well = subst AreWellTyped (sym c.in_ok-definitions.ensures) c.module-module.ensures.well_typed;
   same = c.in_ok-graphs.ensures ∙ sym c.in_ok-definitions.ensures;
-  main = sym c.mtc_of-mtc.ensures;
+  main = sym (c.mtc_of-mtc.ensures c.args.script.now);
+  interface = sym (c.system_type-system_type.ensures c.args.script.now);
   none = c.new.ensures;
   room = c.in_ok-names.ensures.room;
   items = c.in_ok-names.ensures.items;

@@ -1,8 +1,8 @@
-use Rattle.std.proofs.Common.{rules, ◌≡◌, ◌∙◌, ap, refl, codes, false}
+use Rattle.std.proofs.Common.{◌≡◌, ◌∙◌, ap, refl, codes, false}
 use Rattle.std.proofs.lemmas.Result.{IfOk-weaker}
 use Rattle.clap.specs.Words.{new_app, rule_of}
 use Rattle.clap.specs.declared.builder.arg.Arg.{Arg}
-use Rattle.ttcnx_command_line.specs.App.{json_flag, number_option}
+use Rattle.ttcnx_command_line.specs.App.{number_option}
 use Rattle.ttcnx_command_line.proofs.Builds.{arg_added, fields_set}
 use Rattle.ttcnx_command_line.proofs.definition.run_command.Goals as goal
 
@@ -11,19 +11,18 @@ returns c =
     let limit_is : rule_of c.help-limit.result ≡ number_option (codes "limit") 10000000 (codes "1000000") = ap rule_of c.help-limit.ensures ∙ c.number.ensures.rule in
     let workers_is : rule_of c.help-workers.result ≡ number_option (codes "workers") 64 (codes "1") = ap rule_of c.help-workers.ensures ∙ c.number-2.ensures.rule in
     let piece_is : rule_of c.help-piece.result ≡ number_option (codes "piece") 65536 (codes "256") = ap rule_of c.help-piece.ensures ∙ c.number-3.ensures.rule in
-    let json_is : rule_of c.help-json.result ≡ json_flag = search rules in
-    let json_local : c.help-json.result.global ≡ false = search rules in
     let limit_local : c.help-limit.result.global ≡ false = ap (λ (x : Arg). x.global) c.help-limit.ensures ∙ c.number.ensures.local in
     let workers_local : c.help-workers.result.global ≡ false = ap (λ (x : Arg). x.global) c.help-workers.ensures ∙ c.number-2.ensures.local in
     let piece_local : c.help-piece.result.global ≡ false = ap (λ (x : Arg). x.global) c.help-piece.ensures ∙ c.number-3.ensures.local in
-    let start = fields_set (new_app (codes "run")) (new_app (codes "run")) c.new-2.result c.about.result _ c.about.ensures (c.new-2.ensures.app, c.new-2.ensures.local) refl (λ e. e) in
+    let start = fields_set (new_app (codes "run")) (new_app (codes "run")) c.new.result c.about.result _ c.about.ensures (c.new.ensures.app, c.new.ensures.local) refl (λ e. e) in
     let one = arg_added _ _ _ _ _ c.in_ok-arg.ensures start c.file.ensures.rule c.file.ensures.local in
     let two = arg_added _ _ _ _ _ c.in_ok-arg-2.ensures one c.testcase.ensures.rule c.testcase.ensures.local in
-    let three = arg_added _ _ _ _ _ c.in_ok-arg-3.ensures two c.steps.ensures.rule c.steps.ensures.local in
-    let four = arg_added _ _ _ _ _ c.in_ok-arg-4.ensures three limit_is limit_local in
-    let five = arg_added _ _ _ _ _ c.in_ok-arg-5.ensures four workers_is workers_local in
-    let six = arg_added _ _ _ _ _ c.in_ok-arg-6.ensures five piece_is piece_local in
+    let three = arg_added _ _ _ _ _ c.in_ok-arg-3.ensures two c.script.ensures.rule c.script.ensures.local in
+    let four = arg_added _ _ _ _ _ c.in_ok-arg-4.ensures three c.steps.ensures.rule c.steps.ensures.local in
+    let five = arg_added _ _ _ _ _ c.in_ok-arg-5.ensures four limit_is limit_local in
+    let six = arg_added _ _ _ _ _ c.in_ok-arg-6.ensures five workers_is workers_local in
+    let seven = arg_added _ _ _ _ _ c.in_ok-arg-7.ensures six piece_is piece_local in
     record {
-      app = IfOk-weaker c.arg-7.result _ _ (λ m h. (arg_added _ _ _ _ m h six json_is json_local).0) c.arg-7.ensures;
-      local = IfOk-weaker c.arg-7.result _ _ (λ m h. (arg_added _ _ _ _ m h six json_is json_local).1) c.arg-7.ensures;
+      app = IfOk-weaker c.arg-8.result _ _ (λ m h. (arg_added _ _ _ _ m h seven c.json.ensures.rule c.json.ensures.local).0) c.arg-8.ensures;
+      local = IfOk-weaker c.arg-8.result _ _ (λ m h. (arg_added _ _ _ _ m h seven c.json.ensures.rule c.json.ensures.local).1) c.arg-8.ensures;
     }

@@ -13,7 +13,8 @@ returns c =
     let start = fields_set fresh fresh c.new-2.result c.about.result _ c.about.ensures (c.new-2.ensures.app, c.new-2.ensures.local) refl (λ e. e) in
     let one = arg_added _ _ _ _ _ c.in_ok-arg.ensures start c.file.ensures.rule c.file.ensures.local in
     let two = arg_added _ _ _ _ _ c.in_ok-arg-2.ensures one c.testcase.ensures.rule c.testcase.ensures.local in
+    let three = arg_added _ _ _ _ _ c.in_ok-arg-3.ensures two c.script.ensures.rule c.script.ensures.local in
     record {
-      app = IfOk-weaker c.arg-3.result _ _ (λ m h. (arg_added _ _ _ _ m h two run_is run_local).0) c.arg-3.ensures;
-      local = IfOk-weaker c.arg-3.result _ _ (λ m h. (arg_added _ _ _ _ m h two run_is run_local).1) c.arg-3.ensures;
+      app = IfOk-weaker c.arg-4.result _ _ (λ m h. (arg_added _ _ _ _ m h three run_is run_local).0) c.arg-4.ensures;
+      local = IfOk-weaker c.arg-4.result _ _ (λ m h. (arg_added _ _ _ _ m h three run_is run_local).1) c.arg-4.ensures;
     }

@@ -1,5 +1,5 @@
 use Rattle.std.proofs.Common.{[], ap, get_or, subst, sym, ◌∙◌}
-use Rattle.ttcnx_runs.proofs.Choosing.{expiry-none, no-choice, no-position}
+use Rattle.ttcnx_runs.proofs.Choosing.{delivery-none, expiry-none, no-choice, no-position}
 use Rattle.ttcnx_runs.proofs.places.may_take_branch.Goals as goal
 use Rattle.semantics.specs.Places.{branch_of}
 use Rattle.semantics.specs.Steps.{Statement}
@@ -28,3 +28,9 @@ returns-in-Expiry g c = λ may.
     let machine = g.K.Scheme.machine in
     ap (branch_of machine.test c.args.state.now) c.in-Expiry.is
     ∙ expiry-none machine.test c.args.state.now _ _ _
+
+pub returns-in-Delivery : goal.returns-in-Delivery
+returns-in-Delivery g c = λ may.
+    let machine = g.K.Scheme.machine in
+    ap (branch_of machine.test c.args.state.now) c.in-Delivery.is
+    ∙ delivery-none machine.test c.args.state.now _

@@ -15,8 +15,10 @@ returns-clause-steps c legend test is ascend =
     (sym c.from_vec.ensures) c.in_ok-expired.ensures))
 
 pub returns-clause-within : goal.returns-clause-within
-returns-clause-within c size one all done =
-    expire-within size c.args.number c.args.timer c.args.path.now c.args.self.now.components c.from_vec.result one all
-    (ap (λ cs. expired_at cs c.args.path.now c.args.number c.args.timer) (sym (c.into_vec-components.ensures ∙ c.replace.ensures.value))
-    ∙ subst (λ b. DoesOrNot {E = AllocError} (expired_at c.into_vec-components.result.items c.args.path.now c.args.number c.args.timer) c.expire_at.new.components.items (Ok b)) done c.in_ok-expired.ensures
-    ∙ ap Some (sym c.from_vec.ensures))
+returns-clause-within c size one all done = record {
+  components = expire-within size c.args.number c.args.timer c.args.path.now c.args.self.now.components c.from_vec.result one all.components
+      (ap (λ cs. expired_at cs c.args.path.now c.args.number c.args.timer) (sym (c.into_vec-components.ensures ∙ c.replace.ensures.value))
+      ∙ subst (λ b. DoesOrNot {E = AllocError} (expired_at c.into_vec-components.result.items c.args.path.now c.args.number c.args.timer) c.expire_at.new.components.items (Ok b)) done c.in_ok-expired.ensures
+      ∙ ap Some (sym c.from_vec.ensures));
+  mappings = all.mappings;
+}

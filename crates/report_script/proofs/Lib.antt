@@ -1,0 +1,5 @@
+pub mod Fits
+pub mod Members
+pub mod Ports
+pub mod Stands
+pub mod Texts

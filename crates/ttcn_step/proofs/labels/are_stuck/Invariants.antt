@@ -1,0 +1,12 @@
+use Rattle.std.proofs.Common.{◌≡◌, drop}
+use Rattle.semantics.specs.Labels.{labels_of_component}
+use Rattle.step_snapshot.specs.Tests.{legend_by, test_by}
+use Rattle.config_parts.specs.Legend.{going_by}
+use Rattle.ttcn_step.proofs.Listed.{parts_of}
+use Rattle.ttcn_step.proofs.labels.are_stuck.Given as goal
+
+-- no label so far
+abbrev pub invariant-loop-component : goal.invariant-loop-component
+invariant-loop-component l =
+    parts_of (legend_by l.test) (labels_of_component (test_by l.test) (going_by (legend_by l.test) l.going)) (drop l.component-index l.component-items)
+    ≡ parts_of (legend_by l.test) (labels_of_component (test_by l.test) (going_by (legend_by l.test) l.going)) l.component-items
