@@ -1,6 +1,6 @@
 -- Rows of bytes of which the first five count.
-use Rattle.std.specs.Prelude.{◌≡◌, ℕ, ◌+◌, ◌%◌, ◌<◌, ◌≤◌, List, [], ◌∷◌, replicate, None, AllPairs, slice_index, slice_set, get_or}
-use Rattle.std.proofs.Common.{zero, suc, refl, arith, subst, sym}
+use Rattle.std.specs.Prelude.{◌≡◌, ℕ, ◌+◌, ◌%◌, ◌<◌, List, [], ◌∷◌, replicate, None, AllPairs, slice_index, slice_set, get_or}
+use Rattle.std.proofs.Common.{zero, suc, refl, arith, sym}
 use Rattle.std.specs.Ordering.{nat_cmp}
 use Rattle.std.specs.Cmp.{nat_cmp_is}
 use Rattle.std.specs.declared.cmp.Ordering.TheVariants.{Less}

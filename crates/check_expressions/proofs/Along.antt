@@ -8,7 +8,7 @@ use Rattle.check_rules.specs.Expressions.{along, within}
 use Rattle.check_rules.specs.Targets.{last_optional, optional_in}
 use Rattle.check_rules.specs.declared.finding.Finding.{Finding}
 use Rattle.check_scope.specs.declared.types.Typing.{Typing}
-use Rattle.check_scope.proofs.Leasts.{both_assoc, both_nothing}
+use Rattle.check_scope.proofs.Leasts.{both-assoc, both-nothing}
 use Rattle.check_rules.proofs.Findings.{finding_after}
 use Rattle.check_scope.proofs.Lookups.{drop-next}
 
@@ -22,11 +22,11 @@ along-next definitions names i name found next inside is next_is =
     ap (left definitions found) (drop-next names i name inside is)
     ∙ ap (with_before found.broken) (finding_after (within definitions found.typing name).broken (along definitions (within definitions found.typing name).typing (drop (i + 1) names)))
     ∙ ap (λ b. record { typing = (along definitions (within definitions found.typing name).typing (drop (i + 1) names)).typing; broken = b })
-    (sym (both_assoc found.broken (least (within definitions found.typing name).broken) (least (along definitions (within definitions found.typing name).typing (drop (i + 1) names)).broken)))
+    (sym (both-assoc found.broken (least (within definitions found.typing name).broken) (least (along definitions (within definitions found.typing name).typing (drop (i + 1) names)).broken)))
     ∙ sym (ap (λ n. left definitions n (drop (i + 1) names)) next_is)
 
 pub along-end : (definitions : List Definition) (names : List (List ℕ)) (i : ℕ) (found : Finding) → length names ≤ i → left definitions found (drop i names) ≡ found
-along-end definitions names i found past = ap (left definitions found) (drop_all i names past) ∙ ap (λ b. record { typing = found.typing; broken = b }) (both_nothing found.broken)
+along-end definitions names i found past = ap (left definitions found) (drop_all i names past) ∙ ap (λ b. record { typing = found.typing; broken = b }) (both-nothing found.broken)
 
 -- whether the last may be omitted, where there is one more
 pub optional-next : (definitions : List Definition) (names : List (List ℕ)) (i : ℕ) (name : List ℕ) (t next : Typing) (optional next_optional : Bool)

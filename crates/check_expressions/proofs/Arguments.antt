@@ -3,7 +3,7 @@ use Rattle.std.proofs.Common.{◌≡◌, ℕ, ◌+◌, ◌<◌, ◌≤◌, List,
 use Rattle.std.proofs.lemmas.List.{drop_all}
 use Rattle.ttcn_syntax.specs.declared.tree.definition.Parameter.{Parameter}
 use Rattle.ttcn_syntax.specs.declared.tree.value.Value.{Value}
-use Rattle.check_scope.proofs.Leasts.{both_assoc, both_nothing, least_append}
+use Rattle.check_scope.proofs.Leasts.{both-assoc, both-nothing, least_append}
 use Rattle.check_scope.proofs.Lookups.{drop-next}
 use Rattle.check_rules.specs.Calls.{arguments, next_parameters, parameter_target}
 use Rattle.check_scope.specs.internal.Checking.{both, least}
@@ -19,13 +19,13 @@ pub arguments-next : (scope : Scope) (parameters left : List Parameter) (given :
     → i < length given → argument ≡ get_or given i argument → left ≡ next_parameters parameters
     → part ≡ least (value argument scope (parameter_target scope parameters)) → next ≡ both found part
     → rest_of_arguments scope parameters (drop i given) found ≡ rest_of_arguments scope left (drop (i + 1) given) next
-arguments-next scope parameters left given i argument found part next inside is left_is part_is next_is =
+arguments-next scope parameters left given i argument found part next inside is left_is part-is next_is =
     ap (λ others. rest_of_arguments scope parameters others found) (drop-next given i argument inside is)
     ∙ ap (both found) (least_append (value argument scope (parameter_target scope parameters)) (arguments scope (next_parameters parameters) (drop (i + 1) given)))
-    ∙ sym (both_assoc found (least (value argument scope (parameter_target scope parameters))) (least (arguments scope (next_parameters parameters) (drop (i + 1) given))))
-    ∙ ap (rest_of_arguments scope (next_parameters parameters) (drop (i + 1) given)) (sym (next_is ∙ ap (both found) part_is))
+    ∙ sym (both-assoc found (least (value argument scope (parameter_target scope parameters))) (least (arguments scope (next_parameters parameters) (drop (i + 1) given))))
+    ∙ ap (rest_of_arguments scope (next_parameters parameters) (drop (i + 1) given)) (sym (next_is ∙ ap (both found) part-is))
     ∙ ap (λ ps. rest_of_arguments scope ps (drop (i + 1) given) next) (sym left_is)
 
 pub arguments-end : (scope : Scope) (parameters : List Parameter) (given : List Value) (i : ℕ) (found : Broken) → length given ≤ i
     → rest_of_arguments scope parameters (drop i given) found ≡ found
-arguments-end scope parameters given i found past = ap (λ others. rest_of_arguments scope parameters others found) (drop_all i given past) ∙ both_nothing found
+arguments-end scope parameters given i found past = ap (λ others. rest_of_arguments scope parameters others found) (drop_all i given past) ∙ both-nothing found

@@ -5,7 +5,7 @@ use Rattle.std.proofs.lemmas.List.{drop_all}
 use Rattle.std.proofs.lemmas.List.Folds.{list_any-append}
 use Rattle.std.specs.List.{list_all, list_any}
 use Rattle.ttcn_syntax.specs.declared.tree.definition.Field.{Field}
-use Rattle.check_scope.proofs.Leasts.{both_assoc, both_nothing, least_append}
+use Rattle.check_scope.proofs.Leasts.{both-assoc, both-nothing, least_append}
 use Rattle.check_scope.proofs.Lookups.{drop-next}
 use Rattle.check_scope.specs.internal.Checking.{both, least}
 use Rattle.check_scope.specs.Names.{Scope}
@@ -26,16 +26,16 @@ pub in_order-next : {A : Type 0} (f : A → AtTarget) (scope : Scope) (fields le
     → i < length elements → element ≡ get_or elements i element → left ≡ next_fields fields
     → part ≡ least (f element scope (first_target scope.definitions fields)) → next ≡ both found part
     → rest_in_order scope fields (map f (drop i elements)) found ≡ rest_in_order scope left (map f (drop (i + 1) elements)) next
-in_order-next f scope fields left elements i element found part next inside is left_is part_is next_is =
+in_order-next f scope fields left elements i element found part next inside is left_is part-is next_is =
     ap (λ es. rest_in_order scope fields (map f es) found) (drop-next elements i element inside is)
     ∙ ap (both found) (least_append (f element scope (first_target scope.definitions fields)) (in_order (next_fields fields) (map f (drop (i + 1) elements)) scope))
-    ∙ sym (both_assoc found (least (f element scope (first_target scope.definitions fields))) (least (in_order (next_fields fields) (map f (drop (i + 1) elements)) scope)))
-    ∙ ap (λ b. rest_in_order scope (next_fields fields) (map f (drop (i + 1) elements)) b) (sym (next_is ∙ ap (both found) part_is))
+    ∙ sym (both-assoc found (least (f element scope (first_target scope.definitions fields))) (least (in_order (next_fields fields) (map f (drop (i + 1) elements)) scope)))
+    ∙ ap (λ b. rest_in_order scope (next_fields fields) (map f (drop (i + 1) elements)) b) (sym (next_is ∙ ap (both found) part-is))
     ∙ ap (λ fs. rest_in_order scope fs (map f (drop (i + 1) elements)) next) (sym left_is)
 
 pub in_order-end : {A : Type 0} (f : A → AtTarget) (scope : Scope) (fields : Option (List Field)) (elements : List A) (i : ℕ) (found : Broken) → length elements ≤ i
     → rest_in_order scope fields (map f (drop i elements)) found ≡ found
-in_order-end f scope fields elements i found past = ap (λ es. rest_in_order scope fields (map f es) found) (drop_all i elements past) ∙ both_nothing found
+in_order-end f scope fields elements i found past = ap (λ es. rest_in_order scope fields (map f es) found) (drop_all i elements past) ∙ both-nothing found
 
 -- ---- by the names of the fields
 
@@ -53,7 +53,7 @@ one-more name other had = rw (nat_list_eq_equiv.symm name other)
     ])
 
 pub regroup : (found u a r : Broken) → both found (both (both u a) r) ≡ both (both (both found u) a) r
-regroup found u a r = sym (both_assoc found (both u a) r) ∙ ap (λ b. both b r) (sym (both_assoc found u a))
+regroup found u a r = sym (both-assoc found (both u a) r) ∙ ap (λ b. both b r) (sym (both-assoc found u a))
 
 pub named-first : (scope : Scope) (fields : Option (List Field)) (names : NameSet) (elements : List (List ℕ × AtTarget)) (found : Broken)
     → ((name : List ℕ) → has names name ≡ false) → found ≡ least [] → Named scope fields names elements found (least (by_name fields [] elements scope))
@@ -70,7 +70,7 @@ pub named-next : {A : Type 0} (f : A → List ℕ × AtTarget) (scope : Scope) (
     → named ≡ least (unless (is_field fields name && is_new) rule.Fields) → part ≡ least (at scope (target_named scope.definitions fields name))
     → next ≡ both (both found named) part
     → Named scope fields names (map f (drop i elements)) found whole → Named scope fields next_names (map f (drop (i + 1) elements)) next whole
-named-next f scope fields names next_names elements i element name at is_new found named part next whole inside is f_is new_is behind named_is part_is next_is so_far =
+named-next f scope fields names next_names elements i element name at is_new found named part next whole inside is f_is new_is behind named_is part-is next_is so_far =
     let others : List (List ℕ × AtTarget) = map f (drop (i + 1) elements) in
     let named_now : named ≡ least (unless (is_field fields name && not (list_any (bytes_eq name) so_far.before)) rule.Fields) =
     named_is ∙ ap (λ b. least (unless (is_field fields name && b) rule.Fields)) (new_is ∙ ap not (so_far.same name)) in
@@ -78,7 +78,7 @@ named-next f scope fields names next_names elements i element name at is_new fou
       before = so_far.before ++ name ∷ [];
       same = λ other. behind other ∙ one-more name other (has names other) ∙ ap (λ b. b || (bytes_eq other name || false)) (so_far.same other)
           ∙ sym (list_any-append (bytes_eq other) so_far.before (name ∷ []));
-      sum = ap (λ b. both b (least (by_name fields (so_far.before ++ name ∷ []) others scope))) (next_is ∙ ap (λ b. both (both found b) part) named_now ∙ ap (both (both found (least (unless (is_field fields name && not (list_any (bytes_eq name) so_far.before)) rule.Fields)))) part_is)
+      sum = ap (λ b. both b (least (by_name fields (so_far.before ++ name ∷ []) others scope))) (next_is ∙ ap (λ b. both (both found b) part) named_now ∙ ap (both (both found (least (unless (is_field fields name && not (list_any (bytes_eq name) so_far.before)) rule.Fields)))) part-is)
           ∙ sym (regroup found (least (unless (is_field fields name && not (list_any (bytes_eq name) so_far.before)) rule.Fields)) (least (at scope (target_named scope.definitions fields name))) (least (by_name fields (so_far.before ++ name ∷ []) others scope)))
           ∙ ap (λ b. both found (both b (least (by_name fields (so_far.before ++ name ∷ []) others scope))))
           (sym (least_append (unless (is_field fields name && not (list_any (bytes_eq name) so_far.before)) rule.Fields) (at scope (target_named scope.definitions fields name))))
@@ -91,7 +91,7 @@ named-next f scope fields names next_names elements i element name at is_new fou
 pub named-end : {A : Type 0} (f : A → List ℕ × AtTarget) (scope : Scope) (fields : Option (List Field)) (names : NameSet) (elements : List A) (i : ℕ) (found whole : Broken)
     → length elements ≤ i → Named scope fields names (map f (drop i elements)) found whole → found ≡ whole
 named-end f scope fields names elements i found whole past so_far =
-    sym (both_nothing found) ∙ ap (λ es. both found (least (by_name fields so_far.before (map f es) scope))) (sym (drop_all i elements past)) ∙ so_far.sum
+    sym (both-nothing found) ∙ ap (λ es. both found (least (by_name fields so_far.before (map f es) scope))) (sym (drop_all i elements past)) ∙ so_far.sum
 
 -- ---- names alone
 
@@ -122,6 +122,6 @@ pub met-end : {A : Type 0} (f : A → List ℕ) (names : NameSet) (elements : Li
 met-end f names elements i past name = sym (or-false (has names name)) ∙ ap (λ es. met_or_left f names es name) (sym (drop_all i elements past))
 
 -- each field has an element, by a set of the names
-pub each_has : (names : NameSet) (fields : List Field) (known : List (List ℕ)) (all : Bool) → all ≡ list_all (λ field. has names field.name) fields
+pub each-has : (names : NameSet) (fields : List Field) (known : List (List ℕ)) (all : Bool) → all ≡ list_all (λ field. has names field.name) fields
     → ((name : List ℕ) → has names name ≡ list_any (bytes_eq name) known) → all ≡ list_all (λ field. list_any (bytes_eq field.name) known) fields
-each_has names fields known all all_is same = all_is ∙ (λ i. list_all (λ field. same field.name i) fields)
+each-has names fields known all all_is same = all_is ∙ (λ i. list_all (λ field. same field.name i) fields)

@@ -15,9 +15,9 @@ apart : (bs cs ks : List ℕ) → bytes_eq cs bs ≡ false → bytes_eq bs ks �
 apart bs cs ks differ same = nat_list_eq_equiv.symm cs ks ∙ sym (nat_list_eq_equiv.congr bs ks cs same) ∙ nat_list_eq_equiv.symm bs cs ∙ differ
 
 module _ {K X S : Type 0} (bytes : K → List ℕ) (bs : List ℕ) (m n : HashMap K X S) (w : Option X) where
-  pub looked_up : UpdatesBy (λ x y. bytes_eq (bytes x) (bytes y)) (λ k. bytes_eq bs (bytes k)) m n w → (cs : List ℕ)
+  pub looked-up : UpdatesBy (λ x y. bytes_eq (bytes x) (bytes y)) (λ k. bytes_eq bs (bytes k)) m n w → (cs : List ℕ)
       → get_by (λ k. bytes_eq cs (bytes k)) n ≡ (if bytes_eq cs bs then w else get_by (λ k. bytes_eq cs (bytes k)) m)
-  looked_up updates cs = go (bytes_eq cs bs) refl
+  looked-up updates cs = go (bytes_eq cs bs) refl
     where
       go : (b : Bool) → bytes_eq cs bs ≡ b → get_by (λ k. bytes_eq cs (bytes k)) n ≡ (if b then w else get_by (λ k. bytes_eq cs (bytes k)) m)
       go true is = subst (λ l. get_by (λ k. bytes_eq l (bytes k)) n ≡ w) (sym ((bytes_decides cs bs).0 is)) updates.1
@@ -39,7 +39,7 @@ pub added-first : {K X S : Type 0} (bytes : K → List ℕ) (bs name : List ℕ)
     → UpdatesBy (λ y z. bytes_eq (bytes y) (bytes z)) (λ k. bytes_eq bs (bytes k)) m n (Some x) → bs ≡ name → get_by (λ k. bytes_eq name (bytes k)) m ≡ None → (other : List ℕ)
     → get_by (λ k. bytes_eq other (bytes k)) n ≡ option_or (get_by (λ k. bytes_eq other (bytes k)) m) (if bytes_eq other name then Some x else None)
 added-first bytes bs name m n x updates same none other =
-    looked_up bytes bs m n (Some x) updates other
+    looked-up bytes bs m n (Some x) updates other
     ∙ ap (λ l. if bytes_eq other l then Some x else get_by (λ k. bytes_eq other (bytes k)) m) same
     ∙ put-first (bytes_eq other name) x (get_by (λ k. bytes_eq other (bytes k)) m) (λ is. ap (λ l. get_by (λ k. bytes_eq l (bytes k)) m) ((bytes_decides other name).0 is) ∙ none)
 

@@ -107,8 +107,8 @@ chain-end scope links i found past = ap (λ ls. all_linked scope found (map link
 -- an operand that must be of a type, by what was found of it
 pub operand-found : (wanted : DataType) (judged whole : Judgement) (found of next : Finding) → whole ≡ operand wanted judged → found ≡ finding judged → of ≡ finding (of_type wanted found.typing)
     → next ≡ with_before found.broken of → next ≡ finding whole
-operand-found wanted judged whole found of next whole_is found_is of_is next_is =
+operand-found wanted judged whole found of next whole-is found_is of_is next_is =
     next_is ∙ ap (with_before found.broken) of_is
     ∙ ap (λ (f : Finding). with_before f.broken (finding (of_type wanted f.typing))) found_is
     ∙ sym (finding_after judged.broken (of_type wanted judged.typing))
-    ∙ sym (ap finding whole_is)
+    ∙ sym (ap finding whole-is)

@@ -10,7 +10,7 @@ use Rattle.ttcn_syntax.specs.declared.tree.template.TemplateBody.TheFolds.{fold-
 use Rattle.ttcn_syntax.specs.declared.tree.template.TemplateBody.TheOpen.{TemplateBody-F}
 use Rattle.ttcn_syntax.specs.declared.tree.template.TemplateBody.TheVariants as form
 use Rattle.ttcn_syntax.specs.declared.tree.value.Call.{Call}
-use Rattle.check_scope.proofs.Leasts.{both_assoc, both_nothing, least_append}
+use Rattle.check_scope.proofs.Leasts.{both-assoc, both-nothing, least_append}
 use Rattle.check_scope.proofs.Lookups.{drop-next}
 use Rattle.check_scope.specs.internal.Checking.{both, least}
 use Rattle.check_scope.specs.Names.{Scope}
@@ -26,66 +26,66 @@ abbrev Part : Type 0
 Part = List ℕ × AtTarget
 
 module _ (scope : Scope) (target : Target) where
-  pub body_of_any : body form.Any scope target ≡ []
-  body_of_any = ap (λ (f : AtTarget). f scope target) (ap body (sym form.rolls-Any) ∙ fold-roll-TemplateBody AtTarget Part AtTarget body_step field_template_step template_step TemplateBody-F.Any)
+  pub body-of-any : body form.Any scope target ≡ []
+  body-of-any = ap (λ (f : AtTarget). f scope target) (ap body (sym form.rolls-Any) ∙ fold-roll-TemplateBody AtTarget Part AtTarget body_step field_template_step template_step TemplateBody-F.Any)
 
-  pub body_of_any_or_omit : body form.AnyOrOmit scope target ≡ unless target.optional rule.Fields
-  body_of_any_or_omit = ap (λ (f : AtTarget). f scope target) (ap body (sym form.rolls-AnyOrOmit) ∙ fold-roll-TemplateBody AtTarget Part AtTarget body_step field_template_step template_step TemplateBody-F.AnyOrOmit)
+  pub body-of-any-or-omit : body form.AnyOrOmit scope target ≡ unless target.optional rule.Fields
+  body-of-any-or-omit = ap (λ (f : AtTarget). f scope target) (ap body (sym form.rolls-AnyOrOmit) ∙ fold-roll-TemplateBody AtTarget Part AtTarget body_step field_template_step template_step TemplateBody-F.AnyOrOmit)
 
-  pub body_of_omit : body form.Omit scope target ≡ unless target.optional rule.Fields
-  body_of_omit = ap (λ (f : AtTarget). f scope target) (ap body (sym form.rolls-Omit) ∙ fold-roll-TemplateBody AtTarget Part AtTarget body_step field_template_step template_step TemplateBody-F.Omit)
+  pub body-of-omit : body form.Omit scope target ≡ unless target.optional rule.Fields
+  body-of-omit = ap (λ (f : AtTarget). f scope target) (ap body (sym form.rolls-Omit) ∙ fold-roll-TemplateBody AtTarget Part AtTarget body_step field_template_step template_step TemplateBody-F.Omit)
 
-  pub body_of_complement : (parts : List Template) → body (form.Complement parts) scope target ≡ each (map template parts) scope target
-  body_of_complement parts = ap (λ (f : AtTarget). f scope target) (ap body (sym (form.rolls-Complement parts)) ∙ fold-roll-TemplateBody AtTarget Part AtTarget body_step field_template_step template_step (TemplateBody-F.Complement parts))
+  pub body-of-complement : (parts : List Template) → body (form.Complement parts) scope target ≡ each (map template parts) scope target
+  body-of-complement parts = ap (λ (f : AtTarget). f scope target) (ap body (sym (form.rolls-Complement parts)) ∙ fold-roll-TemplateBody AtTarget Part AtTarget body_step field_template_step template_step (TemplateBody-F.Complement parts))
 
-  pub body_of_list : (parts : List Template) → body (form.List parts) scope target ≡ each (map template parts) scope target
-  body_of_list parts = ap (λ (f : AtTarget). f scope target) (ap body (sym (form.rolls-List parts)) ∙ fold-roll-TemplateBody AtTarget Part AtTarget body_step field_template_step template_step (TemplateBody-F.List parts))
+  pub body-of-list : (parts : List Template) → body (form.List parts) scope target ≡ each (map template parts) scope target
+  body-of-list parts = ap (λ (f : AtTarget). f scope target) (ap body (sym (form.rolls-List parts)) ∙ fold-roll-TemplateBody AtTarget Part AtTarget body_step field_template_step template_step (TemplateBody-F.List parts))
 
-  pub body_of_range : (low high : Bound) → body (form.Range low high) scope target ≡ check_range scope target low high
-  body_of_range low high = ap (λ (f : AtTarget). f scope target) (ap body (sym (form.rolls-Range low high)) ∙ fold-roll-TemplateBody AtTarget Part AtTarget body_step field_template_step template_step (TemplateBody-F.Range low high))
+  pub body-of-range : (low high : Bound) → body (form.Range low high) scope target ≡ check_range scope target low high
+  body-of-range low high = ap (λ (f : AtTarget). f scope target) (ap body (sym (form.rolls-Range low high)) ∙ fold-roll-TemplateBody AtTarget Part AtTarget body_step field_template_step template_step (TemplateBody-F.Range low high))
 
-  pub body_of_call : (call : Call) → body (form.Call call) scope target ≡ check_named_template scope target call.arguments (template_meant (scope.names call.name))
-  body_of_call call = ap (λ (f : AtTarget). f scope target) (ap body (sym (form.rolls-Call call)) ∙ fold-roll-TemplateBody AtTarget Part AtTarget body_step field_template_step template_step (TemplateBody-F.Call call))
+  pub body-of-call : (call : Call) → body (form.Call call) scope target ≡ check_named_template scope target call.arguments (template_meant (scope.names call.name))
+  body-of-call call = ap (λ (f : AtTarget). f scope target) (ap body (sym (form.rolls-Call call)) ∙ fold-roll-TemplateBody AtTarget Part AtTarget body_step field_template_step template_step (TemplateBody-F.Call call))
 
-  pub body_of_expr : (e : Expr) → body (form.Expr e) scope target ≡ check_name scope target e (template_named scope e)
-  body_of_expr e = ap (λ (f : AtTarget). f scope target) (ap body (sym (form.rolls-Expr e)) ∙ fold-roll-TemplateBody AtTarget Part AtTarget body_step field_template_step template_step (TemplateBody-F.Expr e))
+  pub body-of-expr : (e : Expr) → body (form.Expr e) scope target ≡ check_name scope target e (template_named scope e)
+  body-of-expr e = ap (λ (f : AtTarget). f scope target) (ap body (sym (form.rolls-Expr e)) ∙ fold-roll-TemplateBody AtTarget Part AtTarget body_step field_template_step template_step (TemplateBody-F.Expr e))
 
-  pub body_of_listed : (parts : List Template) → body (form.Listed parts) scope target
+  pub body-of-listed : (parts : List Template) → body (form.Listed parts) scope target
       ≡ unless (takes_braces target.data_type) rule.ValueType ++ unless (is_full (wanted_fields scope.definitions target.data_type) (length (map template parts))) rule.Fields
       ++ in_order (wanted_fields scope.definitions target.data_type) (map template parts) scope
-  body_of_listed parts = ap (λ (f : AtTarget). f scope target) (ap body (sym (form.rolls-Listed parts)) ∙ fold-roll-TemplateBody AtTarget Part AtTarget body_step field_template_step template_step (TemplateBody-F.Listed parts))
+  body-of-listed parts = ap (λ (f : AtTarget). f scope target) (ap body (sym (form.rolls-Listed parts)) ∙ fold-roll-TemplateBody AtTarget Part AtTarget body_step field_template_step template_step (TemplateBody-F.Listed parts))
 
-  pub listed_least : (parts : List Template) → least (body (form.Listed parts) scope target)
+  pub listed-least : (parts : List Template) → least (body (form.Listed parts) scope target)
       ≡ both (both (least (unless (takes_braces target.data_type) rule.ValueType)) (least (unless (is_full (wanted_fields scope.definitions target.data_type) (length parts)) rule.Fields)))
       (least (in_order (wanted_fields scope.definitions target.data_type) (map template parts) scope))
-  listed_least parts = rw (body_of_listed parts) (simp (least_append, length-map))
+  listed-least parts = rw (body-of-listed parts) (simp (least_append, length-map))
 
-  pub body_of_assigned : (parts : List FieldTemplate) → body (form.Assigned parts) scope target
+  pub body-of-assigned : (parts : List FieldTemplate) → body (form.Assigned parts) scope target
       ≡ unless (takes_braces target.data_type) rule.ValueType ++ unless (has_all (wanted_fields scope.definitions target.data_type) (map (λ part. part.0) (map field_template parts))) rule.Fields
       ++ by_name (wanted_fields scope.definitions target.data_type) [] (map field_template parts) scope
-  body_of_assigned parts = ap (λ (f : AtTarget). f scope target) (ap body (sym (form.rolls-Assigned parts)) ∙ fold-roll-TemplateBody AtTarget Part AtTarget body_step field_template_step template_step (TemplateBody-F.Assigned parts))
+  body-of-assigned parts = ap (λ (f : AtTarget). f scope target) (ap body (sym (form.rolls-Assigned parts)) ∙ fold-roll-TemplateBody AtTarget Part AtTarget body_step field_template_step template_step (TemplateBody-F.Assigned parts))
 
-pub field_template_out : (part : FieldTemplate) → field_template part ≡ ((out-FieldTemplate part).name, template (out-FieldTemplate part).template)
-field_template_out part = fold_out-FieldTemplate AtTarget Part AtTarget body_step field_template_step template_step part
+pub field-template-out : (part : FieldTemplate) → field_template part ≡ ((out-FieldTemplate part).name, template (out-FieldTemplate part).template)
+field-template-out part = fold_out-FieldTemplate AtTarget Part AtTarget body_step field_template_step template_step part
 
 names-out : (parts : List FieldTemplate) → map (λ part. part.0) (map field_template parts) ≡ map (λ part. (out-FieldTemplate part).name) parts
 names-out [] = refl
-names-out (part ∷ parts) = ap (λ (p : Part). p.0 ∷ map (λ q. q.0) (map field_template parts)) (field_template_out part) ∙ ap (λ names. (out-FieldTemplate part).name ∷ names) (names-out parts)
+names-out (part ∷ parts) = ap (λ (p : Part). p.0 ∷ map (λ q. q.0) (map field_template parts)) (field-template-out part) ∙ ap (λ names. (out-FieldTemplate part).name ∷ names) (names-out parts)
 
-pub assigned_least : (scope : Scope) (target : Target) (parts : List FieldTemplate) → least (body (form.Assigned parts) scope target)
+pub assigned-least : (scope : Scope) (target : Target) (parts : List FieldTemplate) → least (body (form.Assigned parts) scope target)
     ≡ both (both (least (unless (takes_braces target.data_type) rule.ValueType)) (least (unless (has_all (wanted_fields scope.definitions target.data_type) (map (λ part. (out-FieldTemplate part).name) parts)) rule.Fields)))
     (least (by_name (wanted_fields scope.definitions target.data_type) [] (map field_template parts) scope))
-assigned_least scope target parts = rw (body_of_assigned scope target parts, names-out parts) (simp least_append)
+assigned-least scope target parts = rw (body-of-assigned scope target parts, names-out parts) (simp least_append)
 
-template_out : (t : Template) (scope : Scope) (target : Target) → template t scope target ≡ body (out-Template t).body scope target ++ unless (not (out-Template t).ifpresent || target.optional) rule.Fields
-template_out t scope target = ap (λ (f : AtTarget). f scope target) (fold_out-Template AtTarget Part AtTarget body_step field_template_step template_step t)
+template-out : (t : Template) (scope : Scope) (target : Target) → template t scope target ≡ body (out-Template t).body scope target ++ unless (not (out-Template t).ifpresent || target.optional) rule.Fields
+template-out t scope target = ap (λ (f : AtTarget). f scope target) (fold_out-Template AtTarget Part AtTarget body_step field_template_step template_step t)
 
-pub template_least : (scope : Scope) (target : Target) (t : Template) → least (template t scope target)
+pub template-least : (scope : Scope) (target : Target) (t : Template) → least (template t scope target)
     ≡ both (least (body (out-Template t).body scope target)) (least (unless (not (out-Template t).ifpresent || target.optional) rule.Fields))
-template_least scope target t = rw (template_out t scope target) (simp least_append)
+template-least scope target t = rw (template-out t scope target) (simp least_append)
 
 -- what a template breaks, form by form
-pub ruleset template_forms = (body_of_any, body_of_any_or_omit, body_of_omit, body_of_complement, body_of_list, body_of_range, body_of_call, body_of_expr, listed_least, assigned_least, template_least)
+pub ruleset template_forms = (body-of-any, body-of-any-or-omit, body-of-omit, body-of-complement, body-of-list, body-of-range, body-of-call, body-of-expr, listed-least, assigned-least, template-least)
 
 -- ---- parts that stand for the same target
 
@@ -95,11 +95,11 @@ rest_of_each scope target parts found = both found (least (each (map template pa
 
 pub each-next : (scope : Scope) (target : Target) (parts : List Template) (i : ℕ) (t : Template) (found part next : Broken) → i < length parts → t ≡ get_or parts i t
     → part ≡ least (template t scope target) → next ≡ both found part → rest_of_each scope target (drop i parts) found ≡ rest_of_each scope target (drop (i + 1) parts) next
-each-next scope target parts i t found part next inside is part_is next_is =
+each-next scope target parts i t found part next inside is part-is next_is =
     ap (λ ts. rest_of_each scope target ts found) (drop-next parts i t inside is)
     ∙ ap (both found) (least_append (template t scope target) (each (map template (drop (i + 1) parts)) scope target))
-    ∙ sym (both_assoc found (least (template t scope target)) (least (each (map template (drop (i + 1) parts)) scope target)))
-    ∙ ap (rest_of_each scope target (drop (i + 1) parts)) (sym (next_is ∙ ap (both found) part_is))
+    ∙ sym (both-assoc found (least (template t scope target)) (least (each (map template (drop (i + 1) parts)) scope target)))
+    ∙ ap (rest_of_each scope target (drop (i + 1) parts)) (sym (next_is ∙ ap (both found) part-is))
 
 pub each-end : (scope : Scope) (target : Target) (parts : List Template) (i : ℕ) (found : Broken) → length parts ≤ i → rest_of_each scope target (drop i parts) found ≡ found
-each-end scope target parts i found past = ap (λ ts. rest_of_each scope target ts found) (drop_all i parts past) ∙ both_nothing found
+each-end scope target parts i found past = ap (λ ts. rest_of_each scope target ts found) (drop_all i parts past) ∙ both-nothing found

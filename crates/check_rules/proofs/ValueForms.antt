@@ -16,32 +16,32 @@ use Rattle.check_scope.specs.declared.rule.Rule.TheVariants as rule
 use Rattle.check_scope.specs.declared.types.Target.{Target}
 
 module _ (scope : Scope) (target : Target) where
-  pub value_of_expr : (e : Expr) → value (form.Expr e) scope target ≡ check_expression scope target.data_type e
-  value_of_expr e = ap (λ (f : AtTarget). f scope target) (ap value (sym (form.rolls-Expr e)) ∙ fold-roll-Value AtTarget (List ℕ × AtTarget) value_step field_value_step (Value-F.Expr e))
+  pub value-of-expr : (e : Expr) → value (form.Expr e) scope target ≡ check_expression scope target.data_type e
+  value-of-expr e = ap (λ (f : AtTarget). f scope target) (ap value (sym (form.rolls-Expr e)) ∙ fold-roll-Value AtTarget (List ℕ × AtTarget) value_step field_value_step (Value-F.Expr e))
 
-  pub value_of_omit : value form.Omit scope target ≡ unless target.optional rule.Fields
-  value_of_omit = ap (λ (f : AtTarget). f scope target) (ap value (sym form.rolls-Omit) ∙ fold-roll-Value AtTarget (List ℕ × AtTarget) value_step field_value_step Value-F.Omit)
+  pub value-of-omit : value form.Omit scope target ≡ unless target.optional rule.Fields
+  value-of-omit = ap (λ (f : AtTarget). f scope target) (ap value (sym form.rolls-Omit) ∙ fold-roll-Value AtTarget (List ℕ × AtTarget) value_step field_value_step Value-F.Omit)
 
-  pub value_of_listed : (elements : List Value) → value (form.Listed elements) scope target
+  pub value-of-listed : (elements : List Value) → value (form.Listed elements) scope target
       ≡ unless (takes_braces target.data_type) rule.ValueType ++ unless (is_full (wanted_fields scope.definitions target.data_type) (length (map value elements))) rule.Fields
       ++ in_order (wanted_fields scope.definitions target.data_type) (map value elements) scope
-  value_of_listed elements = ap (λ (f : AtTarget). f scope target) (ap value (sym (form.rolls-Listed elements)) ∙ fold-roll-Value AtTarget (List ℕ × AtTarget) value_step field_value_step (Value-F.Listed elements))
+  value-of-listed elements = ap (λ (f : AtTarget). f scope target) (ap value (sym (form.rolls-Listed elements)) ∙ fold-roll-Value AtTarget (List ℕ × AtTarget) value_step field_value_step (Value-F.Listed elements))
 
-  pub value_of_assigned : (elements : List FieldValue) → value (form.Assigned elements) scope target
+  pub value-of-assigned : (elements : List FieldValue) → value (form.Assigned elements) scope target
       ≡ unless (takes_braces target.data_type) rule.ValueType ++ by_name (wanted_fields scope.definitions target.data_type) [] (map field_value elements) scope
-  value_of_assigned elements = ap (λ (f : AtTarget). f scope target) (ap value (sym (form.rolls-Assigned elements)) ∙ fold-roll-Value AtTarget (List ℕ × AtTarget) value_step field_value_step (Value-F.Assigned elements))
+  value-of-assigned elements = ap (λ (f : AtTarget). f scope target) (ap value (sym (form.rolls-Assigned elements)) ∙ fold-roll-Value AtTarget (List ℕ × AtTarget) value_step field_value_step (Value-F.Assigned elements))
 
-  pub listed_least : (elements : List Value) → least (value (form.Listed elements) scope target)
+  pub listed-least : (elements : List Value) → least (value (form.Listed elements) scope target)
       ≡ both (both (least (unless (takes_braces target.data_type) rule.ValueType)) (least (unless (is_full (wanted_fields scope.definitions target.data_type) (length elements)) rule.Fields)))
       (least (in_order (wanted_fields scope.definitions target.data_type) (map value elements) scope))
-  listed_least elements = rw (value_of_listed elements) (simp (least_append, length-map))
+  listed-least elements = rw (value-of-listed elements) (simp (least_append, length-map))
 
-  pub assigned_least : (elements : List FieldValue) → least (value (form.Assigned elements) scope target)
+  pub assigned-least : (elements : List FieldValue) → least (value (form.Assigned elements) scope target)
       ≡ both (least (unless (takes_braces target.data_type) rule.ValueType)) (least (by_name (wanted_fields scope.definitions target.data_type) [] (map field_value elements) scope))
-  assigned_least elements = rw (value_of_assigned elements) (simp least_append)
+  assigned-least elements = rw (value-of-assigned elements) (simp least_append)
 
-pub field_value_out : (element : FieldValue) → field_value element ≡ ((out-FieldValue element).name, value (out-FieldValue element).value)
-field_value_out element = fold_out-FieldValue AtTarget (List ℕ × AtTarget) value_step field_value_step element
+pub field-value-out : (element : FieldValue) → field_value element ≡ ((out-FieldValue element).name, value (out-FieldValue element).value)
+field-value-out element = fold_out-FieldValue AtTarget (List ℕ × AtTarget) value_step field_value_step element
 
 -- what a value breaks, form by form
-pub ruleset value_forms = (value_of_expr, value_of_omit, listed_least, assigned_least)
+pub ruleset value_forms = (value-of-expr, value-of-omit, listed-least, assigned-least)

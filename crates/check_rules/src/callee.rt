@@ -2,6 +2,7 @@
 ghost use Rattle.std.specs.Prelude.{◌≡◌};
 ghost use Rattle.std.specs.Option.{option_map};
 ghost use Rattle.check_rules.specs.Calls as spec;
+ghost use Rattle.check_rules.specs.Messages as messages;
 ghost use Rattle.check_rules.specs.Templates as templates;
 ghost use Rattle.check_scope.specs.internal.Checking.{view};
 ghost use Rattle.check_scope.specs.Names.{component_meant};
@@ -93,6 +94,16 @@ pub fn template_meant(meaning: Option<Meaning>) -> Option<usize>
 {
     match meaning {
         Some(Meaning::Template(at)) => Some(at),
+        _ => None,
+    }
+}
+
+/// The port that a name stands for: the position of its type, which may be unknown.
+pub fn port_meant(meaning: Option<Meaning>) -> Option<Option<usize>>
+    ensures { result ≡ messages.port_meant meaning }
+{
+    match meaning {
+        Some(Meaning::Port(at)) => Some(at),
         _ => None,
     }
 }

@@ -10,8 +10,8 @@ mod returns;
 mod test_cases;
 
 pub use callee::{
-    CallPlace, behaviour_meant, component_meant, component_named, parameters_of, runs_on_of,
-    template_meant,
+    CallPlace, behaviour_meant, component_meant, component_named, parameters_of, port_meant,
+    runs_on_of, template_meant,
 };
 pub use check_scope::names::Meaning;
 pub use check_scope::rule::Rule;

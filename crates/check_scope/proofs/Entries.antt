@@ -14,7 +14,7 @@ use Rattle.check_scope.specs.declared.broken.Broken.{Broken}
 use Rattle.check_scope.specs.declared.names.Meaning.TheVariants as meaning
 use Rattle.check_scope.specs.declared.rule.Rule.{Rule}
 use Rattle.check_scope.specs.declared.rule.Rule.TheVariants as rule
-use Rattle.check_scope.proofs.Leasts.{both_assoc, both_nothing, least_append}
+use Rattle.check_scope.proofs.Leasts.{both-assoc, both-nothing, least_append}
 use Rattle.check_scope.proofs.Lookups.{drop-next, or-None, or-assoc}
 
 -- what was broken and declared so far, with the names that are left, are those of the beginning
@@ -26,14 +26,14 @@ pub left-first : (start : Broken) (names : Names) (entries : List Entry) → Lef
 left-first start names entries = record { rules = refl; declared = refl }
 
 -- one name, and those behind it
-one_first : (b : Bool) (rules : List Rule) → unless b rule.DuplicateName ++ rules ≡ (unless b rule.DuplicateName ++ []) ++ rules
-one_first true rules = refl
-one_first false rules = refl
+one-first : (b : Bool) (rules : List Rule) → unless b rule.DuplicateName ++ rules ≡ (unless b rule.DuplicateName ++ []) ++ rules
+one-first true rules = refl
+one-first false rules = refl
 
 new-split : (names : Names) (entry : Entry) (entries : List Entry)
     → least (check_new_entries names (entry ∷ entries)) ≡ both (least (check_new_entries names (entry ∷ []))) (least (check_new_entries (behind names (entry ∷ [])) entries))
 new-split names entry entries =
-    ap least (one_first (is_none (names entry.0)) (check_new_entries (behind names (entry ∷ [])) entries))
+    ap least (one-first (is_none (names entry.0)) (check_new_entries (behind names (entry ∷ [])) entries))
     ∙ least_append (check_new_entries names (entry ∷ [])) (check_new_entries (behind names (entry ∷ [])) entries)
 
 behind-split : (names : Names) (entry : Entry) (entries : List Entry) → behind names (entry ∷ entries) ≡ behind (behind names (entry ∷ [])) entries
@@ -46,7 +46,7 @@ news-split names [] more = refl
 news-split names (entry ∷ entries) more =
     new-split names entry (entries ++ more)
     ∙ ap (both (least (check_new_entries names (entry ∷ [])))) (news-split (behind names (entry ∷ [])) entries more)
-    ∙ sym (both_assoc (least (check_new_entries names (entry ∷ []))) (least (check_new_entries (behind names (entry ∷ [])) entries)) (least (check_new_entries (behind (behind names (entry ∷ [])) entries) more)))
+    ∙ sym (both-assoc (least (check_new_entries names (entry ∷ []))) (least (check_new_entries (behind names (entry ∷ [])) entries)) (least (check_new_entries (behind (behind names (entry ∷ [])) entries) more)))
     ∙ ap (λ b. both b (least (check_new_entries (behind (behind names (entry ∷ [])) entries) more))) (sym (new-split names entry entries))
     ∙ ap (λ n. both (least (check_new_entries names (entry ∷ entries))) (least (check_new_entries n more))) (sym (behind-split names entry entries))
 
@@ -66,7 +66,7 @@ left-more broken more next start names next_names first entries others all left 
   rules =
       ap (λ n. both next (least (check_new_entries n others))) names_is
       ∙ ap (λ b. both b (least (check_new_entries (behind names entries) others))) (next_is ∙ ap (both broken) more_is)
-      ∙ both_assoc broken (least (check_new_entries names entries)) (least (check_new_entries (behind names entries) others))
+      ∙ both-assoc broken (least (check_new_entries names entries)) (least (check_new_entries (behind names entries) others))
       ∙ ap (both broken) (sym (news-split names entries others))
       ∙ left.rules;
   declared = ap (λ n. behind n others) names_is ∙ sym (behinds-split names entries others) ∙ left.declared;
@@ -78,7 +78,7 @@ pub left-next : (broken more next start : Broken) (names next_names first : Name
 left-next broken more next start names next_names first entry entries all = left-more broken more next start names next_names first (entry ∷ []) entries all
 
 pub rules-end : (broken start : Broken) (names first : Names) (all : List Entry) → Left broken names [] start first all → broken ≡ both start (least (check_new_entries first all))
-rules-end broken start names first all left = sym (both_nothing broken) ∙ left.rules
+rules-end broken start names first all left = sym (both-nothing broken) ∙ left.rules
 
 pub declared-end : (broken start : Broken) (names first : Names) (all : List Entry) → Left broken names [] start first all → names ≡ behind first all
 declared-end broken start names first all left = left.declared
@@ -91,7 +91,7 @@ new-rules one more names next entry entries one_is next_is more_is =
     ∙ sym (new-split names entry entries)
 
 pub new-names : (names next last : Names) (entry : Entry) (entries : List Entry) → next ≡ behind names (entry ∷ []) → last ≡ behind next entries → last ≡ behind names (entry ∷ entries)
-new-names names next last entry entries next_is last_is = last_is ∙ ap (λ n. behind n entries) next_is ∙ sym (behind-split names entry entries)
+new-names names next last entry entries next_is last-is = last-is ∙ ap (λ n. behind n entries) next_is ∙ sym (behind-split names entry entries)
 
 -- ---- constants
 

@@ -21,55 +21,55 @@ abbrev module_of_two : Names
 module_of_two = listed ((x, meaning.Record 0) ∷ (y, meaning.Component 1) ∷ [])
 
 -- an inner declaration hides the outer one of its name, and no other
-inner_name : behind module_of_two ((x, meaning.Timer) ∷ []) x ≡ Some meaning.Timer
-inner_name = refl
+inner-name : behind module_of_two ((x, meaning.Timer) ∷ []) x ≡ Some meaning.Timer
+inner-name = refl
 
-outer_name : behind module_of_two ((x, meaning.Timer) ∷ []) y ≡ Some (meaning.Component 1)
-outer_name = refl
+outer-name : behind module_of_two ((x, meaning.Timer) ∷ []) y ≡ Some (meaning.Component 1)
+outer-name = refl
 
 -- of two declarations of a name the last one counts, and the name is declared twice
-last_declaration : listed ((x, meaning.Record 0) ∷ (x, meaning.Record 1) ∷ []) x ≡ Some (meaning.Record 1)
-last_declaration = refl
+last-declaration : listed ((x, meaning.Record 0) ∷ (x, meaning.Record 1) ∷ []) x ≡ Some (meaning.Record 1)
+last-declaration = refl
 
-name_declared_twice : check_new_entries (λ name. None) ((x, meaning.Record 0) ∷ (x, meaning.Record 1) ∷ []) ≡ rule.DuplicateName ∷ []
-name_declared_twice = refl
+name-declared-twice : check_new_entries (λ name. None) ((x, meaning.Record 0) ∷ (x, meaning.Record 1) ∷ []) ≡ rule.DuplicateName ∷ []
+name-declared-twice = refl
 
 -- a timer is no type
-timer_is_no_type : type_meant (Some meaning.Timer) ≡ None
-timer_is_no_type = refl
+timer-is-no-type : type_meant (Some meaning.Timer) ≡ None
+timer-is-no-type = refl
 
 -- `null` goes to components and defaults, and to no integer
-null_to_component : goes_to (type.Component 3) typing.Null ≡ true
-null_to_component = refl
+null-to-component : goes_to (type.Component 3) typing.Null ≡ true
+null-to-component = refl
 
-null_to_integer : goes_to type.Integer typing.Null ≡ false
-null_to_integer = refl
+null-to-integer : goes_to type.Integer typing.Null ≡ false
+null-to-integer = refl
 
 -- records of two types don't fit each other
-other_record : goes_to (type.Record 0) (typing.Known (type.Record 1)) ≡ false
-other_record = refl
+other-record : goes_to (type.Record 0) (typing.Known (type.Record 1)) ≡ false
+other-record = refl
 
 -- where the type that is wanted isn't known, nothing is judged
-unknown_target : fits None (typing.Known type.Boolean) ≡ true
-unknown_target = refl
+unknown-target : fits None (typing.Known type.Boolean) ≡ true
+unknown-target = refl
 
 -- references to components of two types compare, defaults don't
-components_compare : comparable (typing.Known (type.Component 0)) (typing.Known (type.Component 1)) ≡ true
-components_compare = refl
+components-compare : comparable (typing.Known (type.Component 0)) (typing.Known (type.Component 1)) ≡ true
+components-compare = refl
 
-defaults_do_not_compare : comparable (typing.Known type.Default) (typing.Known type.Default) ≡ false
-defaults_do_not_compare = refl
+defaults-do-not-compare : comparable (typing.Known type.Default) (typing.Known type.Default) ≡ false
+defaults-do-not-compare = refl
 
 -- an operand of an unknown type isn't judged, but what stands beside it is
-unknown_operand : is_of type.Integer typing.Unknown ≡ true
-unknown_operand = refl
+unknown-operand : is_of type.Integer typing.Unknown ≡ true
+unknown-operand = refl
 
-unknown_compares : comparable (typing.Known type.Boolean) typing.Unknown ≡ true
-unknown_compares = refl
+unknown-compares : comparable (typing.Known type.Boolean) typing.Unknown ≡ true
+unknown-compares = refl
 
-ports_do_not_compare : comparable typing.NoValue typing.Unknown ≡ false
-ports_do_not_compare = refl
+ports-do-not-compare : comparable typing.NoValue typing.Unknown ≡ false
+ports-do-not-compare = refl
 
 -- of two broken rules the one of the lesser number is answered
-lesser_rule : lesser rule.ValueType rule.DuplicateName ≡ rule.DuplicateName
-lesser_rule = refl
+lesser-rule : lesser rule.ValueType rule.DuplicateName ≡ rule.DuplicateName
+lesser-rule = refl

@@ -40,35 +40,35 @@ fields-end found fields i past = ap (fields_after found) (drop_all i fields past
 
 -- ---- one field
 
-same_name : (a b : List ℕ) → bytes_eq a b ≡ true → a ≡ b
-same_name a b = (bytes_eq-Decides a b).0
+same-name : (a b : List ℕ) → bytes_eq a b ≡ true → a ≡ b
+same-name a b = (bytes_eq-Decides a b).0
 
-or_some : {A : Type 0} (o other : Option A) → is_some o ≡ true → o ≡ option_or o other
-or_some (Some x) other is = refl
-or_some None other is = absurd (true≢false (sym is))
+or-some : {A : Type 0} (o other : Option A) → is_some o ≡ true → o ≡ option_or o other
+or-some (Some x) other is = refl
+or-some None other is = absurd (true≢false (sym is))
 
-or_none : {A : Type 0} (o : Option A) (x : A) → is_some o ≡ false → Some x ≡ option_or o (Some x)
-or_none None x is = refl
-or_none (Some y) x is = absurd (true≢false is)
+or-none : {A : Type 0} (o : Option A) (x : A) → is_some o ≡ false → Some x ≡ option_or o (Some x)
+or-none None x is = refl
+or-none (Some y) x is = absurd (true≢false is)
 
 there-at : (found : Fields) (field : Field) (name : List ℕ) → is_some (found field.name) ≡ true → (b : Bool) → bytes_eq field.name name ≡ b
     → found name ≡ option_or (found name) (if b then Some field else None)
-there-at found field name there true same = or_some (found name) (Some field) (ap (λ n. is_some (found n)) (sym (same_name field.name name same)) ∙ there)
+there-at found field name there true same = or-some (found name) (Some field) (ap (λ n. is_some (found n)) (sym (same-name field.name name same)) ∙ there)
 there-at found field name there false other = sym (or-None (found name))
 
 -- one of its name is there
-pub field_is_there : (found : Fields) (field : Field) → is_some (found field.name) ≡ true → found ≡ (λ name. option_or (found name) (alone field name))
-field_is_there found field there = fun_ext (λ name. there-at found field name there (bytes_eq field.name name) refl)
+pub field-is-there : (found : Fields) (field : Field) → is_some (found field.name) ≡ true → found ≡ (λ name. option_or (found name) (alone field name))
+field-is-there found field there = fun_ext (λ name. there-at found field name there (bytes_eq field.name name) refl)
 
 new-at : (found : Fields) (field : Field) (name : List ℕ) → is_some (found field.name) ≡ false → (b : Bool) → bytes_eq field.name name ≡ b
     → (if b then Some field else found name) ≡ option_or (found name) (if b then Some field else None)
-new-at found field name none true same = or_none (found name) field (ap (λ n. is_some (found n)) (sym (same_name field.name name same)) ∙ none)
+new-at found field name none true same = or-none (found name) field (ap (λ n. is_some (found n)) (sym (same-name field.name name same)) ∙ none)
 new-at found field name none false other = sym (or-None (found name))
 
 -- none of its name is there
-pub field_is_new : (found next : Fields) (field : Field) → ((name : List ℕ) → next name ≡ (if bytes_eq field.name name then Some field else found name))
+pub field-is-new : (found next : Fields) (field : Field) → ((name : List ℕ) → next name ≡ (if bytes_eq field.name name then Some field else found name))
     → is_some (found field.name) ≡ false → next ≡ (λ name. option_or (found name) (alone field name))
-field_is_new found next field put_is none = fun_ext (λ name. put_is name ∙ new-at found field name none (bytes_eq field.name name) refl)
+field-is-new found next field put_is none = fun_ext (λ name. put_is name ∙ new-at found field name none (bytes_eq field.name name) refl)
 
 pub map-if : {A B : Type 0} (f : A → B) (b : Bool) (x : A) (o : Option A) → option_map f (if b then Some x else o) ≡ (if b then Some (f x) else option_map f o)
 map-if f true x o = refl

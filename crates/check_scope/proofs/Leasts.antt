@@ -22,17 +22,17 @@ lesser_of-assoc (Some a) None c = refl
 lesser_of-assoc (Some a) (Some b) None = refl
 lesser_of-assoc (Some a) (Some b) (Some c) = ap Some (lesser-assoc a b c)
 
-pub both_assoc : (a b c : Broken) → both (both a b) c ≡ both a (both b c)
-both_assoc a b c = ap (λ o. record { least = o }) (lesser_of-assoc a.least b.least c.least)
+pub both-assoc : (a b c : Broken) → both (both a b) c ≡ both a (both b c)
+both-assoc a b c = ap (λ o. record { least = o }) (lesser_of-assoc a.least b.least c.least)
 
 lesser_of-None : (a : Option Rule) → lesser_of a None ≡ a
 lesser_of-None None = refl
 lesser_of-None (Some a) = refl
 
 -- nothing more
-pub both_nothing : (a : Broken) → both a (least []) ≡ a
-both_nothing a = ap (λ o. record { least = o }) (lesser_of-None a.least)
+pub both-nothing : (a : Broken) → both a (least []) ≡ a
+both-nothing a = ap (λ o. record { least = o }) (lesser_of-None a.least)
 
 pub least_append : (xs ys : List Rule) → least (xs ++ ys) ≡ both (least xs) (least ys)
 least_append [] ys = refl
-least_append (r ∷ xs) ys = ap (both (record { least = Some r })) (least_append xs ys) ∙ sym (both_assoc (record { least = Some r }) (least xs) (least ys))
+least_append (r ∷ xs) ys = ap (both (record { least = Some r })) (least_append xs ys) ∙ sym (both-assoc (record { least = Some r }) (least xs) (least ys))

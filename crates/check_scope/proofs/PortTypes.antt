@@ -47,40 +47,40 @@ pub types-end : (now : Lists) (others : List (Option DataType)) (i : ℕ) → le
 types-end now others i past = ap (types_after now) (drop_all i others past) ∙ fun_ext (λ t. or-false (now t))
 
 -- a type that is put among others
-pub put_among : (unknown same had : Bool) → (unknown || (if same then true else had)) ≡ ((unknown || had) || same)
-put_among true same had = refl
-put_among false true true = refl
-put_among false true false = refl
-put_among false false true = refl
-put_among false false false = refl
+pub put-among : (unknown same had : Bool) → (unknown || (if same then true else had)) ≡ ((unknown || had) || same)
+put-among true same had = refl
+put-among false true true = refl
+put-among false true false = refl
+put-among false false true = refl
+put-among false false false = refl
 
-pub same_either_way : (a b : DataType) → same_type a b ≡ same_type b a
-same_either_way type.Integer type.Integer = refl
-same_either_way type.Boolean type.Boolean = refl
-same_either_way type.Default type.Default = refl
-same_either_way (type.Record at) (type.Record other) = nat_eq_equiv.symm at other
-same_either_way (type.Enumerated at) (type.Enumerated other) = nat_eq_equiv.symm at other
-same_either_way (type.Component at) (type.Component other) = nat_eq_equiv.symm at other
-same_either_way a b = refl
+pub same-either-way : (a b : DataType) → same_type a b ≡ same_type b a
+same-either-way type.Integer type.Integer = refl
+same-either-way type.Boolean type.Boolean = refl
+same-either-way type.Default type.Default = refl
+same-either-way (type.Record at) (type.Record other) = nat_eq_equiv.symm at other
+same-either-way (type.Enumerated at) (type.Enumerated other) = nat_eq_equiv.symm at other
+same-either-way (type.Component at) (type.Component other) = nat_eq_equiv.symm at other
+same-either-way a b = refl
 
 -- the comparison that look-ups take
-pub derived_same : (a b : DataType) → derived.ghosts.eq a b ≡ same_type a b
-derived_same type.Integer type.Integer = refl
-derived_same type.Boolean type.Boolean = refl
-derived_same type.Default type.Default = refl
-derived_same (type.Record at) (type.Record other) = refl
-derived_same (type.Enumerated at) (type.Enumerated other) = refl
-derived_same (type.Component at) (type.Component other) = refl
-derived_same a b = refl
+pub derived-same : (a b : DataType) → derived.ghosts.eq a b ≡ same_type a b
+derived-same type.Integer type.Integer = refl
+derived-same type.Boolean type.Boolean = refl
+derived-same type.Default type.Default = refl
+derived-same (type.Record at) (type.Record other) = refl
+derived-same (type.Enumerated at) (type.Enumerated other) = refl
+derived-same (type.Component at) (type.Component other) = refl
+derived-same a b = refl
 
 -- a type that is put into a set
-pub put_type : {S : Type 0} (set next : HashSet DataType S) (other t : DataType) → contains derived.ghosts.eq next t ≡ (if derived.ghosts.eq other t then true else contains derived.ghosts.eq set t)
+pub put-type : {S : Type 0} (set next : HashSet DataType S) (other t : DataType) → contains derived.ghosts.eq next t ≡ (if derived.ghosts.eq other t then true else contains derived.ghosts.eq set t)
     → contains_by (λ key. same_type t key) next ≡ (if same_type other t then true else contains_by (λ key. same_type t key) set)
-put_type set next other t is =
-    ap (λ (test : DataType → Bool). contains_by test next) (sym (fun_ext (λ key. derived_same t key)))
+put-type set next other t is =
+    ap (λ (test : DataType → Bool). contains_by test next) (sym (fun_ext (λ key. derived-same t key)))
     ∙ is
-    ∙ ap (λ (test : DataType → Bool). if derived.ghosts.eq other t then true else contains_by test set) (fun_ext (λ key. derived_same t key))
-    ∙ ap (λ (b : Bool). if b then true else contains_by (λ key. same_type t key) set) (derived_same other t)
+    ∙ ap (λ (test : DataType → Bool). if derived.ghosts.eq other t then true else contains_by test set) (fun_ext (λ key. derived-same t key))
+    ∙ ap (λ (b : Bool). if b then true else contains_by (λ key. same_type t key) set) (derived-same other t)
 
 -- ---- all definitions
 

@@ -6,7 +6,7 @@ use Rattle.check_rules.specs.Declarations.{behind_all, one_by_one}
 use Rattle.check_scope.specs.Names.{Entry, Scope, declaring}
 use Rattle.check_scope.specs.declared.broken.Broken.{Broken}
 use Rattle.check_scope.specs.declared.rule.Rule.{Rule}
-use Rattle.check_scope.proofs.Leasts.{both_assoc, both_nothing, least_append}
+use Rattle.check_scope.proofs.Leasts.{both-assoc, both-nothing, least_append}
 use Rattle.check_scope.proofs.Lookups.{drop-next}
 
 module _ {A : Type 0} (rules : Scope → A → List Rule) (entry : Scope → A → Entry) where
@@ -24,7 +24,7 @@ module _ {A : Type 0} (rules : Scope → A → List Rule) (entry : Scope → A �
     rules_are =
         ap (λ s. both next (least (one_by_one rules entry s items))) behind_is
         ∙ ap (λ b. both b (least (one_by_one rules entry (declaring scope (entry scope item ∷ [])) items))) (next_is ∙ ap (both broken) more_is)
-        ∙ both_assoc broken (least (rules scope item)) (least (one_by_one rules entry (declaring scope (entry scope item ∷ [])) items))
+        ∙ both-assoc broken (least (rules scope item)) (least (one_by_one rules entry (declaring scope (entry scope item ∷ [])) items))
         ∙ ap (both broken) (sym (least_append (rules scope item) (one_by_one rules entry (declaring scope (entry scope item ∷ [])) items)))
         ∙ walked.rules_are;
     scope_is = ap (λ s. behind_all entry s items) behind_is ∙ walked.scope_is;
@@ -43,9 +43,9 @@ module _ {A : Type 0} (rules : Scope → A → List Rule) (entry : Scope → A �
   walked-last broken scope first items i past walked = rw (drop_all i items past) at walked
 
   pub walked-rules : (broken : Broken) (scope first : Scope) (items : List A) → Walked broken scope [] first items → broken ≡ least (one_by_one rules entry first items)
-  walked-rules broken scope first items walked = sym (both_nothing broken) ∙ walked.rules_are
+  walked-rules broken scope first items walked = sym (both-nothing broken) ∙ walked.rules_are
 
 -- what two parts break, one behind the other
-pub in_both : (one other whole : Broken) (rules more : List Rule) → one ≡ least rules → other ≡ least more → whole ≡ both one other → whole ≡ least (rules ++ more)
-in_both one other whole rules more one_is other_is whole_is =
-    whole_is ∙ ap (λ b. both b other) one_is ∙ ap (both (least rules)) other_is ∙ sym (least_append rules more)
+pub in-both : (one other whole : Broken) (rules more : List Rule) → one ≡ least rules → other ≡ least more → whole ≡ both one other → whole ≡ least (rules ++ more)
+in-both one other whole rules more one_is other_is whole-is =
+    whole-is ∙ ap (λ b. both b other) one_is ∙ ap (both (least rules)) other_is ∙ sym (least_append rules more)

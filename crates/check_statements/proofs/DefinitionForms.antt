@@ -6,30 +6,30 @@ use Rattle.check_scope.specs.internal.Checking.{both, least}
 use Rattle.check_rules.specs.Definitions.{check_definition, check_definitions}
 use Rattle.check_scope.specs.declared.broken.Broken.{Broken}
 use Rattle.check_scope.specs.declared.rule.Rule.{Rule}
-use Rattle.check_scope.proofs.Leasts.{both_assoc, both_nothing, least_append}
+use Rattle.check_scope.proofs.Leasts.{both-assoc, both-nothing, least_append}
 use Rattle.check_scope.proofs.Lookups.{drop-next}
 
 -- what was noted, and what is behind it
-pub noted_before : (found part next : Broken) (rules more : List Rule) → part ≡ least rules → next ≡ both found part
+pub noted-before : (found part next : Broken) (rules more : List Rule) → part ≡ least rules → next ≡ both found part
     → both next (least more) ≡ both found (least (rules ++ more))
-noted_before found part next rules more part_is next_is =
-    ap (λ b. both b (least more)) (next_is ∙ ap (both found) part_is)
-    ∙ both_assoc found (least rules) (least more)
+noted-before found part next rules more part-is next_is =
+    ap (λ b. both b (least more)) (next_is ∙ ap (both found) part-is)
+    ∙ both-assoc found (least rules) (least more)
     ∙ ap (both found) (sym (least_append rules more))
 
 -- the head of a function, which has a part of its own for the result
-pub function_noted : (found head result whole next : Broken) (named parameters typed more : List Rule) → head ≡ least (named ++ parameters) → result ≡ least typed
+pub function-noted : (found head result whole next : Broken) (named parameters typed more : List Rule) → head ≡ least (named ++ parameters) → result ≡ least typed
     → whole ≡ both head result → next ≡ both found whole → both next (least more) ≡ both found (least (named ++ parameters ++ typed ++ more))
-function_noted found head result whole next named parameters typed more head_is result_is whole_is next_is =
-    noted_before found whole next (named ++ parameters ++ typed) more
-    (whole_is ∙ ap (λ b. both b result) head_is ∙ ap (both (least (named ++ parameters))) result_is ∙ sym (least_append (named ++ parameters) typed)) next_is
+function-noted found head result whole next named parameters typed more head-is result_is whole-is next_is =
+    noted-before found whole next (named ++ parameters ++ typed) more
+    (whole-is ∙ ap (λ b. both b result) head-is ∙ ap (both (least (named ++ parameters))) result_is ∙ sym (least_append (named ++ parameters) typed)) next_is
 
 -- the head of a test case, which has no parameters
-pub testcase_noted : (found head system whole next : Broken) (named others more : List Rule) → head ≡ least (named ++ []) → system ≡ least others
+pub testcase-noted : (found head system whole next : Broken) (named others more : List Rule) → head ≡ least (named ++ []) → system ≡ least others
     → whole ≡ both head system → next ≡ both found whole → both next (least more) ≡ both found (least (named ++ others ++ more))
-testcase_noted found head system whole next named others more head_is system_is whole_is next_is =
-    noted_before found whole next (named ++ others) more
-    (whole_is ∙ ap (λ b. both b system) (head_is ∙ least_append named [] ∙ both_nothing (least named)) ∙ ap (both (least named)) system_is ∙ sym (least_append named others)) next_is
+testcase-noted found head system whole next named others more head-is system_is whole-is next_is =
+    noted-before found whole next (named ++ others) more
+    (whole-is ∙ ap (λ b. both b system) (head-is ∙ least_append named [] ∙ both-nothing (least named)) ∙ ap (both (least named)) system_is ∙ sym (least_append named others)) next_is
 
 -- ---- all definitions
 
@@ -44,9 +44,9 @@ pub check_definitions-next : (all : List Definition) (definitions : List Definit
 check_definitions-next all definitions i definition found next inside is next_is =
     let rules : List Rule = check_definition all i definition.kind in
     ap (λ others. rest_of_definitions all i others found) (drop-next definitions i definition inside is)
-    ∙ sym (noted_before found (least rules) next rules (check_definitions all (i + 1) (drop (i + 1) definitions)) refl next_is)
+    ∙ sym (noted-before found (least rules) next rules (check_definitions all (i + 1) (drop (i + 1) definitions)) refl next_is)
 
 -- none is left
 pub check_definitions-end : (all : List Definition) (definitions : List Definition) (i : ℕ) (found : Broken) → length definitions ≤ i
     → rest_of_definitions all i (drop i definitions) found ≡ found
-check_definitions-end all definitions i found past = ap (λ others. rest_of_definitions all i others found) (drop_all i definitions past) ∙ both_nothing found
+check_definitions-end all definitions i found past = ap (λ others. rest_of_definitions all i others found) (drop_all i definitions past) ∙ both-nothing found

@@ -9,7 +9,7 @@ use Rattle.ttcn_syntax.specs.declared.tree.definition.EnumNumber.{EnumNumber}
 use Rattle.ttcn_syntax.specs.declared.tree.definition.Enumerator.{Enumerator}
 use Rattle.ttcn_syntax.specs.declared.tree.definition.Field.{Field}
 use Rattle.check_expressions.proofs.Elements.{one-more, regroup}
-use Rattle.check_scope.proofs.Leasts.{both_assoc, both_nothing, least_append}
+use Rattle.check_scope.proofs.Leasts.{both-assoc, both-nothing, least_append}
 use Rattle.check_scope.proofs.Lookups.{drop-next}
 use Rattle.check_scope.specs.internal.Checking.{both, least}
 use Rattle.check_rules.specs.Definitions.{and_number, check_number, check_part, check_fields, check_numbers, same_number, same_sign}
@@ -32,14 +32,14 @@ rest_of_parts rules parts found = both found (least (flat_map rules parts))
 module _ {A : Type 0} (rules : A → List Rule) (parts : List A) (i : ℕ) where
   pub parts-next : (x : A) (found part next : Broken) → i < length parts → x ≡ get_or parts i x → part ≡ least (rules x) → next ≡ both found part
       → rest_of_parts rules (drop i parts) found ≡ rest_of_parts rules (drop (i + 1) parts) next
-  parts-next x found part next inside is part_is next_is =
+  parts-next x found part next inside is part-is next_is =
       ap (λ others. rest_of_parts rules others found) (drop-next parts i x inside is)
       ∙ ap (both found) (least_append (rules x) (flat_map rules (drop (i + 1) parts)))
-      ∙ sym (both_assoc found (least (rules x)) (least (flat_map rules (drop (i + 1) parts))))
-      ∙ ap (rest_of_parts rules (drop (i + 1) parts)) (sym (next_is ∙ ap (both found) part_is))
+      ∙ sym (both-assoc found (least (rules x)) (least (flat_map rules (drop (i + 1) parts))))
+      ∙ ap (rest_of_parts rules (drop (i + 1) parts)) (sym (next_is ∙ ap (both found) part-is))
 
   pub parts-end : (found : Broken) → length parts ≤ i → rest_of_parts rules (drop i parts) found ≡ found
-  parts-end found past = ap (λ others. rest_of_parts rules others found) (drop_all i parts past) ∙ both_nothing found
+  parts-end found past = ap (λ others. rest_of_parts rules others found) (drop_all i parts past) ∙ both-nothing found
 
 -- ---- fields
 
@@ -62,7 +62,7 @@ pub fielded-next : (names : Names) (set next_set : NameSet) (fields : List Field
     → ((other : List ℕ) → has next_set other ≡ (if bytes_eq field.name other then true else has set other))
     → named ≡ least (unless is_new rule.DuplicateName) → part ≡ least (check_part names field.type_name) → next ≡ both (both found named) part
     → Fielded names set (drop i fields) found whole → Fielded names next_set (drop (i + 1) fields) next whole
-fielded-next names set next_set fields i field is_new found named part next whole inside is new_is behind named_is part_is next_is so_far =
+fielded-next names set next_set fields i field is_new found named part next whole inside is new_is behind named_is part-is next_is so_far =
     let rules : List Rule = unless (not (list_any (bytes_eq field.name) so_far.before)) rule.DuplicateName in
     let named_now : named ≡ least rules = named_is ∙ ap (λ b. least (unless b rule.DuplicateName)) (new_is ∙ ap not (so_far.same field.name)) in
     let rest : List Rule = check_fields names (so_far.before ++ field.name ∷ []) (drop (i + 1) fields) in
@@ -70,7 +70,7 @@ fielded-next names set next_set fields i field is_new found named part next whol
       before = so_far.before ++ field.name ∷ [];
       same = λ other. behind other ∙ one-more field.name other (has set other) ∙ ap (λ b. b || (bytes_eq other field.name || false)) (so_far.same other)
           ∙ sym (list_any-append (bytes_eq other) so_far.before (field.name ∷ []));
-      sum = ap (λ b. both b (least rest)) (next_is ∙ ap (λ b. both (both found b) part) named_now ∙ ap (both (both found (least rules))) part_is)
+      sum = ap (λ b. both b (least rest)) (next_is ∙ ap (λ b. both (both found b) part) named_now ∙ ap (both (both found (least rules))) part-is)
           ∙ sym (regroup found (least rules) (least (check_part names field.type_name)) (least rest))
           ∙ ap (λ b. both found (both b (least rest))) (sym (least_append rules (check_part names field.type_name)))
           ∙ ap (both found) (sym (least_append (rules ++ check_part names field.type_name) rest))
@@ -81,7 +81,7 @@ fielded-next names set next_set fields i field is_new found named part next whol
 pub fielded-end : (names : Names) (set : NameSet) (fields : List Field) (i : ℕ) (found whole : Broken) → length fields ≤ i → Fielded names set (drop i fields) found whole
     → found ≡ whole
 fielded-end names set fields i found whole past so_far =
-    sym (both_nothing found) ∙ ap (λ fs. both found (least (check_fields names so_far.before fs))) (sym (drop_all i fields past)) ∙ so_far.sum
+    sym (both-nothing found) ∙ ap (λ fs. both found (least (check_fields names so_far.before fs))) (sym (drop_all i fields past)) ∙ so_far.sum
 
 -- ---- numbers
 
@@ -92,20 +92,20 @@ same-key false true a b = grind (arith, nat_tests)
 same-key false false a b = grind (arith, nat_tests)
 
 -- numbers are told apart by their magnitudes, and by whether they are below zero
-pub same_key : (n m : EnumNumber) → (beq (is_negative n) (is_negative m) && nat_eq n.magnitude m.magnitude) ≡ same_number m n
-same_key n m = same-key n.minus m.minus n.magnitude m.magnitude
+pub same-number-key : (n m : EnumNumber) → (beq (is_negative n) (is_negative m) && nat_eq n.magnitude m.magnitude) ≡ same_number m n
+same-number-key n m = same-key n.minus m.minus n.magnitude m.magnitude
 
-or_last : (b had : Bool) → (if b then true else had) ≡ (had || (b || false))
-or_last true true = refl
-or_last true false = refl
-or_last false true = refl
-or_last false false = refl
+or-last : (b had : Bool) → (if b then true else had) ≡ (had || (b || false))
+or-last true true = refl
+or-last true false = refl
+or-last false true = refl
+or-last false false = refl
 
 -- one more number is given
 pub given-more : (set next : NumberSet) (n : EnumNumber) (before : List EnumNumber) → ((other : EnumNumber) → given next other ≡ (if same_number other n then true else given set other))
     → AreGiven set before → AreGiven next (before ++ n ∷ [])
 given-more set next n before behind same other =
-    behind other ∙ or_last (same_number other n) (given set other) ∙ ap (λ b. b || (same_number other n || false)) (same other)
+    behind other ∙ or-last (same_number other n) (given set other) ∙ ap (λ b. b || (same_number other n || false)) (same other)
     ∙ sym (list_any-append (same_number other) before (n ∷ []))
 
 -- the numbers so far are those before, and what was found so far with what the names that are left break is the whole
@@ -127,14 +127,14 @@ pub numbered-next : (set next_set : NumberSet) (enumerators : List Enumerator) (
     → ((before : List EnumNumber) → AreGiven set before → part ≡ least (check_number before enumerator.number))
     → ((before : List EnumNumber) → AreGiven set before → AreGiven next_set (and_number before enumerator.number))
     → next ≡ both found part → Numbered set (drop i enumerators) found whole → Numbered next_set (drop (i + 1) enumerators) next whole
-numbered-next set next_set enumerators i enumerator found part next whole inside is part_is behind next_is so_far =
+numbered-next set next_set enumerators i enumerator found part next whole inside is part-is behind next_is so_far =
     let rules : List Rule = check_number so_far.before enumerator.number in
     let rest : List Rule = check_numbers (and_number so_far.before enumerator.number) (drop (i + 1) enumerators) in
     record {
       before = and_number so_far.before enumerator.number;
       same = behind so_far.before so_far.same;
-      sum = ap (λ b. both b (least rest)) (next_is ∙ ap (both found) (part_is so_far.before so_far.same))
-          ∙ both_assoc found (least rules) (least rest)
+      sum = ap (λ b. both b (least rest)) (next_is ∙ ap (both found) (part-is so_far.before so_far.same))
+          ∙ both-assoc found (least rules) (least rest)
           ∙ ap (both found) (sym (least_append rules rest))
           ∙ ap (λ es. both found (least (check_numbers so_far.before es))) (sym (drop-next enumerators i enumerator inside is))
           ∙ so_far.sum;
@@ -143,4 +143,4 @@ numbered-next set next_set enumerators i enumerator found part next whole inside
 pub numbered-end : (set : NumberSet) (enumerators : List Enumerator) (i : ℕ) (found whole : Broken) → length enumerators ≤ i → Numbered set (drop i enumerators) found whole
     → found ≡ whole
 numbered-end set enumerators i found whole past so_far =
-    sym (both_nothing found) ∙ ap (λ es. both found (least (check_numbers so_far.before es))) (sym (drop_all i enumerators past)) ∙ so_far.sum
+    sym (both-nothing found) ∙ ap (λ es. both found (least (check_numbers so_far.before es))) (sym (drop_all i enumerators past)) ∙ so_far.sum

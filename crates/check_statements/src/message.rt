@@ -11,7 +11,7 @@ ghost use Rattle.check_scope.specs.declared.types.Typing.TheVariants as typing;
 use check_expressions::expression::check_wanted_component;
 use check_expressions::target::{check_target, check_type};
 use check_expressions::template::{template, typing_of_template};
-use check_rules::Finding;
+use check_rules::{Finding, port_meant};
 use check_scope::broken::Broken;
 use check_scope::names::Meaning;
 use check_scope::rule::Rule;
@@ -79,16 +79,6 @@ impl<'s> Passing<'s> {
             Passing::Unknown => of_unknown_type(Broken::nothing()),
             Passing::Anywhere => of_unknown_type(Broken::of(Rule::PortType)),
         }
-    }
-}
-
-/// The port that a name stands for: the position of its type, which may be unknown.
-fn port_meant(meaning: Option<Meaning>) -> Option<Option<usize>>
-    ensures { result ≡ spec.port_meant meaning }
-{
-    match meaning {
-        Some(Meaning::Port(at)) => Some(at),
-        _ => None,
     }
 }
 

@@ -16,14 +16,14 @@ pub with_reference : (a : Thing) (to : ℕ) → parts a.own (a.references ++ to 
 with_reference a to = ap (λ n. parts n (a.references ++ to ∷ [])) (omega arith)
 
 -- nothing is put to it
-pub add_nothing : (a : Thing) → add a (parts 0 []) ≡ a
-add_nothing a = same (add a (parts 0 [])).own a.own (a.references ++ []) a.references (omega arith) (append-nil a.references)
+pub add-nothing : (a : Thing) → add a (parts 0 []) ≡ a
+add-nothing a = same (add a (parts 0 [])).own a.own (a.references ++ []) a.references (omega arith) (append-nil a.references)
 
 -- it is put to nothing
-pub nothing_add : (a : Thing) → add (parts 0 []) a ≡ tally a
-nothing_add a = ap (λ n. parts n a.references) (omega arith)
+pub nothing-add : (a : Thing) → add (parts 0 []) a ≡ tally a
+nothing-add a = ap (λ n. parts n a.references) (omega arith)
 
 -- two are put to it, one after the other
-pub add_add : (a b c : Thing) → add (add a b) c ≡ add a (beside b c)
-add_add a b c = same (add (add a b) c).own (add a (beside b c)).own ((a.references ++ b.references) ++ c.references) (a.references ++ (b.references ++ c.references))
+pub add-add : (a b c : Thing) → add (add a b) c ≡ add a (beside b c)
+add-add a b c = same (add (add a b) c).own (add a (beside b c)).own ((a.references ++ b.references) ++ c.references) (a.references ++ (b.references ++ c.references))
     (omega arith) (append_assoc a.references b.references c.references)

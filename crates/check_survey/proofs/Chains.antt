@@ -29,8 +29,8 @@ pub own-read : (things : List Thing) (i : ℕ) (thing : Thing) → i < length th
 own-read things i thing within is = ap (λ o. option_map_or (λ t. t.own) o 0) (slice_get_read things (length things) i thing refl within is)
 
 -- what is referred to is a thing
-pub refers_within : (things : List Thing) → AreComplete things → (i k : ℕ) → Contains (references things i) k → k < length things
-refers_within things complete i k c = go (slice_get things i) refl c
+pub refers-within : (things : List Thing) → AreComplete things → (i k : ℕ) → Contains (references things i) k → k < length things
+refers-within things complete i k c = go (slice_get things i) refl c
   where
     go : (o : Option Thing) → slice_get things i ≡ o → Contains (option_map_or (λ t. t.references) o []) k → k < length things
     go (Some t) e d =
@@ -47,32 +47,32 @@ module _ (things : List Thing) where
       go (Some t) e d = slice_get_within things i t e
       go None e d = absurd (omega (arith, d.1))
 
-  pub chain_head : (i : ℕ) (rest : List ℕ) → IsChain things (i ∷ rest) → i < length things
-  chain_head i [] chain = chain
-  chain_head i (next ∷ rest) chain = referrer i next chain.0
+  pub chain-head : (i : ℕ) (rest : List ℕ) → IsChain things (i ∷ rest) → i < length things
+  chain-head i [] chain = chain
+  chain-head i (next ∷ rest) chain = referrer i next chain.0
 
   -- one more at its end
-  pub chain_more : (xs : List ℕ) (i k : ℕ) → IsChain things (xs ++ i ∷ []) → Contains (references things i) k → k < length things
+  pub chain-more : (xs : List ℕ) (i k : ℕ) → IsChain things (xs ++ i ∷ []) → Contains (references things i) k → k < length things
       → IsChain things ((xs ++ i ∷ []) ++ k ∷ [])
-  chain_more [] i k chain refers within = (refers, within)
-  chain_more (x ∷ []) i k chain refers within = (chain.0, (refers, within))
-  chain_more (x ∷ y ∷ xs) i k chain refers within = (chain.0, chain_more (y ∷ xs) i k chain.1 refers within)
+  chain-more [] i k chain refers within = (refers, within)
+  chain-more (x ∷ []) i k chain refers within = (chain.0, (refers, within))
+  chain-more (x ∷ y ∷ xs) i k chain refers within = (chain.0, chain-more (y ∷ xs) i k chain.1 refers within)
 
   -- one less at its end
-  pub path_front : (xs : List ℕ) (i : ℕ) → IsPath things (xs ++ i ∷ []) → IsPath things xs
-  path_front [] i path = tt
-  path_front (x ∷ []) i path = referrer x i path.0
-  path_front (x ∷ y ∷ xs) i path = (path.0, path_front (y ∷ xs) i path.1)
+  pub path-front : (xs : List ℕ) (i : ℕ) → IsPath things (xs ++ i ∷ []) → IsPath things xs
+  path-front [] i path = tt
+  path-front (x ∷ []) i path = referrer x i path.0
+  path-front (x ∷ y ∷ xs) i path = (path.0, path-front (y ∷ xs) i path.1)
 
   -- the last member of a chain refers to a member of it
-  pub chain_circle : (xs : List ℕ) (i k : ℕ) → IsChain things (xs ++ i ∷ []) → Contains (xs ++ i ∷ []) k
+  pub chain-circle : (xs : List ℕ) (i k : ℕ) → IsChain things (xs ++ i ∷ []) → Contains (xs ++ i ∷ []) k
       → Contains (references things i) k → k < length things → IsOnCircle things k
-  chain_circle [] i k chain among refers within =
+  chain-circle [] i k chain among refers within =
       ([], (subst (λ j. Contains (references things j) k) (Contains-only i k among) refers, within))
-  chain_circle (x ∷ xs) i k chain among refers within =
+  chain-circle (x ∷ xs) i k chain among refers within =
       elim (Contains-cases x (xs ++ i ∷ []) k among) [
-        | inl is ↦ (xs ++ i ∷ [], subst (λ j. IsChain things ((j ∷ xs ++ i ∷ []) ++ k ∷ [])) is (chain_more (x ∷ xs) i k chain refers within))
-        | inr later ↦ chain_circle xs i k (tail xs chain) later refers within
+        | inl is ↦ (xs ++ i ∷ [], subst (λ j. IsChain things ((j ∷ xs ++ i ∷ []) ++ k ∷ [])) is (chain-more (x ∷ xs) i k chain refers within))
+        | inr later ↦ chain-circle xs i k (tail xs chain) later refers within
       ]
     where
       tail : (ys : List ℕ) → IsChain things (x ∷ ys ++ i ∷ []) → IsChain things (ys ++ i ∷ [])
@@ -80,41 +80,41 @@ module _ (things : List Thing) where
       tail (y ∷ ys) c = c.1
 
   -- a circle goes on from the next thing on it
-  next_on : (i k : ℕ) (rest : List ℕ) → IsChain things (i ∷ (k ∷ rest) ++ i ∷ []) → IsOnCircle things k
-  next_on i k rest chain = (rest ++ i ∷ [], chain_more (k ∷ rest) i k chain.1 chain.0 (chain_head k (rest ++ i ∷ []) chain.1))
+  next-on : (i k : ℕ) (rest : List ℕ) → IsChain things (i ∷ (k ∷ rest) ++ i ∷ []) → IsOnCircle things k
+  next-on i k rest chain = (rest ++ i ∷ [], chain-more (k ∷ rest) i k chain.1 chain.0 (chain-head k (rest ++ i ∷ []) chain.1))
 
   -- a thing on a circle refers to one that is on a circle
-  next_circle : (i : ℕ) → IsOnCircle things i → (k : ℕ) × Contains (references things i) k × IsOnCircle things k
-  next_circle i ([], chain) = (i, chain.0, ([], chain))
-  next_circle i (k ∷ rest, chain) = (k, chain.0, next_on i k rest chain)
+  next-circle : (i : ℕ) → IsOnCircle things i → (k : ℕ) × Contains (references things i) k × IsOnCircle things k
+  next-circle i ([], chain) = (i, chain.0, ([], chain))
+  next-circle i (k ∷ rest, chain) = (k, chain.0, next-on i k rest chain)
 
   -- what weighs something is on no circle
-  pub weigh_no_circle : (xs : List ℕ) (n : ℕ) → Weigh things xs n → (i : ℕ) → Contains xs i → IsOnCircle things i → ⊥
-  weigh_no_circle xs n nothing i among circle = omega (arith, among.1)
-  weigh_no_circle xs n (one_more {i = x} {inside = inside} {beside = beside} {others = others} within referred further) i among circle =
+  pub weigh-no-circle : (xs : List ℕ) (n : ℕ) → Weigh things xs n → (i : ℕ) → Contains xs i → IsOnCircle things i → ⊥
+  weigh-no-circle xs n nothing i among circle = omega (arith, among.1)
+  weigh-no-circle xs n (one_more {i = x} {inside = inside} {beside = beside} {others = others} within referred further) i among circle =
       elim (Contains-cases x others i among) [
-        | inl is ↦ (let next = next_circle x (subst (IsOnCircle things) (sym is) circle) in weigh_no_circle (references things x) inside referred next.0 next.1 next.2)
-        | inr later ↦ weigh_no_circle others beside further i later circle
+        | inl is ↦ (let next = next-circle x (subst (IsOnCircle things) (sym is) circle) in weigh-no-circle (references things x) inside referred next.0 next.1 next.2)
+        | inr later ↦ weigh-no-circle others beside further i later circle
       ]
 
   -- what weighs something is a thing
-  pub weigh_within : (i n : ℕ) → Weigh things (i ∷ []) n → i < length things
-  weigh_within i n (one_more within referred further) = within
+  pub weigh-within : (i n : ℕ) → Weigh things (i ∷ []) n → i < length things
+  weigh-within i n (one_more within referred further) = within
 
   -- things have one weight together
-  pub weigh_once : (xs : List ℕ) (m n : ℕ) → Weigh things xs m → Weigh things xs n → m ≡ n
-  weigh_once xs m n nothing nothing = refl
-  weigh_once xs m n (one_more {i = x} {others = others} within referred further) (one_more within' referred' further') =
-      let e = weigh_once (references things x) _ _ referred referred' in
-      let f = weigh_once others _ _ further further' in
+  pub weigh-once : (xs : List ℕ) (m n : ℕ) → Weigh things xs m → Weigh things xs n → m ≡ n
+  weigh-once xs m n nothing nothing = refl
+  weigh-once xs m n (one_more {i = x} {others = others} within referred further) (one_more within' referred' further') =
+      let e = weigh-once (references things x) _ _ referred referred' in
+      let f = weigh-once others _ _ further further' in
       omega (arith, e, f)
 
-  pub weigh_append : (xs ys : List ℕ) (m n : ℕ) → Weigh things xs m → Weigh things ys n → Weigh things (xs ++ ys) (m + n)
-  weigh_append xs ys m n nothing w = let e : n ≡ 0 + n = omega arith in subst (Weigh things ys) e w
-  weigh_append xs ys m n (one_more {i = x} {inside = inside} {beside = beside} {others = others} within referred further) w =
+  pub weigh-append : (xs ys : List ℕ) (m n : ℕ) → Weigh things xs m → Weigh things ys n → Weigh things (xs ++ ys) (m + n)
+  weigh-append xs ys m n nothing w = let e : n ≡ 0 + n = omega arith in subst (Weigh things ys) e w
+  weigh-append xs ys m n (one_more {i = x} {inside = inside} {beside = beside} {others = others} within referred further) w =
       let e : own things x + inside + (beside + n) ≡ own things x + inside + beside + n = omega arith in
-      subst (Weigh things (x ∷ (others ++ ys))) e (one_more within referred (weigh_append others ys beside n further w))
+      subst (Weigh things (x ∷ (others ++ ys))) e (one_more within referred (weigh-append others ys beside n further w))
 
-  pub weigh_thing : (i m : ℕ) → i < length things → Weigh things (references things i) m → Weigh things (i ∷ []) (m + own things i)
-  weigh_thing i m within referred =
+  pub weigh-thing : (i m : ℕ) → i < length things → Weigh things (references things i) m → Weigh things (i ∷ []) (m + own things i)
+  weigh-thing i m within referred =
       let e : own things i + m + 0 ≡ m + own things i = omega arith in subst (Weigh things (i ∷ [])) e (one_more within referred nothing)

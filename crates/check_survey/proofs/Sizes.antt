@@ -8,16 +8,16 @@ use Rattle.check_survey.specs.internal.Search.{HasLongest, HaveSize}
 use Rattle.check_survey.specs.Things.{capped}
 use Rattle.check_survey.specs.declared.size.Size.{Size}
 use Rattle.check_survey.specs.declared.thing.Thing.{Thing}
-use Rattle.check_survey.proofs.Chains.{Contains-first, Contains-only, weigh_append, weigh_thing}
+use Rattle.check_survey.proofs.Chains.{Contains-first, Contains-only, weigh-append, weigh-thing}
 
 module _ (things : List Thing) where
   -- no thing begins no chain
-  longest_none : HasLongest things [] 0
-  longest_none = record { bound = λ i rest among chain. absurd (omega (arith, among.1)); reached = λ some. absurd (omega arith) }
+  longest-none : HasLongest things [] 0
+  longest-none = record { bound = λ i rest among chain. absurd (omega (arith, among.1)); reached = λ some. absurd (omega arith) }
 
   -- chains from these things or those
-  longest_beside : (these those : List ℕ) (m n : ℕ) → HasLongest things these m → HasLongest things those n → HasLongest things (these ++ those) (max m n)
-  longest_beside these those m n left right = record {
+  longest-beside : (these those : List ℕ) (m n : ℕ) → HasLongest things these m → HasLongest things those n → HasLongest things (these ++ those) (max m n)
+  longest-beside these those m n left right = record {
     bound = λ i rest among chain. elim (Contains-append_cases these those i among) [
       | inl first ↦ (let b = left.bound i rest first chain in omega (arith, b))
       | inr second ↦ (let b = right.bound i rest second chain in omega (arith, b))
@@ -31,8 +31,8 @@ module _ (things : List Thing) where
   }
 
   -- chains from a thing go on with those from what it refers to
-  longest_around : (i m : ℕ) → i < length things → HasLongest things (references things i) m → HasLongest things (i ∷ []) (m + 1)
-  longest_around i m within inside = record {
+  longest-around : (i m : ℕ) → i < length things → HasLongest things (references things i) m → HasLongest things (i ∷ []) (m + 1)
+  longest-around i m within inside = record {
     bound = λ j rest among. subst (λ k. IsChain things (k ∷ rest) → length (k ∷ rest) ≤ m + 1) (Contains-only i j among) (at_most rest);
     reached = λ some. elim (cases_lt 0 m) [
       | inl more ↦ (let r = inside.reached more in (i, r.0 ∷ r.1, Contains-first i [], (r.2, r.3), (let e = r.4 in omega (arith, e))))
@@ -44,34 +44,34 @@ module _ (things : List Thing) where
       at_most [] chain = omega arith
       at_most (next ∷ rest) chain = let b = inside.bound next rest chain.0 chain.1 in omega (arith, b)
 
-  pub size_none : (size : Size) → size.chain ≡ 0 → size.weight ≡ 0 → HaveSize things [] size
-  size_none size chain weight = record {
+  pub size-none : (size : Size) → size.chain ≡ 0 → size.weight ≡ 0 → HaveSize things [] size
+  size-none size chain weight = record {
     longest = 0;
-    has_longest = longest_none;
+    has_longest = longest-none;
     chain = omega arith;
     total = 0;
     weigh = nothing;
     weight = omega arith;
   }
 
-  pub size_beside : (these those : List ℕ) (a b size : Size) → HaveSize things these a → HaveSize things those b
+  pub size-beside : (these those : List ℕ) (a b size : Size) → HaveSize things these a → HaveSize things those b
       → size.chain ≡ max a.chain b.chain → size.weight ≡ capped (a.weight + b.weight) → HaveSize things (these ++ those) size
-  size_beside these those a b size left right chain weight = record {
+  size-beside these those a b size left right chain weight = record {
     longest = max left.longest right.longest;
-    has_longest = longest_beside these those left.longest right.longest left.has_longest right.has_longest;
+    has_longest = longest-beside these those left.longest right.longest left.has_longest right.has_longest;
     chain = omega (arith, left.chain, right.chain);
     total = left.total + right.total;
-    weigh = weigh_append things these those left.total right.total left.weigh right.weigh;
+    weigh = weigh-append things these those left.total right.total left.weigh right.weigh;
     weight = omega (arith, left.weight, right.weight);
   }
 
-  pub size_around : (i : ℕ) (a size : Size) → i < length things → HaveSize things (references things i) a
+  pub size-around : (i : ℕ) (a size : Size) → i < length things → HaveSize things (references things i) a
       → size.chain ≡ capped (a.chain + 1) → size.weight ≡ capped (a.weight + own things i) → HaveSize things (i ∷ []) size
-  size_around i a size within inside chain weight = record {
+  size-around i a size within inside chain weight = record {
     longest = inside.longest + 1;
-    has_longest = longest_around i inside.longest within inside.has_longest;
+    has_longest = longest-around i inside.longest within inside.has_longest;
     chain = omega (arith, inside.chain);
     total = inside.total + own things i;
-    weigh = weigh_thing things i inside.total within inside.weigh;
+    weigh = weigh-thing things i inside.total within inside.weigh;
     weight = omega (arith, inside.weight);
   }

@@ -5,8 +5,8 @@ use Rattle.std.specs.Cmp.Lexicographic.{same_text}
 use Rattle.config_packed.specs.Packs.{same_bytes, same_bytes_equiv}
 use Rattle.config_packed.specs.Reading.{Reads, config_in, read_byte, read_cells, read_component, read_config, read_connection, read_data, read_default, read_end, read_entry, read_frame, read_going, read_links, read_list, read_long, read_message, read_queue, read_sender, read_state, read_timer, read_value, read_verdict}
 use Rattle.config_packed.specs.Spelling.{spell_cells, spell_component, spell_config, spell_connection, spell_data, spell_default, spell_end, spell_entry, spell_frame, spell_going, spell_links, spell_list, spell_long, spell_message, spell_queue, spell_sender, spell_state, spell_timer, spell_value, spell_verdict}
-use Rattle.config_packed.proofs.NumbersBack.{read_list_back, read_long_back, read_number_back}
-use Rattle.config_packed.proofs.ValuesBack.{read_identity_back, read_path_back, read_value_back}
+use Rattle.config_packed.proofs.NumbersBack.{read-list-back, read-long-back, read-number-back}
+use Rattle.config_packed.proofs.ValuesBack.{read-identity-back, read-path-back, read-value-back}
 use Rattle.ttcn_syntax.specs.declared.tree.statement.Verdict.{Verdict}
 use Rattle.ttcn_syntax.specs.declared.tree.statement.Verdict.TheVariants as verdict
 use Rattle.value_types.specs.declared.frame.TimerState.{TimerState}
@@ -30,45 +30,45 @@ use Rattle.config_parts.specs.declared.frame.Frame.{Frame}
 
 -- ---- what components have of their own
 
-timer_back : (s : TimerState) (rest : List ℕ) → read_timer (spell_timer s ++ rest) ≡ (s, rest)
+timer-back : (s : TimerState) (rest : List ℕ) → read_timer (spell_timer s ++ rest) ≡ (s, rest)
 unfolding read_timer read_byte
-timer_back timer.Inactive rest = refl
-timer_back timer.Running rest = refl
-timer_back timer.Expired rest = refl
+timer-back timer.Inactive rest = refl
+timer-back timer.Running rest = refl
+timer-back timer.Expired rest = refl
 
 module _ {A : Type 0} (spell : A → List ℕ) (read : Reads A) (back : (a : A) (rest : List ℕ) → read (spell a ++ rest) ≡ (a, rest)) where
-  entry_back : (entry : ℕ × A) (rest : List ℕ) → read_entry read (spell_entry spell entry ++ rest) ≡ (entry, rest)
+  entry-back : (entry : ℕ × A) (rest : List ℕ) → read_entry read (spell_entry spell entry ++ rest) ≡ (entry, rest)
   unfolding read_entry
-  entry_back entry rest = simp (append_assoc, read_number_back, back)
+  entry-back entry rest = simp (append_assoc, read-number-back, back)
 
   entries_back : (entries : List (ℕ × A)) (rest : List ℕ) → read_list (read_entry read) (spell_list (spell_entry spell) entries ++ rest) ≡ (entries, rest)
-  entries_back = read_list_back (spell_entry spell) (read_entry read) entry_back
+  entries_back = read-list-back (spell_entry spell) (read_entry read) entry-back
 
 cells_back : (cells : Cells) (rest : List ℕ) → read_cells (spell_cells cells ++ rest) ≡ (cells, rest)
 unfolding read_cells spell_cells
-cells_back cells rest = simp (append_assoc, entries_back spell_value read_value read_value_back, entries_back spell_timer read_timer timer_back)
+cells_back cells rest = simp (append_assoc, entries_back spell_value read_value read-value-back, entries_back spell_timer read_timer timer-back)
 
 frame_back : (frame : Frame) (rest : List ℕ) → read_frame (spell_frame frame ++ rest) ≡ (frame, rest)
 unfolding read_frame spell_frame
-frame_back frame rest = simp (append_assoc, read_long_back, cells_back)
+frame_back frame rest = simp (append_assoc, read-long-back, cells_back)
 
 default_back : (active : ActiveDefault) (rest : List ℕ) → read_default (spell_default active ++ rest) ≡ (active, rest)
 unfolding read_default spell_default
-default_back active rest = simp (append_assoc, read_number_back, read_long_back, read_list_back spell_value read_value read_value_back)
+default_back active rest = simp (append_assoc, read-number-back, read-long-back, read-list-back spell_value read_value read-value-back)
 
 data_back : (own : Data) (rest : List ℕ) → read_data (spell_data own ++ rest) ≡ (own, rest)
 unfolding read_data spell_data
-data_back own rest = simp (append_assoc, cells_back, read_list_back spell_frame read_frame frame_back, read_list_back spell_default read_default default_back, read_number_back)
+data_back own rest = simp (append_assoc, cells_back, read-list-back spell_frame read_frame frame_back, read-list-back spell_default read_default default_back, read-number-back)
 
 -- ---- components, connections and mappings
 
-verdict_back : (v : Verdict) (rest : List ℕ) → read_verdict (spell_verdict v ++ rest) ≡ (v, rest)
+verdict-back : (v : Verdict) (rest : List ℕ) → read_verdict (spell_verdict v ++ rest) ≡ (v, rest)
 unfolding read_verdict read_byte
-verdict_back verdict.None rest = refl
-verdict_back verdict.Pass rest = refl
-verdict_back verdict.Inconc rest = refl
-verdict_back verdict.Fail rest = refl
-verdict_back verdict.Error rest = refl
+verdict-back verdict.None rest = refl
+verdict-back verdict.Pass rest = refl
+verdict-back verdict.Inconc rest = refl
+verdict-back verdict.Fail rest = refl
+verdict-back verdict.Error rest = refl
 
 state_back : (s : State) (rest : List ℕ) → read_state (spell_state s ++ rest) ≡ (s, rest)
 unfolding read_state read_byte
@@ -76,44 +76,44 @@ state_back state.Created rest = refl
 state_back state.Running rest = refl
 state_back state.Terminated rest = refl
 
-sender_back : (sender : Option ComponentId) (rest : List ℕ) → read_sender (spell_sender sender ++ rest) ≡ (sender, rest)
+sender-back : (sender : Option ComponentId) (rest : List ℕ) → read_sender (spell_sender sender ++ rest) ≡ (sender, rest)
 unfolding read_sender read_byte spell_sender
-sender_back None rest = refl
-sender_back (Some component) rest = ap (λ (p : ComponentId × List ℕ). (Some p.0, p.1)) (read_identity_back component rest)
+sender-back None rest = refl
+sender-back (Some component) rest = ap (λ (p : ComponentId × List ℕ). (Some p.0, p.1)) (read-identity-back component rest)
 
 message_back : (message : Message) (rest : List ℕ) → read_message (spell_message message ++ rest) ≡ (message, rest)
 unfolding read_message spell_message
-message_back message rest = simp (append_assoc, read_value_back, sender_back)
+message_back message rest = simp (append_assoc, read-value-back, sender-back)
 
 queue_back : (queue : Queue) (rest : List ℕ) → read_queue (spell_queue queue ++ rest) ≡ (queue, rest)
 unfolding read_queue spell_queue
-queue_back queue rest = simp (append_assoc, read_number_back, read_list_back spell_message read_message message_back)
+queue_back queue rest = simp (append_assoc, read-number-back, read-list-back spell_message read_message message_back)
 
 component_back : (component : Component) (rest : List ℕ) → read_component (spell_component component ++ rest) ≡ (component, rest)
 unfolding read_component spell_component
-component_back component rest = simp (append_assoc, read_identity_back, data_back, state_back, verdict_back, read_list_back spell_queue read_queue queue_back)
+component_back component rest = simp (append_assoc, read-identity-back, data_back, state_back, verdict-back, read-list-back spell_queue read_queue queue_back)
 
 end_back : (e : End) (rest : List ℕ) → read_end (spell_end e ++ rest) ≡ (e, rest)
 unfolding read_end spell_end
-end_back e rest = simp (append_assoc, read_path_back, read_number_back)
+end_back e rest = simp (append_assoc, read-path-back, read-number-back)
 
 connection_back : (connection : Connection) (rest : List ℕ) → read_connection (spell_connection connection ++ rest) ≡ (connection, rest)
 unfolding read_connection spell_connection
 connection_back connection rest = simp (append_assoc, end_back)
 
-links_back : (links : Links) (rest : List ℕ) → read_links (spell_links links ++ rest) ≡ (links, rest)
+links-back : (links : Links) (rest : List ℕ) → read_links (spell_links links ++ rest) ≡ (links, rest)
 unfolding read_links spell_links
-links_back links rest = simp (append_assoc, read_list_back spell_connection read_connection connection_back, entries_back spell_end read_end end_back, entries_back spell_long read_long read_long_back)
+links-back links rest = simp (append_assoc, read-list-back spell_connection read_connection connection_back, entries_back spell_end read_end end_back, entries_back spell_long read_long read-long-back)
 
 -- ---- configurations
 
 going_back : (going : Going) (rest : List ℕ) → read_going (spell_going going ++ rest) ≡ (going, rest)
 unfolding read_going spell_going
-going_back going rest = simp (append_assoc, read_list_back spell_component read_component component_back, links_back, verdict_back)
+going_back going rest = simp (append_assoc, read-list-back spell_component read_component component_back, links-back, verdict-back)
 
 pub read_config_back : (c : Config) (rest : List ℕ) → read_config (spell_config c ++ rest) ≡ (c, rest)
 unfolding read_config spell_config read_byte
-read_config_back (config.Ended v) rest = ap (λ (p : Verdict × List ℕ). (config.Ended p.0, p.1)) (verdict_back v rest)
+read_config_back (config.Ended v) rest = ap (λ (p : Verdict × List ℕ). (config.Ended p.0, p.1)) (verdict-back v rest)
 read_config_back (config.Going going) rest = ap (λ (p : Going × List ℕ). (config.Going p.0, p.1)) (going_back going rest)
 
 -- the bytes that spell a configuration spell no other

@@ -7,11 +7,11 @@ use Rattle.config_packed.specs.Reading.{Reads, read_items, read_list, read_long}
 -- ---- spelling
 
 -- one more item is spelled
-pub spelled_more : {A : Type 0} (spell : A → List ℕ) (old now : List ℕ) (items : List A) (i : ℕ) (x : A)
+pub spelled-more : {A : Type 0} (spell : A → List ℕ) (old now : List ℕ) (items : List A) (i : ℕ) (x : A)
     → i < length items → x ≡ get_or items i x
     → now ≡ (old ++ flat_map spell (take i items)) ++ spell x
     → now ≡ old ++ flat_map spell (take (i + 1) items)
-spelled_more {A} spell old now items i x h is e =
+spelled-more {A} spell old now items i x h is e =
     e ∙ flat_map_more spell old (take i items) x
     ∙ ap (λ (l : List A). old ++ flat_map spell l) (ap (λ (y : A). take i items ++ y ∷ []) is ∙ sym (take_more items i x h))
 
@@ -21,67 +21,67 @@ spelled_more {A} spell old now items i x h is e =
 abbrev pub ahead : {A : Type 0} → List A → List A × List ℕ → List A × List ℕ
 ahead xs read = (xs ++ read.0, read.1)
 
-pub items_none : {A : Type 0} (read : Reads A) (count : ℕ) (bytes : List ℕ) → read_items read count bytes ≡ ahead [] (read_items read (count - 0) bytes)
-items_none read count bytes = ap (λ n. read_items read n bytes) (let e : count ≡ count - 0 = omega arith in e)
+pub items-none : {A : Type 0} (read : Reads A) (count : ℕ) (bytes : List ℕ) → read_items read count bytes ≡ ahead [] (read_items read (count - 0) bytes)
+items-none read count bytes = ap (λ n. read_items read n bytes) (let e : count ≡ count - 0 = omega arith in e)
 
 -- one more item is read
-pub items_more : {A : Type 0} (read : Reads A) (count turn : ℕ) (before after : List ℕ) (whole : List A × List ℕ) (xs : List A) (x : A)
+pub items-more : {A : Type 0} (read : Reads A) (count turn : ℕ) (before after : List ℕ) (whole : List A × List ℕ) (xs : List A) (x : A)
     → turn < count → x ≡ (read before).0 → after ≡ (read before).1
     → whole ≡ ahead xs (read_items read (count - turn) before)
     → whole ≡ ahead (xs ++ x ∷ []) (read_items read (count - (turn + 1)) after)
 unfolding read_items
-items_more {A} read count turn before after whole xs x h is rest e =
+items-more {A} read count turn before after whole xs x h is rest e =
     let k = count - (turn + 1) in
     let n : count - turn ≡ suc k = omega arith in
     let e' : whole ≡ ahead xs (read_items read (suc k) before) = e ∙ ap (λ m. ahead xs (read_items read m before)) n in
     rw (is, rest) (e' ∙ ap (λ (l : List A). (l, (read_items read k (read before).1).1)) (sym (append_assoc xs ((read before).0 ∷ []) (read_items read k (read before).1).0)))
 
 -- all items are read
-pub items_all : {A : Type 0} (read : Reads A) (count turn : ℕ) (bytes : List ℕ) (whole : List A × List ℕ) (xs : List A)
+pub items-all : {A : Type 0} (read : Reads A) (count turn : ℕ) (bytes : List ℕ) (whole : List A × List ℕ) (xs : List A)
     → turn ≡ count → whole ≡ ahead xs (read_items read (count - turn) bytes) → whole ≡ (xs, bytes)
 unfolding read_items
-items_all {A} read count turn bytes whole xs h e =
+items-all {A} read count turn bytes whole xs h e =
     let n : count - turn ≡ 0 = omega arith in
     e ∙ ap (λ m. ahead xs (read_items read m bytes)) n ∙ ap (λ (l : List A). (l, bytes)) (append-nil xs)
 
 -- a list is read: how many items it has, and then they
-pub list_read : {A : Type 0} (read : Reads A) (start before after : List ℕ) (count turn : ℕ) (xs : List A)
+pub list-read : {A : Type 0} (read : Reads A) (start before after : List ℕ) (count turn : ℕ) (xs : List A)
     → count ≡ (read_long start).0 → before ≡ (read_long start).1 → turn ≡ count
     → read_items read count before ≡ ahead xs (read_items read (count - turn) after)
     → read_list read start ≡ (xs, after)
 unfolding read_list
-list_read read start before after count turn xs is behind all e =
+list-read read start before after count turn xs is behind all e =
     let f : read_items read (read_long start).0 (read_long start).1 ≡ read_items read count before = λ i. read_items read (sym is i) (sym behind i) in
-    f ∙ items_all read count turn after (read_items read count before) xs all e
+    f ∙ items-all read count turn after (read_items read count before) xs all e
 
 -- ---- going past items
 
 -- one more item is passed
-pub items_passed : {A : Type 0} (read : Reads A) (count turn : ℕ) (before after whole : List ℕ)
+pub items-passed : {A : Type 0} (read : Reads A) (count turn : ℕ) (before after whole : List ℕ)
     → turn < count → after ≡ (read before).1
     → whole ≡ (read_items read (count - turn) before).1
     → whole ≡ (read_items read (count - (turn + 1)) after).1
 unfolding read_items
-items_passed {A} read count turn before after whole h rest e =
+items-passed {A} read count turn before after whole h rest e =
     let k = count - (turn + 1) in
     let n : count - turn ≡ suc k = omega arith in
     let e' : whole ≡ (read_items read (suc k) before).1 = e ∙ ap (λ m. (read_items read m before).1) n in
     rw rest e'
 
 -- all items are passed
-pub items_behind : {A : Type 0} (read : Reads A) (count turn : ℕ) (bytes whole : List ℕ)
+pub items-behind : {A : Type 0} (read : Reads A) (count turn : ℕ) (bytes whole : List ℕ)
     → turn ≡ count → whole ≡ (read_items read (count - turn) bytes).1 → whole ≡ bytes
 unfolding read_items
-items_behind {A} read count turn bytes whole h e =
+items-behind {A} read count turn bytes whole h e =
     let n : count - turn ≡ 0 = omega arith in
     e ∙ ap (λ m. (read_items read m bytes).1) n
 
 -- a list is passed: how many items it has, and then they
-pub list_passed : {A : Type 0} (read : Reads A) (start before after : List ℕ) (count turn : ℕ)
+pub list-passed : {A : Type 0} (read : Reads A) (start before after : List ℕ) (count turn : ℕ)
     → count ≡ (read_long start).0 → before ≡ (read_long start).1 → turn ≡ count
     → (read_items read count before).1 ≡ (read_items read (count - turn) after).1
     → after ≡ (read_list read start).1
 unfolding read_list
-list_passed read start before after count turn is behind all e =
+list-passed read start before after count turn is behind all e =
     let f : read_items read (read_long start).0 (read_long start).1 ≡ read_items read count before = λ i. read_items read (sym is i) (sym behind i) in
-    sym (ap (λ p. p.1) f ∙ items_behind read count turn after (read_items read count before).1 all e)
+    sym (ap (λ p. p.1) f ∙ items-behind read count turn after (read_items read count before).1 all e)

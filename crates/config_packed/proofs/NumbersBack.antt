@@ -7,17 +7,17 @@ use Rattle.config_packed.specs.Spelling.{eight, four, number_in, short, spell_li
 
 -- ---- numbers
 
-four_back : (n : ℕ) (rest : List ℕ) → read_four (four n ++ rest) ≡ (n, rest)
+four-back : (n : ℕ) (rest : List ℕ) → read_four (four n ++ rest) ≡ (n, rest)
 unfolding read_four read_byte
-four_back n rest = ap (λ (m : ℕ). (m, rest)) (omega arith)
+four-back n rest = ap (λ (m : ℕ). (m, rest)) (omega arith)
 
-eight_back : (n : ℕ) (rest : List ℕ) → read_eight (eight n ++ rest) ≡ (n, rest)
+eight-back : (n : ℕ) (rest : List ℕ) → read_eight (eight n ++ rest) ≡ (n, rest)
 unfolding read_eight
-eight_back n rest =
+eight-back n rest =
     let low = n % 4294967296 in
     let high = n / 4294967296 in
-    let e = four_back low (four high ++ rest) in
-    let f = four_back high rest in
+    let e = four-back low (four high ++ rest) in
+    let f = four-back high rest in
     ap (λ (p : ℕ × List ℕ). (p.0 + 4294967296 * (read_four p.1).0, (read_four p.1).1)) e
     ∙ ap (λ (q : ℕ × List ℕ). (low + 4294967296 * q.0, q.1)) f
     ∙ ap (λ (m : ℕ). (m, rest)) (omega arith)
@@ -27,46 +27,46 @@ abbrev begins : (ℕ → Reads ℕ) → List ℕ → ℕ × List ℕ
 begins next bytes = next (read_byte bytes).0 (read_byte bytes).1
 
 -- a byte below 255 begins a short number
-begins_short : (wide : Reads ℕ) (first : ℕ) (rest : List ℕ) → first < 255 → begins (number_from wide) (first ∷ rest) ≡ read_short first rest
+begins-short : (wide : Reads ℕ) (first : ℕ) (rest : List ℕ) → first < 255 → begins (number_from wide) (first ∷ rest) ≡ read_short first rest
 unfolding read_byte
-begins_short wide first rest h = ap (λ (b : Bool). cond {A = Reads ℕ} b (read_short first) wide rest) (lt-ltb first 255 h)
+begins-short wide first rest h = ap (λ (b : Bool). cond {A = Reads ℕ} b (read_short first) wide rest) (lt-ltb first 255 h)
 
-short_back_when : (b : Bool) (wide : Reads ℕ) (n : ℕ) (rest : List ℕ) → n < 16128 → nat_lt n 192 ≡ b → begins (number_from wide) (short n ++ rest) ≡ (n, rest)
+short-back-when : (b : Bool) (wide : Reads ℕ) (n : ℕ) (rest : List ℕ) → n < 16128 → nat_lt n 192 ≡ b → begins (number_from wide) (short n ++ rest) ≡ (n, rest)
 unfolding read_short read_byte
-short_back_when true wide n rest h is =
+short-back-when true wide n rest h is =
     let small : n < 192 = ltb-true n 192 is in
     ap (λ (b : Bool). begins (number_from wide) (cond {A = List ℕ} b (n ∷ []) ((192 + n / 256) ∷ (n % 256) ∷ []) ++ rest)) is
-    ∙ begins_short wide n rest (omega arith)
+    ∙ begins-short wide n rest (omega arith)
     ∙ ap (λ (b : Bool). cond {A = Reads ℕ} b (λ bytes. (n, bytes)) (λ bytes. (256 * (n - 192) + (read_byte bytes).0, (read_byte bytes).1)) rest) is
-short_back_when false wide n rest h is =
+short-back-when false wide n rest h is =
     let first = 192 + n / 256 in
     let large : 192 ≤ first = omega arith in
     ap (λ (b : Bool). begins (number_from wide) (cond {A = List ℕ} b (n ∷ []) (first ∷ (n % 256) ∷ []) ++ rest)) is
-    ∙ begins_short wide first ((n % 256) ∷ rest) (omega arith)
+    ∙ begins-short wide first ((n % 256) ∷ rest) (omega arith)
     ∙ ap (λ (b : Bool). cond {A = Reads ℕ} b (λ bytes. (first, bytes)) (λ bytes. (256 * (first - 192) + (read_byte bytes).0, (read_byte bytes).1)) ((n % 256) ∷ rest)) (le-ltb first 192 large)
     ∙ ap (λ (m : ℕ). (m, rest)) (omega arith)
 
-number_back_when : (b : Bool) (spell : ℕ → List ℕ) (wide : Reads ℕ) → ((n : ℕ) (rest : List ℕ) → wide (spell n ++ rest) ≡ (n, rest))
+number-back-when : (b : Bool) (spell : ℕ → List ℕ) (wide : Reads ℕ) → ((n : ℕ) (rest : List ℕ) → wide (spell n ++ rest) ≡ (n, rest))
     → (n : ℕ) (rest : List ℕ) → nat_lt n 16128 ≡ b → begins (number_from wide) (number_in spell n ++ rest) ≡ (n, rest)
 unfolding read_byte
-number_back_when true spell wide back n rest is =
+number-back-when true spell wide back n rest is =
     ap (λ (b : Bool). begins (number_from wide) (cond {A = List ℕ} b (short n) (255 ∷ spell n) ++ rest)) is
-    ∙ short_back_when (nat_lt n 192) wide n rest (ltb-true n 16128 is) refl
-number_back_when false spell wide back n rest is =
+    ∙ short-back-when (nat_lt n 192) wide n rest (ltb-true n 16128 is) refl
+number-back-when false spell wide back n rest is =
     ap (λ (b : Bool). begins (number_from wide) (cond {A = List ℕ} b (short n) (255 ∷ spell n) ++ rest)) is
     ∙ back n rest
 
-number_back : (spell : ℕ → List ℕ) (wide : Reads ℕ) → ((n : ℕ) (rest : List ℕ) → wide (spell n ++ rest) ≡ (n, rest))
+number-back : (spell : ℕ → List ℕ) (wide : Reads ℕ) → ((n : ℕ) (rest : List ℕ) → wide (spell n ++ rest) ≡ (n, rest))
     → (n : ℕ) (rest : List ℕ) → begins (number_from wide) (number_in spell n ++ rest) ≡ (n, rest)
-number_back spell wide back n rest = number_back_when (nat_lt n 16128) spell wide back n rest refl
+number-back spell wide back n rest = number-back-when (nat_lt n 16128) spell wide back n rest refl
 
-pub read_number_back : (n : ℕ) (rest : List ℕ) → read_number (spell_number n ++ rest) ≡ (n, rest)
+pub read-number-back : (n : ℕ) (rest : List ℕ) → read_number (spell_number n ++ rest) ≡ (n, rest)
 unfolding read_number spell_number
-read_number_back = number_back four read_four four_back
+read-number-back = number-back four read_four four-back
 
-pub read_long_back : (n : ℕ) (rest : List ℕ) → read_long (spell_long n ++ rest) ≡ (n, rest)
+pub read-long-back : (n : ℕ) (rest : List ℕ) → read_long (spell_long n ++ rest) ≡ (n, rest)
 unfolding read_long spell_long
-read_long_back = number_back eight read_eight eight_back
+read-long-back = number-back eight read_eight eight-back
 
 -- ---- lists
 
@@ -75,28 +75,28 @@ module _ {A : Type 0} (spell : A → List ℕ) (read : Reads A) where
   abbrev pub ComesBack : A → Type 0
   ComesBack a = (rest : List ℕ) → read (spell a ++ rest) ≡ (a, rest)
 
-  pub item_back : (x : A) (xs : List A) (rest : List ℕ) → ComesBack x
+  pub item-back : (x : A) (xs : List A) (rest : List ℕ) → ComesBack x
       → read_items read (length xs) (flat_map spell xs ++ rest) ≡ (xs, rest)
       → read_items read (length (x ∷ xs)) (flat_map spell (x ∷ xs) ++ rest) ≡ (x ∷ xs, rest)
   unfolding read_items
-  item_back x xs rest back e =
+  item-back x xs rest back e =
       ap (read_items read (length (x ∷ xs))) (append_assoc (spell x) (flat_map spell xs) rest)
       ∙ ap (λ (p : A × List ℕ). (p.0 ∷ (read_items read (length xs) p.1).0, (read_items read (length xs) p.1).1)) (back (flat_map spell xs ++ rest))
       ∙ ap (λ (p : List A × List ℕ). (x ∷ p.0, p.1)) e
 
-  items_back : ((a : A) → ComesBack a) → (items : List A) (rest : List ℕ) → read_items read (length items) (flat_map spell items ++ rest) ≡ (items, rest)
+  items-back : ((a : A) → ComesBack a) → (items : List A) (rest : List ℕ) → read_items read (length items) (flat_map spell items ++ rest) ≡ (items, rest)
   unfolding read_items
-  items_back back [] rest = refl
-  items_back back (x ∷ xs) rest = item_back x xs rest (back x) (items_back back xs rest)
+  items-back back [] rest = refl
+  items-back back (x ∷ xs) rest = item-back x xs rest (back x) (items-back back xs rest)
 
   -- a list is read back where its items are
-  pub list_from_items : (items : List A) (rest : List ℕ) → read_items read (length items) (flat_map spell items ++ rest) ≡ (items, rest) → read_list read ((spell_long (length items) ++ flat_map spell items) ++ rest) ≡ (items, rest)
+  pub list-from-items : (items : List A) (rest : List ℕ) → read_items read (length items) (flat_map spell items ++ rest) ≡ (items, rest) → read_list read ((spell_long (length items) ++ flat_map spell items) ++ rest) ≡ (items, rest)
   unfolding read_list
-  list_from_items items rest e =
+  list-from-items items rest e =
       ap (read_list read) (append_assoc (spell_long (length items)) (flat_map spell items) rest)
-      ∙ ap (λ (p : ℕ × List ℕ). read_items read p.0 p.1) (read_long_back (length items) (flat_map spell items ++ rest))
+      ∙ ap (λ (p : ℕ × List ℕ). read_items read p.0 p.1) (read-long-back (length items) (flat_map spell items ++ rest))
       ∙ e
 
-  pub read_list_back : ((a : A) → ComesBack a) → (items : List A) (rest : List ℕ) → read_list read (spell_list spell items ++ rest) ≡ (items, rest)
+  pub read-list-back : ((a : A) → ComesBack a) → (items : List A) (rest : List ℕ) → read_list read (spell_list spell items ++ rest) ≡ (items, rest)
   unfolding spell_list
-  read_list_back back items rest = list_from_items items rest (items_back back items rest)
+  read-list-back back items rest = list-from-items items rest (items-back back items rest)

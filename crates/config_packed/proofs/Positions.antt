@@ -20,12 +20,12 @@ among-first path component components false is =
     ap (λ (b : Bool). option_and_then (λ c. first_position c.own.calls) (if b then Some component else find (λ c. bytes_eq c.itself.path.numbers path) components)) is
 
 -- the component that is read next has another path
-pub among_others : (path : List ℕ) (count turn : ℕ) (before after : List ℕ) (whole : Option ℕ)
+pub among-others : (path : List ℕ) (count turn : ℕ) (before after : List ℕ) (whole : Option ℕ)
     → turn < count → after ≡ (read_component before).1 → bytes_eq (read_component before).0.itself.path.numbers path ≡ false
     → whole ≡ position_among (read_items read_component (count - turn) before).0 path
     → whole ≡ position_among (read_items read_component (count - (turn + 1)) after).0 path
 unfolding read_items Among
-among_others path count turn before after whole h rest other e =
+among-others path count turn before after whole h rest other e =
     let k = count - (turn + 1) in
     let n : count - turn ≡ suc k = omega arith in
     e ∙ ap (λ m. position_among (read_items read_component m before).0 path) n
@@ -33,27 +33,27 @@ among_others path count turn before after whole h rest other e =
     ∙ ap (λ (bytes : List ℕ). position_among (read_items read_component k bytes).0 path) (sym rest)
 
 -- the component that is read next has the path
-pub among_found : (path : List ℕ) (count turn : ℕ) (before : List ℕ) (whole : Option ℕ)
+pub among-found : (path : List ℕ) (count turn : ℕ) (before : List ℕ) (whole : Option ℕ)
     → turn < count → bytes_eq (read_component before).0.itself.path.numbers path ≡ true
     → whole ≡ position_among (read_items read_component (count - turn) before).0 path
     → first_position (read_component before).0.own.calls ≡ whole
 unfolding read_items Among
-among_found path count turn before whole h same e =
+among-found path count turn before whole h same e =
     let k = count - (turn + 1) in
     let n : count - turn ≡ suc k = omega arith in
     sym (e ∙ ap (λ m. position_among (read_items read_component m before).0 path) n
     ∙ among-first path (read_component before).0 (read_items read_component k (read_component before).1).0 true same)
 
 -- no component has the path
-pub among_none : (path : List ℕ) (count turn : ℕ) (bytes : List ℕ) (whole : Option ℕ)
+pub among-none : (path : List ℕ) (count turn : ℕ) (bytes : List ℕ) (whole : Option ℕ)
     → turn ≡ count → whole ≡ position_among (read_items read_component (count - turn) bytes).0 path → None ≡ whole
 unfolding read_items
-among_none path count turn bytes whole h e =
+among-none path count turn bytes whole h e =
     let n : count - turn ≡ 0 = omega arith in
     sym (e ∙ ap (λ m. position_among (read_items read_component m bytes).0 path) n)
 
 -- the list of components is that which is read behind their number
-pub components_read : (path : List ℕ) (start before : List ℕ) (count : ℕ) → count ≡ (read_long start).0 → before ≡ (read_long start).1
+pub components-read : (path : List ℕ) (start before : List ℕ) (count : ℕ) → count ≡ (read_long start).0 → before ≡ (read_long start).1
     → position_among (read_items read_component count before).0 path ≡ position_among (read_list read_component start).0 path
 unfolding read_list
-components_read path start before count is behind = λ i. position_among (read_items read_component (is i) (behind i)).0 path
+components-read path start before count is behind = λ i. position_among (read_items read_component (is i) (behind i)).0 path

@@ -17,56 +17,56 @@ spell_of_field field = spell_field (option_map spell_value field)
 
 -- what the variants are spelled as
 
-pub spell_of_integer : (integer : ℤ) → spell_value (value.Integer integer) ≡ 0 ∷ spell_integer integer
+pub spell-of-integer : (integer : ℤ) → spell_value (value.Integer integer) ≡ 0 ∷ spell_integer integer
 unfolding spell_value
-spell_of_integer integer = ap spell_value (sym (value.rolls-Integer integer)) ∙ fold-roll-Value (List ℕ) spell_level (Value-F.Integer integer)
+spell-of-integer integer = ap spell_value (sym (value.rolls-Integer integer)) ∙ fold-roll-Value (List ℕ) spell_level (Value-F.Integer integer)
 
-pub spell_of_boolean : (truth : Bool) → spell_value (value.Boolean truth) ≡ (if truth then 2 else 1) ∷ []
+pub spell-of-boolean : (truth : Bool) → spell_value (value.Boolean truth) ≡ (if truth then 2 else 1) ∷ []
 unfolding spell_value
-spell_of_boolean truth = ap spell_value (sym (value.rolls-Boolean truth)) ∙ fold-roll-Value (List ℕ) spell_level (Value-F.Boolean truth)
+spell-of-boolean truth = ap spell_value (sym (value.rolls-Boolean truth)) ∙ fold-roll-Value (List ℕ) spell_level (Value-F.Boolean truth)
 
-pub spell_of_enumerated : (at name : ℕ) → spell_value (value.Enumerated at name) ≡ 3 ∷ (spell_long at ++ spell_long name)
+pub spell-of-enumerated : (at name : ℕ) → spell_value (value.Enumerated at name) ≡ 3 ∷ (spell_long at ++ spell_long name)
 unfolding spell_value
-spell_of_enumerated at name = ap spell_value (sym (value.rolls-Enumerated at name)) ∙ fold-roll-Value (List ℕ) spell_level (Value-F.Enumerated at name)
+spell-of-enumerated at name = ap spell_value (sym (value.rolls-Enumerated at name)) ∙ fold-roll-Value (List ℕ) spell_level (Value-F.Enumerated at name)
 
 -- a field of a level whose values are spelled
 abbrev spelled_field : Option Value → Option (List ℕ)
 spelled_field = former-Value-Record-1-at-1.map Value (List ℕ) (fold-Value (List ℕ) spell_level)
 
-field_of : (field : Option Value) → spell_field (spelled_field field) ≡ spell_of_field field
+field-of : (field : Option Value) → spell_field (spelled_field field) ≡ spell_of_field field
 unfolding spell_value
-field_of None = refl
-field_of (Some value) = refl
+field-of None = refl
+field-of (Some value) = refl
 
 fields_of : (fields : List (Option Value)) → flat_map spell_field (map spelled_field fields) ≡ flat_map spell_of_field fields
 fields_of [] = refl
-fields_of (field ∷ fields) = λ i. field_of field i ++ fields_of fields i
+fields_of (field ∷ fields) = λ i. field-of field i ++ fields_of fields i
 
-pub spell_of_record : (at : ℕ) (fields : List (Option Value)) → spell_value (value.Record at fields) ≡ 4 ∷ (spell_long at ++ (spell_long (length fields) ++ flat_map spell_of_field fields))
+pub spell-of-record : (at : ℕ) (fields : List (Option Value)) → spell_value (value.Record at fields) ≡ 4 ∷ (spell_long at ++ (spell_long (length fields) ++ flat_map spell_of_field fields))
 unfolding spell_value spell_list
-spell_of_record at fields =
+spell-of-record at fields =
     ap spell_value (sym (value.rolls-Record at fields))
     ∙ fold-roll-Value (List ℕ) spell_level (Value-F.Record at fields)
     ∙ (λ i. 4 ∷ (spell_long at ++ (spell_long (length-map fields spelled_field i) ++ fields_of fields i)))
 
-pub spell_of_component : (component : ComponentId) → spell_value (value.Component component) ≡ 5 ∷ spell_identity component
+pub spell-of-component : (component : ComponentId) → spell_value (value.Component component) ≡ 5 ∷ spell_identity component
 unfolding spell_value
-spell_of_component component = ap spell_value (sym (value.rolls-Component component)) ∙ fold-roll-Value (List ℕ) spell_level (Value-F.Component component)
+spell-of-component component = ap spell_value (sym (value.rolls-Component component)) ∙ fold-roll-Value (List ℕ) spell_level (Value-F.Component component)
 
-pub spell_of_default : (activation : ℕ) → spell_value (value.Default activation) ≡ 6 ∷ spell_number activation
+pub spell-of-default : (activation : ℕ) → spell_value (value.Default activation) ≡ 6 ∷ spell_number activation
 unfolding spell_value
-spell_of_default activation = ap spell_value (sym (value.rolls-Default activation)) ∙ fold-roll-Value (List ℕ) spell_level (Value-F.Default activation)
+spell-of-default activation = ap spell_value (sym (value.rolls-Default activation)) ∙ fold-roll-Value (List ℕ) spell_level (Value-F.Default activation)
 
-pub spell_of_null : spell_value value.Null ≡ 7 ∷ []
+pub spell-of-null : spell_value value.Null ≡ 7 ∷ []
 unfolding spell_value
-spell_of_null = ap spell_value (sym value.rolls-Null) ∙ fold-roll-Value (List ℕ) spell_level Value-F.Null
+spell-of-null = ap spell_value (sym value.rolls-Null) ∙ fold-roll-Value (List ℕ) spell_level Value-F.Null
 
-pub spell_of_omit : spell_value value.Omit ≡ 8 ∷ []
+pub spell-of-omit : spell_value value.Omit ≡ 8 ∷ []
 unfolding spell_value
-spell_of_omit = ap spell_value (sym value.rolls-Omit) ∙ fold-roll-Value (List ℕ) spell_level Value-F.Omit
+spell-of-omit = ap spell_value (sym value.rolls-Omit) ∙ fold-roll-Value (List ℕ) spell_level Value-F.Omit
 
 -- a record is put: its byte, its type, how many fields it has, and then they
-pub record_put : (thing : Value) (at count : ℕ) (fields items : List (Option Value)) (start tagged typed counted final : List ℕ) (i : ℕ)
+pub record-put : (thing : Value) (at count : ℕ) (fields items : List (Option Value)) (start tagged typed counted final : List ℕ) (i : ℕ)
     → thing ≡ value.Record at fields
     → tagged ≡ start ++ 4 ∷ []
     → typed ≡ tagged ++ spell_long at
@@ -76,5 +76,5 @@ pub record_put : (thing : Value) (at count : ℕ) (fields items : List (Option V
     → length items ≤ i
     → final ≡ counted ++ flat_map spell_of_field (take i items)
     → final ≡ start ++ spell_value thing
-record_put thing at count fields items start tagged typed counted final i is a b n d same h e =
-    rw (is, e, take_all i items h, same, d, n, b, a, spell_of_record at fields) (simp append_assoc)
+record-put thing at count fields items start tagged typed counted final i is a b n d same h e =
+    rw (is, e, take_all i items h, same, d, n, b, a, spell-of-record at fields) (simp append_assoc)

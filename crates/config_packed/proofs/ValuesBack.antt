@@ -3,8 +3,8 @@ use Rattle.std.proofs.Common.{◌≡◌, ℕ, zero, suc, ◌+◌, ◌*◌, ◌/�
 use Rattle.std.specs.List.{flat_map}
 use Rattle.config_packed.specs.Reading.{integer_of, read_byte, read_enumerated, read_field, read_identity, read_integer, read_items, read_list, read_number, read_path, read_record, read_value, read_value_within, value_from}
 use Rattle.config_packed.specs.Spelling.{number_of, spell_identity, spell_integer, spell_long, spell_number, spell_path, spell_value}
-use Rattle.config_packed.proofs.NumbersBack.{item_back, list_from_items, read_list_back, read_long_back, read_number_back}
-use Rattle.config_packed.proofs.Values.{spell_of_boolean, spell_of_component, spell_of_default, spell_of_enumerated, spell_of_field, spell_of_integer, spell_of_null, spell_of_omit, spell_of_record}
+use Rattle.config_packed.proofs.NumbersBack.{item-back, list-from-items, read-list-back, read-long-back, read-number-back}
+use Rattle.config_packed.proofs.Values.{spell-of-boolean, spell-of-component, spell-of-default, spell-of-enumerated, spell_of_field, spell-of-integer, spell-of-null, spell-of-omit, spell-of-record}
 use Rattle.value_types.specs.declared.path.Path.{Path}
 use Rattle.value_types.specs.declared.value.ComponentId.{ComponentId}
 use Rattle.value_types.specs.declared.value.Value.{Value, roll-Value}
@@ -15,29 +15,29 @@ use Rattle.value_types.specs.declared.value.Value.TheVariants as value
 
 -- ---- integers and the names of components
 
-integer_back : (z : ℤ) → integer_of (number_of z) ≡ z
-integer_back (pos n) =
+integer-back : (z : ℤ) → integer_of (number_of z) ≡ z
+integer-back (pos n) =
     let even : (2 * n) % 2 ≡ 0 = omega arith in
     let half : (2 * n) / 2 ≡ n = omega arith in
     ap (λ (r : ℕ). cond (nat_eq r 0) (pos ((2 * n) / 2)) (negsuc ((2 * n) / 2))) even ∙ ap pos half
-integer_back (negsuc n) =
+integer-back (negsuc n) =
     let odd : (2 * n + 1) % 2 ≡ 1 = omega arith in
     let half : (2 * n + 1) / 2 ≡ n = omega arith in
     ap (λ (r : ℕ). cond (nat_eq r 0) (pos ((2 * n + 1) / 2)) (negsuc ((2 * n + 1) / 2))) odd ∙ ap negsuc half
 
-pub read_integer_back : (z : ℤ) (rest : List ℕ) → read_integer (spell_integer z ++ rest) ≡ (z, rest)
+pub read-integer-back : (z : ℤ) (rest : List ℕ) → read_integer (spell_integer z ++ rest) ≡ (z, rest)
 unfolding read_integer spell_integer
-read_integer_back z rest =
-    ap (λ (p : ℕ × List ℕ). (integer_of p.0, p.1)) (read_long_back (number_of z) rest)
-    ∙ ap (λ (y : ℤ). (y, rest)) (integer_back z)
+read-integer-back z rest =
+    ap (λ (p : ℕ × List ℕ). (integer_of p.0, p.1)) (read-long-back (number_of z) rest)
+    ∙ ap (λ (y : ℤ). (y, rest)) (integer-back z)
 
-pub read_path_back : (path : Path) (rest : List ℕ) → read_path (spell_path path ++ rest) ≡ (path, rest)
+pub read-path-back : (path : Path) (rest : List ℕ) → read_path (spell_path path ++ rest) ≡ (path, rest)
 unfolding read_path spell_path
-read_path_back path rest = simp (read_list_back spell_number read_number read_number_back)
+read-path-back path rest = simp (read-list-back spell_number read_number read-number-back)
 
-pub read_identity_back : (component : ComponentId) (rest : List ℕ) → read_identity (spell_identity component ++ rest) ≡ (component, rest)
+pub read-identity-back : (component : ComponentId) (rest : List ℕ) → read_identity (spell_identity component ++ rest) ≡ (component, rest)
 unfolding read_identity spell_identity
-read_identity_back component rest = simp (append_assoc, read_path_back, read_long_back)
+read-identity-back component rest = simp (append_assoc, read-path-back, read-long-back)
 
 -- ---- values
 
@@ -46,34 +46,34 @@ abbrev ComesBackWithin : Value → Type 0
 ComesBackWithin v = (depth : ℕ) (rest : List ℕ) → length (spell_value v) ≤ depth → read_value_within depth (spell_value v ++ rest) ≡ (v, rest)
 
 -- so it is where what stands behind its first byte is read back
-behind_tag : (v : Value) (tag : ℕ) (bytes : List ℕ) → spell_value v ≡ tag ∷ bytes
+behind-tag : (v : Value) (tag : ℕ) (bytes : List ℕ) → spell_value v ≡ tag ∷ bytes
     → ((depth : ℕ) (rest : List ℕ) → length bytes ≤ depth → value_from (read_value_within depth) tag (bytes ++ rest) ≡ (v, rest))
     → ComesBackWithin v
 unfolding read_value_within read_byte
-behind_tag v tag bytes is back zero rest h = absurd (let e = ap length is in omega arith)
-behind_tag v tag bytes is back (suc depth) rest h =
+behind-tag v tag bytes is back zero rest h = absurd (let e = ap length is in omega arith)
+behind-tag v tag bytes is back (suc depth) rest h =
     ap (λ (spelled : List ℕ). read_value_within (suc depth) (spelled ++ rest)) is
     ∙ back depth rest (let e = ap length is in omega arith)
 
-integer_value_back : (z : ℤ) → ComesBackWithin (value.Integer z)
-integer_value_back z = behind_tag (value.Integer z) 0 (spell_integer z) (spell_of_integer z) (λ depth rest h. simp read_integer_back)
+integer-value-back : (z : ℤ) → ComesBackWithin (value.Integer z)
+integer-value-back z = behind-tag (value.Integer z) 0 (spell_integer z) (spell-of-integer z) (λ depth rest h. simp read-integer-back)
 
-boolean_value_back : (truth : Bool) → ComesBackWithin (value.Boolean truth)
-boolean_value_back true = behind_tag (value.Boolean true) 2 [] (spell_of_boolean true) (λ depth rest h. refl)
-boolean_value_back false = behind_tag (value.Boolean false) 1 [] (spell_of_boolean false) (λ depth rest h. refl)
+boolean-value-back : (truth : Bool) → ComesBackWithin (value.Boolean truth)
+boolean-value-back true = behind-tag (value.Boolean true) 2 [] (spell-of-boolean true) (λ depth rest h. refl)
+boolean-value-back false = behind-tag (value.Boolean false) 1 [] (spell-of-boolean false) (λ depth rest h. refl)
 
-enumerated_back : (at name : ℕ) (rest : List ℕ) → read_enumerated ((spell_long at ++ spell_long name) ++ rest) ≡ (value.Enumerated at name, rest)
+enumerated-back : (at name : ℕ) (rest : List ℕ) → read_enumerated ((spell_long at ++ spell_long name) ++ rest) ≡ (value.Enumerated at name, rest)
 unfolding read_enumerated
-enumerated_back at name rest = simp (append_assoc, read_long_back)
+enumerated-back at name rest = simp (append_assoc, read-long-back)
 
-enumerated_value_back : (at name : ℕ) → ComesBackWithin (value.Enumerated at name)
-enumerated_value_back at name = behind_tag (value.Enumerated at name) 3 (spell_long at ++ spell_long name) (spell_of_enumerated at name) (λ depth rest h. enumerated_back at name rest)
+enumerated-value-back : (at name : ℕ) → ComesBackWithin (value.Enumerated at name)
+enumerated-value-back at name = behind-tag (value.Enumerated at name) 3 (spell_long at ++ spell_long name) (spell-of-enumerated at name) (λ depth rest h. enumerated-back at name rest)
 
-component_value_back : (component : ComponentId) → ComesBackWithin (value.Component component)
-component_value_back component = behind_tag (value.Component component) 5 (spell_identity component) (spell_of_component component) (λ depth rest h. simp read_identity_back)
+component-value-back : (component : ComponentId) → ComesBackWithin (value.Component component)
+component-value-back component = behind-tag (value.Component component) 5 (spell_identity component) (spell-of-component component) (λ depth rest h. simp read-identity-back)
 
-default_value_back : (activation : ℕ) → ComesBackWithin (value.Default activation)
-default_value_back activation = behind_tag (value.Default activation) 6 (spell_number activation) (spell_of_default activation) (λ depth rest h. simp read_number_back)
+default-value-back : (activation : ℕ) → ComesBackWithin (value.Default activation)
+default-value-back activation = behind-tag (value.Default activation) 6 (spell_number activation) (spell-of-default activation) (λ depth rest h. simp read-number-back)
 
 -- ---- records
 
@@ -84,30 +84,30 @@ Held = (v : Value) × ComesBackWithin v
 abbrev bare_field : Option Held → Option Value
 bare_field = former-Value-Record-1-at-1.map Held Value (λ h. h.0)
 
-field_back : (depth : ℕ) (field : Option Held) (rest : List ℕ) → length (spell_of_field (bare_field field)) ≤ depth
+field-back : (depth : ℕ) (field : Option Held) (rest : List ℕ) → length (spell_of_field (bare_field field)) ≤ depth
     → read_field (read_value_within depth) (spell_of_field (bare_field field) ++ rest) ≡ (bare_field field, rest)
 unfolding read_field read_byte
-field_back depth None rest h = refl
-field_back depth (Some held) rest h = ap (λ (p : Value × List ℕ). (Some p.0, p.1)) (held.1 depth rest (omega arith))
+field-back depth None rest h = refl
+field-back depth (Some held) rest h = ap (λ (p : Value × List ℕ). (Some p.0, p.1)) (held.1 depth rest (omega arith))
 
-fields_back : (depth : ℕ) (fields : List (Option Held)) (rest : List ℕ) → length (flat_map spell_of_field (map bare_field fields)) ≤ depth
+fields-back : (depth : ℕ) (fields : List (Option Held)) (rest : List ℕ) → length (flat_map spell_of_field (map bare_field fields)) ≤ depth
     → read_items (read_field (read_value_within depth)) (length (map bare_field fields)) (flat_map spell_of_field (map bare_field fields) ++ rest) ≡ (map bare_field fields, rest)
 unfolding read_items
-fields_back depth [] rest h = refl
-fields_back depth (field ∷ fields) rest h =
+fields-back depth [] rest h = refl
+fields-back depth (field ∷ fields) rest h =
     let first = spell_of_field (bare_field field) in
     let others = flat_map spell_of_field (map bare_field fields) in
     let whole : length (first ++ others) ≤ depth = h in
     let all = length-append first others in
-    item_back spell_of_field (read_field (read_value_within depth)) (bare_field field) (map bare_field fields) rest
-    (λ behind. field_back depth field behind (omega arith))
-    (fields_back depth fields rest (omega arith))
+    item-back spell_of_field (read_field (read_value_within depth)) (bare_field field) (map bare_field fields) rest
+    (λ behind. field-back depth field behind (omega arith))
+    (fields-back depth fields rest (omega arith))
 
-record_back : (depth at : ℕ) (fields : List (Option Held)) (rest : List ℕ)
+record-back : (depth at : ℕ) (fields : List (Option Held)) (rest : List ℕ)
     → length (spell_long at ++ (spell_long (length (map bare_field fields)) ++ flat_map spell_of_field (map bare_field fields))) ≤ depth
     → read_record (read_value_within depth) ((spell_long at ++ (spell_long (length (map bare_field fields)) ++ flat_map spell_of_field (map bare_field fields))) ++ rest) ≡ (value.Record at (map bare_field fields), rest)
 unfolding read_record
-record_back depth at fields rest h =
+record-back depth at fields rest h =
     let xs = map bare_field fields in
     let each = flat_map spell_of_field xs in
     let listed = spell_long (length xs) ++ each in
@@ -115,27 +115,27 @@ record_back depth at fields rest h =
     let one = length-append (spell_long at) listed in
     let two = length-append (spell_long (length xs)) each in
     ap (read_record (read_value_within depth)) (append_assoc (spell_long at) listed rest)
-    ∙ ap (λ (p : ℕ × List ℕ). (value.Record p.0 (read_list read p.1).0, (read_list read p.1).1)) (read_long_back at (listed ++ rest))
-    ∙ ap (λ (p : List (Option Value) × List ℕ). (value.Record at p.0, p.1)) (list_from_items spell_of_field read xs rest (fields_back depth fields rest (omega arith)))
+    ∙ ap (λ (p : ℕ × List ℕ). (value.Record p.0 (read_list read p.1).0, (read_list read p.1).1)) (read-long-back at (listed ++ rest))
+    ∙ ap (λ (p : List (Option Value) × List ℕ). (value.Record at p.0, p.1)) (list-from-items spell_of_field read xs rest (fields-back depth fields rest (omega arith)))
 
-record_value_back : (at : ℕ) (fields : List (Option Held)) → ComesBackWithin (value.Record at (map bare_field fields))
-record_value_back at fields =
-    behind_tag (value.Record at (map bare_field fields)) 4 (spell_long at ++ (spell_long (length (map bare_field fields)) ++ flat_map spell_of_field (map bare_field fields))) (spell_of_record at (map bare_field fields))
-    (λ depth rest h. record_back depth at fields rest h)
+record-value-back : (at : ℕ) (fields : List (Option Held)) → ComesBackWithin (value.Record at (map bare_field fields))
+record-value-back at fields =
+    behind-tag (value.Record at (map bare_field fields)) 4 (spell_long at ++ (spell_long (length (map bare_field fields)) ++ flat_map spell_of_field (map bare_field fields))) (spell-of-record at (map bare_field fields))
+    (λ depth rest h. record-back depth at fields rest h)
 
-level_back : (x : Value-F Held) → ComesBackWithin (roll-Value (map-Value Held Value (λ h. h.0) x))
-level_back (Value-F.Integer z) = subst ComesBackWithin (sym (value.rolls-Integer z)) (integer_value_back z)
-level_back (Value-F.Boolean truth) = subst ComesBackWithin (sym (value.rolls-Boolean truth)) (boolean_value_back truth)
-level_back (Value-F.Enumerated at name) = subst ComesBackWithin (sym (value.rolls-Enumerated at name)) (enumerated_value_back at name)
-level_back (Value-F.Record at fields) = subst ComesBackWithin (sym (value.rolls-Record at (map bare_field fields))) (record_value_back at fields)
-level_back (Value-F.Component component) = subst ComesBackWithin (sym (value.rolls-Component component)) (component_value_back component)
-level_back (Value-F.Default activation) = subst ComesBackWithin (sym (value.rolls-Default activation)) (default_value_back activation)
-level_back Value-F.Null = subst ComesBackWithin (sym value.rolls-Null) (behind_tag value.Null 7 [] spell_of_null (λ depth rest h. refl))
-level_back Value-F.Omit = subst ComesBackWithin (sym value.rolls-Omit) (behind_tag value.Omit 8 [] spell_of_omit (λ depth rest h. refl))
+level-back : (x : Value-F Held) → ComesBackWithin (roll-Value (map-Value Held Value (λ h. h.0) x))
+level-back (Value-F.Integer z) = subst ComesBackWithin (sym (value.rolls-Integer z)) (integer-value-back z)
+level-back (Value-F.Boolean truth) = subst ComesBackWithin (sym (value.rolls-Boolean truth)) (boolean-value-back truth)
+level-back (Value-F.Enumerated at name) = subst ComesBackWithin (sym (value.rolls-Enumerated at name)) (enumerated-value-back at name)
+level-back (Value-F.Record at fields) = subst ComesBackWithin (sym (value.rolls-Record at (map bare_field fields))) (record-value-back at fields)
+level-back (Value-F.Component component) = subst ComesBackWithin (sym (value.rolls-Component component)) (component-value-back component)
+level-back (Value-F.Default activation) = subst ComesBackWithin (sym (value.rolls-Default activation)) (default-value-back activation)
+level-back Value-F.Null = subst ComesBackWithin (sym value.rolls-Null) (behind-tag value.Null 7 [] spell-of-null (λ depth rest h. refl))
+level-back Value-F.Omit = subst ComesBackWithin (sym value.rolls-Omit) (behind-tag value.Omit 8 [] spell-of-omit (λ depth rest h. refl))
 
-value_back : (v : Value) → ComesBackWithin v
-value_back = ind-Value ComesBackWithin (λ x y is-bare. subst (λ (w : Value-F Value). ComesBackWithin (roll-Value w)) is-bare (level_back y))
+value-back : (v : Value) → ComesBackWithin v
+value-back = ind-Value ComesBackWithin (λ x y is-bare. subst (λ (w : Value-F Value). ComesBackWithin (roll-Value w)) is-bare (level-back y))
 
-pub read_value_back : (v : Value) (rest : List ℕ) → read_value (spell_value v ++ rest) ≡ (v, rest)
+pub read-value-back : (v : Value) (rest : List ℕ) → read_value (spell_value v ++ rest) ≡ (v, rest)
 unfolding read_value
-read_value_back v rest = value_back v (length (spell_value v ++ rest)) rest (omega (arith, length-append (spell_value v) rest))
+read-value-back v rest = value-back v (length (spell_value v ++ rest)) rest (omega (arith, length-append (spell_value v) rest))

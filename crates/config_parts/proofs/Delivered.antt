@@ -1,5 +1,5 @@
 -- What comes in at system ports by slots comes in by their names.
-use Rattle.std.proofs.Common.{◌≡◌, ℕ, ◌+◌, Bor, Bool, true, false, List, [], ◌∷◌, ◌++◌, map, Option, None, Some, option_map, cond, bytes_eq, nat_eq, refl, sym, ap, ◌∙◌, if◌then◌else◌}
+use Rattle.std.proofs.Common.{◌≡◌, ℕ, ◌+◌, Bor, Bool, true, false, List, [], ◌∷◌, ◌++◌, Option, None, Some, option_map, cond, bytes_eq, nat_eq, refl, sym, ap, ◌∙◌, if◌then◌else◌}
 use Rattle.std.specs.List.{find}
 use Rattle.std.specs.Option.{unwrap_or}
 use Rattle.semantics.specs.Configurations as rules

@@ -1,5 +1,5 @@
 -- What expires by slots expires by the names.
-use Rattle.std.proofs.Common.{◌≡◌, ℕ, zero, suc, ◌+◌, ◌-◌, ◌<◌, ◌≤◌, Bool, true, false, ◌&&◌, List, [], ◌∷◌, map, length, Option, None, Some, Result, Ok, Err, cond, nat_eq, bytes_eq, get_or, refl, sym, ap, arith, subst, ◌∙◌, if◌then◌else◌}
+use Rattle.std.proofs.Common.{◌≡◌, ℕ, zero, suc, ◌+◌, ◌-◌, ◌<◌, ◌≤◌, Bool, true, false, ◌&&◌, List, [], ◌∷◌, map, length, Option, None, Some, Result, Ok, Err, cond, nat_eq, bytes_eq, get_or, refl, sym, ap, arith, ◌∙◌, if◌then◌else◌}
 use Rattle.std.specs.List.{find}
 use Rattle.std.specs.Option.{SomeIff, option_and_then, option_map}
 use Rattle.std.proofs.lemmas.Bool.{eqb-false, eqb-true, ne_eqb}
@@ -10,7 +10,7 @@ use Rattle.semantics.specs.Snapshots.{Test}
 use Rattle.semantics.specs.Steps as steps
 use Rattle.semantics.specs.Storing as storing
 use Rattle.config_parts.specs.Acts.{DoesStep, HasPathsInOrder}
-use Rattle.config_parts.specs.Legend.{IsLegend, Legend, component_by, data_by, entries_by, frame_by, frame_with, going_by, state_by}
+use Rattle.config_parts.specs.Legend.{IsLegend, Legend, component_by, data_by, entries_by, frame_by, going_by, state_by}
 use Rattle.config_parts.specs.internal.Changes as kept
 use Rattle.config_parts.specs.internal.Expiries.{DoesOrNot, expired_above, expired_at, expired_found, expired_of, is_of_slot, is_running_state, may_expire, place_above, runs_above, runs_found, runs_in, runs_of, with_expired}
 use Rattle.config_parts.specs.internal.Stored.{with_members, with_timer}
@@ -23,7 +23,7 @@ use Rattle.config_parts.specs.declared.frame.Data.{Data}
 use Rattle.config_parts.specs.declared.frame.Frame.{Frame}
 use Rattle.config_parts.proofs.Applied.{find-by, touch-by}
 use Rattle.config_parts.proofs.Named.{same-name}
-use Rattle.config_parts.proofs.Stored.{put-by, timer-alike}
+use Rattle.config_parts.proofs.Stored.{timer-alike}
 use Rattle.config_parts.proofs.Touching.{path-is}
 use Rattle.value_types.specs.Frames.{entry, is_running}
 use Rattle.value_types.specs.Outcomes.{Outcome, Yields}

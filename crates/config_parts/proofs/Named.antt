@@ -10,7 +10,6 @@ use Rattle.semantics.specs.Configurations.{path_cmp, same_path}
 use Rattle.semantics.specs.Steps as steps
 use Rattle.config_parts.specs.Legend.{IsLegend, Legend, connection_by, end_by, message_by, queue_by}
 use Rattle.config_parts.specs.internal.Changes as kept
-use Rattle.config_parts.specs.internal.Changes.{change_first}
 use Rattle.config_parts.specs.internal.Ends as ends
 use Rattle.config_parts.specs.declared.component.Message.{Message}
 use Rattle.config_parts.specs.declared.component.Queue.{Queue}

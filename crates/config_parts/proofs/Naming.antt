@@ -1,6 +1,5 @@
 -- Names in order make a legend.
-use Rattle.std.proofs.Common.{◌≡◌, ℕ, zero, suc, ◌+◌, ◌-◌, ◌==◌, ◌<◌, Bool, true, false, List, [], ◌∷◌, ◌++◌, length, Option, Some, slice_get, cond, nat_lt, refl, sym, ap, arith, subst, ◌∙◌}
-use Rattle.std.specs.List.{AllPairs}
+use Rattle.std.proofs.Common.{◌≡◌, ℕ, zero, suc, ◌+◌, ◌-◌, ◌==◌, ◌<◌, Bool, true, false, List, [], ◌∷◌, ◌++◌, length, Some, slice_get, cond, nat_lt, refl, sym, ap, arith, subst, ◌∙◌}
 use Rattle.std.specs.Ordering.{nat_cmp, ordering_reverse, ordering_then}
 use Rattle.std.specs.declared.cmp.Ordering.{Ordering}
 use Rattle.std.specs.declared.cmp.Ordering.TheVariants.{Less, Equal, Greater}
@@ -87,5 +86,5 @@ name-there before [] slot less = absurd (omega (arith, less))
 name-there before (name ∷ names) zero less = refl
 name-there before (name ∷ names) (suc slot) less = name-there name names slot (omega (arith, less))
 
-pub are_names : (lists : List (List Item)) (names : List (List ℕ)) → AreNames (legend_of lists names) names
-are_names lists names slot less = name-there [] names slot less
+pub are-names : (lists : List (List Item)) (names : List (List ℕ)) → AreNames (legend_of lists names) names
+are-names lists names slot less = name-there [] names slot less

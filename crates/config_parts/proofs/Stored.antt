@@ -1,14 +1,13 @@
 -- What is stored by slots is stored by their names.
-use Rattle.std.proofs.Common.{◌≡◌, ℕ, zero, suc, Bool, true, false, not, List, [], ◌∷◌, ◌++◌, map, Option, None, Some, nat_eq, bytes_eq, get_or, refl, sym, ap, ◌∙◌, if◌then◌else◌}
+use Rattle.std.proofs.Common.{◌≡◌, ℕ, zero, suc, Bool, true, false, not, List, [], ◌∷◌, ◌++◌, map, Option, None, Some, nat_eq, get_or, refl, sym, ap, ◌∙◌, if◌then◌else◌}
 use Rattle.std.specs.List as lists
-use Rattle.std.specs.List.{filter}
 use Rattle.std.specs.Option.{option_map}
 use Rattle.std.specs.Ordering.{is_eq, is_le, match_ordering, nat_cmp}
 use Rattle.std.specs.declared.cmp.Ordering.{Ordering}
 use Rattle.std.specs.declared.cmp.Ordering.TheVariants.{Less, Equal, Greater}
 use Rattle.std.proofs.lemmas.Bool.{eq-eqb, eqb-true}
 use Rattle.semantics.specs.Configurations as rules
-use Rattle.semantics.specs.Entries.{Entries, name_cmp}
+use Rattle.semantics.specs.Entries.{Entries}
 use Rattle.semantics.specs.Entries as entries
 use Rattle.semantics.specs.Items.{Item}
 use Rattle.semantics.specs.Storing as storing

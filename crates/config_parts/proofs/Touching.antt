@@ -32,21 +32,21 @@ other-than true p q r first less is =
     absurd (not-before-itself p (subst (λ x. path_cmp p x ≡ Less) (path-is q r is ∙ sym (path-is p r first)) less))
 
 -- what is done at the components with a path
-abbrev pub at_path : Path → (rules.Component → rules.Component) → rules.Component → rules.Component
-at_path path change component = if same_path (path_of component) path then change component else component
+abbrev pub at-path : Path → (rules.Component → rules.Component) → rules.Component → rules.Component
+at-path path change component = if same_path (path_of component) path then change component else component
 
 none-at : (legend : Legend) (p : Path) (change : rules.Component → rules.Component) (cs : List Component) → All (λ q. same_path q p ≡ false) (paths cs)
-    → map (at_path p change) (map (component_by legend) cs) ≡ map (component_by legend) cs
+    → map (at-path p change) (map (component_by legend) cs) ≡ map (component_by legend) cs
 none-at legend p change [] all = refl
 none-at legend p change (c ∷ cs) all =
-    ap (λ b. (if b then change (component_by legend c) else component_by legend c) ∷ map (at_path p change) (map (component_by legend) cs))
+    ap (λ b. (if b then change (component_by legend c) else component_by legend c) ∷ map (at-path p change) (map (component_by legend) cs))
     (All-head (λ q. same_path q p ≡ false) c.itself.path (paths cs) all)
     ∙ ap (λ xs. component_by legend c ∷ xs) (none-at legend p change cs (All-tail (λ q. same_path q p ≡ false) c.itself.path (paths cs) all))
 
 first-at : (legend : Legend) (p : Path) (f : Component → Component) (g : rules.Component → rules.Component) → ((x : Component) → component_by legend (f x) ≡ g (component_by legend x))
     → (b : Bool) (c : Component) (cs : List Component) → same_path c.itself.path p ≡ b → All (λ q. path_cmp c.itself.path q ≡ Less) (paths cs)
-    → map (component_by legend) (change_first (is_of p) f cs) ≡ map (at_path p g) (map (component_by legend) cs)
-    → map (component_by legend) (if b then f c ∷ cs else c ∷ change_first (is_of p) f cs) ≡ (if b then g (component_by legend c) else component_by legend c) ∷ map (at_path p g) (map (component_by legend) cs)
+    → map (component_by legend) (change_first (is_of p) f cs) ≡ map (at-path p g) (map (component_by legend) cs)
+    → map (component_by legend) (if b then f c ∷ cs else c ∷ change_first (is_of p) f cs) ≡ (if b then g (component_by legend c) else component_by legend c) ∷ map (at-path p g) (map (component_by legend) cs)
 first-at legend p f g alike true c cs is before rest =
     ap (λ x. x ∷ map (component_by legend) cs) (alike c)
     ∙ ap (λ xs. g (component_by legend c) ∷ xs)
@@ -55,7 +55,7 @@ first-at legend p f g alike true c cs is before rest =
 first-at legend p f g alike false c cs is before rest = ap (λ xs. component_by legend c ∷ xs) rest
 
 pub changes-by : (legend : Legend) (p : Path) (f : Component → Component) (g : rules.Component → rules.Component) → ((x : Component) → component_by legend (f x) ≡ g (component_by legend x))
-    → (cs : List Component) → Ascend cs → map (component_by legend) (change_first (is_of p) f cs) ≡ map (at_path p g) (map (component_by legend) cs)
+    → (cs : List Component) → Ascend cs → map (component_by legend) (change_first (is_of p) f cs) ≡ map (at-path p g) (map (component_by legend) cs)
 changes-by legend p f g alike [] ascend = refl
 changes-by legend p f g alike (c ∷ cs) ascend =
     first-at legend p f g alike (same_path c.itself.path p) c cs refl

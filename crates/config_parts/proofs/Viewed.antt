@@ -1,5 +1,5 @@
 -- What is read by slots is read by names, and the components that run are those that a snapshot says to run.
-use Rattle.std.proofs.Common.{◌≡◌, ℕ, ◌<◌, Bor, Bool, true, false, ◌||◌, List, [], ◌∷◌, map, length, Option, None, Some, slice_get, cond, refl, sym, ap, subst, ◌∙◌}
+use Rattle.std.proofs.Common.{◌≡◌, ℕ, ◌<◌, Bor, Bool, true, false, ◌||◌, List, [], ◌∷◌, map, length, None, Some, cond, refl, sym, ap, ◌∙◌}
 use Rattle.std.specs.List.{All, cons_option, filter, find, list_any}
 use Rattle.std.specs.Option.{option_map}
 use Rattle.std.specs.declared.cmp.Ordering.TheVariants.{Less}
@@ -85,12 +85,12 @@ none-runs p (c ∷ cs) all =
     (none-runs p cs (All-tail (λ q. same_path q p ≡ false) c.itself.path (paths cs) all))
 
 -- what a snapshot says of a path
-abbrev runs_said : Legend → Path → List Component → Bool
-runs_said legend p cs =
+abbrev runs-said : Legend → Path → List Component → Bool
+runs-said legend p cs =
     holds rules.is_running_state (option_map {T = Path × rules.State} (λ e. e.1) (find (λ e. same_path e.0 p) (map (λ c. (path_of c, c.state)) (map (component_by legend) cs))))
 
 said-first : (legend : Legend) (b r : Bool) (p : Path) (c : Component) (cs : List Component) → same_path c.itself.path p ≡ b → is_running_state c.state ≡ r
-    → All (λ q. path_cmp c.itself.path q ≡ Less) (paths cs) → runs_among p cs ≡ runs_said legend p cs
+    → All (λ q. path_cmp c.itself.path q ≡ Less) (paths cs) → runs_among p cs ≡ runs-said legend p cs
     → list_any (λ q. same_path p q) (map (λ x. x.itself.path) (cond r (c ∷ filter (λ x. is_running_state x.state) cs) (filter (λ x. is_running_state x.state) cs)))
     ≡ holds rules.is_running_state (option_map {T = Path × rules.State} (λ e. e.1) (cond b (Some (c.itself.path, state_by c.state)) (find (λ e. same_path e.0 p) (map (λ c. (path_of c, c.state)) (map (component_by legend) cs)))))
 said-first legend true true p c cs e is before below =
@@ -102,7 +102,7 @@ said-first legend true false p c cs e is before below =
 said-first legend false true p c cs e is before below = ap (λ b. b || runs_among p cs) (same-way p c.itself.path ∙ e) ∙ below
 said-first legend false false p c cs e is before below = below
 
-said-by : (legend : Legend) (p : Path) (cs : List Component) → Ascend cs → runs_among p cs ≡ runs_said legend p cs
+said-by : (legend : Legend) (p : Path) (cs : List Component) → Ascend cs → runs_among p cs ≡ runs-said legend p cs
 said-by legend p [] ascend = refl
 said-by legend p (c ∷ cs) ascend =
     said-first legend (same_path c.itself.path p) (is_running_state c.state) p c cs refl refl

@@ -1,6 +1,6 @@
 -- Changes keep slots that have names.
 use Rattle.std.proofs.Common.{◌≡◌, ℕ, ◌+◌, ◌<◌, length, refl, IfOk, Bool, true, false, ◌&&◌, not, nat_eq, List, [], ◌∷◌, Option, None, Some, Result, Ok, Err, cond, is_some, sym, ap, subst, ◌∙◌, if◌then◌else◌}
-use Rattle.std.specs.List.{All, filter, find}
+use Rattle.std.specs.List.{All, find}
 use Rattle.std.specs.Option.{option_map}
 use Rattle.std.specs.Ordering.{match_ordering, nat_cmp}
 use Rattle.std.specs.declared.cmp.Ordering.{Ordering}
@@ -29,7 +29,6 @@ use Rattle.config_parts.specs.declared.frame.Data.{Data}
 use Rattle.config_parts.specs.declared.frame.Frame.{Frame}
 use Rattle.config_parts.proofs.Stored.{put-twice}
 use Rattle.value_types.specs.declared.fault.Fault.{Fault}
-use Rattle.value_types.specs.declared.fault.Fault.TheVariants.{Dynamic, Memory}
 use Rattle.value_types.specs.declared.frame.TimerState.{TimerState}
 use Rattle.value_types.specs.declared.frame.TimerState.TheVariants as timer
 use Rattle.value_types.specs.declared.path.Path.{Path}

@@ -1,6 +1,6 @@
 -- What expressions read of a component, as the code keeps it.
-use Rattle.std.specs.Prelude.{◌≡◌, ◌<◌, ℕ, Bool, List, map, length, get_or, [], Some, slice_get}
-use Rattle.std.specs.List.{All, filter, list_any}
+use Rattle.std.specs.Prelude.{◌≡◌, ◌<◌, ℕ, List, map, length, [], Some, slice_get}
+use Rattle.std.specs.List.{All, filter}
 use Rattle.semantics.specs.Snapshots.{View}
 use Rattle.config_parts.specs.Legend.{Legend, entries_by}
 use Rattle.config_parts.specs.declared.act.Act.{Act}

@@ -18,44 +18,44 @@ Ordered R [] = Unit {0}
 Ordered R (x ∷ xs) = Each (R x) xs × Ordered R xs
 
 module _ {A : Type 0} where
-  pub each_weaker : (P Q : A → Type 0) → ((x : A) → P x → Q x) → (xs : List A) → Each P xs → Each Q xs
-  each_weaker P Q f [] h = tt
-  each_weaker P Q f (x ∷ xs) h = (f x h.0, each_weaker P Q f xs h.1)
+  pub each-weaker : (P Q : A → Type 0) → ((x : A) → P x → Q x) → (xs : List A) → Each P xs → Each Q xs
+  each-weaker P Q f [] h = tt
+  each-weaker P Q f (x ∷ xs) h = (f x h.0, each-weaker P Q f xs h.1)
 
-  pub each_in : (P : A → Type 0) (xs : List A) → Each P xs → (x : A) → In x xs → P x
-  each_in P [] h x i = absurd i
-  each_in P (y ∷ ys) h x (inl e) = subst P e h.0
-  each_in P (y ∷ ys) h x (inr i) = each_in P ys h.1 x i
+  pub each-in : (P : A → Type 0) (xs : List A) → Each P xs → (x : A) → In x xs → P x
+  each-in P [] h x i = absurd i
+  each-in P (y ∷ ys) h x (inl e) = subst P e h.0
+  each-in P (y ∷ ys) h x (inr i) = each-in P ys h.1 x i
 
-  pub each_from_in : (P : A → Type 0) (xs : List A) → ((x : A) → In x xs → P x) → Each P xs
-  each_from_in P [] f = tt
-  each_from_in P (x ∷ xs) f = (f x (inl refl), each_from_in P xs (λ y i. f y (inr i)))
+  pub each-from-in : (P : A → Type 0) (xs : List A) → ((x : A) → In x xs → P x) → Each P xs
+  each-from-in P [] f = tt
+  each-from-in P (x ∷ xs) f = (f x (inl refl), each-from-in P xs (λ y i. f y (inr i)))
 
-  pub each_append : (P : A → Type 0) (xs ys : List A) → Each P xs → Each P ys → Each P (xs ++ ys)
-  each_append P [] ys h k = k
-  each_append P (x ∷ xs) ys h k = (h.0, each_append P xs ys h.1 k)
+  pub each-append : (P : A → Type 0) (xs ys : List A) → Each P xs → Each P ys → Each P (xs ++ ys)
+  each-append P [] ys h k = k
+  each-append P (x ∷ xs) ys h k = (h.0, each-append P xs ys h.1 k)
 
-  pub in_left : (xs ys : List A) (x : A) → In x xs → In x (xs ++ ys)
-  in_left [] ys x i = absurd i
-  in_left (z ∷ xs) ys x (inl e) = inl e
-  in_left (z ∷ xs) ys x (inr i) = inr (in_left xs ys x i)
+  pub in-left : (xs ys : List A) (x : A) → In x xs → In x (xs ++ ys)
+  in-left [] ys x i = absurd i
+  in-left (z ∷ xs) ys x (inl e) = inl e
+  in-left (z ∷ xs) ys x (inr i) = inr (in-left xs ys x i)
 
-  pub in_right : (xs ys : List A) (x : A) → In x ys → In x (xs ++ ys)
-  in_right [] ys x i = i
-  in_right (z ∷ xs) ys x i = inr (in_right xs ys x i)
+  pub in-right : (xs ys : List A) (x : A) → In x ys → In x (xs ++ ys)
+  in-right [] ys x i = i
+  in-right (z ∷ xs) ys x i = inr (in-right xs ys x i)
 
-  pub in_cases : (xs ys : List A) (x : A) → In x (xs ++ ys) → In x xs ⊎ In x ys
-  in_cases [] ys x i = inr i
-  in_cases (z ∷ xs) ys x (inl e) = inl (inl e)
-  in_cases (z ∷ xs) ys x (inr i) = ⊎_elim (λ h. inl (inr h)) (λ h. inr h) (in_cases xs ys x i)
+  pub in-cases : (xs ys : List A) (x : A) → In x (xs ++ ys) → In x xs ⊎ In x ys
+  in-cases [] ys x i = inr i
+  in-cases (z ∷ xs) ys x (inl e) = inl (inl e)
+  in-cases (z ∷ xs) ys x (inr i) = ⊎_elim (λ h. inl (inr h)) (λ h. inr h) (in-cases xs ys x i)
 
   pub in_last : (xs : List A) (x : A) → In x (xs ++ x ∷ [])
-  in_last xs x = in_right xs (x ∷ []) x (inl refl)
+  in_last xs x = in-right xs (x ∷ []) x (inl refl)
 
-  pub in_contains : (xs : List A) (x : A) → In x xs → Contains xs x
-  in_contains [] x i = absurd i
-  in_contains (y ∷ ys) x (inl e) = (0, omega arith, e)
-  in_contains (y ∷ ys) x (inr i) = let h = in_contains ys x i in (suc h.0, omega (arith, h.1), h.2)
+  pub in-contains : (xs : List A) (x : A) → In x xs → Contains xs x
+  in-contains [] x i = absurd i
+  in-contains (y ∷ ys) x (inl e) = (0, omega arith, e)
+  in-contains (y ∷ ys) x (inr i) = let h = in-contains ys x i in (suc h.0, omega (arith, h.1), h.2)
 
   pub contains_in : (xs : List A) (x : A) → Contains xs x → In x xs
   contains_in [] x c = absurd (omega (arith, c.1))
@@ -65,77 +65,77 @@ module _ {A : Type 0} where
       go zero h e rest = inl e
       go (suc k) h e rest = inr (rest (k, omega arith, e))
 
-  pub in_map : {B : Type 0} (f : A → B) (xs : List A) (x : A) → In x xs → In (f x) (map f xs)
-  in_map f [] x i = absurd i
-  in_map f (y ∷ ys) x (inl e) = inl (ap f e)
-  in_map f (y ∷ ys) x (inr i) = inr (in_map f ys x i)
+  pub in-map : {B : Type 0} (f : A → B) (xs : List A) (x : A) → In x xs → In (f x) (map f xs)
+  in-map f [] x i = absurd i
+  in-map f (y ∷ ys) x (inl e) = inl (ap f e)
+  in-map f (y ∷ ys) x (inr i) = inr (in-map f ys x i)
 
-  pub from_map : {B : Type 0} (f : A → B) (xs : List A) (y : B) → In y (map f xs) → (x : A) × In x xs × (f x ≡ y)
-  from_map f [] y i = absurd i
-  from_map f (x ∷ xs) y (inl e) = (x, inl refl, e)
-  from_map f (x ∷ xs) y (inr i) = let h = from_map f xs y i in (h.0, inr h.1, h.2)
+  pub from-map : {B : Type 0} (f : A → B) (xs : List A) (y : B) → In y (map f xs) → (x : A) × In x xs × (f x ≡ y)
+  from-map f [] y i = absurd i
+  from-map f (x ∷ xs) y (inl e) = (x, inl refl, e)
+  from-map f (x ∷ xs) y (inr i) = let h = from-map f xs y i in (h.0, inr h.1, h.2)
 
-  pub ordered_last : (R : A → A → Type 0) (xs : List A) (y : A) → Ordered R xs → Each (λ x. R x y) xs → Ordered R (xs ++ y ∷ [])
-  ordered_last R [] y o e = (tt, tt)
-  ordered_last R (x ∷ xs) y o e = (each_append (R x) xs (y ∷ []) o.0 (e.0, tt), ordered_last R xs y o.1 e.1)
+  pub ordered-last : (R : A → A → Type 0) (xs : List A) (y : A) → Ordered R xs → Each (λ x. R x y) xs → Ordered R (xs ++ y ∷ [])
+  ordered-last R [] y o e = (tt, tt)
+  ordered-last R (x ∷ xs) y o e = (each-append (R x) xs (y ∷ []) o.0 (e.0, tt), ordered-last R xs y o.1 e.1)
 
-  pub ordered_append : (R : A → A → Type 0) (xs ys : List A) → Ordered R xs → Ordered R ys → Each (λ x. Each (R x) ys) xs → Ordered R (xs ++ ys)
-  ordered_append R [] ys o p e = p
-  ordered_append R (x ∷ xs) ys o p e = (each_append (R x) xs ys o.0 e.0, ordered_append R xs ys o.1 p e.1)
+  pub ordered-append : (R : A → A → Type 0) (xs ys : List A) → Ordered R xs → Ordered R ys → Each (λ x. Each (R x) ys) xs → Ordered R (xs ++ ys)
+  ordered-append R [] ys o p e = p
+  ordered-append R (x ∷ xs) ys o p e = (each-append (R x) xs ys o.0 e.0, ordered-append R xs ys o.1 p e.1)
 
-  pub each_get : (P : A → Type 0) (xs : List A) (k : ℕ) (d : A) → Each P xs → k < length xs → P (get_or xs k d)
-  each_get P [] k d e h = absurd (omega arith)
-  each_get P (x ∷ xs) zero d e h = e.0
-  each_get P (x ∷ xs) (suc k) d e h = each_get P xs k d e.1 (omega arith)
+  pub each-get : (P : A → Type 0) (xs : List A) (k : ℕ) (d : A) → Each P xs → k < length xs → P (get_or xs k d)
+  each-get P [] k d e h = absurd (omega arith)
+  each-get P (x ∷ xs) zero d e h = e.0
+  each-get P (x ∷ xs) (suc k) d e h = each-get P xs k d e.1 (omega arith)
 
-  pub pairs_from_ordered : (R : A → A → Type 0) (xs : List A) → Ordered R xs → AllPairs R xs
-  pairs_from_ordered R [] o = λ i j d h k. absurd (omega arith)
-  pairs_from_ordered R (x ∷ xs) o = go (pairs_from_ordered R xs o.1)
+  pub pairs-from-ordered : (R : A → A → Type 0) (xs : List A) → Ordered R xs → AllPairs R xs
+  pairs-from-ordered R [] o = λ i j d h k. absurd (omega arith)
+  pairs-from-ordered R (x ∷ xs) o = go (pairs-from-ordered R xs o.1)
     where
       go : AllPairs R xs → (i j : ℕ) (d : A) → i < j → j < length (x ∷ xs) → R (get_or (x ∷ xs) i d) (get_or (x ∷ xs) j d)
       go rest i zero d h k = absurd (omega arith)
-      go rest zero (suc j) d h k = each_get (R x) xs j d o.0 (omega arith)
+      go rest zero (suc j) d h k = each-get (R x) xs j d o.0 (omega arith)
       go rest (suc i) (suc j) d h k = rest i j d (omega arith) (omega arith)
 
-  pub ordered_from_pairs : (R : A → A → Type 0) (xs : List A) → AllPairs R xs → Ordered R xs
-  ordered_from_pairs R [] p = tt
-  ordered_from_pairs R (x ∷ xs) p = (behind xs (λ k d h. p 0 (suc k) d (omega arith) (omega arith)), ordered_from_pairs R xs (λ i j d h k. p (suc i) (suc j) d (omega arith) (omega arith)))
+  pub ordered-from-pairs : (R : A → A → Type 0) (xs : List A) → AllPairs R xs → Ordered R xs
+  ordered-from-pairs R [] p = tt
+  ordered-from-pairs R (x ∷ xs) p = (behind xs (λ k d h. p 0 (suc k) d (omega arith) (omega arith)), ordered-from-pairs R xs (λ i j d h k. p (suc i) (suc j) d (omega arith) (omega arith)))
     where
       behind : (ys : List A) → ((k : ℕ) (d : A) → k < length ys → R x (get_or ys k d)) → Each (R x) ys
       behind [] f = tt
       behind (y ∷ ys) f = (f 0 y (omega arith), behind ys (λ k d h. f (suc k) d (omega arith)))
 
-  pub each_all : (P : A → Type 0) (xs : List A) → Each P xs → All P xs
-  each_all P xs e = λ k d h. each_get P xs k d e h
+  pub each-all : (P : A → Type 0) (xs : List A) → Each P xs → All P xs
+  each-all P xs e = λ k d h. each-get P xs k d e h
 
-  pub all_each : (P : A → Type 0) (xs : List A) → All P xs → Each P xs
-  all_each P [] a = tt
-  all_each P (x ∷ xs) a = (a 0 x (omega arith), all_each P xs (λ k d h. a (suc k) d (omega arith)))
+  pub all-each : (P : A → Type 0) (xs : List A) → All P xs → Each P xs
+  all-each P [] a = tt
+  all-each P (x ∷ xs) a = (a 0 x (omega arith), all-each P xs (λ k d h. a (suc k) d (omega arith)))
 
   -- what a test finds
-  pub any_found : (p : A → Bool) (xs : List A) → list_any p xs ≡ true → (x : A) × In x xs × (p x ≡ true)
-  any_found p [] h = cc
-  any_found p (x ∷ xs) h = go (any_found p xs) (p x) refl h
+  pub any-found : (p : A → Bool) (xs : List A) → list_any p xs ≡ true → (x : A) × In x xs × (p x ≡ true)
+  any-found p [] h = cc
+  any-found p (x ∷ xs) h = go (any-found p xs) (p x) refl h
     where
       go : (list_any p xs ≡ true → (y : A) × In y xs × (p y ≡ true)) → (b : Bool) → p x ≡ b → (b || list_any p xs) ≡ true → (y : A) × In y (x ∷ xs) × (p y ≡ true)
       go rest true e k = (x, inl refl, e)
       go rest false e k = let found = rest k in (found.0, inr found.1, found.2)
 
   -- what no test finds
-  pub any_none : (p : A → Bool) (xs : List A) → list_any p xs ≡ false → Each (λ x. p x ≡ false) xs
-  any_none p [] h = tt
-  any_none p (x ∷ xs) h = go (any_none p xs) (p x) refl h
+  pub any-none : (p : A → Bool) (xs : List A) → list_any p xs ≡ false → Each (λ x. p x ≡ false) xs
+  any-none p [] h = tt
+  any-none p (x ∷ xs) h = go (any-none p xs) (p x) refl h
     where
       go : (list_any p xs ≡ false → Each (λ y. p y ≡ false) xs) → (b : Bool) → p x ≡ b → (b || list_any p xs) ≡ false → (p x ≡ false) × Each (λ y. p y ≡ false) xs
       go rest true e k = absurd (false≢true (sym k))
       go rest false e k = (e, rest k)
 
-pub in_flat_map : {A B : Type 0} (f : A → List B) (xs : List A) (x : A) (y : B) → In x xs → In y (f x) → In y (flat_map f xs)
-in_flat_map f [] x y i k = absurd i
-in_flat_map f (z ∷ xs) x y (inl e) k = in_left (f z) (flat_map f xs) y (subst (λ w. In y (f w)) (sym e) k)
-in_flat_map f (z ∷ xs) x y (inr i) k = in_right (f z) (flat_map f xs) y (in_flat_map f xs x y i k)
+pub in-flat-map : {A B : Type 0} (f : A → List B) (xs : List A) (x : A) (y : B) → In x xs → In y (f x) → In y (flat_map f xs)
+in-flat-map f [] x y i k = absurd i
+in-flat-map f (z ∷ xs) x y (inl e) k = in-left (f z) (flat_map f xs) y (subst (λ w. In y (f w)) (sym e) k)
+in-flat-map f (z ∷ xs) x y (inr i) k = in-right (f z) (flat_map f xs) y (in-flat-map f xs x y i k)
 
-pub from_flat_map : {A B : Type 0} (f : A → List B) (xs : List A) (y : B) → In y (flat_map f xs) → (x : A) × In x xs × In y (f x)
-from_flat_map f [] y i = absurd i
-from_flat_map f (x ∷ xs) y i =
-    ⊎_elim (λ h. (x, inl refl, h)) (λ h. let k = from_flat_map f xs y h in (k.0, inr k.1, k.2)) (in_cases (f x) (flat_map f xs) y i)
+pub from-flat-map : {A B : Type 0} (f : A → List B) (xs : List A) (y : B) → In y (flat_map f xs) → (x : A) × In x xs × In y (f x)
+from-flat-map f [] y i = absurd i
+from-flat-map f (x ∷ xs) y i =
+    ⊎_elim (λ h. (x, inl refl, h)) (λ h. let k = from-flat-map f xs y h in (k.0, inr k.1, k.2)) (in-cases (f x) (flat_map f xs) y i)

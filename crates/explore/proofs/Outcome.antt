@@ -13,12 +13,12 @@ use Rattle.search_layer.specs.declared.visited.Step.{Step}
 use Rattle.explore.specs.Best.{IsBestOf}
 use Rattle.search_layer.specs.internal.Search.{Found, found_after, as_found}
 use Rattle.explore.specs.internal.Tied.{run_at, GoBack, AreLastSteps, IsFirstMarked, IsKept}
-use Rattle.explore.proofs.Lists.{Each, In, each_in, each_from_in, each_all, all_each, in_left, in_cases, in_map, from_map}
+use Rattle.explore.proofs.Lists.{Each, In, each-in, each-from-in, each-all, all-each, in-left, in-cases, in-map, from-map}
 use Rattle.explore.proofs.Visits.{IsLawful, visits}
-use Rattle.explore.proofs.Covering.{AreVisited, are_visited, Covers, covers, covers_more}
-use Rattle.explore.proofs.Conclusions.{counts, complete_if, quiet_if, best, none_best}
-use Rattle.explore.proofs.Sums.{IsLeast, sum_is}
-use Rattle.explore.proofs.Ties.{IsLeastAbove, Part, IsTiedAfter, tied_after, least_is, drop_front}
+use Rattle.explore.proofs.Covering.{AreVisited, are-visited, Covers, covers, covers-more}
+use Rattle.explore.proofs.Conclusions.{counts, complete-if, quiet-if, best, none-best}
+use Rattle.explore.proofs.Sums.{IsLeast, sum-is}
+use Rattle.explore.proofs.Ties.{IsLeastAbove, Part, IsTiedAfter, tied-after, least-is, drop-front}
 
 -- a list at one of its places
 split_at : {A : Type 0} (xs : List A) (k : ℕ) (d : A) → k < length xs → xs ≡ take k xs ++ get_or xs k d ∷ drop (suc k) xs
@@ -29,13 +29,13 @@ split_at (x ∷ xs) (suc k) d h = ap (λ ys. x ∷ ys) (split_at xs k d (omega a
 module _ {C L S : Type 0} (g : Graph C L) (cmp : L → L → Ordering) (eq : C → C → Bool) (F : C → Type 0) (lawful : IsLawful g cmp eq F)
     (j : Join S) (r : Observation C L S) (laws : IsSemilattice j) (n : ℕ) where
   visited : AreVisited g cmp eq F lawful n (visits g eq n).old (visits g eq n).layer
-  visited = are_visited g cmp eq F lawful n
+  visited = are-visited g cmp eq F lawful n
 
   covered : Covers g cmp eq F lawful n ((visits g eq n).old ++ (visits g eq n).layer)
   covered = covers g cmp eq F lawful n (visits g eq n).old (visits g eq n).layer visited
 
   tied : IsTiedAfter j r laws g eq (visits g eq n) (found_after g j r eq n)
-  tied = tied_after j r laws g eq n
+  tied = tied-after j r laws g eq n
 
   -- more found than the limit is more reached than the limit
   pub too_many : (limit : ℕ) → limit < length (found_after g j r eq n).states → (count : ℕ) × Counts g n count × (limit < count)
@@ -49,72 +49,72 @@ module _ {C L S : Type 0} (g : Graph C L) (cmp : L → L → Ordering) (eq : C �
     states_are : states ≡ map (end_of g) ((visits g eq n).old ++ (visits g eq n).layer)
     states_are = ap (λ (f : Found C L S). f.states) is ∙ tied.tied.states_are
 
-    last_steps : AreLastSteps ((visits g eq n).old ++ (visits g eq n).layer) steps
-    last_steps = subst (AreLastSteps ((visits g eq n).old ++ (visits g eq n).layer)) (sym (ap (λ (f : Found C L S). f.steps) is)) tied.tied.steps_are
+    last-steps : AreLastSteps ((visits g eq n).old ++ (visits g eq n).layer) steps
+    last-steps = subst (AreLastSteps ((visits g eq n).old ++ (visits g eq n).layer)) (sym (ap (λ (f : Found C L S). f.steps) is)) tied.tied.steps_are
 
-    layer_is : drop from states ≡ map (end_of g) (visits g eq n).layer
-    layer_is = (λ i. drop ((ap (λ (f : Found C L S). f.from) is ∙ tied.from_is) i) (states_are i)) ∙ drop_front j r laws g eq (visits g eq n).old (visits g eq n).layer
+    layer-is : drop from states ≡ map (end_of g) (visits g eq n).layer
+    layer-is = (λ i. drop ((ap (λ (f : Found C L S). f.from) is ∙ tied.from_is) i) (states_are i)) ∙ drop-front j r laws g eq (visits g eq n).old (visits g eq n).layer
 
-    pub go_back : GoBack steps
-    go_back = last_steps.back
+    pub go-back : GoBack steps
+    go-back = last-steps.back
 
     pub as_many : length steps ≡ length states
-    as_many = last_steps.as_many ∙ sym (ap length states_are ∙ length-map ((visits g eq n).old ++ (visits g eq n).layer) (end_of g))
+    as_many = last-steps.as_many ∙ sym (ap length states_are ∙ length-map ((visits g eq n).old ++ (visits g eq n).layer) (end_of g))
 
-    pub count_is : Counts g n (length states)
-    count_is = subst (λ xs. Counts g n (length xs)) (sym states_are) (counts g cmp eq F lawful n ((visits g eq n).old ++ (visits g eq n).layer) covered)
+    pub count-is : Counts g n (length states)
+    count-is = subst (λ xs. Counts g n (length xs)) (sym states_are) (counts g cmp eq F lawful n ((visits g eq n).old ++ (visits g eq n).layer) covered)
 
-    quiet_runs : All (λ c. g.enabled c ≡ []) (drop from states) → Each (λ v. g.enabled (end_of g v) ≡ []) (visits g eq n).layer
-    quiet_runs q =
-        let each = all_each (λ c. g.enabled c ≡ []) (map (end_of g) (visits g eq n).layer) (subst (All (λ c. g.enabled c ≡ [])) layer_is q) in
-        each_from_in (λ v. g.enabled (end_of g v) ≡ []) (visits g eq n).layer (λ v i. each_in (λ c. g.enabled c ≡ []) (map (end_of g) (visits g eq n).layer) each (end_of g v) (in_map (end_of g) (visits g eq n).layer v i))
+    quiet-runs : All (λ c. g.enabled c ≡ []) (drop from states) → Each (λ v. g.enabled (end_of g v) ≡ []) (visits g eq n).layer
+    quiet-runs q =
+        let each = all-each (λ c. g.enabled c ≡ []) (map (end_of g) (visits g eq n).layer) (subst (All (λ c. g.enabled c ≡ [])) layer-is q) in
+        each-from-in (λ v. g.enabled (end_of g v) ≡ []) (visits g eq n).layer (λ v i. each-in (λ c. g.enabled c ≡ []) (map (end_of g) (visits g eq n).layer) each (end_of g v) (in-map (end_of g) (visits g eq n).layer v i))
 
-    pub complete_is : All (λ c. g.enabled c ≡ []) (drop from states) ↔ IsComplete g n
-    complete_is = (
-      λ q. complete_if g cmp eq F lawful n (visits g eq n).old (visits g eq n).layer visited (quiet_runs q),
+    pub complete-is : All (λ c. g.enabled c ≡ []) (drop from states) ↔ IsComplete g n
+    complete-is = (
+      λ q. complete-if g cmp eq F lawful n (visits g eq n).old (visits g eq n).layer visited (quiet-runs q),
       λ c.
-          let quiet = quiet_if g cmp eq F lawful n (visits g eq n).old (visits g eq n).layer visited c in
-          subst (All (λ c. g.enabled c ≡ [])) (sym layer_is)
-          (each_all (λ c. g.enabled c ≡ []) (map (end_of g) (visits g eq n).layer) (each_from_in (λ c. g.enabled c ≡ []) (map (end_of g) (visits g eq n).layer) (λ c i.
-          let v = from_map (end_of g) (visits g eq n).layer c i in
-          subst (λ d. g.enabled d ≡ []) v.2 (each_in (λ w. g.enabled (end_of g w) ≡ []) (visits g eq n).layer quiet v.0 v.1)))),
+          let quiet = quiet-if g cmp eq F lawful n (visits g eq n).old (visits g eq n).layer visited c in
+          subst (All (λ c. g.enabled c ≡ [])) (sym layer-is)
+          (each-all (λ c. g.enabled c ≡ []) (map (end_of g) (visits g eq n).layer) (each-from-in (λ c. g.enabled c ≡ []) (map (end_of g) (visits g eq n).layer) (λ c i.
+          let v = from-map (end_of g) (visits g eq n).layer c i in
+          subst (λ d. g.enabled d ≡ []) v.2 (each-in (λ w. g.enabled (end_of g w) ≡ []) (visits g eq n).layer quiet v.0 v.1)))),
     )
 
     least : IsLeast g j r laws ((visits g eq n).old ++ (visits g eq n).layer) (visits g eq n).old summary
-    least = least_is j r laws g ((visits g eq n).old ++ (visits g eq n).layer) (visits g eq n).old summary
+    least = least-is j r laws g ((visits g eq n).old ++ (visits g eq n).layer) (visits g eq n).old summary
         (subst (IsLeastAbove j r laws (Part j r laws g ((visits g eq n).old ++ (visits g eq n).layer) (visits g eq n).old)) (sym (ap (λ (f : Found C L S). f.summary) is)) tied.tied.summary_is)
 
-    old_within : (v : Run L) → In v (visits g eq n).old → In v ((visits g eq n).old ++ (visits g eq n).layer) × (steps_of v < n)
-    old_within v i = (in_left (visits g eq n).old (visits g eq n).layer v i, each_in (λ w. steps_of w < n) (visits g eq n).old visited.old_short v i)
+    old-within : (v : Run L) → In v (visits g eq n).old → In v ((visits g eq n).old ++ (visits g eq n).layer) × (steps_of v < n)
+    old-within v i = (in-left (visits g eq n).old (visits g eq n).layer v i, each-in (λ w. steps_of w < n) (visits g eq n).old visited.old_short v i)
 
     pub summary_is : summary ≡ sum_of g j r n
     summary_is =
-        sum_is g j r laws cmp eq F lawful n ((visits g eq n).old ++ (visits g eq n).layer) (visits g eq n).old summary covered least
-        (λ v i lt l e. elim (in_cases (visits g eq n).old (visits g eq n).layer v i) [
+        sum-is g j r laws cmp eq F lawful n ((visits g eq n).old ++ (visits g eq n).layer) (visits g eq n).old summary covered least
+        (λ v i lt l e. elim (in-cases (visits g eq n).old (visits g eq n).layer v i) [
           | inl a ↦ a
-          | inr b ↦ let long : steps_of v ≡ n = each_in (λ w. steps_of w ≡ n) (visits g eq n).layer visited.layer_long v b in absurd (omega arith)
+          | inr b ↦ let long : steps_of v ≡ n = each-in (λ w. steps_of w ≡ n) (visits g eq n).layer visited.layer_long v b in absurd (omega arith)
         ])
-        old_within
+        old-within
 
     -- where the last layer is quiet, all that is said of n steps holds of more
     pub every_bound : All (λ c. g.enabled c ≡ []) (drop from states) → (m : ℕ) → n ≤ m → (summary ≡ sum_of g j r m) × Counts g m (length states)
     every_bound q m le =
-        let quiet = quiet_runs q in
-        let more = covers_more g cmp eq F lawful n m (visits g eq n).old (visits g eq n).layer visited le quiet in (
-          sum_is g j r laws cmp eq F lawful m ((visits g eq n).old ++ (visits g eq n).layer) (visits g eq n).old summary more least
-              (λ v i lt l e. elim (in_cases (visits g eq n).old (visits g eq n).layer v i) [
+        let quiet = quiet-runs q in
+        let more = covers-more g cmp eq F lawful n m (visits g eq n).old (visits g eq n).layer visited le quiet in (
+          sum-is g j r laws cmp eq F lawful m ((visits g eq n).old ++ (visits g eq n).layer) (visits g eq n).old summary more least
+              (λ v i lt l e. elim (in-cases (visits g eq n).old (visits g eq n).layer v i) [
                 | inl a ↦ a
-                | inr b ↦ absurd (subst (In l) (each_in (λ w. g.enabled (end_of g w) ≡ []) (visits g eq n).layer quiet v b) e)
+                | inr b ↦ absurd (subst (In l) (each-in (λ w. g.enabled (end_of g w) ≡ []) (visits g eq n).layer quiet v b) e)
               ])
-              (λ v i. let o = old_within v i in (o.0, omega (arith, o.1))),
+              (λ v i. let o = old-within v i in (o.0, omega (arith, o.1))),
           subst (λ xs. Counts g m (length xs)) (sym states_are) (counts g cmp eq F lawful m ((visits g eq n).old ++ (visits g eq n).layer) more),
         )
 
     -- the state at a place is where the run at the place ends
-    state_at : (runs : List (Run L)) (k : ℕ) (d : C) → k < length runs → get_or (map (end_of g) runs) k d ≡ end_of g (run_at runs k)
-    state_at [] k d h = absurd (omega arith)
-    state_at (v ∷ vs) zero d h = refl
-    state_at (v ∷ vs) (suc k) d h = state_at vs k d (omega arith)
+    state-at : (runs : List (Run L)) (k : ℕ) (d : C) → k < length runs → get_or (map (end_of g) runs) k d ≡ end_of g (run_at runs k)
+    state-at [] k d h = absurd (omega arith)
+    state-at (v ∷ vs) zero d h = refl
+    state-at (v ∷ vs) (suc k) d h = state-at vs k d (omega arith)
 
     unmarked : (mark : ℕ) (runs : List (Run L)) (k : ℕ) → k ≤ length runs → ((i : ℕ) (d : C) → i < k → g.mark (get_or (map (end_of g) runs) i d) ≢ Some mark)
         → Each (λ w. g.mark (end_of g w) ≢ Some mark) (take k runs)
@@ -122,13 +122,13 @@ module _ {C L S : Type 0} (g : Graph C L) (cmp : L → L → Ordering) (eq : C �
     unmarked mark [] (suc k) h f = tt
     unmarked mark (v ∷ vs) (suc k) h f = (f 0 (end_of g v) (omega arith), unmarked mark vs k (omega arith) (λ i d lt. f (suc i) d (omega arith)))
 
-    pub best_is : (mark : ℕ) (o : Option (Vec L Global)) → IsKept g states steps mark o → IsBestOf g cmp n mark o
-    best_is mark None k =
-        let each = all_each (λ c. g.mark c ≢ Some mark) (map (end_of g) ((visits g eq n).old ++ (visits g eq n).layer)) (subst (All (λ c. g.mark c ≢ Some mark)) states_are k) in
-        none_best g cmp eq F lawful n mark ((visits g eq n).old ++ (visits g eq n).layer) covered
-        (each_from_in (λ w. g.mark (end_of g w) ≢ Some mark) ((visits g eq n).old ++ (visits g eq n).layer)
-        (λ w i. each_in (λ c. g.mark c ≢ Some mark) (map (end_of g) ((visits g eq n).old ++ (visits g eq n).layer)) each (end_of g w) (in_map (end_of g) ((visits g eq n).old ++ (visits g eq n).layer) w i)))
-    best_is mark (Some labels) k =
+    pub best-is : (mark : ℕ) (o : Option (Vec L Global)) → IsKept g states steps mark o → IsBestOf g cmp n mark o
+    best-is mark None k =
+        let each = all-each (λ c. g.mark c ≢ Some mark) (map (end_of g) ((visits g eq n).old ++ (visits g eq n).layer)) (subst (All (λ c. g.mark c ≢ Some mark)) states_are k) in
+        none-best g cmp eq F lawful n mark ((visits g eq n).old ++ (visits g eq n).layer) covered
+        (each-from-in (λ w. g.mark (end_of g w) ≢ Some mark) ((visits g eq n).old ++ (visits g eq n).layer)
+        (λ w i. each-in (λ c. g.mark c ≢ Some mark) (map (end_of g) ((visits g eq n).old ++ (visits g eq n).layer)) each (end_of g w) (in-map (end_of g) ((visits g eq n).old ++ (visits g eq n).layer) w i)))
+    best-is mark (Some labels) k =
         let runs = (visits g eq n).old ++ (visits g eq n).layer in
         let place = k.0 in
         let first : IsFirstMarked g mark (map (end_of g) runs) place = subst (λ xs. IsFirstMarked g mark xs place) states_are k.1 in
@@ -138,6 +138,6 @@ module _ {C L S : Type 0} (g : Graph C L) (cmp : L → L → Ordering) (eq : C �
           best g cmp eq F lawful n mark (take place runs) (run_at runs place) (drop (suc place) runs)
               (subst (Covers g cmp eq F lawful n) split covered)
               (unmarked mark runs place (omega arith) first.first)
-              (sym (ap g.mark (state_at runs place g.first within)) ∙ first.marked g.first),
-          k.2 runs last_steps,
+              (sym (ap g.mark (state-at runs place g.first within)) ∙ first.marked g.first),
+          k.2 runs last-steps,
         )

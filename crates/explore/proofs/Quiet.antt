@@ -21,8 +21,8 @@ module _ {C : Type 0} (P : C → Type 0) (states : List C) (from at : ℕ) (le :
       ap (λ (s : C). take (at - from) (drop from states) ++ s ∷ []) (sym (here state is)) ∙ sym (take_more (drop from states) (at - from) state (within state is)) ∙ ap (λ k. take k (drop from states)) n in
       subst (All P) split (All-push P (take (at - from) (drop from states)) state all holds)
 
-  pub of_all : (state : C) → slice_get states at ≡ Some state → All P (drop from states) → P state
-  of_all state is all = subst P (here state is) (All-get_or P (drop from states) (at - from) state (within state is) all)
+  pub of-all : (state : C) → slice_get states at ≡ Some state → All P (drop from states) → P state
+  of-all state is all = subst P (here state is) (All-get_or P (drop from states) (at - from) state (within state is) all)
 
-  pub in_all : length states ≤ at → All P (take (at - from) (drop from states)) → All P (drop from states)
-  in_all end all = subst (All P) (take_all (at - from) (drop from states) (let l = length-drop from states in omega arith)) all
+  pub in-all : length states ≤ at → All P (take (at - from) (drop from states)) → All P (drop from states)
+  in-all end all = subst (All P) (take_all (at - from) (drop from states) (let l = length-drop from states in omega arith)) all

@@ -9,14 +9,14 @@ use Rattle.check_scope.specs.Names.{Entry}
 use Rattle.check_scope.specs.contracts.names.Meaning.{enum as meaning_enum}
 use Rattle.check_scope.specs.contracts.names.MeaningPartialEq.TheImpl as meanings
 use Rattle.check_scope.specs.contracts.types.DataType.{enum as type_enum}
-use Rattle.check_scope.specs.contracts.types.DataTypePartialEq.TheImpl as types
+use Rattle.check_scope.specs.contracts.types.DataTypePartialEq.TheImpl as derived
 use Rattle.check_scope.specs.declared.names.Meaning.{Meaning}
 use Rattle.check_scope.specs.declared.names.Meaning.TheVariants as meaning
 use Rattle.check_scope.specs.declared.types.DataType.{DataType}
 use Rattle.check_scope.specs.declared.types.DataType.TheVariants as type
 use Rattle.syntax_equality.specs.Equality.{IsOne, OneAt, last, list_one, more, name_one, none, number_one, option_one, tests_of, variant_one}
 
-type_at : (a : DataType) → OneAt type_enum.parts (tests_of type_enum (types.ghosts).eq) (type_enum.as_values a)
+type_at : (a : DataType) → OneAt type_enum.parts (tests_of type_enum (derived.ghosts).eq) (type_enum.as_values a)
 type_at type.Integer = none
 type_at type.Boolean = none
 type_at type.Default = none
@@ -24,8 +24,8 @@ type_at (type.Record at) = last (number_one at)
 type_at (type.Enumerated at) = last (number_one at)
 type_at (type.Component at) = last (number_one at)
 
-pub type_one : (a : DataType) → IsOne DataType (types.ghosts).eq a
-type_one a = variant_one type_enum (tests_of type_enum (types.ghosts).eq) a (type_at a)
+pub type_one : (a : DataType) → IsOne DataType (derived.ghosts).eq a
+type_one a = variant_one type_enum (tests_of type_enum (derived.ghosts).eq) a (type_at a)
 
 meaning_at : (a : Meaning) → OneAt meaning_enum.parts (tests_of meaning_enum (meanings.ghosts).eq) (meaning_enum.as_values a)
 meaning_at (meaning.Record at) = last (number_one at)
@@ -58,7 +58,7 @@ entry_one a b h = let p = and_parts _ _ h in λ i. (name_one a.0 b.0 p.0 i, mean
 same_number : (n : ℕ) → nat_eq n n ≡ true
 same_number n = eq-eqb n n refl
 
-type_itself : (a : DataType) → (types.ghosts).eq a a ≡ true
+type_itself : (a : DataType) → (derived.ghosts).eq a a ≡ true
 type_itself type.Integer = refl
 type_itself type.Boolean = refl
 type_itself type.Default = refl

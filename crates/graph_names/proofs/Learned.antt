@@ -1,6 +1,6 @@
 -- What is known of names that were added one by one.
 use Rattle.std.proofs.Common.{◌≡◌, refl, sym, ap, subst, ◌∙◌, ℕ, zero, suc, ◌+◌, ◌<◌, ◌≤◌, Bool, true, false, ◌||◌, List, [], ◌∷◌, ◌++◌, map, length, get_or, slice_get, drop, slice_index_or, Option, Some, None, Result, Ok, Err, is_some, true≢false, bytes_eq, if◌then◌else◌, arith, inl, inr}
-use Rattle.std.proofs.lemmas.List.{append-nil, drop_all}
+use Rattle.std.proofs.lemmas.List.{drop_all}
 use Rattle.std.proofs.lemmas.List.Elements.{Contains-append_left, Contains-append_right, Contains-append_cases}
 use Rattle.std.proofs.lemmas.Map.Views.{Contains-from_any}
 use Rattle.std.specs.Cmp.Lexicographic.{nat_list_eq_equiv}
@@ -102,8 +102,8 @@ know-all names (name ∷ more) other h = elim (Contains-append_cases (name ∷ [
     alone name other zero below is = is
     alone name other (suc k) below is = absurd (omega (arith, below))
 
-some_is : {X : Type 0} {a b : X} → ◌≡◌ {A = Option X} (Some a) (Some b) → a ≡ b
-some_is {a = a} h = ap (λ o. elim o as (λ _. _) [ None ↦ a | Some x ↦ x ]) h
+some-is : {X : Type 0} {a b : X} → ◌≡◌ {A = Option X} (Some a) (Some b) → a ≡ b
+some-is {a = a} h = ap (λ o. elim o as (λ _. _) [ None ↦ a | Some x ↦ x ]) h
 
 -- ---- all lists, and all definitions
 
@@ -120,7 +120,7 @@ get-any (x ∷ all) (suc i) d e below = get-any all i d e (omega (arith, below))
 
 found-among : {A : Type 0} (of : A → Known) (all : List A) (i : ℕ) (x : A) (name : List ℕ) → slice_get all i ≡ Some x → Contains (of x) name → Contains (flat_map of all) name
 found-among of [] i x name is h = absurd (true≢false (sym (ap is_some is)))
-found-among of (y ∷ all) zero x name is h = Contains-append_left (of y) (flat_map of all) name (subst (λ z. Contains (of z) name) (sym (some_is is)) h)
+found-among of (y ∷ all) zero x name is h = Contains-append_left (of y) (flat_map of all) name (subst (λ z. Contains (of z) name) (sym (some-is is)) h)
 found-among of (y ∷ all) (suc i) x name is h = Contains-append_right (of y) (flat_map of all) name (found-among of all i x name is h)
 
 pub names-first : (list rest : List Item) (found : First) → IsBegunBy list found rest → names_of_first found ≡ names_of list

@@ -20,16 +20,16 @@ module _ {T : Type 0} (eq : T → T → Bool) where
       more false = (value ∷ [], refl)
 
   module _ (itself : (a : T) → eq a a ≡ true) (values : List T) (apart : IsDistinct eq values) where
-    not_before : (value : T) (i j : ℕ) → slice_get values i ≡ Some value → slice_get values j ≡ Some value → i < j → ⊥
-    not_before value i j h k below =
+    not-before : (value : T) (i j : ℕ) → slice_get values i ≡ Some value → slice_get values j ≡ Some value → i < j → ⊥
+    not-before value i j h k below =
         let other = apart_from_distinct eq values i j value apart below (slice_get_within values j value k) in
         let one = rw (get_or_from_slice_get values i value value h) at other in
         let same = rw (get_or_from_slice_get values j value value k) at one in
         true≢false (sym (itself value) ∙ same)
 
-    pub one_slot : HaveOneSlot values
-    one_slot i j value h k = elim (cases_lt i j) as (λ _. i ≡ j) [
-      | inl before ↦ absurd (not_before value i j h k before)
+    pub one-slot : HaveOneSlot values
+    one-slot i j value h k = elim (cases_lt i j) as (λ _. i ≡ j) [
+      | inl before ↦ absurd (not-before value i j h k before)
       | inr from ↦ elim (cases_lt j i) as (λ _. i ≡ j)
-          [ inl behind ↦ absurd (not_before value j i k h behind) | inr to ↦ omega (arith, from, to) ]
+          [ inl behind ↦ absurd (not-before value j i k h behind) | inr to ↦ omega (arith, from, to) ]
     ]

@@ -1,5 +1,5 @@
 -- What component types declare, declaration by declaration.
-use Rattle.std.proofs.Common.{◌≡◌, refl, sym, ap, subst, ◌∙◌, ℕ, zero, suc, ◌+◌, ◌<◌, ◌≤◌, Bool, true, false, ◌||◌, List, [], ◌∷◌, ◌++◌, map, length, take, get_or, Option, Some, None, bytes_eq, if◌then◌else◌, arith}
+use Rattle.std.proofs.Common.{◌≡◌, refl, sym, ap, ◌∙◌, ℕ, zero, suc, ◌+◌, ◌<◌, Bool, true, false, ◌||◌, List, [], ◌∷◌, ◌++◌, map, length, take, get_or, Option, Some, None, bytes_eq, if◌then◌else◌, arith}
 use Rattle.std.proofs.lemmas.List.{take_all, take_more}
 use Rattle.std.specs.List.{list_any}
 use Rattle.std.specs.Option.{option_or}
@@ -50,11 +50,11 @@ no-type names (member.Variables of variables) = refl
 no-type names (member.Timers timers) = refl
 
 -- a name that is declared is no type; any other stands for what it stood for
-pub type_behind : (names : Names) (members : List Member) (name : List ℕ)
+pub type-behind : (names : Names) (members : List Member) (name : List ℕ)
     → port_type_meant (behind_members names members name) ≡ (if list_any (λ m. declares m name) members then None else port_type_meant (names name))
-type_behind names [] name = refl
-type_behind names (m ∷ members) name =
-    type_behind (behind names (member_entries names m)) members name
+type-behind names [] name = refl
+type-behind names (m ∷ members) name =
+    type-behind (behind names (member_entries names m)) members name
     ∙ ap (λ o. if list_any (λ m. declares m name) members then None else port_type_meant o) (behind-member names m name)
     ∙ by (declares m name) (list_any (λ m. declares m name) members)
   where

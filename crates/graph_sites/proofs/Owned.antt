@@ -59,9 +59,9 @@ latest-retracted name m before entries new old put is kept = fun_ext (λ q.
     ∙ ap (λ o. if bytes_eq name q then o else own_names ((name, m) ∷ entries) q) kept ∙ back name q m entries (bytes_eq name q) refl)
 
 -- a name that is declared is found
-pub not_absent : (name : List ℕ) (m : Meaning) (entries : List Entry) (old : List ℕ → Option (Option Meaning))
+pub not-absent : (name : List ℕ) (m : Meaning) (entries : List Entry) (old : List ℕ → Option (Option Meaning))
     → (λ q. meant (old q)) ≡ own_names ((name, m) ∷ entries) → old name ≡ None → ⊥
-not_absent name m entries old is absent =
+not-absent name m entries old is absent =
     let none = sym (ap meant absent) ∙ ap (λ (o : Names). o name) is ∙ sym (by_name (bytes_eq name name) m (own_names entries name)) in
     let itself = (bytes_eq-Decides name name).1 refl in
     let found = none ∙ ap (λ b. if b then Some m else own_names entries name) itself in

@@ -21,51 +21,51 @@ or-assoc : {A : Type 0} (o p q : Option A) → option_or (option_or o p) q ≡ o
 or-assoc (Some x) p q = refl
 or-assoc None p q = refl
 
-names_with : (scope : Scope) (entries : List Entry) (name : List ℕ) → (scope_with scope entries).names name ≡ option_or (own_names entries name) (scope.names name)
-names_with scope [] name = refl
-names_with scope (e ∷ es) name =
-    ap (option_or (listed (e ∷ []) name)) (names_with scope es name) ∙ sym (or-assoc (listed (e ∷ []) name) (own_names es name) (scope.names name))
+names-with : (scope : Scope) (entries : List Entry) (name : List ℕ) → (scope_with scope entries).names name ≡ option_or (own_names entries name) (scope.names name)
+names-with scope [] name = refl
+names-with scope (e ∷ es) name =
+    ap (option_or (listed (e ∷ []) name)) (names-with scope es name) ∙ sym (or-assoc (listed (e ∷ []) name) (own_names es name) (scope.names name))
 
-definitions_with : (scope : Scope) (entries : List Entry) → (scope_with scope entries).definitions ≡ scope.definitions
-definitions_with scope [] = refl
-definitions_with scope (e ∷ es) = definitions_with scope es
+definitions-with : (scope : Scope) (entries : List Entry) → (scope_with scope entries).definitions ≡ scope.definitions
+definitions-with scope [] = refl
+definitions-with scope (e ∷ es) = definitions-with scope es
 
-itself_with : (scope : Scope) (entries : List Entry) → (scope_with scope entries).itself ≡ scope.itself
-itself_with scope [] = refl
-itself_with scope (e ∷ es) = itself_with scope es
+itself-with : (scope : Scope) (entries : List Entry) → (scope_with scope entries).itself ≡ scope.itself
+itself-with scope [] = refl
+itself-with scope (e ∷ es) = itself-with scope es
 
-definitions_behind : (scope : Scope) (parameters : List Parameter) → (with_parameters scope parameters).definitions ≡ scope.definitions
-definitions_behind scope [] = refl
-definitions_behind scope (p ∷ ps) = definitions_behind (declaring scope (parameter_entry scope p ∷ [])) ps
+definitions-behind : (scope : Scope) (parameters : List Parameter) → (with_parameters scope parameters).definitions ≡ scope.definitions
+definitions-behind scope [] = refl
+definitions-behind scope (p ∷ ps) = definitions-behind (declaring scope (parameter_entry scope p ∷ [])) ps
 
 module _ (definitions : List Definition) (site : Site) where
   -- the scope at a site is of the module
-  pub definitions_at : (scope_at definitions site).definitions ≡ definitions
-  definitions_at = definitions_with (behaviour_scope definitions site.behaviour) site.declared
-      ∙ definitions_behind (scope_on definitions (runs_on definitions site.behaviour)) (parameters_of (kind_at definitions site.behaviour))
+  pub definitions-at : (scope_at definitions site).definitions ≡ definitions
+  definitions-at = definitions-with (behaviour_scope definitions site.behaviour) site.declared
+      ∙ definitions-behind (scope_on definitions (runs_on definitions site.behaviour)) (parameters_of (kind_at definitions site.behaviour))
 
   -- and of what `self` is at the beginning of the behaviour
-  pub itself_at : (scope_at definitions site).itself ≡ (behaviour_scope definitions site.behaviour).itself
-  itself_at = itself_with (behaviour_scope definitions site.behaviour) site.declared
+  pub itself-at : (scope_at definitions site).itself ≡ (behaviour_scope definitions site.behaviour).itself
+  itself-at = itself-with (behaviour_scope definitions site.behaviour) site.declared
 
   module _ (outer : Scope) (is : outer ≡ behaviour_scope definitions site.behaviour) (name : List ℕ) where
-    pub found_inside : (m : Meaning) → Some m ≡ own_names site.declared name → Some m ≡ (scope_at definitions site).names name
-    found_inside m own =
-        ap (λ o. option_or o ((behaviour_scope definitions site.behaviour).names name)) own ∙ sym (names_with (behaviour_scope definitions site.behaviour) site.declared name)
+    pub found-inside : (m : Meaning) → Some m ≡ own_names site.declared name → Some m ≡ (scope_at definitions site).names name
+    found-inside m own =
+        ap (λ o. option_or o ((behaviour_scope definitions site.behaviour).names name)) own ∙ sym (names-with (behaviour_scope definitions site.behaviour) site.declared name)
 
-    pub found_outside : (found : Option Meaning) → None ≡ own_names site.declared name → found ≡ outer.names name → found ≡ (scope_at definitions site).names name
-    found_outside found own out =
+    pub found-outside : (found : Option Meaning) → None ≡ own_names site.declared name → found ≡ outer.names name → found ≡ (scope_at definitions site).names name
+    found-outside found own out =
         out ∙ ap (λ (s : Scope). s.names name) is ∙ ap (λ o. option_or o ((behaviour_scope definitions site.behaviour).names name)) own
-        ∙ sym (names_with (behaviour_scope definitions site.behaviour) site.declared name)
+        ∙ sym (names-with (behaviour_scope definitions site.behaviour) site.declared name)
 
-declared_one : (b : Bool) (m : Meaning) (o : Option Meaning) (rest : Bool) → is_some o ≡ rest → is_some (option_or (if b then Some m else None) o) ≡ (b || rest)
-declared_one true m o rest is = refl
-declared_one false m o rest is = is
+declared-one : (b : Bool) (m : Meaning) (o : Option Meaning) (rest : Bool) → is_some o ≡ rest → is_some (option_or (if b then Some m else None) o) ≡ (b || rest)
+declared-one true m o rest is = refl
+declared-one false m o rest is = is
 
 -- a name is declared among entries
-pub declared_among : (entries : List Entry) (name : List ℕ) → is_some (own_names entries name) ≡ list_any (λ entry. bytes_eq entry.0 name) entries
-declared_among [] name = refl
-declared_among (e ∷ es) name = declared_one (bytes_eq e.0 name) e.1 (own_names es name) (list_any (λ entry. bytes_eq entry.0 name) es) (declared_among es name)
+pub declared-among : (entries : List Entry) (name : List ℕ) → is_some (own_names entries name) ≡ list_any (λ entry. bytes_eq entry.0 name) entries
+declared-among [] name = refl
+declared-among (e ∷ es) name = declared-one (bytes_eq e.0 name) e.1 (own_names es name) (list_any (λ entry. bytes_eq entry.0 name) es) (declared-among es name)
 
 pub known-typed : (of : Option DataType) → type_known (typed of) ≡ of
 known-typed None = refl
@@ -106,13 +106,13 @@ pub names-end : (old : List ℕ → Bool) (all : List Parameter) (i : ℕ) → l
 names-end old all i past kept = fun_ext (λ name. sym (or-false (old name)) ∙ ap (λ ps. old name || is_one_of ps name) (sym (drop_all i all past)) ∙ kept name)
 
 -- the scope at the beginning of a behaviour, step by step
-pub at_beginning : (definitions : List Definition) (at : ℕ) (found : Option DefinitionKind) (named : Option (List ℕ)) (runs : Option ℕ) (gone new : Scope) (parameters : List Parameter)
+pub at-beginning : (definitions : List Definition) (at : ℕ) (found : Option DefinitionKind) (named : Option (List ℕ)) (runs : Option ℕ) (gone new : Scope) (parameters : List Parameter)
     → found ≡ kind_at definitions at → named ≡ component_name found → runs ≡ component_named definitions named → gone ≡ scope_on definitions runs
     → parameters ≡ parameters_of found → new ≡ with_parameters gone parameters
     → (new ≡ behaviour_scope definitions at) × (new.definitions ≡ definitions) × (parameters ≡ parameters_of (kind_at definitions at))
-at_beginning definitions at found named runs gone new parameters found_is named_is runs_is gone_is parameters_is new_is =
+at-beginning definitions at found named runs gone new parameters found_is named_is runs_is gone_is parameters_is new_is =
     let on : runs ≡ runs_on definitions at = runs_is ∙ ap (component_named definitions) (named_is ∙ ap component_name found_is) in
     let all : parameters ≡ parameters_of (kind_at definitions at) = parameters_is ∙ ap parameters_of found_is in
     let whole : new ≡ behaviour_scope definitions at =
     new_is ∙ ap (λ g. with_parameters g parameters) (gone_is ∙ ap (scope_on definitions) on) ∙ ap (with_parameters (scope_on definitions (runs_on definitions at))) all in
-    (whole, ap (λ (s : Scope). s.definitions) whole ∙ definitions_behind (scope_on definitions (runs_on definitions at)) (parameters_of (kind_at definitions at)), all)
+    (whole, ap (λ (s : Scope). s.definitions) whole ∙ definitions-behind (scope_on definitions (runs_on definitions at)) (parameters_of (kind_at definitions at)), all)

@@ -6,14 +6,13 @@ use Rattle.ttcn_syntax.specs.declared.operator.Sign.{Sign}
 use Rattle.ttcn_syntax.specs.declared.tree.definition.Definition.{Definition}
 use Rattle.ttcn_syntax.specs.declared.tree.expression.ComponentRef.{ComponentRef}
 use Rattle.ttcn_syntax.specs.declared.tree.expression.Expr.{Expr}
-use Rattle.ttcn_syntax.specs.declared.tree.expression.Expr.TheVariants as form
+use Rattle.ttcn_syntax.specs.declared.tree.expression.Expr.TheVariants as expr
 use Rattle.ttcn_syntax.specs.declared.tree.expression.Link.{Link, out-Link}
 use Rattle.ttcn_syntax.specs.declared.tree.expression.Reference.{Reference}
 use Rattle.ttcn_syntax.specs.declared.tree.template.MessageTemplate.{MessageTemplate}
-use Rattle.ttcn_syntax.specs.declared.tree.template.Template.{Template}
 use Rattle.ttcn_syntax.specs.declared.tree.value.TypeName.{TypeName}
 use Rattle.check_rules.proofs.Judgements.{expression-Bool, expression-Chain, expression-Int, expression-Ispresent, expression-Not, expression-Null, expression-Reference, expression-Running, expression-Signed, link-out}
-use Rattle.check_rules.specs.Expressions.{Judge, Judgement, after, along, check_component, check_running, expression, fine, join_link, join_links, link, names_timer, runs, within}
+use Rattle.check_rules.specs.Expressions.{Judge, Judgement, along, check_component, check_running, expression, join_link, join_links, link, names_timer, within}
 use Rattle.check_rules.specs.Templates.{typing_of_template}
 use Rattle.check_scope.proofs.Lookups.{drop-next}
 use Rattle.check_scope.specs.Names.{Scope, resolved}
@@ -22,7 +21,7 @@ use Rattle.check_scope.specs.declared.types.DataType.{DataType}
 use Rattle.check_scope.specs.declared.types.DataType.TheVariants as type
 use Rattle.check_scope.specs.declared.types.Typing.{Typing}
 use Rattle.check_scope.specs.declared.types.Typing.TheVariants as typing
-use Rattle.check_rules.specs.Messages.{Passing, by_template, by_type_name, of_only, passing_at, type_by_itself, type_by_port, type_of_message}
+use Rattle.check_rules.specs.Messages.{Passing, by_template, by_type_name, of_only, type_by_itself, type_of_message}
 
 -- ---- fields
 
@@ -37,32 +36,32 @@ along-end definitions names i t past = sym (ap (λ l. (along definitions t l).ty
 -- ---- expressions
 
 module _ (scope : Scope) (free : Bool) where
-  pub of-int : (n : ℕ) → typing.Known type.Integer ≡ (expression (form.Int n) scope free).typing
+  pub of-int : (n : ℕ) → typing.Known type.Integer ≡ (expression (expr.Int n) scope free).typing
   of-int n = sym (ap (λ (j : Judgement). j.typing) (expression-Int scope free n))
 
-  pub of-bool : (b : Bool) → typing.Known type.Boolean ≡ (expression (form.Bool b) scope free).typing
+  pub of-bool : (b : Bool) → typing.Known type.Boolean ≡ (expression (expr.Bool b) scope free).typing
   of-bool b = sym (ap (λ (j : Judgement). j.typing) (expression-Bool scope free b))
 
-  pub of-null : typing.Null ≡ (expression form.Null scope free).typing
+  pub of-null : typing.Null ≡ (expression expr.Null scope free).typing
   of-null = sym (ap (λ (j : Judgement). j.typing) (expression-Null scope free))
 
-  pub of-reference : (reference : ComponentRef) (t : Typing) → t ≡ (check_component scope reference free).typing → t ≡ (expression (form.Reference reference) scope free).typing
+  pub of-reference : (reference : ComponentRef) (t : Typing) → t ≡ (check_component scope reference free).typing → t ≡ (expression (expr.Reference reference) scope free).typing
   of-reference reference t is = is ∙ sym (ap (λ (j : Judgement). j.typing) (expression-Reference scope free reference))
 
   running-by : (reference : ComponentRef) (b : Bool) → names_timer scope reference ≡ b → typing.Known type.Boolean ≡ (check_running scope reference).typing
   running-by reference true is = rw is refl
   running-by reference false is = rw is refl
 
-  pub of-running : (reference : ComponentRef) → typing.Known type.Boolean ≡ (expression (form.Running reference) scope free).typing
+  pub of-running : (reference : ComponentRef) → typing.Known type.Boolean ≡ (expression (expr.Running reference) scope free).typing
   of-running reference = running-by reference (names_timer scope reference) refl ∙ sym (ap (λ (j : Judgement). j.typing) (expression-Running scope free reference))
 
-  pub of-ispresent : (reference : Reference) → typing.Known type.Boolean ≡ (expression (form.Ispresent reference) scope free).typing
+  pub of-ispresent : (reference : Reference) → typing.Known type.Boolean ≡ (expression (expr.Ispresent reference) scope free).typing
   of-ispresent reference = sym (ap (λ (j : Judgement). j.typing) (expression-Ispresent scope free reference))
 
-  pub of-not : (inner : Expr) → typing.Known type.Boolean ≡ (expression (form.Not inner) scope free).typing
+  pub of-not : (inner : Expr) → typing.Known type.Boolean ≡ (expression (expr.Not inner) scope free).typing
   of-not inner = sym (ap (λ (j : Judgement). j.typing) (expression-Not scope free inner))
 
-  pub of-signed : (sign : Sign) (inner : Expr) → typing.Known type.Integer ≡ (expression (form.Signed sign inner) scope free).typing
+  pub of-signed : (sign : Sign) (inner : Expr) → typing.Known type.Integer ≡ (expression (expr.Signed sign inner) scope free).typing
   of-signed sign inner = sym (ap (λ (j : Judgement). j.typing) (expression-Signed scope free sign inner))
 
   -- a chain is of the type of its last operator
@@ -72,14 +71,14 @@ module _ (scope : Scope) (free : Bool) where
   join-last judge l (m ∷ links) last is = join-last (join_link (link l).0 judge (link l).1) m links last is
 
   pub of-chain : (first : Expr) (links : List Link) (last : Link) → 1 ≤ length links → last ≡ get_or links (length links - 1) last
-      → typing.Known (result_of (out-Link last).operator) ≡ (expression (form.Chain first links) scope free).typing
+      → typing.Known (result_of (out-Link last).operator) ≡ (expression (expr.Chain first links) scope free).typing
   of-chain first [] last some is = absurd (omega (arith, some))
   of-chain first (l ∷ links) last some is =
       let here : length (l ∷ links) - 1 ≡ length links = omega arith in
       join-last (expression first) l links last (is ∙ ap (λ n. get_or (l ∷ links) n last) here) ∙ sym (ap (λ (j : Judge). (j scope free).typing) (expression-Chain first (l ∷ links)))
 
   -- one without operators is of the type of its operand
-  pub of-alone : (first : Expr) (links : List Link) (t : Typing) → length links < 1 → t ≡ (expression first scope free).typing → t ≡ (expression (form.Chain first links) scope free).typing
+  pub of-alone : (first : Expr) (links : List Link) (t : Typing) → length links < 1 → t ≡ (expression first scope free).typing → t ≡ (expression (expr.Chain first links) scope free).typing
   of-alone first [] t none is = is ∙ sym (ap (λ (j : Judge). (j scope free).typing) (expression-Chain first []))
   of-alone first (l ∷ links) t none is = absurd (omega (arith, none))
 

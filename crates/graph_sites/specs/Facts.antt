@@ -2,8 +2,6 @@
 use Rattle.std.specs.Prelude.{ℕ, Bool, false, List, [], ◌∷◌, map, Option, Some, None}
 use Rattle.std.specs.Option.{option_map}
 use Rattle.ttcn_syntax.specs.declared.tree.definition.Definition.{Definition}
-use Rattle.ttcn_syntax.specs.declared.tree.definition.DefinitionKind.{DefinitionKind}
-use Rattle.ttcn_syntax.specs.declared.tree.definition.DefinitionKind.TheVariants as kind
 use Rattle.ttcn_syntax.specs.declared.tree.expression.Reference.{Reference}
 use Rattle.ttcn_syntax.specs.declared.tree.statement.Action.{Action}
 use Rattle.ttcn_syntax.specs.declared.tree.statement.Action.TheOpen.{Action-F, Alternative-F}
@@ -17,7 +15,7 @@ use Rattle.ttcn_syntax.specs.declared.tree.statement.ForStart.{ForStart}
 use Rattle.ttcn_syntax.specs.declared.tree.statement.ForStart.TheVariants as for_start
 use Rattle.ttcn_syntax.specs.declared.tree.statement.Statement.{Statement}
 use Rattle.check_rules.specs.Targets.{target_at}
-use Rattle.check_scope.specs.Names.{Scope, kind_at, resolved}
+use Rattle.check_scope.specs.Names.{kind_at, resolved}
 use Rattle.check_scope.specs.declared.types.DataType.{DataType}
 use Rattle.check_rules.specs.Messages.{incoming, received_type}
 use Rattle.semantics.specs.Branches.{branches_of}

@@ -7,7 +7,7 @@ ghost use Rattle.check_rules.specs.Messages.{port_meant};
 ghost use Rattle.graph_sites.specs.internal.MemberNames.{declares, member_meaning};
 
 use crate::here::Here;
-use crate::typing::port_meant;
+use check_rules::port_meant;
 use check_scope::scope::port_type_meant;
 use ttcn_syntax::{Constant, DefinitionKind, Member, MemberVariable, Name, Timer};
 

@@ -10,7 +10,7 @@ ghost use Rattle.semantics.specs.Sites.{scope_at};
 ghost use Rattle.semantics.specs.Statements as statements;
 
 use crate::here::Here;
-use check_rules::template_meant;
+use check_rules::{port_meant, template_meant};
 use check_scope::names::Meaning;
 use check_scope::types::{DataType, Typing};
 use check_scope::typing::result_of;
@@ -154,16 +154,6 @@ fn type_of_message(
     match typing_of_template(here, message.template.get()) {
         Some(typing) => typing.known(),
         None => otherwise,
-    }
-}
-
-/// The port that a name stands for: the position of its type, which may be unknown.
-pub(crate) fn port_meant(meaning: Option<Meaning>) -> Option<Option<usize>>
-    ensures { result ≡ messages.port_meant meaning }
-{
-    match meaning {
-        Some(Meaning::Port(at)) => Some(at),
-        _ => None,
     }
 }
 

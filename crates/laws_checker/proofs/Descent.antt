@@ -10,11 +10,11 @@ use Rattle.ttcn_syntax.specs.declared.tree.statement.Branch.{Branch}
 use Rattle.ttcn_syntax.specs.declared.tree.statement.Conditional.{Conditional}
 use Rattle.ttcn_syntax.specs.declared.tree.statement.Statement.{Statement, out-Statement}
 use Rattle.ttcn_syntax.specs.declared.tree.value.Value.{Value}
-use Rattle.laws_checker.proofs.Fitting.{arguments_fit, same-number}
+use Rattle.laws_checker.proofs.Fitting.{arguments-fit, same-number}
 use Rattle.laws_checker.proofs.Nothing.{kept, nothing-first, nothing-rest}
-use Rattle.check_rules.proofs.StatementForms.{statement_out}
+use Rattle.check_rules.proofs.StatementForms.{statement-out}
 use Rattle.laws_checker.proofs.Typed.{expression_typed}
-use Rattle.laws_checker.proofs.Whole.{constants_whole, timers_whole, variables_whole}
+use Rattle.laws_checker.proofs.Whole.{constants-whole, timers-whole, variables-whole}
 use Rattle.check_rules.specs.Calls.{check_arguments, parameters_of}
 use Rattle.check_rules.specs.Expressions.{along, check_meaning, check_reference, expression}
 use Rattle.laws_checker.specs.Laws.{AreArguments, IsKnown, IsWhole}
@@ -117,7 +117,7 @@ pub template_arguments_fit : (scope : Scope) (at : ℕ) (target : Target) (given
     → AreArguments scope (parameters_of (kind_at scope.definitions at)) given
 template_arguments_fit scope at target given nothing =
     let arguments : List Rule = check_arguments scope (parameters_of (kind_at scope.definitions at)) given in
-    arguments_fit scope (parameters_of (kind_at scope.definitions at)) given
+    arguments-fit scope (parameters_of (kind_at scope.definitions at)) given
     (nothing-first arguments (unless (fits target.data_type (typed (type_of_template scope at))) rule.ValueType) nothing)
 
 -- ---- statements
@@ -128,9 +128,9 @@ LeavesWhole said = (place : Place) → IsWhole place.scope → said.broken place
 
 plain-whole : (x : Action-F Action Alternative Branch Conditional Statement)
     → LeavesWhole (action_step (map-Action Action Alternative Branch Conditional Statement StatementRules Check Check Check StatementRules action alternative branch conditional statement x))
-plain-whole (Action-F.Variables vs) place whole nothing = variables_whole place.scope vs nothing whole
-plain-whole (Action-F.Constants cs) place whole nothing = constants_whole place.scope cs nothing whole
-plain-whole (Action-F.Timers timers) place whole nothing = timers_whole place.scope timers nothing whole
+plain-whole (Action-F.Variables vs) place whole nothing = variables-whole place.scope vs nothing whole
+plain-whole (Action-F.Constants cs) place whole nothing = constants-whole place.scope cs nothing whole
+plain-whole (Action-F.Timers timers) place whole nothing = timers-whole place.scope timers nothing whole
 plain-whole (Action-F.Assign assignment) place whole nothing = whole
 plain-whole (Action-F.«Action::Call» call) place whole nothing = whole
 plain-whole (Action-F.«Action::Event» event) place whole nothing = whole
@@ -160,7 +160,7 @@ action-whole = ind-Action (λ a. LeavesWhole (action a)) (λ a. Unit {0}) (λ b.
 
 -- a statement that breaks no rule leaves a whole scope whole
 pub statement_whole : (s : Statement) (place : Place) → IsWhole place.scope → (statement s).broken place ≡ [] → IsWhole ((statement s).scope_behind place.scope)
-statement_whole s = subst LeavesWhole (sym (statement_out s)) (action-whole (out-Statement s).action)
+statement_whole s = subst LeavesWhole (sym (statement-out s)) (action-whole (out-Statement s).action)
 
 -- the first statement of a block, and those behind it
 pub first_fine : (s : Statement) (others : List Statement) (place : Place) → statements (s ∷ others) place ≡ [] → (statement s).broken place ≡ []

@@ -11,10 +11,10 @@ use Rattle.ttcn_syntax.specs.declared.tree.template.TemplateBody.TheVariants as 
 use Rattle.ttcn_syntax.specs.declared.tree.value.Call.{Call}
 use Rattle.ttcn_syntax.specs.declared.tree.value.FieldValue.{FieldValue}
 use Rattle.ttcn_syntax.specs.declared.tree.value.Value.{Value}
-use Rattle.ttcn_syntax.specs.declared.tree.value.Value.TheVariants as value_form
+use Rattle.ttcn_syntax.specs.declared.tree.value.Value.TheVariants as form
 use Rattle.laws_checker.proofs.Nothing.{kept, nothing-first, nothing-rest}
-use Rattle.check_rules.proofs.TemplateForms.{body_of_assigned, body_of_listed}
-use Rattle.check_rules.proofs.ValueForms.{value_of_assigned, value_of_listed}
+use Rattle.check_rules.proofs.TemplateForms.{body-of-assigned, body-of-listed}
+use Rattle.check_rules.proofs.ValueForms.{value-of-assigned, value-of-listed}
 use Rattle.check_rules.specs.Calls.{arguments, check_arguments, check_behaviour, check_call, behaviour_meant, component_named, parameters_of, runs_here, runs_on_of}
 use Rattle.laws_checker.specs.Laws.{AreArguments, AreElements, AreNamedElements, GoesToField, Resolves}
 use Rattle.check_scope.specs.Names.{Scope, field_named, fields_at, kind_at}
@@ -52,8 +52,8 @@ module _ (scope : Scope) where
   are-arguments (p ∷ ps) (v ∷ vs) same nothing =
       (nothing-first _ (arguments scope ps vs) nothing, are-arguments ps vs (omega (arith, same)) (nothing-rest _ (arguments scope ps vs) nothing))
 
-  pub arguments_fit : (ps : List Parameter) (vs : List Value) → check_arguments scope ps vs ≡ [] → AreArguments scope ps vs
-  arguments_fit ps vs nothing =
+  pub arguments-fit : (ps : List Parameter) (vs : List Value) → check_arguments scope ps vs ≡ [] → AreArguments scope ps vs
+  arguments-fit ps vs nothing =
       let number : List Rule = unless (nat_eq (length vs) (length ps)) rule.Arguments in
       are-arguments ps vs
       (same-number (length vs) (length ps) (kept (nat_eq (length vs) (length ps)) rule.Arguments (nothing-first number (arguments scope ps vs) nothing)))
@@ -71,7 +71,7 @@ module _ (scope : Scope) where
       record {
         at = at;
         meant = is;
-        arguments = arguments_fit (parameters_of k) call.arguments (nothing-first given on front);
+        arguments = arguments-fit (parameters_of k) call.arguments (nothing-first given on front);
         runs = kept (runs_here (component_named scope.definitions (runs_on_of k)) scope.itself) rule.RunsOn (nothing-rest given on front);
         kind = kept (callable k) rule.CallKind (nothing-rest (given ++ on) called nothing);
       }
@@ -135,16 +135,16 @@ module _ (scope : Scope) where
   listed-fits at (Some (type.Component other)) elements is nothing = absurd (let e = is in cc)
 
   -- a literal by the order of the fields
-  pub literal_fits : (at : ℕ) (target : Target) (elements : List Value) → target.data_type ≡ Some (type.Record at) → value (value_form.Listed elements) scope target ≡ []
+  pub literal_fits : (at : ℕ) (target : Target) (elements : List Value) → target.data_type ≡ Some (type.Record at) → value (form.Listed elements) scope target ≡ []
       → AreElements scope (fields_at scope.definitions at) (map value elements)
-  literal_fits at target elements is nothing = listed-fits at target.data_type (map value elements) is (sym (value_of_listed scope target elements) ∙ nothing)
+  literal_fits at target elements is nothing = listed-fits at target.data_type (map value elements) is (sym (value-of-listed scope target elements) ∙ nothing)
 
   pub template_literal_fits : (at : ℕ) (target : Target) (parts : List Template) → target.data_type ≡ Some (type.Record at) → body (template_form.Listed parts) scope target ≡ []
       → AreElements scope (fields_at scope.definitions at) (map template parts)
-  template_literal_fits at target parts is nothing = listed-fits at target.data_type (map template parts) is (sym (body_of_listed scope target parts) ∙ nothing)
+  template_literal_fits at target parts is nothing = listed-fits at target.data_type (map template parts) is (sym (body-of-listed scope target parts) ∙ nothing)
 
   -- a literal by the names of the fields
-  pub named_literal_fits : (at : ℕ) (target : Target) (elements : List FieldValue) → target.data_type ≡ Some (type.Record at) → value (value_form.Assigned elements) scope target ≡ []
+  pub named_literal_fits : (at : ℕ) (target : Target) (elements : List FieldValue) → target.data_type ≡ Some (type.Record at) → value (form.Assigned elements) scope target ≡ []
       → AreNamedElements scope (fields_at scope.definitions at) [] (map field_value elements)
   named_literal_fits at target elements is nothing =
       let fields = wanted_fields scope.definitions target.data_type in
@@ -152,7 +152,7 @@ module _ (scope : Scope) where
       let parts : List Rule = by_name fields [] (map field_value elements) scope in
       are-named (fields_at scope.definitions at) [] (map field_value elements)
       (subst (λ of. by_name (wanted_fields scope.definitions of) [] (map field_value elements) scope ≡ []) is
-      (nothing-rest braces parts (sym (value_of_assigned scope target elements) ∙ nothing)))
+      (nothing-rest braces parts (sym (value-of-assigned scope target elements) ∙ nothing)))
 
   -- a record template by the names of the fields: it has each of them
   pub template_has_fields : (at : ℕ) (target : Target) (parts : List FieldTemplate) → target.data_type ≡ Some (type.Record at) → body (template_form.Assigned parts) scope target ≡ []
@@ -164,7 +164,7 @@ module _ (scope : Scope) where
       let all : List Rule = unless (has_all fields names) rule.Fields in
       let elements : List Rule = by_name fields [] (map field_template parts) scope in
       subst (λ of. has_all (wanted_fields scope.definitions of) names ≡ true) is
-      (kept (has_all fields names) rule.Fields (nothing-rest braces all (nothing-first (braces ++ all) elements (sym (body_of_assigned scope target parts) ∙ nothing))))
+      (kept (has_all fields names) rule.Fields (nothing-rest braces all (nothing-first (braces ++ all) elements (sym (body-of-assigned scope target parts) ∙ nothing))))
 
   pub named_template_fits : (at : ℕ) (target : Target) (parts : List FieldTemplate) → target.data_type ≡ Some (type.Record at) → body (template_form.Assigned parts) scope target ≡ []
       → AreNamedElements scope (fields_at scope.definitions at) [] (map field_template parts)
@@ -175,4 +175,4 @@ module _ (scope : Scope) where
       let elements : List Rule = by_name fields [] (map field_template parts) scope in
       are-named (fields_at scope.definitions at) [] (map field_template parts)
       (subst (λ of. by_name (wanted_fields scope.definitions of) [] (map field_template parts) scope ≡ []) is
-      (nothing-rest front elements (sym (body_of_assigned scope target parts) ∙ nothing)))
+      (nothing-rest front elements (sym (body-of-assigned scope target parts) ∙ nothing)))

@@ -8,7 +8,7 @@ use Rattle.ttcn_syntax.specs.declared.tree.expression.ComponentRef.{ComponentRef
 use Rattle.ttcn_syntax.specs.declared.tree.expression.ComponentRef.TheVariants as component
 use Rattle.ttcn_syntax.specs.declared.operator.Sign.{Sign}
 use Rattle.ttcn_syntax.specs.declared.tree.expression.Expr.{Expr}
-use Rattle.ttcn_syntax.specs.declared.tree.expression.Expr.TheVariants as form
+use Rattle.ttcn_syntax.specs.declared.tree.expression.Expr.TheVariants as expr
 use Rattle.ttcn_syntax.specs.declared.tree.expression.Expr.TheFolds.{fold-roll-Expr, ind-Expr, map-Expr}
 use Rattle.ttcn_syntax.specs.declared.tree.expression.Expr.TheOpen.{Expr-F}
 use Rattle.ttcn_syntax.specs.declared.tree.expression.Link.{Link, out-Link}
@@ -177,16 +177,16 @@ expression_typed = ind-Expr (λ e. Gives (expression e)) (λ l. Unit {0}) (λ x 
 -- ---- operations
 
 -- the type of an operation, whatever is broken in it
-pub negation_typed : (e : Expr) (scope : Scope) (free : Bool) → (expression (form.Not e) scope free).typing ≡ typing.Known type.Boolean
+pub negation_typed : (e : Expr) (scope : Scope) (free : Bool) → (expression (expr.Not e) scope free).typing ≡ typing.Known type.Boolean
 negation_typed e scope free = ap (λ (j : Judgement). j.typing) (expression-Not scope free e)
 
-pub signed_typed : (sign : Sign) (e : Expr) (scope : Scope) (free : Bool) → (expression (form.Signed sign e) scope free).typing ≡ typing.Known type.Integer
+pub signed_typed : (sign : Sign) (e : Expr) (scope : Scope) (free : Bool) → (expression (expr.Signed sign e) scope free).typing ≡ typing.Known type.Integer
 signed_typed sign e scope free = ap (λ (j : Judgement). j.typing) (expression-Signed scope free sign e)
 
-pub presence_typed : (reference : Reference) (scope : Scope) (free : Bool) → (expression (form.Ispresent reference) scope free).typing ≡ typing.Known type.Boolean
+pub presence_typed : (reference : Reference) (scope : Scope) (free : Bool) → (expression (expr.Ispresent reference) scope free).typing ≡ typing.Known type.Boolean
 presence_typed reference scope free = ap (λ (j : Judgement). j.typing) (expression-Ispresent scope free reference)
 
-pub running_typed : (c : ComponentRef) (scope : Scope) (free : Bool) → (expression (form.Running c) scope free).typing ≡ typing.Known type.Boolean
+pub running_typed : (c : ComponentRef) (scope : Scope) (free : Bool) → (expression (expr.Running c) scope free).typing ≡ typing.Known type.Boolean
 running_typed c scope free = ap (λ (j : Judgement). j.typing) (expression-Running scope free c) ∙ go (names_timer scope c)
   where
     go : (b : Bool) → (if b then fine (typing.Known type.Boolean) else after (check_component scope c true).broken (runs (check_component scope c true).typing)).typing ≡ typing.Known type.Boolean
@@ -199,7 +199,7 @@ chain-last first [] last scope free = refl
 chain-last first (l ∷ links) last scope free = chain-last (join_link (link l).0 first (link l).1) links last scope free
 
 pub chain_typed : (first : Expr) (links : List Link) (last : Link) (scope : Scope) (free : Bool)
-    → (expression (form.Chain first (links ++ last ∷ [])) scope free).typing ≡ typing.Known (result_of (out-Link last).operator)
+    → (expression (expr.Chain first (links ++ last ∷ [])) scope free).typing ≡ typing.Known (result_of (out-Link last).operator)
 chain_typed first links last scope free =
     ap (λ (j : Judge). (j scope free).typing) (expression-Chain first (links ++ last ∷ []))
     ∙ chain-last (expression first) links last scope free

@@ -45,11 +45,11 @@ none-listed : (rules : List Rule) → ((r : Rule) → Contains rules r → ⊥) 
 none-listed [] none = refl
 none-listed (r ∷ rules) none = absurd (none r (0, omega arith, refl))
 
-pub nothing_at_sites : (definitions : List Definition) → AreWellTyped definitions → check_sites definitions ≡ []
-nothing_at_sites definitions well = none-listed (check_sites definitions) (λ r contains. well r (site contains))
+pub nothing-at-sites : (definitions : List Definition) → AreWellTyped definitions → check_sites definitions ≡ []
+nothing-at-sites definitions well = none-listed (check_sites definitions) (λ r contains. well r (site contains))
 
 nothing-in : (definitions : List Definition) → AreWellTyped definitions → check_definitions definitions 0 definitions ≡ []
-nothing-in definitions well = nothing-rest (check_module_names definitions) (check_definitions definitions 0 definitions) (nothing_at_sites definitions well)
+nothing-in definitions well = nothing-rest (check_module_names definitions) (check_definitions definitions 0 definitions) (nothing-at-sites definitions well)
 
 some-is : (k other : DefinitionKind) → Some k ≡ Some other → k ≡ other
 some-is k other is = cc
@@ -148,22 +148,22 @@ all-declared rules entry known scope (x ∷ items) nothing whole =
 
 -- ---- declarations
 
-pub variables_whole : (scope : Scope) (vs : Variables) → check_variables scope vs ≡ [] → IsWhole scope → IsWhole (behind_variables scope vs)
-variables_whole scope vs nothing whole =
+pub variables-whole : (scope : Scope) (vs : Variables) → check_variables scope vs ≡ [] → IsWhole scope → IsWhole (behind_variables scope vs)
+variables-whole scope vs nothing whole =
     let of = resolved scope.names vs.type_name in
     let items : List Rule = one_by_one (check_variable of) (variable_entry of) scope vs.variables in
     all-declared (check_variable of) (variable_entry of) (λ s x fine. type-known scope.names true vs.type_name (nothing-first (check_type scope.names true vs.type_name) items nothing))
     scope vs.variables (nothing-rest (check_type scope.names true vs.type_name) items nothing) whole
 
-pub constants_whole : (scope : Scope) (cs : Constants) → check_constants scope cs ≡ [] → IsWhole scope → IsWhole (behind_constants scope cs)
-constants_whole scope cs nothing whole =
+pub constants-whole : (scope : Scope) (cs : Constants) → check_constants scope cs ≡ [] → IsWhole scope → IsWhole (behind_constants scope cs)
+constants-whole scope cs nothing whole =
     let of = resolved scope.names cs.type_name in
     let items : List Rule = one_by_one (check_constant of) (constant_entry of) scope cs.constants in
     all-declared (check_constant of) (constant_entry of) (λ s x fine. type-known scope.names false cs.type_name (nothing-first (check_type scope.names false cs.type_name) items nothing))
     scope cs.constants (nothing-rest (check_type scope.names false cs.type_name) items nothing) whole
 
-pub timers_whole : (scope : Scope) (timers : List Timer) → check_timers scope timers ≡ [] → IsWhole scope → IsWhole (behind_timers scope timers)
-timers_whole scope timers nothing whole = all-declared check_timer_name timer_entry (λ s x fine. tt) scope timers nothing whole
+pub timers-whole : (scope : Scope) (timers : List Timer) → check_timers scope timers ≡ [] → IsWhole scope → IsWhole (behind_timers scope timers)
+timers-whole scope timers nothing whole = all-declared check_timer_name timer_entry (λ s x fine. tt) scope timers nothing whole
 
 pub parameters_whole : (scope : Scope) (parameters : List Parameter) → check_parameters scope parameters ≡ [] → IsWhole scope → IsWhole (with_parameters scope parameters)
 parameters_whole scope parameters nothing whole =

@@ -14,7 +14,7 @@ use Rattle.ttcn_syntax.specs.declared.tree.expression.Expr.TheFolds.{fold-roll-E
 use Rattle.ttcn_syntax.specs.declared.tree.expression.Expr.TheOpen.{Expr-F, Link-F}
 use Rattle.ttcn_syntax.specs.declared.tree.expression.Link.{Link, roll-Link}
 use Rattle.ttcn_syntax.specs.declared.tree.value.FieldValue.{FieldValue, roll-FieldValue}
-use Rattle.ttcn_syntax.specs.declared.tree.value.Value as tree
+use Rattle.ttcn_syntax.specs.declared.tree.value.Value as written
 use Rattle.ttcn_syntax.specs.declared.tree.value.Value.TheFolds.{fold-roll-FieldValue, fold-roll-Value, ind-Value, map-FieldValue, map-Value}
 use Rattle.ttcn_syntax.specs.declared.tree.value.Value.TheOpen.{FieldValue-F, Value-F}
 use Rattle.check_scope.specs.Names.{Scope, fields_at, module_names}
@@ -138,8 +138,8 @@ module _ (base : Reading) (one other : Outcomes) (scope : Scope) (keeps : Keeps 
   link-held : (y : Link-F HeldExpr HeldLink) → LevelLink (map-Link HeldExpr HeldLink Expr Link (λ e. e.0) (λ l. l.0) y)
   link-held y = y.operand.1
 
-  pub expression_same : (e : Expr) → SameOf (expression_parts scope e) (value_of e)
-  expression_same = ind-Expr (λ e. SameOf (expression_parts scope e) (value_of e)) (λ l. SameOf (link_parts scope l) (link l).1) (λ x y is.
+  pub expression-same : (e : Expr) → SameOf (expression_parts scope e) (value_of e)
+  expression-same = ind-Expr (λ e. SameOf (expression_parts scope e) (value_of e)) (λ l. SameOf (link_parts scope l) (link l).1) (λ x y is.
       subst (λ t. SameOf t (value_of (roll-Expr x))) (sym (fold-roll-Expr Thing Thing (expression_parts_step scope) link_parts_step x))
       (subst (λ g. SameOf (expression_parts_step scope (map-Expr Expr Link Thing Thing (expression_parts scope) (link_parts scope) x)) g)
       (sym (fold-roll-Expr Evaluation (Operator × Evaluation) expression_step link_step x))
@@ -155,7 +155,7 @@ module _ (base : Reading) (one other : Outcomes) (scope : Scope) (keeps : Keeps 
   SameWanted thing given = Agrees thing → (wanted : Option DataType) → given here wanted ≡ given there wanted
 
   abbrev HeldValue : Type 0
-  HeldValue = (v : tree.Value) × SameWanted (value_parts scope v) (value_wanted v)
+  HeldValue = (v : written.Value) × SameWanted (value_parts scope v) (value_wanted v)
 
   abbrev HeldField : Type 0
   HeldField = (f : FieldValue) × SameWanted (field_value_parts scope f) (field_value f).1
@@ -207,12 +207,12 @@ module _ (base : Reading) (one other : Outcomes) (scope : Scope) (keeps : Keeps 
       cons-same (given_by_name here elements f) (given_by_name there elements f) (map (given_by_name here elements) fields) (map (given_by_name there elements) fields)
       (named-element-same f es all) (named-elements-same fields es all)
 
-  abbrev LevelValue : Value-F tree.Value FieldValue → Type 0
-  LevelValue x = SameWanted (value_parts_step scope (map-Value tree.Value FieldValue Thing Thing (value_parts scope) (field_value_parts scope) x))
-      (value_step (map-Value tree.Value FieldValue Wanted (List ℕ × Wanted) value_wanted field_value x))
+  abbrev LevelValue : Value-F written.Value FieldValue → Type 0
+  LevelValue x = SameWanted (value_parts_step scope (map-Value written.Value FieldValue Thing Thing (value_parts scope) (field_value_parts scope) x))
+      (value_step (map-Value written.Value FieldValue Wanted (List ℕ × Wanted) value_wanted field_value x))
 
-  value-held : (y : Value-F HeldValue HeldField) → LevelValue (map-Value HeldValue HeldField tree.Value FieldValue (λ v. v.0) (λ f. f.0) y)
-  value-held (Value-F.Expr e) = λ all wanted. expression_same e all
+  value-held : (y : Value-F HeldValue HeldField) → LevelValue (map-Value HeldValue HeldField written.Value FieldValue (λ v. v.0) (λ f. f.0) y)
+  value-held (Value-F.Expr e) = λ all wanted. expression-same e all
   value-held Value-F.Omit = λ all wanted. refl
   value-held (Value-F.Listed es) = λ all wanted.
       let elements : List Wanted = map value_wanted (map (λ v. v.0) es) in
@@ -223,20 +223,20 @@ module _ (base : Reading) (one other : Outcomes) (scope : Scope) (keeps : Keeps 
       record-same (wanted_record wanted) (λ at. by_name here (fields_at base.definitions at) elements) (λ at. by_name there (fields_at base.definitions at) elements)
       (λ at. ap each (named-elements-same (fields_at base.definitions at) es (braced-agrees (map (field_value_parts scope) (map (λ f. f.0) es)) all)))
 
-  abbrev LevelField : FieldValue-F tree.Value FieldValue → Type 0
-  LevelField x = SameWanted (field_value_parts_step (map-FieldValue tree.Value FieldValue Thing Thing (value_parts scope) (field_value_parts scope) x))
-      (field_value_step (map-FieldValue tree.Value FieldValue Wanted (List ℕ × Wanted) value_wanted field_value x)).1
+  abbrev LevelField : FieldValue-F written.Value FieldValue → Type 0
+  LevelField x = SameWanted (field_value_parts_step (map-FieldValue written.Value FieldValue Thing Thing (value_parts scope) (field_value_parts scope) x))
+      (field_value_step (map-FieldValue written.Value FieldValue Wanted (List ℕ × Wanted) value_wanted field_value x)).1
 
-  field-held : (y : FieldValue-F HeldValue HeldField) → LevelField (map-FieldValue HeldValue HeldField tree.Value FieldValue (λ v. v.0) (λ f. f.0) y)
+  field-held : (y : FieldValue-F HeldValue HeldField) → LevelField (map-FieldValue HeldValue HeldField written.Value FieldValue (λ v. v.0) (λ f. f.0) y)
   field-held y = y.value.1
 
-  pub value_same : (v : tree.Value) → SameWanted (value_parts scope v) (value_wanted v)
-  value_same = ind-Value (λ v. SameWanted (value_parts scope v) (value_wanted v)) (λ f. SameWanted (field_value_parts scope f) (field_value f).1) (λ x y is.
-      subst (λ t. SameWanted t (value_wanted (tree.roll-Value x))) (sym (fold-roll-Value Thing Thing (value_parts_step scope) field_value_parts_step x))
-      (subst (λ g. SameWanted (value_parts_step scope (map-Value tree.Value FieldValue Thing Thing (value_parts scope) (field_value_parts scope) x)) g)
+  pub value-same : (v : written.Value) → SameWanted (value_parts scope v) (value_wanted v)
+  value-same = ind-Value (λ v. SameWanted (value_parts scope v) (value_wanted v)) (λ f. SameWanted (field_value_parts scope f) (field_value f).1) (λ x y is.
+      subst (λ t. SameWanted t (value_wanted (written.roll-Value x))) (sym (fold-roll-Value Thing Thing (value_parts_step scope) field_value_parts_step x))
+      (subst (λ g. SameWanted (value_parts_step scope (map-Value written.Value FieldValue Thing Thing (value_parts scope) (field_value_parts scope) x)) g)
       (sym (fold-roll-Value Wanted (List ℕ × Wanted) value_step field_value_step x))
       (subst LevelValue is (value-held y)))) (λ x y is.
       subst (λ t. SameWanted t (field_value (roll-FieldValue x)).1) (sym (fold-roll-FieldValue Thing Thing (value_parts_step scope) field_value_parts_step x))
-      (subst (λ (g : List ℕ × Wanted). SameWanted (field_value_parts_step (map-FieldValue tree.Value FieldValue Thing Thing (value_parts scope) (field_value_parts scope) x)) g.1)
+      (subst (λ (g : List ℕ × Wanted). SameWanted (field_value_parts_step (map-FieldValue written.Value FieldValue Thing Thing (value_parts scope) (field_value_parts scope) x)) g.1)
       (sym (fold-roll-FieldValue Wanted (List ℕ × Wanted) value_step field_value_step x))
       (subst LevelField is (field-held y))))

@@ -7,12 +7,11 @@ use Rattle.std.specs.Option.{option_and_then}
 use Rattle.ttcn_syntax.specs.declared.tree.definition.Definition.{Definition}
 use Rattle.ttcn_syntax.specs.declared.tree.definition.Field.{Field}
 use Rattle.ttcn_syntax.specs.declared.tree.expression.Reference.{Reference}
-use Rattle.ttcn_syntax.specs.declared.tree.value.Value as tree
+use Rattle.ttcn_syntax.specs.declared.tree.value.Value as written
 use Rattle.value_assignment.specs.Assignment.{Record, assigned, blank, filled, gap_at_field, gap_at_place, gap_for, gap_in, record_for}
 use Rattle.check_rules.specs.Expressions as said
 use Rattle.check_rules.specs.Expressions.{check_field, within}
 use Rattle.check_rules.specs.Targets.{as_target, check_target, is_optional, last_optional, target_at}
-use Rattle.check_rules.specs.Values.{field_target}
 use Rattle.check_rules.specs.Values as checked
 use Rattle.check_scope.specs.Names.{Scope, fields_at, module_names, resolved}
 use Rattle.check_scope.specs.Typings.{type_known, typed}
@@ -25,9 +24,9 @@ use Rattle.check_scope.specs.declared.types.Typing.TheVariants as typing
 use Rattle.laws_checker.proofs.Nothing.{nothing-first, nothing-rest}
 use Rattle.laws_checker.specs.Laws.{HasFieldType, IsWhole}
 use Rattle.laws_evaluation.proofs.MetExpressions.{found-known}
-use Rattle.laws_evaluation.proofs.Only.{always_found, always_mapped, always_more, only_always, only_of, only_then}
+use Rattle.laws_evaluation.proofs.Only.{always-found, always-mapped, always-more, only-always, only-of, only-then}
 use Rattle.laws_evaluation.proofs.TypedRecords.{true-both, values_met, values_typed}
-use Rattle.laws_evaluation.proofs.TypedValues.{goes_out, goes_rolled, level_goes, nat_eq-refl, with_goes}
+use Rattle.laws_evaluation.proofs.TypedValues.{goes-out, goes-rolled, level_goes, nat_eq-refl, with_goes}
 use Rattle.laws_evaluation.specs.Types.{FieldsDiffer, FitsIn, HasAll, go_to_fields, goes_to_field, is_of, value_goes}
 use Rattle.laws_evaluation.specs.Uses.{GivesAlways, GivesOnly, HoldsAssigned}
 use Rattle.value_types.specs.Literals.{value_wanted}
@@ -135,7 +134,7 @@ module _ (definitions : List Definition) where
 
   record-goes : (at : ℕ) (o : Bool) (states : List (Option Value)) → GoToAll (fields_at definitions at) states → GoesTo (type.Record at) o (value.Record at states)
   record-goes at o states go =
-      ap (λ v. value_goes v definitions (to (type.Record at) o)) (sym (value.rolls-Record at states)) ∙ goes_rolled definitions (Value-F.Record at states) (to (type.Record at) o)
+      ap (λ v. value_goes v definitions (to (type.Record at) o)) (sym (value.rolls-Record at states)) ∙ goes-rolled definitions (Value-F.Record at states) (to (type.Record at) o)
       ∙ true-both (nat_eq at at) (go_to_fields definitions (fields_at definitions at) (map with_goes states)) (nat_eq-refl at) go
 
   -- ---- the record that is there, or a blank one
@@ -169,7 +168,7 @@ module _ (definitions : List Definition) where
   there-or-blank : (at : ℕ) (o : Bool) (v : Value) (omitted : Bool) → is_omit v ≡ omitted → GoesTo (type.Record at) o v
       → IsRecord at (if omitted then blank definitions (Some (type.Record at)) else or_unmet (record_of v))
   there-or-blank at o v true is goes = blank-there at
-  there-or-blank at o v false is goes = level-record (out-Value v) at o is (sym (goes_out definitions v (to (type.Record at) o)) ∙ goes)
+  there-or-blank at o v false is goes = level-record (out-Value v) at o is (sym (goes-out definitions v (to (type.Record at) o)) ∙ goes)
 
   record-there : (at : ℕ) (o : Bool) (held : Option Value) → HoldsFor (type.Record at) o held → IsRecord at (record_for definitions (Some (type.Record at)) held)
   record-there at o None holds = blank-there at
@@ -247,8 +246,8 @@ module _ (definitions : List Definition) where
     in-field name names assigns at o held new f is holds None resolves known nothing goes = absurd (known refl)
     in-field name names assigns at o held new f is holds (Some u) resolves known nothing goes =
         let gap = gap-there at o held name f holds is in
-        always_found (IsAssigned (type.Record at) o (name ∷ names) new) _ (gap_for definitions (Some (type.Record at)) held name) (gap_in definitions (at, gap.states) gap.there.place f gap.there.held) gap.is
-        (always_mapped (IsAssigned u f.optional names new) (IsAssigned (type.Record at) o (name ∷ names) new) (filled (gap_in definitions (at, gap.states) gap.there.place f gap.there.held))
+        always-found (IsAssigned (type.Record at) o (name ∷ names) new) _ (gap_for definitions (Some (type.Record at)) held name) (gap_in definitions (at, gap.states) gap.there.place f gap.there.held) gap.is
+        (always-mapped (IsAssigned u f.optional names new) (IsAssigned (type.Record at) o (name ∷ names) new) (filled (gap_in definitions (at, gap.states) gap.there.place f gap.there.held))
         (assigned definitions (resolved (module_names definitions) f.type_name) gap.there.held names new)
         (subst (λ d. GivesAlways (assigned definitions d gap.there.held names new) (IsAssigned u f.optional names new)) (sym resolves)
         (assigns u f.optional gap.there.held new nothing (held-for f u gap.there.held resolves gap.there.goes) goes))
@@ -321,7 +320,7 @@ module _ (scope : Scope) (whole : IsWhole scope) (reference : Reference) (t : Da
   pub variable_assigned : (new : Value) → value_goes new scope.definitions (target_at scope reference) ≡ true
       → GivesAlways (assigned scope.definitions (Some t) held reference.fields new) (HoldsAssigned scope.definitions t reference.fields new)
   variable_assigned new goes =
-      always_more (IsAssigned scope.definitions t false reference.fields new) (HoldsAssigned scope.definitions t reference.fields new) (assigned scope.definitions (Some t) held reference.fields new)
+      always-more (IsAssigned scope.definitions t false reference.fields new) (HoldsAssigned scope.definitions t reference.fields new) (assigned scope.definitions (Some t) held reference.fields new)
       (assigns scope.definitions whole.fields reference.fields t false held new fine holds
       (subst (λ m. value_goes new scope.definitions (record {
         data_type = type_known (said.along scope.definitions (as_target scope.definitions m).typing reference.fields).typing;
@@ -335,14 +334,14 @@ module _ (scope : Scope) (whole : IsWhole scope) (reference : Reference) (t : Da
       let last = along-is scope.definitions whole.fields reference.fields (typing.Known t) (t, refl) fine in
       (last.0, subst (λ m. type_known (said.along scope.definitions (as_target scope.definitions m).typing reference.fields).typing ≡ Some last.0) (sym variable) (ap type_known last.1))
 
-  pub value_assigned : (reading : Reading) → FieldsDiffer scope.definitions → FitsIn scope reading → HasAll scope reading → (v : tree.Value) → checked.value v scope (target_at scope reference) ≡ []
+  pub value_assigned : (reading : Reading) → FieldsDiffer scope.definitions → FitsIn scope reading → HasAll scope reading → (v : written.Value) → checked.value v scope (target_at scope reference) ≡ []
       → GivesOnly (outcome_and_then (assigned scope.definitions (Some t) held reference.fields) (value_wanted v reading (target_at scope reference).data_type)) (λ w. is_of scope.definitions t w ≡ true)
   value_assigned reading differ fit all v fine_value =
       let o : Bool = (target_at scope reference).optional in
       let judged : checked.value v scope (to target-is.0 o) ≡ [] = subst (λ d. checked.value v scope (record { data_type = d; optional = o }) ≡ []) target-is.1 fine_value in
       subst (λ d. GivesOnly (outcome_and_then (assigned scope.definitions (Some t) held reference.fields) (value_wanted v reading d)) (λ w. is_of scope.definitions t w ≡ true)) (sym target-is.1)
-      (only_then (GoesTo scope.definitions target-is.0 o) (λ w. is_of scope.definitions t w ≡ true) (assigned scope.definitions (Some t) held reference.fields) (value_wanted v reading (Some target-is.0))
-      (only_of (GoesTo scope.definitions target-is.0 o) (value_wanted v reading (Some target-is.0)) (values_met v scope reading whole differ fit all target-is.0 o judged) (values_typed v scope reading whole differ fit target-is.0 o judged))
-      (λ new goes. only_always (λ w. is_of scope.definitions t w ≡ true) (assigned scope.definitions (Some t) held reference.fields new)
-      (always_more (HoldsAssigned scope.definitions t reference.fields new) (λ w. is_of scope.definitions t w ≡ true) (assigned scope.definitions (Some t) held reference.fields new)
+      (only-then (GoesTo scope.definitions target-is.0 o) (λ w. is_of scope.definitions t w ≡ true) (assigned scope.definitions (Some t) held reference.fields) (value_wanted v reading (Some target-is.0))
+      (only-of (GoesTo scope.definitions target-is.0 o) (value_wanted v reading (Some target-is.0)) (values_met v scope reading whole differ fit all target-is.0 o judged) (values_typed v scope reading whole differ fit target-is.0 o judged))
+      (λ new goes. only-always (λ w. is_of scope.definitions t w ≡ true) (assigned scope.definitions (Some t) held reference.fields new)
+      (always-more (HoldsAssigned scope.definitions t reference.fields new) (λ w. is_of scope.definitions t w ≡ true) (assigned scope.definitions (Some t) held reference.fields new)
       (variable_assigned new (subst (λ d. value_goes new scope.definitions (record { data_type = d; optional = o }) ≡ true) (sym target-is.1) goes)) (λ w found. found.is_typed))))

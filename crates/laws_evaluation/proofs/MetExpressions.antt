@@ -24,7 +24,7 @@ use Rattle.laws_checker.specs.Laws.{HasFieldType, IsWhole}
 use Rattle.check_rules.specs.Expressions as said
 use Rattle.check_rules.specs.Expressions.{Judgement, Judge, check_component, check_field, check_meaning, check_running, between, join_links, demand, expression, is_timer, names_timer, of_type, within}
 use Rattle.check_scope.specs.Names.{Scope, field_named, fields_at, module_names, resolved}
-use Rattle.check_scope.specs.Typings.{comparable, compares, operands_of, refers_to_component, result_of, target_of, typed}
+use Rattle.check_scope.specs.Typings.{comparable, compares, operands_of, result_of, target_of, typed}
 use Rattle.check_scope.specs.Typings as typings
 use Rattle.check_scope.specs.declared.names.Meaning.{Meaning}
 use Rattle.check_scope.specs.declared.names.Meaning.TheVariants as meaning
@@ -37,7 +37,7 @@ use Rattle.check_scope.specs.declared.types.Typing.TheVariants as typing
 use Rattle.value_arithmetic.specs.Integers as integers
 use Rattle.value_arithmetic.specs.Integers.{calculated}
 use Rattle.laws_evaluation.proofs.TypedLiterals.{same-type}
-use Rattle.laws_evaluation.proofs.TypedValues.{component-goes, expression_typed, field-goes, goes_out, if-any, if-then-of, joined-goes, level_goes, same-operator, with_goes}
+use Rattle.laws_evaluation.proofs.TypedValues.{component-goes, expression_typed, field-goes, goes-out, if-any, if-then-of, joined-goes, level_goes, same-operator, with_goes}
 use Rattle.laws_evaluation.specs.Types as types
 use Rattle.laws_evaluation.specs.Types.{FitsIn, HasAll, IsOfTyping, go_to_fields, goes_to_field, is_of, is_valued, names_value}
 use Rattle.value_types.specs.Evaluation.{Evaluation, after, expression_step, joined, link, link_step, value_of}
@@ -45,7 +45,7 @@ use Rattle.value_types.specs.Operations.{applied, both, compared, decides, fitti
 use Rattle.value_types.specs.Outcomes.{DynamicError, Fails, IfYields, IsMet, Outcome, Unmet, Yields, dynamic_error, or_unmet, outcome_and_then, outcome_map}
 use Rattle.value_types.specs.Readings.{Reading, along, component_at, component_runs, field, last_presence, named, presence, read, referred, runs, runs_at, state_in, state_of_field, timer_at, timer_of}
 use Rattle.value_types.specs.Values as values
-use Rattle.value_types.specs.Values.{boolean, boolean_in, equal, integer, integer_in, is_complete, is_omit, record_in, record_of}
+use Rattle.value_types.specs.Values.{boolean, boolean_in, equal, integer, integer_in, is_complete, is_omit, record_in}
 use Rattle.value_types.specs.declared.value.Value.{Value, out-Value}
 use Rattle.value_types.specs.declared.value.Value.TheOpen.{Value-F}
 
@@ -94,7 +94,7 @@ module _ (definitions : List Definition) where
   level-integer Value-F.Omit goes = absurd (let e = goes in cc)
 
   pub integer-there : (v : Value) → is_of definitions type.Integer v ≡ true → is_some (integer v) ≡ true
-  integer-there v is = level-integer (out-Value v) (sym (goes_out definitions v (target_of (Some type.Integer))) ∙ is)
+  integer-there v is = level-integer (out-Value v) (sym (goes-out definitions v (target_of (Some type.Integer))) ∙ is)
 
   level-boolean : (x : Value-F Value) → level_goes definitions x (target_of (Some type.Boolean)) ≡ true → is_some (boolean_in x) ≡ true
   level-boolean (Value-F.Boolean b) goes = refl
@@ -107,7 +107,7 @@ module _ (definitions : List Definition) where
   level-boolean Value-F.Omit goes = absurd (let e = goes in cc)
 
   pub boolean-there : (v : Value) → is_of definitions type.Boolean v ≡ true → is_some (boolean v) ≡ true
-  boolean-there v is = level-boolean (out-Value v) (sym (goes_out definitions v (target_of (Some type.Boolean))) ∙ is)
+  boolean-there v is = level-boolean (out-Value v) (sym (goes-out definitions v (target_of (Some type.Boolean))) ∙ is)
 
   level-component : (x : Value-F Value) (at : ℕ) → level_goes definitions x (target_of (Some (type.Component at))) ≡ true → IsMet (values.component_in x)
   level-component (Value-F.Component c) at goes = tt
@@ -120,7 +120,7 @@ module _ (definitions : List Definition) where
   level-component Value-F.Omit at goes = absurd (let e = goes in cc)
 
   component-there : (v : Value) (at : ℕ) → is_of definitions (type.Component at) v ≡ true → IsMet (values.component v)
-  component-there v at is = level-component (out-Value v) at (sym (goes_out definitions v (target_of (Some (type.Component at)))) ∙ is)
+  component-there v at is = level-component (out-Value v) at (sym (goes-out definitions v (target_of (Some (type.Component at)))) ∙ is)
 
   -- ---- fields
 
@@ -172,7 +172,7 @@ module _ (definitions : List Definition) where
   -- the field of a record is there, be it without value
   state-met : (t : Typing) (name : List ℕ) (v : Value) → t ≢ typing.Unknown → (within definitions t name).broken ≡ [] → IsOfTyping definitions t v → IsMet (state_of_field definitions name v)
   state-met (typing.Known (type.Record at)) name v known nothing of =
-      state-there (out-Value v) at name (sym (goes_out definitions v (target_of (Some (type.Record at)))) ∙ of) (field-is (field_named name (fields_at definitions at)) nothing)
+      state-there (out-Value v) at name (sym (goes-out definitions v (target_of (Some (type.Record at)))) ∙ of) (field-is (field_named name (fields_at definitions at)) nothing)
   state-met (typing.Known type.Integer) name v known nothing of = absurd (let e = nothing in cc)
   state-met (typing.Known type.Boolean) name v known nothing of = absurd (let e = nothing in cc)
   state-met (typing.Known type.Default) name v known nothing of = absurd (let e = nothing in cc)

@@ -36,7 +36,7 @@ use Rattle.check_scope.specs.declared.rule.Rule.TheVariants as rule
 use Rattle.check_scope.specs.declared.types.DataType.{DataType}
 use Rattle.laws_evaluation.proofs.Agreement.{AgreeAt}
 use Rattle.laws_evaluation.proofs.MetExpressions.{met-map, met-there}
-use Rattle.laws_evaluation.proofs.Places.{constant_placed, template_placed}
+use Rattle.laws_evaluation.proofs.Places.{constant-placed, template-placed}
 use Rattle.laws_evaluation.proofs.Steps.{alone, constant-next, constant-within, kind-of-template, no-longer, none-is, template-next, template-within}
 use Rattle.laws_evaluation.proofs.TypedChains.{constants-fine, deep-fits, fields_differ, given-fits, given-has, module-fits}
 use Rattle.laws_evaluation.proofs.TypedRecords.{true-both, values_met}
@@ -464,11 +464,11 @@ module _ (reading : Reading) (well : AreWellTyped reading.definitions) where
   no-constant : (at item : ℕ) → IsShort 0 (number_at reading.definitions at + item) → (c : Option Constant) → constant_at reading.definitions at item ≡ c → is_some c ≡ true → ⊥
   no-constant at item short None found some = let e = some in cc
   no-constant at item short (Some c) found some =
-      short (alone (constants_and_templates reading.definitions) (number_at reading.definitions at + item) (constant_parts (module_scope reading.definitions) c) (constant_placed reading.definitions at item c found))
+      short (alone (constants_and_templates reading.definitions) (number_at reading.definitions at + item) (constant_parts (module_scope reading.definitions) c) (constant-placed reading.definitions at item c found))
 
   no-template-at : (at : ℕ) → IsShort 0 (number_at reading.definitions at) → (k : Option DefinitionKind) → kind_at reading.definitions at ≡ k → is_some (template_type reading.definitions k) ≡ true → ⊥
   no-template-at at short (Some (kind.Template t)) is known =
-      short (alone (constants_and_templates reading.definitions) (number_at reading.definitions at) (template_parts (with_parameters (module_scope reading.definitions) t.parameters) t.template) (template_placed reading.definitions at t (ap template_of is)))
+      short (alone (constants_and_templates reading.definitions) (number_at reading.definitions at) (template_parts (with_parameters (module_scope reading.definitions) t.parameters) t.template) (template-placed reading.definitions at t (ap template_of is)))
   no-template-at at short (Some (kind.Record r)) is known = let e = known in cc
   no-template-at at short (Some (kind.Enumerated r)) is known = let e = known in cc
   no-template-at at short (Some (kind.Port r)) is known = let e = known in cc

@@ -36,42 +36,42 @@ module _ (definitions : List Definition) where
       ∙ get-rest (things_at definitions d.kind) (things_from definitions rest) (number_at rest at + item)
       ∙ placed rest at item k thing is found
 
-  pub constant_placed : (at item : ℕ) (c : Constant) → constant_at definitions at item ≡ Some c
+  pub constant-placed : (at item : ℕ) (c : Constant) → constant_at definitions at item ≡ Some c
       → slice_get (constants_and_templates definitions) (number_at definitions at + item) ≡ Some (constant_parts (module_scope definitions) c)
-  constant_placed at item c is = of_kind (kind_at definitions at) refl is
+  constant-placed at item c is = of-kind (kind_at definitions at) refl is
     where
-      of_kind : (k : Option DefinitionKind) → kind_at definitions at ≡ k → constant_of k item ≡ Some c
+      of-kind : (k : Option DefinitionKind) → kind_at definitions at ≡ k → constant_of k item ≡ Some c
           → slice_get (constants_and_templates definitions) (number_at definitions at + item) ≡ Some (constant_parts (module_scope definitions) c)
-      of_kind (Some (kind.Constants cs)) is found =
+      of-kind (Some (kind.Constants cs)) is found =
           placed definitions at item (kind.Constants cs) (constant_parts (module_scope definitions) c) is
           (slice_get-map (constant_parts (module_scope definitions)) cs.constants item ∙ ap (option_map (constant_parts (module_scope definitions))) found)
-      of_kind (Some (kind.Record r)) is found = absurd (let e = found in cc)
-      of_kind (Some (kind.Enumerated e)) is found = absurd (let f = found in cc)
-      of_kind (Some (kind.Port p)) is found = absurd (let e = found in cc)
-      of_kind (Some (kind.Component d)) is found = absurd (let e = found in cc)
-      of_kind (Some (kind.Template t)) is found = absurd (let e = found in cc)
-      of_kind (Some (kind.Function f)) is found = absurd (let e = found in cc)
-      of_kind (Some (kind.Altstep a)) is found = absurd (let e = found in cc)
-      of_kind (Some (kind.Testcase t)) is found = absurd (let e = found in cc)
-      of_kind None is found = absurd (let e = found in cc)
+      of-kind (Some (kind.Record r)) is found = absurd (let e = found in cc)
+      of-kind (Some (kind.Enumerated e)) is found = absurd (let f = found in cc)
+      of-kind (Some (kind.Port p)) is found = absurd (let e = found in cc)
+      of-kind (Some (kind.Component d)) is found = absurd (let e = found in cc)
+      of-kind (Some (kind.Template t)) is found = absurd (let e = found in cc)
+      of-kind (Some (kind.Function f)) is found = absurd (let e = found in cc)
+      of-kind (Some (kind.Altstep a)) is found = absurd (let e = found in cc)
+      of-kind (Some (kind.Testcase t)) is found = absurd (let e = found in cc)
+      of-kind None is found = absurd (let e = found in cc)
 
-  pub template_placed : (at : ℕ) (t : TemplateDefinition) → template_at definitions at ≡ Some t
+  pub template-placed : (at : ℕ) (t : TemplateDefinition) → template_at definitions at ≡ Some t
       → slice_get (constants_and_templates definitions) (number_at definitions at) ≡ Some (template_parts (with_parameters (module_scope definitions) t.parameters) t.template)
-  template_placed at t is = of_kind (kind_at definitions at) refl is
+  template-placed at t is = of-kind (kind_at definitions at) refl is
     where
-      of_kind : (k : Option DefinitionKind) → kind_at definitions at ≡ k → template_of k ≡ Some t
+      of-kind : (k : Option DefinitionKind) → kind_at definitions at ≡ k → template_of k ≡ Some t
           → slice_get (constants_and_templates definitions) (number_at definitions at) ≡ Some (template_parts (with_parameters (module_scope definitions) t.parameters) t.template)
-      of_kind (Some (kind.Template u)) is found =
+      of-kind (Some (kind.Template u)) is found =
           let e : number_at definitions at ≡ number_at definitions at + 0 = omega arith in
           ap (slice_get (constants_and_templates definitions)) e
           ∙ placed definitions at 0 (kind.Template u) (template_parts (with_parameters (module_scope definitions) t.parameters) t.template) is
           (ap (λ v. Some (template_parts (with_parameters (module_scope definitions) v.parameters) v.template)) (some-same u t found))
-      of_kind (Some (kind.Constants cs)) is found = absurd (let e = found in cc)
-      of_kind (Some (kind.Record r)) is found = absurd (let e = found in cc)
-      of_kind (Some (kind.Enumerated e)) is found = absurd (let f = found in cc)
-      of_kind (Some (kind.Port p)) is found = absurd (let e = found in cc)
-      of_kind (Some (kind.Component d)) is found = absurd (let e = found in cc)
-      of_kind (Some (kind.Function f)) is found = absurd (let e = found in cc)
-      of_kind (Some (kind.Altstep a)) is found = absurd (let e = found in cc)
-      of_kind (Some (kind.Testcase u)) is found = absurd (let e = found in cc)
-      of_kind None is found = absurd (let e = found in cc)
+      of-kind (Some (kind.Constants cs)) is found = absurd (let e = found in cc)
+      of-kind (Some (kind.Record r)) is found = absurd (let e = found in cc)
+      of-kind (Some (kind.Enumerated e)) is found = absurd (let f = found in cc)
+      of-kind (Some (kind.Port p)) is found = absurd (let e = found in cc)
+      of-kind (Some (kind.Component d)) is found = absurd (let e = found in cc)
+      of-kind (Some (kind.Function f)) is found = absurd (let e = found in cc)
+      of-kind (Some (kind.Altstep a)) is found = absurd (let e = found in cc)
+      of-kind (Some (kind.Testcase u)) is found = absurd (let e = found in cc)
+      of-kind None is found = absurd (let e = found in cc)

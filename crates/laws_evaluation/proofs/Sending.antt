@@ -18,10 +18,10 @@ use Rattle.check_scope.specs.declared.types.Typing.TheVariants as typing
 use Rattle.check_rules.specs.Messages.{Passing, check_message, check_type_name, type_of_message}
 use Rattle.laws_checker.proofs.Nothing.{nothing-rest}
 use Rattle.laws_checker.specs.Laws.{IsWhole}
-use Rattle.laws_evaluation.proofs.Only.{only_of, only_then}
+use Rattle.laws_evaluation.proofs.Only.{only-of, only-then}
 use Rattle.laws_evaluation.proofs.TypedRecords.{true-both}
-use Rattle.laws_evaluation.proofs.TypedTemplates.{goes_of_pattern, goes_of_template, pattern_goes, templates_met, templates_typed}
-use Rattle.laws_evaluation.proofs.TypedValues.{goes_rolled, weaker_goes, with_goes}
+use Rattle.laws_evaluation.proofs.TypedTemplates.{goes-of-pattern, goes-of-template, pattern_goes, templates_met, templates_typed}
+use Rattle.laws_evaluation.proofs.TypedValues.{goes-rolled, weaker-goes, with_goes}
 use Rattle.laws_evaluation.specs.Types.{FieldsDiffer, FitsIn, HasAll, ParametersKnown, go_to_each, go_to_fields, template_goes, value_goes, wants}
 use Rattle.laws_evaluation.specs.Uses.{GivesOnly, IsSpecific}
 use Rattle.value_types.specs.Matching.{all_fields, before_fields, record_with, specific_step, specific_template_step, specific_value, specific_value_of_pattern}
@@ -47,14 +47,14 @@ with_whole = former-Value-Record-1-at-1.map Value Bool is_complete
 
 omit-specific : (definitions : List Definition) (target : Target) → target.optional ≡ true → IsSpecific definitions target value.Omit
 omit-specific definitions target may = record {
-  goes = ap (λ v. value_goes v definitions target) (sym value.rolls-Omit) ∙ goes_rolled definitions Value-F.Omit target ∙ may;
+  goes = ap (λ v. value_goes v definitions target) (sym value.rolls-Omit) ∙ goes-rolled definitions Value-F.Omit target ∙ may;
   is_whole = ap is_complete (sym value.rolls-Omit) ∙ values.fold-roll-Value Bool complete_step Value-F.Omit;
 }
 
 record-specific : (definitions : List Definition) (target : Target) (at : ℕ) (states : List (Option Value)) → wants (type.Record at) target.data_type ≡ true
     → go_to_fields definitions (fields_at definitions at) (map with_goes states) ≡ true → list_all has_value (map with_whole states) ≡ true → IsSpecific definitions target (value.Record at states)
 record-specific definitions target at states wanted go complete = record {
-  goes = ap (λ v. value_goes v definitions target) (sym (value.rolls-Record at states)) ∙ goes_rolled definitions (Value-F.Record at states) target
+  goes = ap (λ v. value_goes v definitions target) (sym (value.rolls-Record at states)) ∙ goes-rolled definitions (Value-F.Record at states) target
       ∙ true-both (wants (type.Record at) target.data_type) (go_to_fields definitions (fields_at definitions at) (map with_goes states)) wanted go;
   is_whole = ap is_complete (sym (value.rolls-Record at states)) ∙ values.fold-roll-Value Bool complete_step (Value-F.Record at states) ∙ complete;
 }
@@ -115,18 +115,18 @@ SpecificLevel x = (definitions : List Definition) (target : Target) → pattern_
 
 pattern-specific : (y : level.Pattern-F HeldPattern HeldTemplate) → SpecificLevel (fold.map-Pattern HeldPattern HeldTemplate Pattern Template (λ p. p.0) (λ t. t.0) y)
 pattern-specific (level.Pattern-F.Value v) = λ definitions target goes.
-    let p = and_parts (value_goes v definitions (target_of target.data_type)) (is_complete v) (sym (goes_of_pattern (level.Pattern-F.Value v) definitions target) ∙ goes) in
-    record { goes = weaker_goes definitions v target.data_type target.optional p.0; is_whole = p.1 }
+    let p = and_parts (value_goes v definitions (target_of target.data_type)) (is_complete v) (sym (goes-of-pattern (level.Pattern-F.Value v) definitions target) ∙ goes) in
+    record { goes = weaker-goes definitions v target.data_type target.optional p.0; is_whole = p.1 }
 pattern-specific level.Pattern-F.Any = λ definitions target goes. tt
 pattern-specific level.Pattern-F.AnyOrOmit = λ definitions target goes. tt
 pattern-specific level.Pattern-F.Omit = λ definitions target goes.
-    omit-specific definitions target (sym (goes_of_pattern level.Pattern-F.Omit definitions target) ∙ goes)
+    omit-specific definitions target (sym (goes-of-pattern level.Pattern-F.Omit definitions target) ∙ goes)
 pattern-specific (level.Pattern-F.Complement parts) = λ definitions target goes. tt
 pattern-specific (level.Pattern-F.List parts) = λ definitions target goes. tt
 pattern-specific (level.Pattern-F.Range low high) = λ definitions target goes. tt
 pattern-specific (level.Pattern-F.Record at parts) = λ definitions target goes.
     let x : level.Pattern-F Pattern Template = level.Pattern-F.Record at (map (λ t. t.0) parts) in
-    let p = and_parts (wants (type.Record at) target.data_type) (go_to_each definitions (fields_at definitions at) (map template_goes (map (λ t. t.0) parts))) (sym (goes_of_pattern x definitions target) ∙ goes) in
+    let p = and_parts (wants (type.Record at) target.data_type) (go_to_each definitions (fields_at definitions at) (map template_goes (map (λ t. t.0) parts))) (sym (goes-of-pattern x definitions target) ∙ goes) in
     record-given definitions target at (all_fields (map specific_value (map (λ t. t.0) parts))) p.0 (fields-given definitions (fields_at definitions at) parts p.1)
 
 chosen-specific : (definitions : List Definition) (target : Target) (b : Bool) (o : Outcome Value) → GivesOnly o (IsSpecific definitions target)
@@ -136,7 +136,7 @@ chosen-specific definitions target false o is = is
 
 template-specific : (t : Template) → SpecificPattern t.pattern → Specific t
 template-specific t specific definitions target goes =
-    let p = and_parts (pattern_goes t.pattern definitions target) (not t.ifpresent || target.optional) (sym (goes_of_template t definitions target) ∙ goes) in
+    let p = and_parts (pattern_goes t.pattern definitions target) (not t.ifpresent || target.optional) (sym (goes-of-template t definitions target) ∙ goes) in
     subst (λ o. GivesOnly o (IsSpecific definitions target)) (sym (fold.fold_out-Template (Outcome Value) (Outcome Value) specific_step specific_template_step t))
     (chosen-specific definitions target t.ifpresent (specific_value_of_pattern t.pattern) (specific definitions target p.0))
 
@@ -157,7 +157,7 @@ message_sent scope reading whole differ known fit all passing otherwise message 
     let front : List Rule = check_type_name scope message.type_name ++ judged.broken in
     let inside : template message.template scope (target_of (Some of)) ≡ [] =
     subst (λ t. template message.template scope (target_of (type_known t)) ≡ []) is (nothing-rest front (template message.template scope (target_of (type_known judged.typing))) nothing) in
-    only_then (λ p. template_goes p scope.definitions (target_of (Some of)) ≡ true) (IsSpecific scope.definitions (target_of (Some of))) specific_value (template_wanted message.template reading (Some of))
-    (only_of (λ p. template_goes p scope.definitions (target_of (Some of)) ≡ true) (template_wanted message.template reading (Some of))
+    only-then (λ p. template_goes p scope.definitions (target_of (Some of)) ≡ true) (IsSpecific scope.definitions (target_of (Some of))) specific_value (template_wanted message.template reading (Some of))
+    (only-of (λ p. template_goes p scope.definitions (target_of (Some of)) ≡ true) (template_wanted message.template reading (Some of))
     (templates_met message.template scope reading whole differ known fit all of false inside) (templates_typed message.template scope reading whole differ fit of false inside))
     (λ p goes. specific_goes p scope.definitions (target_of (Some of)) goes)

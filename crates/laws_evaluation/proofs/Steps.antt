@@ -4,10 +4,10 @@ use Rattle.std.proofs.lemmas.Option.{slice_get_within}
 use Rattle.std.specs.Cmp.Lexicographic.{bytes_decides}
 use Rattle.std.specs.List.{Contains, slice_get}
 use Rattle.std.specs.Option.{option_map_or, option_or}
-use Rattle.laws_evaluation.proofs.Agreement.{AgreeAt, Keeps, value_same}
+use Rattle.laws_evaluation.proofs.Agreement.{AgreeAt, Keeps, value-same}
 use Rattle.laws_evaluation.proofs.Lists.{each-of}
-use Rattle.laws_evaluation.proofs.Places.{constant_placed, template_placed}
-use Rattle.laws_evaluation.proofs.TemplateAgreement.{template_same}
+use Rattle.laws_evaluation.proofs.Places.{constant-placed, template-placed}
+use Rattle.laws_evaluation.proofs.TemplateAgreement.{template-same}
 use Rattle.laws_evaluation.specs.Standing.{ConstantsStandForTheirValues, GiveTheSame, TemplatesStandForTheirBodies}
 use Rattle.check_survey.specs.Graphs.{BeginsLongerChain}
 use Rattle.check_survey.specs.declared.thing.Thing.{Thing}
@@ -152,9 +152,9 @@ module _ (reading : Reading) (well : AreWellTyped reading.definitions) where
   constant-next one other n at item short agree None is wanted = refl
   constant-next one other n at item short agree (Some c) is wanted =
       let thing : Thing = constant_parts (module_scope reading.definitions) c in
-      value_same (with_names (λ name. unmet) reading) one other (module_scope reading.definitions) (module-keeps reading.definitions) c.value
+      value-same (with_names (λ name. unmet) reading) one other (module_scope reading.definitions) (module-keeps reading.definitions) c.value
       (each-of (AgreeAt reading.definitions one other) thing.references (λ k among. agree k
-      (chains-shorter things n (number_at reading.definitions at + item) thing (constant_placed reading.definitions at item c is) short k among))) wanted
+      (chains-shorter things n (number_at reading.definitions at + item) thing (constant-placed reading.definitions at item c is) short k among))) wanted
 
   pub template-next : (one other : Outcomes) (n at : ℕ) → Short (suc n) (number_at reading.definitions at) → ((k : ℕ) → Short n k → AgreeAt reading.definitions one other k)
       → (t : Option TemplateDefinition) → template_at reading.definitions at ≡ t → (values : List Value)
@@ -163,22 +163,22 @@ module _ (reading : Reading) (well : AreWellTyped reading.definitions) where
   template-next one other n at short agree (Some t) is values =
       let scope : Scope = with_parameters (module_scope reading.definitions) t.parameters in
       let thing : Thing = template_parts scope t.template in
-      template_same (with_names (given_to t.parameters values) reading) one other scope (template-keeps reading.definitions well at t is) t.template
+      template-same (with_names (given_to t.parameters values) reading) one other scope (template-keeps reading.definitions well at t is) t.template
       (each-of (AgreeAt reading.definitions one other) thing.references (λ k among. agree k
-      (chains-shorter things n (number_at reading.definitions at) thing (template_placed reading.definitions at t is) short k among)))
+      (chains-shorter things n (number_at reading.definitions at) thing (template-placed reading.definitions at t is) short k among)))
       (resolved (module_names reading.definitions) t.type_name)
 
   module _ (one other : ℕ → Outcomes) (one_has : HasLinks one) (other_has : HasLinks other) where
     constant-first : (at item : ℕ) → Short 0 (number_at reading.definitions at + item) → (c : Option Constant) → constant_at reading.definitions at item ≡ c → (one 0).0 at item ≡ (other 0).0 at item
     constant-first at item short None is = one_has.no_constant at item is ∙ sym (other_has.no_constant at item is)
     constant-first at item short (Some c) is =
-        absurd (short (alone things (number_at reading.definitions at + item) (constant_parts (module_scope reading.definitions) c) (constant_placed reading.definitions at item c is)))
+        absurd (short (alone things (number_at reading.definitions at + item) (constant_parts (module_scope reading.definitions) c) (constant-placed reading.definitions at item c is)))
 
     template-first : (at : ℕ) → Short 0 (number_at reading.definitions at) → (t : Option TemplateDefinition) → template_at reading.definitions at ≡ t → (values : List Value)
         → (one 0).1 at values ≡ (other 0).1 at values
     template-first at short None is values = one_has.no_template at is values ∙ sym (other_has.no_template at is values)
     template-first at short (Some t) is values =
-        absurd (short (alone things (number_at reading.definitions at) (template_parts (with_parameters (module_scope reading.definitions) t.parameters) t.template) (template_placed reading.definitions at t is)))
+        absurd (short (alone things (number_at reading.definitions at) (template_parts (with_parameters (module_scope reading.definitions) t.parameters) t.template) (template-placed reading.definitions at t is)))
 
     -- where no chain is longer they give the same
     same-at : (n k : ℕ) → Short n k → AgreeAt reading.definitions (one n) (other n) k
@@ -296,8 +296,8 @@ more_links definitions well links more enough enough_more facts is =
 
 -- in what a frame stands for constants stand for their values, and templates for their bodies
 module _ (definitions : List Definition) (well : AreWellTyped definitions) (frame : Frame) (is : frame.definitions.now ≡ definitions) where
-  pub frame_constants_stand : ConstantsStandForTheirValues (reading_of frame)
-  frame_constants_stand = constants_stand definitions well 200 (omega arith) (facts frame) is
+  pub frame-constants-stand : ConstantsStandForTheirValues (reading_of frame)
+  frame-constants-stand = constants_stand definitions well 200 (omega arith) (facts frame) is
 
-  pub frame_templates_stand : TemplatesStandForTheirBodies (reading_of frame)
-  frame_templates_stand = templates_stand definitions well 200 (omega arith) (facts frame) is
+  pub frame-templates-stand : TemplatesStandForTheirBodies (reading_of frame)
+  frame-templates-stand = templates_stand definitions well 200 (omega arith) (facts frame) is

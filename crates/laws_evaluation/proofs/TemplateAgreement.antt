@@ -2,7 +2,7 @@
 -- wherever nothing that is referred to differs.
 use Rattle.std.proofs.Common.{◌≡◌, ℕ, Bool, true, false, nat_eq, List, [], ◌∷◌, ◌++◌, map, length, bytes_eq, Option, Some, None, if◌then◌else◌, refl, sym, ap, subst, ◌∙◌}
 use Rattle.std.specs.List.{find, zip}
-use Rattle.laws_evaluation.proofs.Agreement.{AgreeAt, Keeps, braced-agrees, expression_same, value_same}
+use Rattle.laws_evaluation.proofs.Agreement.{AgreeAt, Keeps, braced-agrees, expression-same, value-same}
 use Rattle.laws_evaluation.proofs.Lists.{Each, cons-same, each-first, each-rest, then-same}
 use Rattle.check_survey.specs.declared.thing.Thing.{Thing}
 use Rattle.ttcn_syntax.specs.declared.tree.definition.Field.{Field}
@@ -59,7 +59,7 @@ module _ (base : Reading) (one other : Outcomes) (scope : Scope) (keeps : Keeps 
   each-argument-same (p ∷ ps) (v ∷ vs) all =
       let others : Thing = all_of (map (value_parts scope) vs) in
       cons-same (argument here (p, v)) (argument there (p, v)) (map (argument here) (zip ps vs)) (map (argument there) (zip ps vs))
-      (value_same base one other scope keeps v (first (value_parts scope v).references others.references all) (resolved (module_names base.definitions) p.type_name))
+      (value-same base one other scope keeps v (first (value_parts scope v).references others.references all) (resolved (module_names base.definitions) p.type_name))
       (each-argument-same ps vs (rest (value_parts scope v).references others.references all))
 
   arguments-same : (ps : List Parameter) (vs : List written.Value) → Agrees (all_of (map (value_parts scope) vs)) → arguments here ps vs ≡ arguments there ps vs
@@ -75,7 +75,7 @@ module _ (base : Reading) (one other : Outcomes) (scope : Scope) (keeps : Keeps 
   -- ---- expressions and the names of templates
 
   at-name-same : (e : Expr) (at : Option ℕ) → Agrees (of_name scope e at) → template_of_expression here e at ≡ template_of_expression there e at
-  at-name-same e None all = ap (outcome_and_then as_pattern) (expression_same base one other scope keeps e all)
+  at-name-same e None all = ap (outcome_and_then as_pattern) (expression-same base one other scope keeps e all)
   at-name-same e (Some at) all = called-same (Some at) [] (subst (λ ds. Agrees (of_template ds (Some at))) keeps.same all) tt
 
   by-name-same : (e : Expr) (name : Option (List ℕ)) → Agrees (of_name scope e (template_by_name scope name)) → template_of_expression here e (template_of_name here name) ≡ template_of_expression there e (template_of_name there name)
@@ -86,7 +86,7 @@ module _ (base : Reading) (one other : Outcomes) (scope : Scope) (keeps : Keeps 
   -- ---- ranges
 
   bound-same : (b : Bound) → Agrees (of_bound scope b) → value_of_bound here b ≡ value_of_bound there b
-  bound-same (bound.Expr e) all = ap (outcome_and_then (λ v. outcome_map Some (or_unmet (integer v)))) (expression_same base one other scope keeps e all)
+  bound-same (bound.Expr e) all = ap (outcome_and_then (λ v. outcome_map Some (or_unmet (integer v)))) (expression-same base one other scope keeps e all)
   bound-same bound.Infinity all = refl
 
   range-same : (low high : Bound) → Agrees (of_bound scope low) → Agrees (of_bound scope high) → template_of_range here low high ≡ template_of_range there low high
@@ -214,8 +214,8 @@ module _ (base : Reading) (one other : Outcomes) (scope : Scope) (keeps : Keeps 
   template-held : (y : Template-F HeldBody HeldField Held) → LevelTemplate (map-Template HeldBody HeldField Held TemplateBody FieldTemplate tree.Template (λ b. b.0) (λ f. f.0) (λ t. t.0) y)
   template-held y all wanted = ap (outcome_map (with_ifpresent y.ifpresent)) (y.body.1 all wanted)
 
-  pub template_same : (t : tree.Template) → SameWanted (template_parts scope t) (template_wanted t)
-  template_same = ind-Template (λ b. SameWanted (body_parts scope b) (body_wanted b)) (λ f. SameWanted (field_template_parts scope f) (field_template f).1) (λ t. SameWanted (template_parts scope t) (template_wanted t)) (λ x y is.
+  pub template-same : (t : tree.Template) → SameWanted (template_parts scope t) (template_wanted t)
+  template-same = ind-Template (λ b. SameWanted (body_parts scope b) (body_wanted b)) (λ f. SameWanted (field_template_parts scope f) (field_template f).1) (λ t. SameWanted (template_parts scope t) (template_wanted t)) (λ x y is.
       subst (λ t. SameWanted t (body_wanted (roll-TemplateBody x))) (sym (fold-roll-TemplateBody Thing Thing Thing (body_parts_step scope) field_template_parts_step template_parts_step x))
       (subst (λ g. SameWanted (body_parts_step scope (map-TemplateBody TemplateBody FieldTemplate tree.Template Thing Thing Thing (body_parts scope) (field_template_parts scope) (template_parts scope) x)) g)
       (sym (fold-roll-TemplateBody Wanted (List ℕ × Wanted) Wanted body_step field_template_step template_step x))

@@ -40,7 +40,7 @@ use Rattle.check_scope.specs.declared.types.DataType.{DataType}
 use Rattle.check_scope.specs.declared.types.DataType.TheVariants as type
 use Rattle.laws_evaluation.proofs.TypedRecords.{true-both, values_typed}
 use Rattle.laws_evaluation.proofs.TypedTemplates.{templates_typed}
-use Rattle.laws_evaluation.proofs.TypedValues.{goes_rolled, if-any, nat_eq-refl}
+use Rattle.laws_evaluation.proofs.TypedValues.{goes-rolled, if-any, nat_eq-refl}
 use Rattle.value_types.specs.Chains.{constant_value, given_to, template_value, with_names, within_chains}
 use Rattle.value_types.specs.Literals.{value_wanted}
 use Rattle.value_types.specs.Outcomes.{IfYields, IsMet, Outcome, Yields, or_unmet, outcome_map, unmet}
@@ -177,7 +177,7 @@ enumerated-goes : (definitions : List Definition) (at n : ℕ) → nat_lt n (len
     → is_of definitions (type.Enumerated at) (value.Enumerated at n) ≡ true
 enumerated-goes definitions at n less =
     ap (λ v. is_of definitions (type.Enumerated at) v) (sym (value.rolls-Enumerated at n))
-    ∙ goes_rolled definitions (level.Value-F.Enumerated at n) (target_of (Some (type.Enumerated at)))
+    ∙ goes-rolled definitions (level.Value-F.Enumerated at n) (target_of (Some (type.Enumerated at)))
     ∙ true-both (nat_eq at at) (nat_lt n (length (enumerators_of (kind_at definitions at)))) (nat_eq-refl at) less
 
 position-goes : (definitions : List Definition) (at n : ℕ) (b : Bool) → nat_lt n (length (enumerators_of (kind_at definitions at))) ≡ b
@@ -503,11 +503,11 @@ module _ (definitions : List Definition) (well : AreWellTyped definitions) where
   named-fit n reading is names = let deep = deep-fits n reading is in module-fits (with_names names (within_chains n reading)) definitions is deep.0 deep.1
 
 -- in a well-typed module what constants and templates give fits, however deep they refer to each other
-pub chains_fit : (definitions : List Definition) → AreWellTyped definitions → (n : ℕ) (reading : Reading) → reading.definitions ≡ definitions
+pub all-chains-fit : (definitions : List Definition) → AreWellTyped definitions → (n : ℕ) (reading : Reading) → reading.definitions ≡ definitions
     → FitsIn (module_scope definitions) (within_chains n reading)
-chains_fit definitions well n reading is = chains-fit definitions well n reading is
+all-chains-fit definitions well n reading is = chains-fit definitions well n reading is
 
 -- whatever stands for names that the module doesn't define
-pub names_fit : (definitions : List Definition) → AreWellTyped definitions → (n : ℕ) (reading : Reading) → reading.definitions ≡ definitions → (names : List ℕ → Outcome Value)
+pub names-fit : (definitions : List Definition) → AreWellTyped definitions → (n : ℕ) (reading : Reading) → reading.definitions ≡ definitions → (names : List ℕ → Outcome Value)
     → FitsIn (module_scope definitions) (with_names names (within_chains n reading))
-names_fit definitions well n reading is names = named-fit definitions well n reading is names
+names-fit definitions well n reading is names = named-fit definitions well n reading is names

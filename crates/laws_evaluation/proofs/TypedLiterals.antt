@@ -13,10 +13,10 @@ use Rattle.ttcn_syntax.specs.declared.tree.expression.Link.{Link}
 use Rattle.laws_checker.proofs.Nothing.{kept, nothing-first, nothing-rest}
 use Rattle.laws_checker.proofs.Typed.{expression_typed as expression_known}
 use Rattle.check_rules.specs.Expressions as said
-use Rattle.check_rules.specs.Expressions.{Judgement, Judge, any_component, check_component, check_field, check_meaning, check_running, check_self, between, join_links, demand, expression, names_timer, of_type, within}
+use Rattle.check_rules.specs.Expressions.{Judgement, Judge, check_component, check_field, check_meaning, check_self, join_links, expression, names_timer, within}
 use Rattle.laws_checker.specs.Laws.{IsWhole}
 use Rattle.check_scope.specs.Names.{Scope, constants_type, field_named, fields_at, kind_at, module_names, resolved}
-use Rattle.check_scope.specs.Typings.{comparable, compares, fits, goes_to, operands_of, refers_to_component, result_of, same_type, typed, unless}
+use Rattle.check_scope.specs.Typings.{goes_to, same_type, typed, unless}
 use Rattle.check_scope.specs.Typings as typings
 use Rattle.check_rules.specs.Values.{check_expression}
 use Rattle.check_scope.specs.declared.names.Meaning.{Meaning}
@@ -27,7 +27,7 @@ use Rattle.check_scope.specs.declared.types.DataType.{DataType}
 use Rattle.check_scope.specs.declared.types.DataType.TheVariants as type
 use Rattle.check_scope.specs.declared.types.Typing.{Typing}
 use Rattle.check_scope.specs.declared.types.Typing.TheVariants as typing
-use Rattle.laws_evaluation.proofs.TypedValues.{expression_typed, goes_rolled, if-more, weaker_goes}
+use Rattle.laws_evaluation.proofs.TypedValues.{expression_typed, goes-rolled, if-more, weaker-goes}
 use Rattle.value_types.specs.Evaluation.{value_of}
 use Rattle.value_types.specs.Outcomes.{IfYields}
 use Rattle.value_types.specs.Readings.{Reading}
@@ -110,8 +110,8 @@ expr-not (Expr-F.Not e) = λ scope nothing. refl
 expr-not (Expr-F.Signed s e) = λ scope nothing. refl
 expr-not (Expr-F.Chain first links) = λ scope nothing. join_links-not scope (map (λ l. l.0) links) (expression first.0) (first.1 scope) nothing
 
-pub expression_not_any : (e : Expr) → NeverAny (expression e)
-expression_not_any = ind-Expr (λ e. NeverAny (expression e)) (λ l. Unit {0}) (λ x y is.
+pub expression-not-any : (e : Expr) → NeverAny (expression e)
+expression-not-any = ind-Expr (λ e. NeverAny (expression e)) (λ l. Unit {0}) (λ x y is.
     subst NeverAny (sym (fold-roll-Expr Judge (Operator × Judge) said.expression_step said.link_step x))
     (subst LevelNot is (expr-not y))) (λ x y is. tt)
 
@@ -129,7 +129,7 @@ same-type _ _ is = absurd (let e = is in cc)
 null-goes : (definitions : List Definition) (t : DataType) (o : Bool) → goes_to t typing.Null ≡ true → value_goes value.Null definitions (record { data_type = Some t; optional = o }) ≡ true
 null-goes definitions t o goes =
     ap (λ v. value_goes v definitions (record { data_type = Some t; optional = o })) (sym value.rolls-Null)
-    ∙ goes_rolled definitions Value-F.Null (record { data_type = Some t; optional = o }) ∙ level t goes
+    ∙ goes-rolled definitions Value-F.Null (record { data_type = Some t; optional = o }) ∙ level t goes
   where
     level : (t : DataType) → goes_to t typing.Null ≡ true → (typings.is_component t || typings.is_default t) ≡ true
     level (type.Component at) is = refl
@@ -140,7 +140,7 @@ null-goes definitions t o goes =
 typing-goes : (definitions : List Definition) (t : DataType) (o : Bool) (found : Typing) (v : Value) → goes_to t found ≡ true → found ≢ typing.Unknown → is_any found ≡ false
     → IsOfTyping definitions found v → value_goes v definitions (record { data_type = Some t; optional = o }) ≡ true
 typing-goes definitions t o (typing.Known u) v goes known single of =
-    weaker_goes definitions v (Some t) o (subst (λ k. is_of definitions k v ≡ true) (sym (same-type t u goes)) of)
+    weaker-goes definitions v (Some t) o (subst (λ k. is_of definitions k v ≡ true) (sym (same-type t u goes)) of)
 typing-goes definitions t o typing.Null v goes known single of =
     subst (λ w. value_goes w definitions (record { data_type = Some t; optional = o }) ≡ true) (sym of) (null-goes definitions t o goes)
 typing-goes definitions t o typing.AnyComponent v goes known single of = absurd (let e = single in cc)
@@ -157,4 +157,4 @@ wanted_goes scope reading whole fit t o e nothing =
     if-more (IsOfTyping scope.definitions judged.typing) (λ v. value_goes v scope.definitions (record { data_type = Some t; optional = o }) ≡ true) (value_of e reading)
     (expression_typed e scope false reading fit)
     (λ v of. typing-goes scope.definitions t o judged.typing v (kept (goes_to t judged.typing) rule.ValueType (nothing-rest judged.broken wanted nothing))
-    (expression_known e scope false whole fine) (expression_not_any e scope fine) of)
+    (expression_known e scope false whole fine) (expression-not-any e scope fine) of)

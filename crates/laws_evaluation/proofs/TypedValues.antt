@@ -18,7 +18,7 @@ use Rattle.ttcn_syntax.specs.declared.tree.expression.Expr.TheOpen.{Expr-F}
 use Rattle.ttcn_syntax.specs.declared.tree.expression.Link.{Link, fold_out-Link}
 use Rattle.ttcn_syntax.specs.declared.tree.expression.Reference.{Reference}
 use Rattle.check_rules.specs.Expressions as said
-use Rattle.check_rules.specs.Expressions.{Judgement, Judge, check_component, check_field, check_meaning, check_running, check_self, between, join_links, demand, expression, names_timer, of_type, within}
+use Rattle.check_rules.specs.Expressions.{Judgement, Judge, check_component, check_field, check_meaning, check_running, check_self, join_links, expression, names_timer, within}
 use Rattle.check_scope.specs.Names.{Scope, fields_at, module_names, resolved}
 use Rattle.check_scope.specs.Typings.{result_of, target_of, typed}
 use Rattle.check_rules.specs.Values.{field_target}
@@ -35,7 +35,7 @@ use Rattle.value_types.specs.Outcomes.{Fails, IfYields, Outcome, Yields, dynamic
 use Rattle.value_types.specs.Readings.{Reading, along, component_at, component_runs, field, is_there, last_presence, named, presence, read, referred, runs, runs_at, state_in, state_of_field, timer_at}
 use Rattle.laws_evaluation.specs.Types.{FitsIn, Goes, IsOfTyping, go_to_fields, goes_to_field, is_of, value_goes, value_step}
 use Rattle.value_types.specs.Values as values
-use Rattle.value_types.specs.Values.{boolean, boolean_in, equal, integer, is_complete, is_omit, is_omit_in, record_in, record_of}
+use Rattle.value_types.specs.Values.{boolean, boolean_in, equal, integer, is_complete, is_omit, is_omit_in, record_in}
 use Rattle.value_types.specs.declared.value.ComponentId.{ComponentId}
 use Rattle.value_types.specs.declared.value.Value.{Value, fold_out-Value, out-Value, roll-Value}
 use Rattle.value_types.specs.declared.value.Value.TheFolds.{fold-roll-Value, map-Value}
@@ -78,26 +78,26 @@ module _ (definitions : List Definition) where
   abbrev pub level_goes : Value-F Value → Target → Bool
   level_goes x target = value_step (map-Value Value Goes value_goes x) definitions target
 
-  pub goes_out : (v : Value) (target : Target) → value_goes v definitions target ≡ level_goes (out-Value v) target
-  goes_out v target = ap (λ (g : Goes). g definitions target) (fold_out-Value Goes value_step v)
+  pub goes-out : (v : Value) (target : Target) → value_goes v definitions target ≡ level_goes (out-Value v) target
+  goes-out v target = ap (λ (g : Goes). g definitions target) (fold_out-Value Goes value_step v)
 
-  pub goes_rolled : (x : Value-F Value) (target : Target) → value_goes (roll-Value x) definitions target ≡ level_goes x target
-  goes_rolled x target = ap (λ (g : Goes). g definitions target) (fold-roll-Value Goes value_step x)
+  pub goes-rolled : (x : Value-F Value) (target : Target) → value_goes (roll-Value x) definitions target ≡ level_goes x target
+  goes-rolled x target = ap (λ (g : Goes). g definitions target) (fold-roll-Value Goes value_step x)
 
-  pub integer_goes : (z : ℤ) (o : Bool) → value_goes (value.Integer z) definitions (record { data_type = Some type.Integer; optional = o }) ≡ true
-  integer_goes z o =
+  pub integer-goes : (z : ℤ) (o : Bool) → value_goes (value.Integer z) definitions (record { data_type = Some type.Integer; optional = o }) ≡ true
+  integer-goes z o =
       ap (λ v. value_goes v definitions (record { data_type = Some type.Integer; optional = o })) (sym (value.rolls-Integer z))
-      ∙ goes_rolled (Value-F.Integer z) (record { data_type = Some type.Integer; optional = o })
+      ∙ goes-rolled (Value-F.Integer z) (record { data_type = Some type.Integer; optional = o })
 
-  pub boolean_goes : (b : Bool) (o : Bool) → value_goes (value.Boolean b) definitions (record { data_type = Some type.Boolean; optional = o }) ≡ true
-  boolean_goes b o =
+  pub boolean-goes : (b : Bool) (o : Bool) → value_goes (value.Boolean b) definitions (record { data_type = Some type.Boolean; optional = o }) ≡ true
+  boolean-goes b o =
       ap (λ v. value_goes v definitions (record { data_type = Some type.Boolean; optional = o })) (sym (value.rolls-Boolean b))
-      ∙ goes_rolled (Value-F.Boolean b) (record { data_type = Some type.Boolean; optional = o })
+      ∙ goes-rolled (Value-F.Boolean b) (record { data_type = Some type.Boolean; optional = o })
 
-  pub component_goes : (c : ComponentId) → is_of definitions (type.Component c.component_type) (value.Component c) ≡ true
-  component_goes c =
+  pub component-value-goes : (c : ComponentId) → is_of definitions (type.Component c.component_type) (value.Component c) ≡ true
+  component-value-goes c =
       ap (λ v. value_goes v definitions (target_of (Some (type.Component c.component_type)))) (sym (value.rolls-Component c))
-      ∙ goes_rolled (Value-F.Component c) (target_of (Some (type.Component c.component_type)))
+      ∙ goes-rolled (Value-F.Component c) (target_of (Some (type.Component c.component_type)))
       ∙ nat_eq-refl c.component_type
 
   -- what goes to an optional target and is no `omit` goes there where it isn't optional
@@ -111,9 +111,9 @@ module _ (definitions : List Definition) where
   level-present Value-F.Null t o present goes = goes
   level-present Value-F.Omit t o present goes = absurd (let e = present in cc)
 
-  pub present_goes : (v : Value) (t : Option DataType) (o : Bool) → is_omit v ≡ false → value_goes v definitions (record { data_type = t; optional = o }) ≡ true → value_goes v definitions (target_of t) ≡ true
-  present_goes v t o present goes =
-      goes_out v (target_of t) ∙ level-present (out-Value v) t o present (sym (goes_out v (record { data_type = t; optional = o })) ∙ goes)
+  pub present-goes : (v : Value) (t : Option DataType) (o : Bool) → is_omit v ≡ false → value_goes v definitions (record { data_type = t; optional = o }) ≡ true → value_goes v definitions (target_of t) ≡ true
+  present-goes v t o present goes =
+      goes-out v (target_of t) ∙ level-present (out-Value v) t o present (sym (goes-out v (record { data_type = t; optional = o })) ∙ goes)
 
   -- and what goes to one that isn't optional goes there where it is
   level-weaker : (x : Value-F Value) (t : Option DataType) (o : Bool) → level_goes x (target_of t) ≡ true → level_goes x (record { data_type = t; optional = o }) ≡ true
@@ -126,9 +126,9 @@ module _ (definitions : List Definition) where
   level-weaker Value-F.Null t o goes = goes
   level-weaker Value-F.Omit t o goes = absurd (let e = goes in cc)
 
-  pub weaker_goes : (v : Value) (t : Option DataType) (o : Bool) → value_goes v definitions (target_of t) ≡ true → value_goes v definitions (record { data_type = t; optional = o }) ≡ true
-  weaker_goes v t o goes =
-      goes_out v (record { data_type = t; optional = o }) ∙ level-weaker (out-Value v) t o (sym (goes_out v (target_of t)) ∙ goes)
+  pub weaker-goes : (v : Value) (t : Option DataType) (o : Bool) → value_goes v definitions (target_of t) ≡ true → value_goes v definitions (record { data_type = t; optional = o }) ≡ true
+  weaker-goes v t o goes =
+      goes-out v (record { data_type = t; optional = o }) ∙ level-weaker (out-Value v) t o (sym (goes-out v (target_of t)) ∙ goes)
 
   -- ---- fields
 
@@ -140,7 +140,7 @@ module _ (definitions : List Definition) where
       → IfYields (if omitted then dynamic_error else Yields v) (IsOfTyping definitions (typed (resolved (module_names definitions) f.type_name)))
   there f v true is goes = tt
   there f v false is goes =
-      typed-of (resolved (module_names definitions) f.type_name) v (present_goes v (resolved (module_names definitions) f.type_name) f.optional is goes)
+      typed-of (resolved (module_names definitions) f.type_name) v (present-goes v (resolved (module_names definitions) f.type_name) f.optional is goes)
 
   state-read : (f : Field) (state : Option Value) → goes_to_field definitions f (with_goes state) ≡ true
       → IfYields (read state) (IsOfTyping definitions (typed (resolved (module_names definitions) f.type_name)))
@@ -195,7 +195,7 @@ module _ (definitions : List Definition) where
   unknown-field name v = if-any (λ w. Unit {0}) (field definitions name v) (λ w. tt)
 
   pub field-goes : (t : Typing) (name : List ℕ) (v : Value) → IsOfTyping definitions t v → IfYields (field definitions name v) (IsOfTyping definitions (within definitions t name).typing)
-  field-goes (typing.Known (type.Record at)) name v of = level-field (out-Value v) at name (sym (goes_out v (target_of (Some (type.Record at)))) ∙ of)
+  field-goes (typing.Known (type.Record at)) name v of = level-field (out-Value v) at name (sym (goes-out v (target_of (Some (type.Record at)))) ∙ of)
   field-goes (typing.Known type.Integer) name v of = unknown-field name v
   field-goes (typing.Known type.Boolean) name v of = unknown-field name v
   field-goes (typing.Known type.Default) name v of = unknown-field name v
@@ -224,10 +224,10 @@ module _ (definitions : List Definition) where
   IsBoolean v = is_of definitions type.Boolean v ≡ true
 
   fitting-integer : (o : Option ℤ) → IfYields (fitting o) IsInteger
-  fitting-integer o = if-mapped IsInteger value.Integer (or_error o) (λ z. integer_goes definitions z false)
+  fitting-integer o = if-mapped IsInteger value.Integer (or_error o) (λ z. integer-goes definitions z false)
 
   truth-boolean : (b : Bool) → IfYields (truth b) IsBoolean
-  truth-boolean b = boolean_goes definitions b false
+  truth-boolean b = boolean-goes definitions b false
 
   negated-boolean : (v : Value) → IfYields (negated v) IsBoolean
   negated-boolean v = if-then IsBoolean _ (or_unmet (boolean v)) (λ b. truth-boolean _)
@@ -247,22 +247,22 @@ module _ (definitions : List Definition) where
   compared-boolean : (wanted : Bool) (v w : Value) → IfYields (compared wanted v w) IsBoolean
   compared-boolean wanted v w = truth-if (is_complete v && is_complete w) (beq wanted (equal v w))
 
-  pub applied_gives : (op : Operator) (v w : Value) → IfYields (applied op v w) (λ u. is_of definitions (result_of op) u ≡ true)
-  applied_gives operator.Equal v w = compared-boolean true v w
-  applied_gives operator.NotEqual v w = compared-boolean false v w
-  applied_gives operator.Or v w = both-of IsBoolean (logical operator.Or) (boolean v) (boolean w) (λ x y. truth-boolean _)
-  applied_gives operator.Xor v w = both-of IsBoolean (logical operator.Xor) (boolean v) (boolean w) (λ x y. truth-boolean _)
-  applied_gives operator.And v w = both-of IsBoolean (logical operator.And) (boolean v) (boolean w) (λ x y. truth-boolean _)
-  applied_gives operator.Less v w = both-of IsBoolean (ordered operator.Less) (integer v) (integer w) (λ x y. truth-boolean _)
-  applied_gives operator.Greater v w = both-of IsBoolean (ordered operator.Greater) (integer v) (integer w) (λ x y. truth-boolean _)
-  applied_gives operator.LessEqual v w = both-of IsBoolean (ordered operator.LessEqual) (integer v) (integer w) (λ x y. truth-boolean _)
-  applied_gives operator.GreaterEqual v w = both-of IsBoolean (ordered operator.GreaterEqual) (integer v) (integer w) (λ x y. truth-boolean _)
-  applied_gives operator.Add v w = both-of IsInteger _ (integer v) (integer w) (λ x y. fitting-integer (calculated operator.Add x y))
-  applied_gives operator.Subtract v w = both-of IsInteger _ (integer v) (integer w) (λ x y. fitting-integer (calculated operator.Subtract x y))
-  applied_gives operator.Multiply v w = both-of IsInteger _ (integer v) (integer w) (λ x y. fitting-integer (calculated operator.Multiply x y))
-  applied_gives operator.Divide v w = both-of IsInteger _ (integer v) (integer w) (λ x y. fitting-integer (calculated operator.Divide x y))
-  applied_gives operator.Mod v w = both-of IsInteger _ (integer v) (integer w) (λ x y. fitting-integer (calculated operator.Mod x y))
-  applied_gives operator.Rem v w = both-of IsInteger _ (integer v) (integer w) (λ x y. fitting-integer (calculated operator.Rem x y))
+  pub applied-gives : (op : Operator) (v w : Value) → IfYields (applied op v w) (λ u. is_of definitions (result_of op) u ≡ true)
+  applied-gives operator.Equal v w = compared-boolean true v w
+  applied-gives operator.NotEqual v w = compared-boolean false v w
+  applied-gives operator.Or v w = both-of IsBoolean (logical operator.Or) (boolean v) (boolean w) (λ x y. truth-boolean _)
+  applied-gives operator.Xor v w = both-of IsBoolean (logical operator.Xor) (boolean v) (boolean w) (λ x y. truth-boolean _)
+  applied-gives operator.And v w = both-of IsBoolean (logical operator.And) (boolean v) (boolean w) (λ x y. truth-boolean _)
+  applied-gives operator.Less v w = both-of IsBoolean (ordered operator.Less) (integer v) (integer w) (λ x y. truth-boolean _)
+  applied-gives operator.Greater v w = both-of IsBoolean (ordered operator.Greater) (integer v) (integer w) (λ x y. truth-boolean _)
+  applied-gives operator.LessEqual v w = both-of IsBoolean (ordered operator.LessEqual) (integer v) (integer w) (λ x y. truth-boolean _)
+  applied-gives operator.GreaterEqual v w = both-of IsBoolean (ordered operator.GreaterEqual) (integer v) (integer w) (λ x y. truth-boolean _)
+  applied-gives operator.Add v w = both-of IsInteger _ (integer v) (integer w) (λ x y. fitting-integer (calculated operator.Add x y))
+  applied-gives operator.Subtract v w = both-of IsInteger _ (integer v) (integer w) (λ x y. fitting-integer (calculated operator.Subtract x y))
+  applied-gives operator.Multiply v w = both-of IsInteger _ (integer v) (integer w) (λ x y. fitting-integer (calculated operator.Multiply x y))
+  applied-gives operator.Divide v w = both-of IsInteger _ (integer v) (integer w) (λ x y. fitting-integer (calculated operator.Divide x y))
+  applied-gives operator.Mod v w = both-of IsInteger _ (integer v) (integer w) (λ x y. fitting-integer (calculated operator.Mod x y))
+  applied-gives operator.Rem v w = both-of IsInteger _ (integer v) (integer w) (λ x y. fitting-integer (calculated operator.Rem x y))
 
   level-boolean : (x : Value-F Value) (wanted : Bool) → is_truth wanted (boolean_in x) ≡ true → level_goes definitions x (target_of (Some type.Boolean)) ≡ true
   level-boolean (Value-F.Boolean b) wanted is = refl
@@ -275,7 +275,7 @@ module _ (definitions : List Definition) where
   level-boolean Value-F.Omit wanted is = absurd (let e = is in cc)
 
   truth-of : (wanted : Bool) (v : Value) → is_truth wanted (boolean v) ≡ true → IsBoolean v
-  truth-of wanted v is = goes_out definitions v (target_of (Some type.Boolean)) ∙ level-boolean (out-Value v) wanted is
+  truth-of wanted v is = goes-out definitions v (target_of (Some type.Boolean)) ∙ level-boolean (out-Value v) wanted is
 
   -- a left side that decides is a boolean
   decides-gives : (op : Operator) (v : Value) → decides op v ≡ true → is_of definitions (result_of op) v ≡ true
@@ -288,7 +288,7 @@ module _ (definitions : List Definition) where
     where
       decided : (b : Bool) → decides op left ≡ b → IfYields (if b then Yields left else outcome_and_then (applied op left) (right reading)) (λ u. is_of definitions (result_of op) u ≡ true)
       decided true is = decides-gives op left is
-      decided false is = if-then (λ u. is_of definitions (result_of op) u ≡ true) (applied op left) (right reading) (applied_gives op left)
+      decided false is = if-then (λ u. is_of definitions (result_of op) u ≡ true) (applied op left) (right reading) (applied-gives op left)
 
   running-of : (b : Bool) (found : Judgement) (v : Value) → IsBoolean v
       → IsOfTyping definitions (if b then said.fine (typing.Known type.Boolean) else said.after found.broken (said.runs found.typing)).typing v
@@ -298,7 +298,7 @@ module _ (definitions : List Definition) where
   -- ---- presence and running
 
   last-presence : (ds : List Definition) (name : List ℕ) (names : List (List ℕ)) (v : Value) → IfYields (last_presence ds name names v) IsBoolean
-  last-presence ds name [] v = if-mapped IsBoolean (λ state. value.Boolean (is_there state)) (state_of_field ds name v) (λ state. boolean_goes definitions (is_there state) false)
+  last-presence ds name [] v = if-mapped IsBoolean (λ state. value.Boolean (is_there state)) (state_of_field ds name v) (λ state. boolean-goes definitions (is_there state) false)
   last-presence ds name (next ∷ names) v = if-then IsBoolean (last_presence ds next names) (field ds name v) (λ w. last-presence ds next names w)
 
   presence-boolean : (ds : List Definition) (names : List (List ℕ)) (v : Value) → IfYields (presence ds names v) IsBoolean
@@ -309,7 +309,7 @@ module _ (definitions : List Definition) where
   runs-boolean reading c (Some b) = truth-boolean b
   runs-boolean reading c None =
       if-then IsBoolean (component_runs reading) (component_at reading c)
-      (λ v. if-mapped IsBoolean (λ d. value.Boolean (reading.running d.path)) (values.component v) (λ d. boolean_goes definitions (reading.running d.path) false))
+      (λ v. if-mapped IsBoolean (λ d. value.Boolean (reading.running d.path)) (values.component v) (λ d. boolean-goes definitions (reading.running d.path) false))
 
 -- ---- references
 
@@ -320,12 +320,12 @@ module _ (scope : Scope) (reading : Reading) (fits : FitsIn scope reading) where
       (along-goes scope.definitions reference.fields (check_meaning scope.definitions (scope.names reference.name)).typing (named reading reference.name) (fits.names reference.name))
 
   self-goes : (itself : Option ℕ) (free : Bool) → IfSome itself (λ at. reading.itself.component_type ≡ at) → IsOfTyping scope.definitions (check_self itself free).typing (value.Component reading.itself)
-  self-goes (Some at) free is = subst (λ k. is_of scope.definitions (type.Component k) (value.Component reading.itself) ≡ true) is (component_goes scope.definitions reading.itself)
-  self-goes None free is = (reading.itself.component_type, component_goes scope.definitions reading.itself)
+  self-goes (Some at) free is = subst (λ k. is_of scope.definitions (type.Component k) (value.Component reading.itself) ≡ true) is (component-value-goes scope.definitions reading.itself)
+  self-goes None free is = (reading.itself.component_type, component-value-goes scope.definitions reading.itself)
 
   pub component-goes : (c : ComponentRef) (free : Bool) → IfYields (component_at reading c) (IsOfTyping scope.definitions (check_component scope c free).typing)
   component-goes component.Itself free = self-goes scope.itself free fits.itself
-  component-goes component.Mtc free = (reading.mtc.component_type, component_goes scope.definitions reading.mtc)
+  component-goes component.Mtc free = (reading.mtc.component_type, component-value-goes scope.definitions reading.mtc)
   component-goes (component.Named reference) free = reference-goes reference
 
   running-goes : (c : ComponentRef) → IfYields (runs reading c) (IsOfTyping scope.definitions (check_running scope c).typing)
@@ -392,11 +392,11 @@ expr-held (Expr-F.Chain first links) = λ scope reading fits free.
     join_links-goes scope reading fits (map (λ l. l.0) links) (expression first.0) (value_of first.0 reading) (first.1 scope reading fits) free
 
 -- an expression's value is of its type
-pub expressions_typed : (e : Expr) → IsFitting (value_of e) (expression e)
-expressions_typed = ind-Expr (λ e. IsFitting (value_of e) (expression e)) (λ l. Unit {0}) (λ x y is.
+pub expressions-typed : (e : Expr) → IsFitting (value_of e) (expression e)
+expressions-typed = ind-Expr (λ e. IsFitting (value_of e) (expression e)) (λ l. Unit {0}) (λ x y is.
     subst (λ f. IsFitting f (expression (roll-Expr x))) (sym (fold-roll-Expr Evaluation (Operator × Evaluation) expression_step link_step x))
     (subst (λ j. IsFitting (expression_step (map-Expr Expr Link Evaluation (Operator × Evaluation) value_of link x)) j) (sym (fold-roll-Expr Judge (Operator × Judge) said.expression_step said.link_step x))
     (subst LevelFits is (expr-held y)))) (λ x y is. tt)
 
 pub expression_typed : (e : Expr) (scope : Scope) (free : Bool) (reading : Reading) → FitsIn scope reading → IfYields (value_of e reading) (IsOfTyping scope.definitions (expression e scope free).typing)
-expression_typed e scope free reading fits = expressions_typed e scope reading fits free
+expression_typed e scope free reading fits = expressions-typed e scope reading fits free

@@ -18,9 +18,9 @@ use Rattle.laws_checker.proofs.Nothing.{kept, nothing-first, nothing-rest}
 use Rattle.laws_checker.proofs.Typed.{component-typed, expression_typed as expression_known, reference-typed}
 use Rattle.laws_checker.specs.Laws.{IsWhole}
 use Rattle.laws_evaluation.proofs.MetExpressions.{boolean-there, component-met, expressions_met, met-then, met-there}
-use Rattle.laws_evaluation.proofs.Only.{only_more, only_of, only_then}
+use Rattle.laws_evaluation.proofs.Only.{only-more, only-of, only-then}
 use Rattle.laws_evaluation.proofs.TypedLiterals.{same-type}
-use Rattle.laws_evaluation.proofs.TypedValues.{component-goes, expression_typed, goes_out, goes_rolled, level_goes}
+use Rattle.laws_evaluation.proofs.TypedValues.{component-goes, expression_typed, goes-out, goes-rolled, level_goes}
 use Rattle.laws_evaluation.specs.Types.{FitsIn, HasAll, IsOfTyping, is_of, is_valued, value_goes}
 use Rattle.laws_evaluation.specs.Uses.{GivesOnly, IsReference}
 use Rattle.value_types.specs.Evaluation.{condition_of, value_of}
@@ -82,7 +82,7 @@ module _ (definitions : List Definition) where
   level-referred : (x : Value-F Value) (at : ℕ) → level_goes definitions x (target_of (Some (type.Component at))) ≡ true → GivesOnly (values.component_in x) (OfType at)
   level-referred (Value-F.Component c) at goes =
       ap (λ v. value_goes v definitions (target_of (Some (type.Component at)))) (sym (value.rolls-Component c))
-      ∙ goes_rolled definitions (Value-F.Component c) (target_of (Some (type.Component at))) ∙ goes
+      ∙ goes-rolled definitions (Value-F.Component c) (target_of (Some (type.Component at))) ∙ goes
   level-referred Value-F.Null at goes = tt
   level-referred (Value-F.Integer n) at goes = absurd (let e = goes in cc)
   level-referred (Value-F.Boolean b) at goes = absurd (let e = goes in cc)
@@ -92,14 +92,14 @@ module _ (definitions : List Definition) where
   level-referred Value-F.Omit at goes = absurd (let e = goes in cc)
 
   referred-of : (v : Value) (at : ℕ) → is_of definitions (type.Component at) v ≡ true → GivesOnly (values.component v) (OfType at)
-  referred-of v at is = level-referred (out-Value v) at (sym (goes_out definitions v (target_of (Some (type.Component at)))) ∙ is)
+  referred-of v at is = level-referred (out-Value v) at (sym (goes-out definitions v (target_of (Some (type.Component at)))) ∙ is)
 
   -- is of the typing of the reference
   referred-typed : (t : Typing) (v : Value) → t ≢ typing.Unknown → refers_to_component t ≡ true → IsOfTyping definitions t v
       → GivesOnly (values.component v) (λ c. IsOfTyping definitions t (value.Component c))
   referred-typed (typing.Known (type.Component at)) v known is of = referred-of v at of
   referred-typed typing.AnyComponent v known is of =
-      only_more (OfType of.0) (λ c. IsOfTyping definitions typing.AnyComponent (value.Component c)) (values.component v) (referred-of v of.0 of.1) (λ c goes. (of.0, goes))
+      only-more (OfType of.0) (λ c. IsOfTyping definitions typing.AnyComponent (value.Component c)) (values.component v) (referred-of v of.0 of.1) (λ c goes. (of.0, goes))
   referred-typed (typing.Known (type.Record at)) v known is of = absurd (let e = is in cc)
   referred-typed (typing.Known (type.Enumerated at)) v known is of = absurd (let e = is in cc)
   referred-typed (typing.Known type.Integer) v known is of = absurd (let e = is in cc)
@@ -116,17 +116,17 @@ module _ (c : ComponentRef) (scope : Scope) (reading : Reading) (whole : IsWhole
 
   given : GivesOnly (component_at reading c) (IsOfTyping scope.definitions found)
   given =
-      only_of (IsOfTyping scope.definitions found) (component_at reading c) (component-met scope reading whole fit all c free nothing (referring-valued found refer))
+      only-of (IsOfTyping scope.definitions found) (component_at reading c) (component-met scope reading whole fit all c free nothing (referring-valued found refer))
       (component-goes scope reading fit c free)
 
   pub component_given : GivesOnly (component_at reading c) (IsReference scope.definitions found)
   component_given =
-      only_more (IsOfTyping scope.definitions found) (IsReference scope.definitions found) (component_at reading c) given
+      only-more (IsOfTyping scope.definitions found) (IsReference scope.definitions found) (component_at reading c) given
       (λ v of. refers scope.definitions found v (component-typed scope whole c free nothing) refer of)
 
   pub component_found : GivesOnly (component_referred reading c) (λ id. IsOfTyping scope.definitions found (value.Component id))
   component_found =
-      only_then (IsOfTyping scope.definitions found) (λ id. IsOfTyping scope.definitions found (value.Component id)) values.component (component_at reading c) given
+      only-then (IsOfTyping scope.definitions found) (λ id. IsOfTyping scope.definitions found (value.Component id)) values.component (component_at reading c) given
       (λ v of. referred-typed scope.definitions found v (component-typed scope whole c free nothing) refer of)
 
 -- where a component is wanted
@@ -152,7 +152,7 @@ module _ (c : ComponentRef) (scope : Scope) (reading : Reading) (whole : IsWhole
 pub reference_given : (reference : Reference) (scope : Scope) (reading : Reading) → IsWhole scope → FitsIn scope reading → HasAll scope reading → (check_reference scope reference).broken ≡ []
     → is_valued (check_reference scope reference).typing ≡ true → GivesOnly (referred reading reference) (IsOfTyping scope.definitions (check_reference scope reference).typing)
 reference_given reference scope reading whole fit all nothing valued =
-    only_of (IsOfTyping scope.definitions (check_reference scope reference).typing) (referred reading reference)
+    only-of (IsOfTyping scope.definitions (check_reference scope reference).typing) (referred reading reference)
     (component-met scope reading whole fit all (component.Named reference) false nothing valued) (component-goes scope reading fit (component.Named reference) false)
 
 default-typed : (t : Typing) → t ≢ typing.Unknown → refers_to_default t ≡ true → t ≡ typing.Known type.Default

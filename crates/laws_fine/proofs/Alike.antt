@@ -138,10 +138,10 @@ choice-from test snapshot own other alike ws =
     ∙ first-alike test snapshot own other alike (ws ++ written_defaults test snapshot other)
 
 -- they choose alike
-pub choice_alike : (test : Test) (snapshot : Snapshot) (own other : Data) → AreAlike own other → (judge : Judge) (place : Span) (x : Does)
+pub choice-alike : (test : Test) (snapshot : Snapshot) (own other : Data) → AreAlike own other → (judge : Judge) (place : Span) (x : Does)
     → option_map (λ ws. first_choice test snapshot own (ws ++ written_defaults test snapshot own)) (written_alt test snapshot own judge place x)
     ≡ option_map (λ ws. first_choice test snapshot other (ws ++ written_defaults test snapshot other)) (written_alt test snapshot other judge place x)
-choice_alike test snapshot own other alike judge place x =
+choice-alike test snapshot own other alike judge place x =
     ap (option_map (λ ws. first_choice test snapshot own (ws ++ written_defaults test snapshot own))) (alt-alike test snapshot own other alike judge place x)
     ∙ option-alike (λ ws. first_choice test snapshot own (ws ++ written_defaults test snapshot own)) (λ ws. first_choice test snapshot other (ws ++ written_defaults test snapshot other))
     (choice-from test snapshot own other alike) (written_alt test snapshot other judge place x)

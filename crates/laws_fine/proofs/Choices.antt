@@ -5,8 +5,8 @@ use Rattle.ttcn_syntax.specs.declared.tree.statement.Action.TheOpen.{Action-F}
 use Rattle.ttcn_syntax.specs.declared.tree.statement.Statement.{Statement, out-Statement}
 use Rattle.check_rules.specs.Calls.{altstep_meant}
 use Rattle.check_scope.specs.Names.{module_names}
-use Rattle.laws_fine.proofs.Alike.{AreAlike, choice_alike}
-use Rattle.laws_fine.proofs.Lapses.{IsSafe, at_call, lapse, lapsed, members-values, taken_same, timer_in, with_way}
+use Rattle.laws_fine.proofs.Alike.{AreAlike, choice-alike}
+use Rattle.laws_fine.proofs.Lapses.{IsSafe, at_call, lapse, lapsed, members-values, taken-same, timer_in, with_way}
 use Rattle.laws_fine.specs.Fine.{begins_with_alt, is_alt, is_at_alt}
 use Rattle.semantics.specs.Branches.{Judge, Written, write_altsteps, written_alt, written_call, written_defaults}
 use Rattle.semantics.specs.Configurations.{Data, Frame}
@@ -142,7 +142,7 @@ option-lapses n x test site s rest own None runs safe = refl
 option-lapses n x test site s rest own (Some Nothing) runs safe = refl
 option-lapses n x test site s rest own (Some (Refused why)) runs safe = refl
 option-lapses n x test site s rest own (Some (Taken chance effect)) runs safe =
-    let same = taken_same n x test site s rest chance effect own runs safe in
+    let same = taken-same n x test site s rest chance effect own runs safe in
     ap (acting (act_port (port_taken effect))) same.lapses
     ∙ acting-told (lapsed n x) (port_taken effect) (outcome_and_then (λ d. with_frames d.calls d) (taken test site s rest chance effect own))
 
@@ -152,7 +152,7 @@ option-timer n x test site s rest own None runs safe = tt
 option-timer n x test site s rest own (Some Nothing) runs safe = tt
 option-timer n x test site s rest own (Some (Refused why)) runs safe = tt
 option-timer n x test site s rest own (Some (Taken chance effect)) runs safe =
-    let same = taken_same n x test site s rest chance effect own runs safe in
+    let same = taken-same n x test site s rest chance effect own runs safe in
     acting-data (port_taken effect) (λ d. timer_in n x d ≡ timer_in n x own) (outcome_and_then (λ d. with_frames d.calls d) (taken test site s rest chance effect own)) same.timer
 
 option-of-alt : (test : Test) (site : Site) (s : Statement) (rest : List Item) (own : Data) (o : Option Choice) → IsOfAlt (by_option test site s rest own o)
@@ -173,7 +173,7 @@ first-lapses n x test snapshot own frame other below others (Doing site s Whole 
     alt-is test snapshot (lapsed n x own) other others site s rest is
     ∙ ap (λ v. by_option test site s rest (lapsed n x own) (chosen_at test snapshot (lapsed n x own) site s v)) values
     ∙ ap (by_option test site s rest (lapsed n x own))
-    (choice_alike test snapshot (lapsed n x own) own (lapsed-alike n x own) (judge_with snapshot site frame.values) (out-Statement s).place (action_of s))
+    (choice-alike test snapshot (lapsed n x own) own (lapsed-alike n x own) (judge_with snapshot site frame.values) (out-Statement s).place (action_of s))
     ∙ option-lapses n x test site s rest own (chosen_at test snapshot own site s frame.values) runs safe
     ∙ sym (ap (asked (lapsed n x)) (alt-is test snapshot own frame below site s rest is))
 first-lapses n x test snapshot own frame other below others [] values is runs safe = absurd (let no = is in cc)
@@ -199,9 +199,9 @@ in-lapses n x test snapshot own [] is runs safe = absurd (let no = is in cc)
 in-lapses n x test snapshot own (frame ∷ below) is runs safe = frames-told n x test snapshot own frame below (nat_eq n (length below + 1)) is runs safe
 
 -- what is asked for at an `alt` behind an expiry is what was asked for before it, with the timer expired
-pub act_lapses : (n : ℕ) (x : List ℕ) (test : Test) (snapshot : Snapshot) (own : Data) → is_at_alt test own.calls ≡ true → timer_in n x own ≡ Some timer.Running → IsSafeIn test snapshot own own.calls
+pub act-lapses : (n : ℕ) (x : List ℕ) (test : Test) (snapshot : Snapshot) (own : Data) → is_at_alt test own.calls ≡ true → timer_in n x own ≡ Some timer.Running → IsSafeIn test snapshot own own.calls
     → act test snapshot (lapsed n x own) ≡ asked (lapsed n x) (act test snapshot own)
-act_lapses n x test snapshot own is runs safe = in-lapses n x test snapshot own own.calls is runs safe
+act-lapses n x test snapshot own is runs safe = in-lapses n x test snapshot own own.calls is runs safe
 
 first-timer : (n : ℕ) (x : List ℕ) (test : Test) (snapshot : Snapshot) (own : Data) (frame : Frame) (below : List Frame) (items : List Item) → begins_with_alt test items ≡ true
     → timer_in n x own ≡ Some timer.Running → IsSafeAt test snapshot own frame items → IfData (act_first test snapshot own frame below items) (λ d. timer_in n x d ≡ timer_in n x own)

@@ -4,9 +4,9 @@ use Rattle.std.specs.Option.{option_and_then}
 use Rattle.ttcn_syntax.specs.declared.tree.statement.Verdict.{Verdict}
 use Rattle.ttcn_syntax.specs.declared.tree.statement.Verdict.TheVariants as verdict
 use Rattle.laws_fine.proofs.Choices.{IsOfAlt, act-of-alt}
-use Rattle.laws_fine.proofs.Early.{Pending, early, early-at, early_in, hastened, hastened-state, next_early, snapshot-early}
-use Rattle.laws_fine.proofs.EarlySteps.{IsMore, IsOnly, OutcomeIs, chosen_early, delivery_early, expiry_early, first-early, made_at, only-early, outcome-is, free}
-use Rattle.laws_fine.proofs.Moves.{HasChosen, HasComeIn, HasExpired, HasMoved, HasSnapped, HasStepped, has_come_in, has_expired, moves}
+use Rattle.laws_fine.proofs.Early.{Pending, early, early-at, early_in, hastened, hastened-state, next-early, snapshot-early}
+use Rattle.laws_fine.proofs.EarlySteps.{IsMore, IsOnly, OutcomeIs, chosen-early, delivery-early, expiry-early, first-early, made_at, only-early, outcome-is, free}
+use Rattle.laws_fine.proofs.Moves.{HasChosen, HasComeIn, HasExpired, HasMoved, HasSnapped, HasStepped, has-come-in, has-expired, moves}
 use Rattle.laws_fine.proofs.Pending.{StaysStored, fine-after-is, all-ready, all-run, chosen-gone, early-in-same, early-same, fate-here, fate-now, fate-on, is-bound, is-free, moved-other, pending, pending-is, pending-none, pending-not, pending-on, stored-stays, takes, touches, unstored}
 use Rattle.laws_fine.proofs.Sound.{IsKeptBySteps, IsSound, IsSoundIn, Stores, consed-at, moved-sound, only-there}
 use Rattle.laws_fine.specs.Fates.{Fate, Faults, Lapses, Takes, by_fate, coarse_from, fate, fate_of, is_choice_of, judged}
@@ -187,19 +187,19 @@ module _ (Lawful : Going → Type 0) (test : Test) (laws : IsKeptBySteps test La
       start : (l : Label) → (at : HasStepped test c stored l f) → fine_next test (fine_of (Goes c) stored) (Plain l) ≡ Some f
           → next test (Goes (early test (pending test (fine_of (Goes c) stored) (Plain l ∷ labels)) c)) l ≡ Some (early_in test (pending test (fine_of (Goes c) stored) (Plain l ∷ labels)) at.d)
       start (Statement r) at next =
-          next_early test (pending test (fine_of (Goes c) stored) (Plain (Statement r) ∷ labels)) c r
+          next-early test (pending test (fine_of (Goes c) stored) (Plain (Statement r) ∷ labels)) c r
           (is-free Lawful test laws c stored (Plain (Statement r) ∷ labels) r sound at.other) (all-run Lawful test laws c stored (Plain (Statement r) ∷ labels) sound)
           (all-ready Lawful test laws c stored (Plain (Statement r) ∷ labels) sound)
           ∙ ap (option_map (early_in test (pending test (fine_of (Goes c) stored) (Plain (Statement r) ∷ labels)))) at.goes
       start (Expiry r n name) at next =
-          let ex : HasExpired c r n name at.d = has_expired test c r n name at.d at.goes in
-          expiry_early test (pending test (fine_of (Goes c) stored) (Plain (Expiry r n name) ∷ labels)) c r n name ex.x ex.there ex.runs
+          let ex : HasExpired c r n name at.d = has-expired test c r n name at.d at.goes in
+          expiry-early test (pending test (fine_of (Goes c) stored) (Plain (Expiry r n name) ∷ labels)) c r n name ex.x ex.there ex.runs
           (hastened-state test (pending test (fine_of (Goes c) stored) (Plain (Expiry r n name) ∷ labels)) ex.x)
           (only-there c r ex.x sound.ascend ex.there) (is-bound Lawful test laws c stored (Plain (Expiry r n name) ∷ labels) ex.x sound (found-own c r ex.x ex.there)) ex.ran
           ∙ ap (λ d. Some (early_in test (pending test (fine_of (Goes c) stored) (Plain (Expiry r n name) ∷ labels)) d)) (sym ex.to)
       start (Delivery system_port) at next =
-          let came : HasComeIn test c system_port at.d = has_come_in test c system_port at.d at.goes in
-          delivery_early test (pending test (fine_of (Goes c) stored) (Plain (Delivery system_port) ∷ labels)) c system_port came.e came.v came.mapped came.found
+          let came : HasComeIn test c system_port at.d = has-come-in test c system_port at.d at.goes in
+          delivery-early test (pending test (fine_of (Goes c) stored) (Plain (Delivery system_port) ∷ labels)) c system_port came.e came.v came.mapped came.found
           (all-ready Lawful test laws c stored (Plain (Delivery system_port) ∷ labels) sound)
           ∙ ap (λ d. Some (early_in test (pending test (fine_of (Goes c) stored) (Plain (Delivery system_port) ∷ labels)) d)) (sym came.to)
 
@@ -372,7 +372,7 @@ module _ (Lawful : Going → Type 0) (test : Test) (laws : IsKeptBySteps test La
       → fate_of (act test is.snapshot is.x.own) ≡ Takes → Goes (early test (pending test (fine_of (Goes c) stored) (Choose r ∷ labels)) c) ≡ early_in test (pending test f labels) f.now
   taken-same c stored r labels f sound next is take =
       sym (ap (early_in test (pending test f labels)) (ap (λ (h : Fine). h.now) to)
-      ∙ ap Goes (chosen_early test (pending test f labels) (pending test (fine_of (Goes c) stored) (Choose r ∷ labels)) is.snapshot c is.x (
+      ∙ ap Goes (chosen-early test (pending test f labels) (pending test (fine_of (Goes c) stored) (Choose r ∷ labels)) is.snapshot c is.x (
         pending-is test (fine_of (Goes c) stored) (Choose r ∷ labels) (path_of is.x) is.snapshot
             (ap (λ q. fate test q (fine_of (Goes c) stored) (Choose r ∷ labels)) (found-path c r is.x is.there) ∙ choice-fate c stored r labels f is ∙ take)
             (ap (stored_at stored) (found-path c r is.x is.there) ∙ is.has),

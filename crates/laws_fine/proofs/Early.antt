@@ -460,41 +460,41 @@ settle-run pending c p own run q is =
     ∙ found-runs (λ x. if same_path (path_of x) p then unless_terminated (with_data own) x else x) (settled-state p own) (component_at c q)) ∙ is)
 
 -- what a component asks for that doesn't have to choose is done alike before and behind what is done early
-pub apply_early : (test : Test) (pending : Pending) (c : Going) (itself : ComponentId) (a : Act) → pending itself.path ≡ None → Run c pending → All (IsReady test pending) c.components
+pub apply-early : (test : Test) (pending : Pending) (c : Going) (itself : ComponentId) (a : Act) → pending itself.path ≡ None → Run c pending → All (IsReady test pending) c.components
     → apply test (early test pending c) itself a ≡ option_map (outcome_map (early_in test pending)) (apply test c itself a)
-apply_early test pending c itself Waits none run ready = refl
-apply_early test pending c itself (Errs why) none run ready = refl
-apply_early test pending c itself (Requests Continues own) none run ready = ap (λ d. Some (Yields (Goes d))) (settle-free test pending c itself.path own none)
-apply_early test pending c itself (Requests (Worsens v) own) none run ready =
+apply-early test pending c itself Waits none run ready = refl
+apply-early test pending c itself (Errs why) none run ready = refl
+apply-early test pending c itself (Requests Continues own) none run ready = ap (λ d. Some (Yields (Goes d))) (settle-free test pending c itself.path own none)
+apply-early test pending c itself (Requests (Worsens v) own) none run ready =
     ap (λ d. Some (Yields (Goes (touch d itself.path (with_verdict v))))) (settle-free test pending c itself.path own none)
     ∙ ap (λ d. Some (Yields (Goes d))) (touch-free test pending (settle c itself.path own) itself.path (with_verdict v) (λ x. refl) none)
-apply_early test pending c itself (Requests (Removes port) own) none run ready =
+apply-early test pending c itself (Requests (Removes port) own) none run ready =
     ap (λ d. Some (Yields (Goes (touch d itself.path (at_queue port without_first))))) (settle-free test pending c itself.path own none)
     ∙ ap (λ d. Some (Yields (Goes d))) (touch-free test pending (settle c itself.path own) itself.path (at_queue port without_first) (λ x. refl) none)
-apply_early test pending c itself (Requests (Sends port to v) own) none run ready =
+apply-early test pending c itself (Requests (Sends port to v) own) none run ready =
     ap (λ d. Some (ending (send d itself port to v))) (settle-free test pending c itself.path own none)
     ∙ ending-early test pending (send (settle c itself.path own) itself port to v) (send (early test pending (settle c itself.path own)) itself port to v)
     (send-early test pending (settle c itself.path own) itself port to v (is_mapped (settle c itself.path own) (record { component = itself.path; port = port }))
     (settle-ready test pending c itself.path own none ready))
-apply_early test pending c itself (Requests (Creates new) own) none run ready =
+apply-early test pending c itself (Requests (Creates new) own) none run ready =
     ap (λ d. Some (Yields (Goes (with_new new d)))) (settle-free test pending c itself.path own none)
     ∙ ap (λ d. Some (Yields (Goes d))) (new-early test pending (settle c itself.path own) new (settle-run pending c itself.path own run))
-apply_early test pending c itself (Requests (Starts path frame) own) none run ready =
+apply-early test pending c itself (Requests (Starts path frame) own) none run ready =
     ap (λ d. Some (ending (start_component d path frame))) (settle-free test pending c itself.path own none)
     ∙ ending-early test pending (start_component (settle c itself.path own) path frame) (start_component (early test pending (settle c itself.path own)) path frame)
     (ap (start_created (early test pending (settle c itself.path own)) path frame) (early-at test pending (settle c itself.path own) path)
     ∙ start-early test pending (settle c itself.path own) path frame (component_at (settle c itself.path own) path) (settle-run pending c itself.path own run path))
-apply_early test pending c itself (Requests (Stops path) own) none run ready =
+apply-early test pending c itself (Requests (Stops path) own) none run ready =
     ap (λ d. Some (Yields (stop test d path))) (settle-free test pending c itself.path own none)
     ∙ ap (λ d. Some (Yields d)) (stop-told test pending (settle c itself.path own) path (same_path path (mtc_of test).path))
-apply_early test pending c itself (Requests (Connects d e) own) none run ready =
+apply-early test pending c itself (Requests (Connects d e) own) none run ready =
     ap (λ x. Some (ending (connect x d e))) (settle-free test pending c itself.path own none)
     ∙ ending-early test pending (connect (settle c itself.path own) d e) (connect (early test pending (settle c itself.path own)) d e) (connect-early test pending (settle c itself.path own) d e)
-apply_early test pending c itself (Requests (Maps d system_port) own) none run ready =
+apply-early test pending c itself (Requests (Maps d system_port) own) none run ready =
     ap (λ x. Some (ending (map_port x d system_port))) (settle-free test pending c itself.path own none)
     ∙ ending-early test pending (map_port (settle c itself.path own) d system_port) (map_port (early test pending (settle c itself.path own)) d system_port)
     (map-early test pending (settle c itself.path own) d system_port)
-apply_early test pending c itself (Requests (Unmaps d system_port) own) none run ready =
+apply-early test pending c itself (Requests (Unmaps d system_port) own) none run ready =
     ap (λ x. Some (Yields (Goes (unmap_port x d system_port)))) (settle-free test pending c itself.path own none)
 
 -- ---- the step of a statement
@@ -504,10 +504,10 @@ state_entry x = (path_of x, x.state)
 
 entry-early : (test : Test) (pending : Pending) (x : Component) → state_entry (hastened test pending x) ≡ state_entry x
 entry-early test pending x =
-    ap (λ p. pair_of p (hastened test pending x).state) (hastened-path test pending x) ∙ ap (pair_of (path_of x)) (hastened-state test pending x)
+    ap (λ p. pair-of p (hastened test pending x).state) (hastened-path test pending x) ∙ ap (pair-of (path_of x)) (hastened-state test pending x)
   where
-    pair_of : Path → State → Path × State
-    pair_of p s = (p, s)
+    pair-of : Path → State → Path × State
+    pair-of p s = (p, s)
 
 states-early : (test : Test) (pending : Pending) (xs : List Component) → map state_entry (map (hastened test pending) xs) ≡ map state_entry xs
 states-early test pending xs =
@@ -531,7 +531,7 @@ statement-early : (test : Test) (pending : Pending) (c : Going) (x : Component) 
 statement-early test pending c x none run ready =
     if-told test pending (is_running_state x.state) (apply test c x.itself (act test (snapshot_of c x) x.own)) (apply test (early test pending c) x.itself (act test (snapshot_of (early test pending c) x) x.own))
     (ap (λ s. apply test (early test pending c) x.itself (act test s x.own)) (snapshot-early test pending c x)
-    ∙ apply_early test pending c x.itself (act test (snapshot_of c x) x.own) none run ready)
+    ∙ apply-early test pending c x.itself (act test (snapshot_of c x) x.own) none run ready)
 
 found-early : (test : Test) (pending : Pending) (c : Going) (o : Option Component) → IfSome o (λ x. pending (path_of x) ≡ None) → Run c pending → All (IsReady test pending) c.components
     → option_and_then (statement_step test (early test pending c)) (option_map (hastened test pending) o) ≡ option_map (outcome_map (early_in test pending)) (option_and_then (statement_step test c) o)
@@ -548,9 +548,9 @@ settled-option test pending None = refl
 settled-option test pending (Some o) = ap Some (settled-early test pending o)
 
 -- the step of a statement of a component that doesn't have to choose
-pub next_early : (test : Test) (pending : Pending) (c : Going) (p : Path) → IfSome (component_at c p) (λ x. pending (path_of x) ≡ None) → Run c pending → All (IsReady test pending) c.components
+pub next-early : (test : Test) (pending : Pending) (c : Going) (p : Path) → IfSome (component_at c p) (λ x. pending (path_of x) ≡ None) → Run c pending → All (IsReady test pending) c.components
     → next test (Goes (early test pending c)) (Statement p) ≡ option_map (early_in test pending) (next test (Goes c) (Statement p))
-next_early test pending c p none run ready =
+next-early test pending c p none run ready =
     ap (λ o. option_map settled (option_and_then (statement_step test (early test pending c)) o)) (early-at test pending c p)
     ∙ ap (option_map settled) (found-early test pending c (component_at c p) none run ready)
     ∙ settled-option test pending (option_and_then (statement_step test c) (component_at c p))

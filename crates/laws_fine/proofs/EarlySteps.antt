@@ -3,7 +3,7 @@ use Rattle.std.proofs.Common.{◌≡◌, ℕ, Bool, true, false, List, [], ◌�
 use Rattle.std.specs.List.{All}
 use Rattle.std.specs.Option.{option_and_then}
 use Rattle.std.proofs.lemmas.List.Elements.{All-cons, All-head, All-nil, All-tail}
-use Rattle.laws_fine.proofs.Choices.{IfData, IsOfAlt, IsSafeIn, act_lapses, act-of-alt, act-timer, asked}
+use Rattle.laws_fine.proofs.Choices.{IfData, IsOfAlt, IsSafeIn, act-lapses, act-of-alt, act-timer, asked}
 use Rattle.laws_fine.proofs.Early.{IsReady, Pending, early, early-at, hastened, hastened-path, made, made_by, made_if, map-all, map-map, touch-early, touch-queue, with_components}
 use Rattle.laws_fine.proofs.Lapses.{expired-is, expiring, lapsed, timer_in, uncovered-lapses, uncovered-timer}
 use Rattle.laws_fine.specs.Fine.{is_at_alt}
@@ -125,9 +125,9 @@ chosen-told test pending others snapshot x y true is at only =
 chosen-told test pending others snapshot x y false is at only = ap (λ o. made_if test o y) (sym (is.2 (path_of y) at))
 
 -- where a component has chosen when it was time, nothing is left to choose for it
-pub chosen_early : (test : Test) (pending others : Pending) (snapshot : Snapshot) (c : Going) (x : Component) → IsMore (path_of x) snapshot pending others → IsOnly (path_of x) x c
+pub chosen-early : (test : Test) (pending others : Pending) (snapshot : Snapshot) (c : Going) (x : Component) → IsMore (path_of x) snapshot pending others → IsOnly (path_of x) x c
     → early test pending (made_at (act test snapshot x.own) (path_of x) c) ≡ early test others c
-chosen_early test pending others snapshot c x is only =
+chosen-early test pending others snapshot c x is only =
     ap (with_components c)
     (map-map (hastened test pending) (λ y. if same_path (path_of y) (path_of x) then made_by (act test snapshot x.own) y else y) c.components
     ∙ map-all (λ y. hastened test pending (if same_path (path_of y) (path_of x) then made_by (act test snapshot x.own) y else y)) (hastened test others) c.components
@@ -221,7 +221,7 @@ if-lapses : (test : Test) (o : Option Snapshot) (n : ℕ) (name : List ℕ) (x :
 if-lapses test None n name x is runs = refl
 if-lapses test (Some snapshot) n name x is runs =
     made-lapses n name (act test snapshot x.own) x (act-of-alt test snapshot x.own is.0)
-    ∙ ap (λ a. made_by a (exchanged (lapsed n name x.own) x)) (sym (act_lapses n name test snapshot x.own is.0 runs is.1))
+    ∙ ap (λ a. made_by a (exchanged (lapsed n name x.own) x)) (sym (act-lapses n name test snapshot x.own is.0 runs is.1))
 
 -- the configuration behind an expiry
 abbrev pub behind_expiry : ℕ → List ℕ → Component → Going → Going
@@ -253,10 +253,10 @@ expiry-is test c p n name x found runs timer =
     ap (λ o. option_map settled (option_and_then (expiry_step c n name) o)) found ∙ ap (option_map settled) (step-some c n name x runs timer)
 
 -- the expiry of a timer of any component, behind what is done early
-pub expiry_early : (test : Test) (pending : Pending) (c : Going) (p : Path) (n : ℕ) (name : List ℕ) (x : Component) → component_at c p ≡ Some x → is_running_state x.state ≡ true
+pub expiry-early : (test : Test) (pending : Pending) (c : Going) (p : Path) (n : ℕ) (name : List ℕ) (x : Component) → component_at c p ≡ Some x → is_running_state x.state ≡ true
     → (hastened test pending x).state ≡ x.state → IsOnly (path_of x) x c → IsBound test (pending (path_of x)) x → timer_in n name x.own ≡ Some timer.Running
     → next test (Goes (early test pending c)) (Expiry p n name) ≡ Some (Goes (early test pending (behind_expiry n name x c)))
-expiry_early test pending c p n name x found runs state only is timer =
+expiry-early test pending c p n name x found runs state only is timer =
     expiry-is test (early test pending c) p n name (hastened test pending x) (early-at test pending c p ∙ ap (option_map (hastened test pending)) found) (ap is_running_state state ∙ runs)
     (if-timer test (pending (path_of x)) n name x is timer)
     ∙ ap (λ d. Some (Goes d)) (expiry-touched test pending n name c x only is timer)
@@ -271,8 +271,8 @@ delivery-is test c system_port e v mapped found =
     ∙ ap (λ o. option_map settled (option_map (λ w. Yields (Goes (come_in system_port e w c))) o)) found
 
 -- a delivery behind what is done early
-pub delivery_early : (test : Test) (pending : Pending) (c : Going) (system_port : List ℕ) (e : End) (v : Value) → entry c.mappings system_port ≡ Some e → next_message test c system_port ≡ Some v
+pub delivery-early : (test : Test) (pending : Pending) (c : Going) (system_port : List ℕ) (e : End) (v : Value) → entry c.mappings system_port ≡ Some e → next_message test c system_port ≡ Some v
     → All (IsReady test pending) c.components → next test (Goes (early test pending c)) (Delivery system_port) ≡ Some (Goes (early test pending (come_in system_port e v c)))
-delivery_early test pending c system_port e v mapped found ready =
+delivery-early test pending c system_port e v mapped found ready =
     delivery-is test (early test pending c) system_port e v mapped found
     ∙ ap (λ d. Some (Goes (with_delivery system_port d))) (touch-queue test pending c e.component e.port (record { value = v; sender = None }) ready)

@@ -99,8 +99,8 @@ ended-is (Goes c) v e = absurd (let no = e in cc)
 has-run : (test : Test) (v : Verdict) → Reaches test (Ended v) → HasRun test v
 has-run test v is = record { steps = steps_of is.0; run = is.0; has = record { is_run = is.1; short = omega arith; marked = ap mark_of is.2 } }
 
-pub ends_as_runs : (test : Test) (v : Verdict) → EndsWith test v ↔ HasRun test v
-ends_as_runs test v = (
+pub ends-as-runs : (test : Test) (v : Verdict) → EndsWith test v ↔ HasRun test v
+ends-as-runs test v = (
   λ is. has-run test v (grows test is.run (Ended v) Start tt (replay-leads test is.run 1 (start test) (Ended v) is.ends)),
   λ is. record {
     run = labels_of is.run;

@@ -222,6 +222,6 @@ event-told test snapshot own judge (event.Done reference) differ =
 event-told test snapshot own judge event.AllDone differ =
     all-told test snapshot own judge (Some event.AllDone) (same_path (read_by test snapshot own judge).itself.path (mtc_of test).path) (not (others_run snapshot (mtc_of test).path))
 
-pub chance_told : (test : Test) (snapshot : Snapshot) (own : Data) (judge : Judge) (e : Option Event) → PortsDiffer snapshot.fronts → IsTold test snapshot own judge e (try_chance test snapshot own judge e)
-chance_told test snapshot own judge None differ = tt
-chance_told test snapshot own judge (Some e) differ = event-told test snapshot own judge e differ
+pub chance-told : (test : Test) (snapshot : Snapshot) (own : Data) (judge : Judge) (e : Option Event) → PortsDiffer snapshot.fronts → IsTold test snapshot own judge e (try_chance test snapshot own judge e)
+chance-told test snapshot own judge None differ = tt
+chance-told test snapshot own judge (Some e) differ = event-told test snapshot own judge e differ

@@ -3,10 +3,10 @@ use Rattle.std.proofs.Common.{◌≡◌, ℕ, Bool, true, false, not, List, [], 
 use Rattle.std.specs.List.{filter}
 use Rattle.laws_fine.proofs.EarlySteps.{behind_expiry}
 use Rattle.laws_steps.proofs.Finding.{alive, found-path, path-is, path-same, some-is, none-if}
-use Rattle.laws_fine.proofs.Kept.{kept_safe}
+use Rattle.laws_fine.proofs.Kept.{kept-safe}
 use Rattle.laws_fine.proofs.Lapses.{lapsed, timer_in}
 use Rattle.laws_fine.proofs.Later.{IsChoice, chosen-later, chosen-now}
-use Rattle.laws_fine.proofs.Moves.{HasActed, HasComeIn, HasExpired, acted, has_come_in, has_expired}
+use Rattle.laws_fine.proofs.Moves.{HasActed, HasComeIn, HasExpired, acted, has-come-in, has-expired}
 use Rattle.laws_fine.proofs.Sound.{IsKeptBySteps, IsSound, Stores, consed-at, filtered-at, found-stands, runs_at, without-told}
 use Rattle.laws_fine.proofs.Stays.{Stays, apply-stays, come-stays, touched-at}
 use Rattle.laws_fine.specs.Fine.{Stored, is_found, is_of_alt, stands_at_alt, still_stored, stored_at, without_stored}
@@ -184,7 +184,7 @@ module _ (Lawful : Going → Type 0) (test : Test) (laws : IsKeptBySteps test La
     x = is.x;
     there = is.there;
     is = is.is;
-    choice = chosen-later test p s old.x.own (act test s is.x.own) h.since n name is.choice old.alt ran (kept_safe test s old.x old.kept (laws.apart c lawful p old.x old.there));
+    choice = chosen-later test p s old.x.own (act test s is.x.own) h.since n name is.choice old.alt ran (kept-safe test s old.x old.kept (laws.apart c lawful p old.x old.there));
   }
 
   noted-told : (c : Going) (p r : Path) (s : Snapshot) (n : ℕ) (name : List ℕ) (old : Stores test c p s) (h : Held) (b : Bool) → Lawful c → same_path p r ≡ b → h.path ≡ p → (b ≡ true → timer_in n name old.x.own ≡ Some timer.Running)
@@ -205,7 +205,7 @@ module _ (Lawful : Going → Type 0) (test : Test) (laws : IsKeptBySteps test La
   plain-held c p s (Statement r) d old h lawful path goes is = is
   plain-held c p s (Delivery system_port) d old h lawful path goes is = is
   plain-held c p s (Expiry r n name) d old h lawful path goes is =
-      let by : HasExpired c r n name d = has_expired test c r n name d goes in
+      let by : HasExpired c r n name d = has-expired test c r n name d goes in
       noted-told c p r s n name old h (same_path p r) lawful refl path
       (λ at. ap (λ (y : Component). timer_in n name y.own) (some-is old.x by.x (sym old.there ∙ ap (component_at c) (path-is p r at) ∙ by.there)) ∙ by.ran) is
 
@@ -221,10 +221,10 @@ module _ (Lawful : Going → Type 0) (test : Test) (laws : IsKeptBySteps test La
           let at : p ≡ r = same ∙ found-path c r by.x by.there in
           let no : true ≡ false = sym (found-stands Lawful test laws c p old.x old.there old.runs old.alt) ∙ ap (λ q. is_found (stands_at_alt test) (component_at c q)) at ∙ other in cc
   plain-data c stored p s (Expiry r n name) d sound old other goes =
-      let by : HasExpired c r n name d = has_expired test c r n name d goes in
+      let by : HasExpired c r n name d = has-expired test c r n name d goes in
       subst (HasDataIn p (lapse_by (Expiry r n name) p old.x.own)) (sym by.to) (expired-data c p r n name old.x by.x old.there by.there by.runs)
   plain-data c stored p s (Delivery system_port) d sound old other goes =
-      let by : HasComeIn test c system_port d = has_come_in test c system_port d goes in
+      let by : HasComeIn test c system_port d = has-come-in test c system_port d goes in
       subst (HasDataIn p old.x.own) (sym by.to) (stays-data p old.x (Goes (come_in system_port by.e by.v c)) (come-stays c p old.x system_port by.e by.v old.there))
 
   -- what is kept of one that stays

@@ -8,7 +8,7 @@ use Rattle.laws_fine.proofs.Choices.{IsSafeAt, IsSafeChoice, IsSafeIn, alt-is, b
 use Rattle.laws_fine.proofs.Early.{FindsFront, HasFront}
 use Rattle.laws_fine.proofs.Fronts.{HasMessage, IsTold, PortsDiffer}
 use Rattle.laws_fine.proofs.Lapses.{IsSafe, last_timer, timer_to_set, with_way}
-use Rattle.laws_fine.proofs.Origins.{IsChosen, IsNewTop, IsOrigin, WaitsFor, WaitsIfAny, is_chosen}
+use Rattle.laws_fine.proofs.Origins.{IsChosen, IsNewTop, IsOrigin, WaitsFor, WaitsIfAny, is-chosen}
 use Rattle.laws_fine.specs.Fine.{begins_with_alt, is_at_alt}
 use Rattle.semantics.specs.Branches.{Chance, Judge}
 use Rattle.semantics.specs.Configurations.{Component, Data, Frame, Queue}
@@ -163,7 +163,7 @@ items-safe : (test : Test) (snapshot : Snapshot) (x : Component) (frame : Frame)
     → IsSafeAt test snapshot x.own frame items
 items-safe test snapshot x frame below (Doing site s Whole ∷ rest) kept calls apart =
     choice-safe test snapshot x frame below site s rest (chosen_at test snapshot x.own site s frame.values) kept calls apart
-    (is_chosen test snapshot x.own (action_of s) (judge_with snapshot site frame.values) (out-Statement s).place kept.differ)
+    (is-chosen test snapshot x.own (action_of s) (judge_with snapshot site frame.values) (out-Statement s).place kept.differ)
 items-safe test snapshot x frame below [] kept calls apart = tt
 items-safe test snapshot x frame below (Doing site s (Name k) ∷ rest) kept calls apart = tt
 items-safe test snapshot x frame below (Doing site s (From k) ∷ rest) kept calls apart = tt
@@ -178,8 +178,8 @@ frames-safe test snapshot x [] kept is apart = tt
 frames-safe test snapshot x (frame ∷ below) kept is apart = items-safe test snapshot x frame below frame.remaining kept is apart
 
 -- what is chosen by a stored snapshot makes no timer inactive that runs
-pub kept_safe : (test : Test) (snapshot : Snapshot) (x : Component) → IsKept snapshot x → IsApart test x.own.calls → IsSafeIn test snapshot x.own x.own.calls
-kept_safe test snapshot x kept apart = frames-safe test snapshot x x.own.calls kept refl apart
+pub kept-safe : (test : Test) (snapshot : Snapshot) (x : Component) → IsKept snapshot x → IsApart test x.own.calls → IsSafeIn test snapshot x.own x.own.calls
+kept-safe test snapshot x kept apart = frames-safe test snapshot x x.own.calls kept refl apart
 
 -- ---- the message is there
 
@@ -207,7 +207,7 @@ items-find : (test : Test) (snapshot : Snapshot) (x : Component) (frame : Frame)
 items-find test snapshot x frame below (Doing site s Whole ∷ rest) kept is =
     subst (λ a. FindsFront a x.queues) (sym (alt-is test snapshot x.own frame below site s rest is))
     (choice-finds test snapshot x (judge_with snapshot site frame.values) site s rest (chosen_at test snapshot x.own site s frame.values) kept
-    (is_chosen test snapshot x.own (action_of s) (judge_with snapshot site frame.values) (out-Statement s).place kept.differ))
+    (is-chosen test snapshot x.own (action_of s) (judge_with snapshot site frame.values) (out-Statement s).place kept.differ))
 items-find test snapshot x frame below [] kept is = absurd (let no = is in cc)
 items-find test snapshot x frame below (Doing site s (Name k) ∷ rest) kept is = absurd (let no = is in cc)
 items-find test snapshot x frame below (Doing site s (From k) ∷ rest) kept is = absurd (let no = is in cc)
@@ -222,5 +222,5 @@ frames-find test snapshot x [] kept is = absurd (let no = is in cc)
 frames-find test snapshot x (frame ∷ below) kept is = items-find test snapshot x frame below frame.remaining kept is
 
 -- the message that is removed is there
-pub kept_finds : (test : Test) (snapshot : Snapshot) (x : Component) → IsKept snapshot x → is_at_alt test x.own.calls ≡ true → FindsFront (act test snapshot x.own) x.queues
-kept_finds test snapshot x kept is = frames-find test snapshot x x.own.calls kept is
+pub kept-finds : (test : Test) (snapshot : Snapshot) (x : Component) → IsKept snapshot x → is_at_alt test x.own.calls ≡ true → FindsFront (act test snapshot x.own) x.queues
+kept-finds test snapshot x kept is = frames-find test snapshot x x.own.calls kept is

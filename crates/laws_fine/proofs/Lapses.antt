@@ -5,7 +5,7 @@ use Rattle.std.proofs.lemmas.List.{length-append}
 use Rattle.std.proofs.lemmas.Slice.Eq.{bytes_eq-Decides}
 use Rattle.ttcn_syntax.specs.declared.tree.statement.Statement.{Statement}
 use Rattle.value_assignment.specs.Assignment.{assigned}
-use Rattle.laws_fine.proofs.Puts.{put_swap}
+use Rattle.laws_fine.proofs.Puts.{put-swap}
 use Rattle.laws_steps.proofs.Entries.{put-other}
 use Rattle.semantics.specs.Branches.{Chance, Way}
 use Rattle.semantics.specs.Configurations.{Data, Frame}
@@ -327,7 +327,7 @@ timer_to_set false name own = entry own.members.timers name
 
 set-bears : (x name : List ℕ) (state : TimerState) (frame : Frame) → bytes_eq name x ≡ false → Bears x (λ f. with_timers (put name state f.timers) f) frame
 set-bears x name state frame differs = record {
-  lapses = ap (λ timers. with_timers timers frame) (put_swap name x differs state timer.Expired frame.timers);
+  lapses = ap (λ timers. with_timers timers frame) (put-swap name x differs state timer.Expired frame.timers);
   timer = put-other name x state differs frame.timers;
 }
 
@@ -408,11 +408,11 @@ frames-same n x d =
     record { lapses = ap (λ k. if nat_lt k most then Yields (lapsed n x d) else dynamic_error) (call-long n (lapse x) d.calls) ∙ told.lapses; timer = told.timer }
 
 -- what is left of a component's data where a branch is taken, before an expiry and behind it
-pub taken_same : (n : ℕ) (x : List ℕ) (test : Test) (site : Site) (s : Statement) (rest : List Item) (chance : Chance) (effect : Effect) (own : Data) → timer_in n x own ≡ Some timer.Running
+pub taken-same : (n : ℕ) (x : List ℕ) (test : Test) (site : Site) (s : Statement) (rest : List Item) (chance : Chance) (effect : Effect) (own : Data) → timer_in n x own ≡ Some timer.Running
     → IsSafe test chance.judge.site effect (with_way site s rest chance.way own)
     → Same n x own (outcome_and_then (λ d. with_frames d.calls d) (effected test chance.judge.site effect (with_way site s rest chance.way own)))
     (outcome_and_then (λ d. with_frames d.calls d) (effected test chance.judge.site effect (with_way site s rest chance.way (lapsed n x own))))
-taken_same n x test site s rest chance effect own runs safe =
+taken-same n x test site s rest chance effect own runs safe =
     then-told n x own (λ d. with_frames d.calls d) (effected test chance.judge.site effect with-frames) (effected test chance.judge.site effect (with_way site s rest chance.way (lapsed n x own))) first
     (λ d timer. frames-same n x d)
   where

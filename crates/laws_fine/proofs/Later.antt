@@ -1,6 +1,6 @@
 -- A choice that is worked out as it was when the component took its snapshot: the timers that expired since then expire behind it.
 use Rattle.std.proofs.Common.{◌≡◌, ℕ, Bool, true, false, List, [], ◌∷◌, ◌++◌, map, Option, Some, None, option_map, refl, sym, ap, subst, ◌∙◌, if◌then◌else◌}
-use Rattle.laws_fine.proofs.Choices.{IfData, IsOfAlt, IsSafeIn, act_lapses, act-of-alt, act-timer, asked}
+use Rattle.laws_fine.proofs.Choices.{IfData, IsOfAlt, IsSafeIn, act-lapses, act-of-alt, act-timer, asked}
 use Rattle.laws_fine.proofs.Early.{made-state, made_by, map-all, map-map, with_components}
 use Rattle.laws_fine.proofs.EarlySteps.{IsOnly, expiry-is, made-lapses, made-path, made_at, outcome-is}
 use Rattle.laws_steps.proofs.Finding.{alive, found-map, path-same}
@@ -37,17 +37,17 @@ pick-two g h k y q true at path lives is =
     ap (λ c. if c then unless_terminated k (g y) else g y) (ap (λ r. same_path r q) path ∙ at) ∙ ap (λ t. if t then g y else k (g y)) (lives refl) ∙ is refl
 pick-two g h k y q false at path lives is = ap (λ c. if c then unless_terminated k y else y) at
 
-abbrev at_path : Path → (Component → Component) → Component → Component
-at_path q change y = if same_path (path_of y) q then change y else y
+abbrev at-path : Path → (Component → Component) → Component → Component
+at-path q change y = if same_path (path_of y) q then change y else y
 
 touch-made : (g h k : Component → Component) (c : Going) (x : Component) → ((y : Component) → path_of (g y) ≡ path_of y) → is_terminated_state (g x).state ≡ false → IsOnly (path_of x) x c → k (g x) ≡ h x
-    → touch (with_components c (map (at_path (path_of x) g) c.components)) (path_of x) k ≡ with_components c (map (at_path (path_of x) h) c.components)
+    → touch (with_components c (map (at-path (path_of x) g) c.components)) (path_of x) k ≡ with_components c (map (at-path (path_of x) h) c.components)
 touch-made g h k c x path lives only is =
     ap (with_components c)
-    (map-map (λ y. if same_path (path_of y) (path_of x) then unless_terminated k y else y) (at_path (path_of x) g) c.components
-    ∙ map-all (λ y. if same_path (path_of (at_path (path_of x) g y)) (path_of x) then unless_terminated k (at_path (path_of x) g y) else at_path (path_of x) g y) (at_path (path_of x) h) c.components
+    (map-map (λ y. if same_path (path_of y) (path_of x) then unless_terminated k y else y) (at-path (path_of x) g) c.components
+    ∙ map-all (λ y. if same_path (path_of (at-path (path_of x) g y)) (path_of x) then unless_terminated k (at-path (path_of x) g y) else at-path (path_of x) g y) (at-path (path_of x) h) c.components
     (All-more (λ y. same_path (path_of y) (path_of x) ≡ true → y ≡ x)
-    (λ y. (if same_path (path_of (at_path (path_of x) g y)) (path_of x) then unless_terminated k (at_path (path_of x) g y) else at_path (path_of x) g y) ≡ at_path (path_of x) h y)
+    (λ y. (if same_path (path_of (at-path (path_of x) g y)) (path_of x) then unless_terminated k (at-path (path_of x) g y) else at-path (path_of x) g y) ≡ at-path (path_of x) h y)
     (λ y one. pick-two g h k y (path_of x) (same_path (path_of y) (path_of x)) refl (path y)
     (λ at. ap (λ (z : Component). is_terminated_state (g z).state) (one at) ∙ lives)
     (λ at. subst (λ (z : Component). k (g z) ≡ h z) (sym (one at)) is)) c.components only))
@@ -58,8 +58,8 @@ pick-path g path q y false = refl
 
 made-found : (a : Act) (c : Going) (p : Path) (x : Component) → component_at c p ≡ Some x → component_at (made_at a (path_of x) c) p ≡ Some (made_by a x)
 made-found a c p x there =
-    found-map (at_path (path_of x) (made_by a)) (λ y. pick-path (made_by a) (made-path a) (path_of x) y (same_path (path_of y) (path_of x))) p c.components
-    ∙ ap (option_map (at_path (path_of x) (made_by a))) there
+    found-map (at-path (path_of x) (made_by a)) (λ y. pick-path (made_by a) (made-path a) (path_of x) y (same_path (path_of y) (path_of x))) p c.components
+    ∙ ap (option_map (at-path (path_of x) (made_by a))) there
     ∙ ap (λ b. Some (if b then made_by a x else x)) (path-same (path_of x))
 
 -- where what is asked for is done, a timer that still runs expires
@@ -115,9 +115,9 @@ chosen-now test p s own = record { fate = refl; leads = λ c x there runs only. 
 pub chosen-later : (test : Test) (p : Path) (s : Snapshot) (own : Data) (a : Act) (since : List Label) (n : ℕ) (name : List ℕ) → IsChoice test p s own a since → is_at_alt test own.calls ≡ true
     → timer_in n name own ≡ Some timer.Running → IsSafeIn test s own own.calls → IsChoice test p s (lapsed n name own) a (since ++ Expiry p n name ∷ [])
 chosen-later test p s own a since n name is alt ran safe = record {
-  fate = ap fate_of (act_lapses n name test s own alt ran safe) ∙ asked-fate (lapsed n name) (act test s own) ∙ is.fate;
+  fate = ap fate_of (act-lapses n name test s own alt ran safe) ∙ asked-fate (lapsed n name) (act test s own) ∙ is.fate;
   leads = λ c x there runs only.
-      ap (λ b. option_map settled (apply test c x.itself b)) (act_lapses n name test s own alt ran safe)
+      ap (λ b. option_map settled (apply test c x.itself b)) (act-lapses n name test s own alt ran safe)
       ∙ one-lapse test c p n name x own (act test s own) there runs only (act-of-alt test s own alt) ran (act-timer n name test s own alt ran safe)
       ∙ ap (option_map (λ d. after_label test d (Expiry p n name))) (is.leads c x there runs only)
       ∙ follow-map test since (Expiry p n name) (option_map settled (apply test c x.itself a));

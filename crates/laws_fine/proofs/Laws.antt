@@ -30,8 +30,8 @@ use Rattle.laws_fine.specs.Gathering.{Told, gathered}
 use Rattle.laws_fine.specs.Holding.{Holding, hold_run, hold_start}
 use Rattle.laws_fine.specs.Verdicts.{EndsFinelyWith, EndsWith}
 use Rattle.laws_sites.proofs.Awaited.{awaited_outside}
-use Rattle.laws_sites.proofs.Firsts.{queues_differ}
-use Rattle.laws_sites.proofs.Runs.{apply_stands, come_stands, expiry_stands, start_stands}
+use Rattle.laws_sites.proofs.Firsts.{queues-differ}
+use Rattle.laws_sites.proofs.Runs.{apply_stands, come-stands, expiry-stands, start_stands}
 use Rattle.laws_sites.specs.Awaiting.{AwaitsTimeout, BeginsByTimeout, IsTimeout}
 use Rattle.laws_sites.specs.Standing.{StandsByRules}
 use Rattle.laws_order.proofs.Runs.{start_ordered}
@@ -120,11 +120,11 @@ option-holds test (Some o) is = outcome-holds test o is
 
 stands-kept : (test : Test) → AreWellTyped test.definitions → IsKeptBySteps test (Stands test)
 stands-kept test well = record {
-  differ = λ c is p x there. ports-differ x.queues (queues_differ test c p x is there);
+  differ = λ c is p x there. ports-differ x.queues (queues-differ test c p x is there);
   apart = λ c is p x there. calls-apart test c p x x.own.calls is there refl;
   acts = λ c is p x there runs snapshot. option-holds test (apply test c x.itself (act test snapshot x.own)) (apply_stands test snapshot c p x well is there);
-  expires = λ c is p n name x there runs ran. expiry_stands test c p x n name (lapsed n name x.own) is there (expires-to n name x.own ran);
-  comes = λ c is system_port e v mapped found. come_stands test c system_port e v is;
+  expires = λ c is p n name x there runs ran. expiry-stands test c p x n name (lapsed n name x.own) is there (expires-to n name x.own ran);
+  comes = λ c is system_port e v mapped found. come-stands test c system_port e v is;
 }
 
 -- ---- the start
@@ -144,8 +144,8 @@ start-holds test well = holds-of test (start test) (start_stands test well)
 pub coarse_runs : (test : Test) (labels : List FineLabel) (f : Fine) (v : Verdict) → AreWellTyped test.definitions → fine_replay test labels ≡ Ok f → f.now ≡ Ended v → replay test (coarse test labels) ≡ Ok (Ended v)
 coarse_runs test labels f v well e ends = coarse-runs (Stands test) test (stands-kept test well) (start-ascends test) (start-holds test well) labels f v e ends
 
-pub same_verdicts : (test : Test) (v : Verdict) → AreWellTyped test.definitions → EndsFinelyWith test v ↔ EndsWith test v
-same_verdicts test v well = (
+pub same-verdicts : (test : Test) (v : Verdict) → AreWellTyped test.definitions → EndsFinelyWith test v ↔ EndsWith test v
+same-verdicts test v well = (
   λ fine. record { run = coarse test fine.labels; ends = coarse_runs test fine.labels fine.behind v well fine.leads fine.ends },
   λ is. record { labels = doubled test is.run; behind = fine_of (Ended v) []; leads = doubled_runs test is.run (Ended v) is.ends; ends = refl },
 )
@@ -238,8 +238,8 @@ run-told test labels (Ok made) (Err k) e alike = absurd alike
 run-told test labels (Err k) (Ok f) e alike = absurd alike
 run-told test labels (Err k) (Err j) e alike = alike
 
-pub held_runs : (test : Test) (labels : List FineLabel) → AreWellTyped test.definitions → TellsRun test labels (hold_run test labels) (fine_replay test labels)
-held_runs test labels well =
+pub held-runs : (test : Test) (labels : List FineLabel) → AreWellTyped test.definitions → TellsRun test labels (hold_run test labels) (fine_replay test labels)
+held-runs test labels well =
     run-told test labels (hold_run test labels) (fine_replay test labels) refl
     (runs-alike (Stands test) test (stands-kept test well) labels 1 (hold_start test) (fine_start test) []
     (record { now = refl; sound = start-sound (Stands test) test (start test) (start-ascends test) (start-holds test well); held = start-held test (start test) }))

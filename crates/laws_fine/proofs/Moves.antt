@@ -164,8 +164,8 @@ expired-found : (c : Going) (p : Path) (n : ℕ) (name : List ℕ) (d : Configur
 expired-found c p n name d None there e = absurd (let no = e in cc)
 expired-found c p n name d (Some x) there e = expired-runs c p n name d x (is_running_state x.state) there refl e
 
-pub has_expired : (test : Test) (c : Going) (p : Path) (n : ℕ) (name : List ℕ) (d : Configuration) → next test (Goes c) (Expiry p n name) ≡ Some d → HasExpired c p n name d
-has_expired test c p n name d e = expired-found c p n name d (component_at c p) refl e
+pub has-expired : (test : Test) (c : Going) (p : Path) (n : ℕ) (name : List ℕ) (d : Configuration) → next test (Goes c) (Expiry p n name) ≡ Some d → HasExpired c p n name d
+has-expired test c p n name d e = expired-found c p n name d (component_at c p) refl e
 
 come-found : (test : Test) (c : Going) (system_port : List ℕ) (d : Configuration) (e : End) (o : Option Value) → entry c.mappings system_port ≡ Some e → next_message test c system_port ≡ o
     → option_map settled (option_map (λ v. Yields (Goes (come_in system_port e v c))) o) ≡ Some d → HasComeIn test c system_port d
@@ -177,5 +177,5 @@ come-mapped : (test : Test) (c : Going) (system_port : List ℕ) (d : Configurat
 come-mapped test c system_port d None mapped is = absurd (let no = is in cc)
 come-mapped test c system_port d (Some e) mapped is = come-found test c system_port d e (next_message test c system_port) mapped refl is
 
-pub has_come_in : (test : Test) (c : Going) (system_port : List ℕ) (d : Configuration) → next test (Goes c) (Delivery system_port) ≡ Some d → HasComeIn test c system_port d
-has_come_in test c system_port d is = come-mapped test c system_port d (entry c.mappings system_port) refl is
+pub has-come-in : (test : Test) (c : Going) (system_port : List ℕ) (d : Configuration) → next test (Goes c) (Delivery system_port) ≡ Some d → HasComeIn test c system_port d
+has-come-in test c system_port d is = come-mapped test c system_port d (entry c.mappings system_port) refl is

@@ -13,7 +13,7 @@ use Rattle.ttcn_syntax.specs.declared.tree.statement.Statement.{Statement}
 use Rattle.ttcn_syntax.specs.declared.tree.value.Call.{Call}
 use Rattle.check_rules.specs.Calls.{altstep_meant, parameters_of}
 use Rattle.check_scope.specs.Names.{kind_at, module_names}
-use Rattle.laws_fine.proofs.Fronts.{IsTold, PortsDiffer, chance_told}
+use Rattle.laws_fine.proofs.Fronts.{IsTold, PortsDiffer, chance-told}
 use Rattle.semantics.specs.Branches.{Chance, Fault, Judge, Open, Writing, Written, behind_guard, branches_of, frame_with, guard_holds, judge_in, open_branch, read_by, through, write_altsteps, written_alt, written_alternative, written_branch, written_call, written_default, written_defaults, written_with, written_within}
 use Rattle.semantics.specs.Configurations.{Data, Frame}
 use Rattle.semantics.specs.Events.{Choice, Faulty, Happened, Nothing, Passed, Refused, Taken, Trial, chosen_by, first_choice, try_chance}
@@ -221,7 +221,7 @@ first-chosen test snapshot own does judge differ [] all = tt
 first-chosen test snapshot own does judge differ (Fault why ∷ ws) all = tt
 first-chosen test snapshot own does judge differ (Open chance ∷ ws) all =
     chosen-told test snapshot own does judge chance (try_chance test snapshot own chance.judge chance.event) (first_choice test snapshot own ws)
-    (All-head (IsFrom does judge) (Open chance) ws all) (chance_told test snapshot own chance.judge chance.event differ)
+    (All-head (IsFrom does judge) (Open chance) ws all) (chance-told test snapshot own chance.judge chance.event differ)
     (first-chosen test snapshot own does judge differ ws (All-tail (IsFrom does judge) (Open chance) ws all))
 
 option-chosen : (test : Test) (snapshot : Snapshot) (own : Data) (does : Does) (judge : Judge) → PortsDiffer snapshot.fronts → (o : Option (List Written)) → IfSome o (All (IsFrom does judge))
@@ -231,7 +231,7 @@ option-chosen test snapshot own does judge differ (Some ws) all =
     first-chosen test snapshot own does judge differ (ws ++ written_defaults test snapshot own)
     (All-append (IsFrom does judge) ws (written_defaults test snapshot own) all (defaults-from does test snapshot own judge))
 
-pub is_chosen : (test : Test) (snapshot : Snapshot) (own : Data) (does : Does) (judge : Judge) (place : Span) → PortsDiffer snapshot.fronts
+pub is-chosen : (test : Test) (snapshot : Snapshot) (own : Data) (does : Does) (judge : Judge) (place : Span) → PortsDiffer snapshot.fronts
     → IfSome (option_map (λ ws. first_choice test snapshot own (ws ++ written_defaults test snapshot own)) (written_alt test snapshot own judge place does)) (IsChosen test snapshot own does judge)
-is_chosen test snapshot own does judge place differ =
+is-chosen test snapshot own does judge place differ =
     option-chosen test snapshot own does judge differ (written_alt test snapshot own judge place does) (alt-from test snapshot own judge place does)

@@ -4,7 +4,7 @@ use Rattle.std.specs.List.{All}
 use Rattle.std.specs.Option.{option_and_then}
 use Rattle.laws_fine.proofs.Early.{IsReady, IsReadyFor, Pending, Run, early, early_in, hastened, made_if, map-all, each-all}
 use Rattle.laws_fine.proofs.EarlySteps.{IsBound}
-use Rattle.laws_fine.proofs.Kept.{kept_finds, kept_safe}
+use Rattle.laws_fine.proofs.Kept.{kept-finds, kept-safe}
 use Rattle.laws_fine.proofs.Moves.{HasMoved, moves}
 use Rattle.laws_fine.proofs.Sound.{IsKeptBySteps, IsSound, IsSoundIn, Stores, consed-at, filtered-at, follows-fate, found-stands, moved-follows, moved-sound, runs_at, FollowsIn, FollowsTo}
 use Rattle.laws_fine.proofs.Stays.{each-found}
@@ -149,11 +149,11 @@ pending-on test c stored g label labels p other e is =
 -- the same have to choose, so the same is done early
 pub early-same : (test : Test) (one other : Pending) → ((p : Path) → one p ≡ other p) → (c : Going) → early test one c ≡ early test other c
 early-same test one other same c =
-    ap (λ xs. going_of xs)
+    ap (λ xs. going-of xs)
     (map-all (hastened test one) (hastened test other) c.components (each-all (λ x. hastened test one x ≡ hastened test other x) (λ x. ap (λ o. made_if test o x) (same (path_of x))) c.components))
   where
-    going_of : List Component → Going
-    going_of xs = record { components = xs; connections = c.connections; mappings = c.mappings; delivered = c.delivered; forgotten = c.forgotten }
+    going-of : List Component → Going
+    going-of xs = record { components = xs; connections = c.connections; mappings = c.mappings; delivered = c.delivered; forgotten = c.forgotten }
 
 pub early-in-same : (test : Test) (one other : Pending) → ((p : Path) → one p ≡ other p) → (d : Configuration) → early_in test one d ≡ early_in test other d
 early-in-same test one other same (Ended v) = refl
@@ -171,7 +171,7 @@ module _ (Lawful : Going → Type 0) (test : Test) (laws : IsKeptBySteps test La
   ready-told c stored y true None sound there has = tt
   ready-told c stored y true (Some s) sound there has =
       let mine : Stores test c (path_of y) s = sound.stores (path_of y) s has in
-      subst (λ (z : Component). IsReadyFor test (Some s) z) (same-component c (path_of y) s y mine there) (kept_finds test s mine.x mine.kept mine.alt)
+      subst (λ (z : Component). IsReadyFor test (Some s) z) (same-component c (path_of y) s y mine there) (kept-finds test s mine.x mine.kept mine.alt)
 
   pub all-ready : (c : Going) (stored : Stored) (labels : List FineLabel) → IsSound Lawful test c stored → All (IsReady test (pending test (fine_of (Goes c) stored) labels)) c.components
   all-ready c stored labels sound =
@@ -185,7 +185,7 @@ module _ (Lawful : Going → Type 0) (test : Test) (laws : IsKeptBySteps test La
   bound-told c stored y true (Some s) sound there has =
       let mine : Stores test c (path_of y) s = sound.stores (path_of y) s has in
       subst (λ (z : Component). IsBound test (Some s) z) (same-component c (path_of y) s y mine there)
-      (mine.alt, kept_safe test s mine.x mine.kept (laws.apart c sound.lawful (path_of y) mine.x mine.there))
+      (mine.alt, kept-safe test s mine.x mine.kept (laws.apart c sound.lawful (path_of y) mine.x mine.there))
 
   pub is-bound : (c : Going) (stored : Stored) (labels : List FineLabel) (y : Component) → IsSound Lawful test c stored → component_at c (path_of y) ≡ Some y
       → IsBound test (pending test (fine_of (Goes c) stored) labels (path_of y)) y

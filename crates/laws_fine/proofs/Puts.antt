@@ -50,5 +50,5 @@ put-told name other Equal is differs a b es = absurd (not-same name other differ
 put-told name other Greater is differs a b es = sym (put-less other name (turned name other Greater is) b a es)
 
 -- what is put for two names
-pub put_swap : {A : Type 0} (name other : List ℕ) → bytes_eq name other ≡ false → (a b : A) (es : Entries A) → put name a (put other b es) ≡ put other b (put name a es)
-put_swap name other differs a b es = put-told name other (name_cmp name other) refl differs a b es
+pub put-swap : {A : Type 0} (name other : List ℕ) → bytes_eq name other ≡ false → (a b : A) (es : Entries A) → put name a (put other b es) ≡ put other b (put name a es)
+put-swap name other differs a b es = put-told name other (name_cmp name other) refl differs a b es

@@ -79,11 +79,11 @@ map-own (x ∷ xs) = ap (λ ys. x ∷ ys) (map-own xs)
 none-early : (test : Test) (none : Pending) → ((p : Path) → none p ≡ None) → (d : Configuration) → early_in test none d ≡ d
 none-early test none each (Ended v) = refl
 none-early test none each (Goes c) =
-    ap (λ xs. going_of xs)
+    ap (λ xs. going-of xs)
     (map-all (hastened test none) (λ x. x) c.components (each-all (λ x. hastened test none x ≡ x) (λ x. ap (λ o. made_if test o x) (each (path_of x))) c.components) ∙ map-own c.components)
   where
-    going_of : List Component → Configuration
-    going_of xs = Goes (record { components = xs; connections = c.connections; mappings = c.mappings; delivered = c.delivered; forgotten = c.forgotten })
+    going-of : List Component → Configuration
+    going-of xs = Goes (record { components = xs; connections = c.connections; mappings = c.mappings; delivered = c.delivered; forgotten = c.forgotten })
 
 pub start-sound : (Lawful : Going → Type 0) (test : Test) (d : Configuration) → AscendsIn d → HoldsIn Lawful d → IsSoundIn Lawful test d []
 start-sound Lawful test (Ended v) ascend holds = tt

@@ -2,13 +2,13 @@
 use Rattle.std.proofs.Common.{◌≡◌, ℕ, ◌+◌, Bool, true, false, ◌&&◌, not, List, [], ◌∷◌, map, length, Option, Some, None, IfSome, is_some, nat_eq, bytes_eq, option_map, ◌⊎◌, inl, inr, refl, sym, ap, subst, ◌∙◌, if◌then◌else◌}
 use Rattle.std.specs.List.{filter, find}
 use Rattle.std.proofs.lemmas.Slice.Eq.{bytes_eq-Decides}
-use Rattle.laws_fine.proofs.Choices.{act_lapses, asked}
+use Rattle.laws_fine.proofs.Choices.{act-lapses, asked}
 use Rattle.laws_fine.proofs.Early.{HasFront}
 use Rattle.laws_fine.proofs.EarlySteps.{IsOnly, behind_expiry}
 use Rattle.laws_fine.proofs.Fronts.{HasMessage, PortsDiffer}
-use Rattle.laws_fine.proofs.Kept.{AreLater, IsApart, IsKept, IsLater, kept_safe}
+use Rattle.laws_fine.proofs.Kept.{AreLater, IsApart, IsKept, IsLater, kept-safe}
 use Rattle.laws_fine.proofs.Lapses.{at_call, call-runs, lapse, lapsed, timer_in, timer_in_call, zero-runs}
-use Rattle.laws_fine.proofs.Moves.{HasActed, HasChosen, HasComeIn, HasExpired, HasMoved, HasSnapped, acted, has_come_in, has_expired}
+use Rattle.laws_fine.proofs.Moves.{HasActed, HasChosen, HasComeIn, HasExpired, HasMoved, HasSnapped, acted, has-come-in, has-expired}
 use Rattle.laws_steps.proofs.Entries.{put-other, put-own}
 use Rattle.laws_steps.proofs.Found.{some-of}
 use Rattle.laws_fine.proofs.Stays.{Ascends, AscendsIn, IsSteady, Stays, apply-ascends, apply-stays, come-ascends, come-stays, each-found, touch-ascends, touched-at}
@@ -86,12 +86,12 @@ pub filtered-at : (keep : Path → Bool) (p : Path) (stored : Stored) → stored
 filtered-at keep p [] = sym (none-if (keep p) (stored_at [] p) refl)
 filtered-at keep p (e ∷ stored) = filtered-told keep p e stored (keep e.0) (same_path e.0 p) refl refl (filtered-at keep p stored)
 
-abbrev entry_of : Path → Snapshot → Path × Snapshot
-entry_of p s = (p, s)
+abbrev entry-of : Path → Snapshot → Path × Snapshot
+entry-of p s = (p, s)
 
 pub consed-at : (q p : Path) (s : Snapshot) (stored : Stored) (b : Bool) → same_path q p ≡ b → stored_at ((q, s) ∷ stored) p ≡ (if b then Some s else stored_at stored p)
-consed-at q p s stored true is = ap (λ t. option_map (λ d. d.1) (if t then Some (entry_of q s) else find (λ d. same_path d.0 p) stored)) is
-consed-at q p s stored false is = ap (λ t. option_map (λ d. d.1) (if t then Some (entry_of q s) else find (λ d. same_path d.0 p) stored)) is
+consed-at q p s stored true is = ap (λ t. option_map (λ d. d.1) (if t then Some (entry-of q s) else find (λ d. same_path d.0 p) stored)) is
+consed-at q p s stored false is = ap (λ t. option_map (λ d. d.1) (if t then Some (entry-of q s) else find (λ d. same_path d.0 p) stored)) is
 
 if-some : {A : Type 0} (b : Bool) (o : Option A) (a : A) → (if b then o else None) ≡ Some a → (b ≡ true) × (o ≡ Some a)
 if-some true o a e = (refl, e)
@@ -217,7 +217,7 @@ pub follows-fate : (test : Test) (snapshot : Snapshot) (x y : Component) → Has
 follows-fate test snapshot x y (inl same) alt kept apart = ap (λ (own : Data). fate_of (act test snapshot own)) same
 follows-fate test snapshot x y (inr lapses) alt kept apart =
     ap (λ (own : Data). fate_of (act test snapshot own)) lapses.3
-    ∙ ap fate_of (act_lapses lapses.0 lapses.1 test snapshot x.own alt lapses.2 (kept_safe test snapshot x kept apart))
+    ∙ ap fate_of (act-lapses lapses.0 lapses.1 test snapshot x.own alt lapses.2 (kept-safe test snapshot x kept apart))
     ∙ asked-fate (lapsed lapses.0 lapses.1) (act test snapshot x.own)
 
 steady-follows : (x y : Component) → IsSteady x y → Follows x y
@@ -287,11 +287,11 @@ module _ (Lawful : Going → Type 0) (test : Test) (laws : IsKeptBySteps test La
       subst (FollowsTo p old.x) (sym is.to)
       (others-follow test c p old.x is.x (act test (snapshot_of c is.x) is.x.own) is.outcome old.there old.runs (stored-other c stored p r old.x is.x s sound other is.there old) is.applied)
   plain-follows c stored p s (Expiry r n name) d sound old other goes =
-      let is : HasExpired c r n name d = has_expired test c r n name d goes in
+      let is : HasExpired c r n name d = has-expired test c r n name d goes in
       subst (FollowsTo p old.x) (sym is.to)
       (lapsed-at c p n name old.x is.x old.there (ap (component_at c) (found-path c r is.x is.there) ∙ is.there) is.runs is.ran)
   plain-follows c stored p s (Delivery system_port) d sound old other goes =
-      let is : HasComeIn test c system_port d = has_come_in test c system_port d goes in
+      let is : HasComeIn test c system_port d = has-come-in test c system_port d goes in
       subst (FollowsTo p old.x) (sym is.to) (stays-follows p old.x (Goes (come_in system_port is.e is.v c)) (come-stays c p old.x system_port is.e is.v old.there))
 
   chosen-follows : (c : Going) (stored others : Stored) (p r : Path) (s t : Snapshot) (x : Component) (o : Option (Outcome Configuration)) → (old : Stores test c p s) → component_at c r ≡ Some x → same_path r p ≡ false
@@ -415,10 +415,10 @@ module _ (Lawful : Going → Type 0) (test : Test) (laws : IsKeptBySteps test La
       let is : HasActed test c r d = acted test c r d goes in
       subst AscendsIn (sym is.to) (applied-ascends c is.x (act test (snapshot_of c is.x) is.x.own) is.outcome ordered is.applied)
   stepped-ascends c (Expiry r n name) d ordered goes =
-      let is : HasExpired c r n name d = has_expired test c r n name d goes in
+      let is : HasExpired c r n name d = has-expired test c r n name d goes in
       subst AscendsIn (sym is.to) (touch-ascends c (path_of is.x) (exchanged (lapsed n name is.x.own)) (λ y. refl) ordered)
   stepped-ascends c (Delivery system_port) d ordered goes =
-      let is : HasComeIn test c system_port d = has_come_in test c system_port d goes in
+      let is : HasComeIn test c system_port d = has-come-in test c system_port d goes in
       subst AscendsIn (sym is.to) (come-ascends c system_port is.e is.v ordered)
 
   stepped-holds : (c : Going) (label : Label) (d : Configuration) → Lawful c → next test (Goes c) label ≡ Some d → HoldsIn Lawful d
@@ -426,10 +426,10 @@ module _ (Lawful : Going → Type 0) (test : Test) (laws : IsKeptBySteps test La
       let is : HasActed test c r d = acted test c r d goes in
       subst (HoldsIn Lawful) (sym is.to) (applied-holds c r is.x (snapshot_of c is.x) is.outcome lawful is.there is.runs is.applied)
   stepped-holds c (Expiry r n name) d lawful goes =
-      let is : HasExpired c r n name d = has_expired test c r n name d goes in
+      let is : HasExpired c r n name d = has-expired test c r n name d goes in
       subst (HoldsIn Lawful) (sym is.to) (laws.expires c lawful r n name is.x is.there is.runs is.ran)
   stepped-holds c (Delivery system_port) d lawful goes =
-      let is : HasComeIn test c system_port d = has_come_in test c system_port d goes in
+      let is : HasComeIn test c system_port d = has-come-in test c system_port d goes in
       subst (HoldsIn Lawful) (sym is.to) (laws.comes c lawful system_port is.e is.v is.mapped is.found)
 
   -- every fine step leads on to a sound configuration

@@ -54,5 +54,5 @@ module _ {A : Type 0} where
       let one = without-length ys x i in
       omega arith
 
-  pub no_longer : (xs ys : List A) → AllPairs (λ y z. y ≢ z) xs → ((x : A) → Contains xs x → Contains ys x) → length xs ≤ length ys
-  no_longer xs ys pairs all = within xs ys pairs (λ x i. contains-in ys x (all x (in-contains xs x i)))
+  pub no-longer : (xs ys : List A) → AllPairs (λ y z. y ≢ z) xs → ((x : A) → Contains xs x → Contains ys x) → length xs ≤ length ys
+  no-longer xs ys pairs all = within xs ys pairs (λ x i. contains-in ys x (all x (in-contains xs x i)))

@@ -1,7 +1,7 @@
 -- What runs over live parts reach is what all runs reach, up to live parts.
 use Rattle.std.proofs.Common.{◌≡◌, ℕ, sym, ap, subst, ◌∙◌, ◌↔◌}
 use Rattle.laws_live.specs.Parts.{CountsParts, IsCompleteByParts, IsPartReached}
-use Rattle.semantics.proofs.CanonicalRuns.{ends_live, marks_alike, runs_alike}
+use Rattle.semantics.proofs.CanonicalRuns.{ends_live, marks-alike, runs_alike}
 use Rattle.semantics.proofs.LiveTheorem.{labels_live}
 use Rattle.semantics.specs.Canonical.{canonical_graph}
 use Rattle.semantics.specs.Configurations.{Configuration}
@@ -26,8 +26,8 @@ module _ (test : Test) where
   from-run : (run : Run Label) → IsRun h run → IsRun g run
   from-run run is = subst (λ T. T) (runs_alike test run) is
 
-  pub same_runs : (run : Run Label) → IsRun h run ↔ IsRun g run
-  same_runs run = (from-run run, to-run run)
+  pub same-runs : (run : Run Label) → IsRun h run ↔ IsRun g run
+  same-runs run = (from-run run, to-run run)
 
   -- ---- what is reached, and how many
 
@@ -37,11 +37,11 @@ module _ (test : Test) where
   from-reached : (n : ℕ) (part : Configuration) → IsReached h n part → IsPartReached test n part
   from-reached n part is = record { run = is.run; is_run = from-run is.run is.is_run; short = is.short; ends = sym (ends_live test is.run) ∙ is.ends }
 
-  pub same_reached : (n : ℕ) (part : Configuration) → IsReached h n part ↔ IsPartReached test n part
-  same_reached n part = (from-reached n part, to-reached n part)
+  pub same-reached : (n : ℕ) (part : Configuration) → IsReached h n part ↔ IsPartReached test n part
+  same-reached n part = (from-reached n part, to-reached n part)
 
-  pub same_counts : (n count : ℕ) → Counts h n count ↔ CountsParts test n count
-  same_counts n count = (
+  pub same-counts : (n count : ℕ) → Counts h n count ↔ CountsParts test n count
+  same-counts n count = (
     λ counts. record {
       parts = counts.configurations;
       different = counts.different;
@@ -73,13 +73,13 @@ module _ (test : Test) where
       sym (same-labels run)
       ∙ complete run (to-run run is) long (λ other also short same. first other (from-run other also) short (sym (ends_live test other) ∙ same ∙ ends_live test run))
 
-  pub same_complete : (n : ℕ) → IsComplete h n ↔ IsCompleteByParts test n
-  same_complete n = (from-complete n, to-complete n)
+  pub same-complete : (n : ℕ) → IsComplete h n ↔ IsCompleteByParts test n
+  same-complete n = (from-complete n, to-complete n)
 
   -- ---- marks
 
-  pub same_marked : (n mark : ℕ) (run : Run Label) → HasMark h n mark run ↔ HasMark g n mark run
-  same_marked n mark run = (
-    λ has. record { is_run = from-run run has.is_run; short = has.short; marked = sym (marks_alike test run) ∙ has.marked },
-    λ has. record { is_run = to-run run has.is_run; short = has.short; marked = marks_alike test run ∙ has.marked },
+  pub same-marked : (n mark : ℕ) (run : Run Label) → HasMark h n mark run ↔ HasMark g n mark run
+  same-marked n mark run = (
+    λ has. record { is_run = from-run run has.is_run; short = has.short; marked = sym (marks-alike test run) ∙ has.marked },
+    λ has. record { is_run = to-run run has.is_run; short = has.short; marked = marks-alike test run ∙ has.marked },
   )

@@ -53,8 +53,8 @@ places-live [] = refl
 places-live (x ∷ xs) =
     ap (λ ps. ps ++ flat_map (λ y. with_place y (place_of y)) (map live_component xs)) (place-live x) ∙ ap (λ ps. with_place x (place_of x) ++ ps) (places-live xs)
 
-pub standing_live : (c : Going) → standings (live_going c) ≡ standings c
-standing_live c = places-live c.components
+pub standings-live : (c : Going) → standings (live_going c) ≡ standings c
+standings-live c = places-live c.components
 
 standing-of : Configuration → List Standing
 standing-of (Goes c) = standings c
@@ -62,7 +62,7 @@ standing-of (Ended v) = []
 
 standing-live : (c : Configuration) → standing-of (live_part c) ≡ standing-of c
 unfolding standing-of
-standing-live (Goes c) = standing_live c
+standing-live (Goes c) = standings-live c
 standing-live (Ended v) = refl
 
 pub same_standing : (c d : Going) → AreSame (Goes c) (Goes d) → standings c ≡ standings d

@@ -13,7 +13,7 @@ use Rattle.laws_steps.proofs.Applying.{Anyhow, Applies, IfGoes, Leads, applied}
 use Rattle.laws_steps.proofs.Expiring.{KeepsTimers, calls-expire, data-expires, frame-expires, remains-expired}
 use Rattle.laws_steps.proofs.Found.{found-each, insert-each, new-each, some-of}
 use Rattle.laws_steps.proofs.Running.{Steps}
-use Rattle.laws_order.proofs.Orders.{connection_total, path_total}
+use Rattle.laws_order.proofs.Orders.{connection-total, path_total}
 use Rattle.laws_order.proofs.Puts.{put-ordered}
 use Rattle.laws_order.proofs.Stored.{IsDataInOrder, IsFrameInOrder, last-ordered}
 use Rattle.laws_order.proofs.Unmarked.{HasNone, LastHasNone, none-uncovered}
@@ -196,7 +196,7 @@ add-ordered new ks ordered =
     (AllPairs-cons Before new (filter (λ k. is_lt (connection_cmp new k)) ks) behind (AllPairs-filter Before (λ k. is_lt (connection_cmp new k)) ks ordered))
     (All-more (λ k. Before k new) (λ k. All (Before k) (new ∷ filter (λ l. is_lt (connection_cmp new l)) ks))
     (λ k less. All-cons (Before k) new (filter (λ l. is_lt (connection_cmp new l)) ks) less
-    (All-more (Before new) (Before k) (λ l more. connection_total.trans k new l less more) (filter (λ l. is_lt (connection_cmp new l)) ks) behind))
+    (All-more (Before new) (Before k) (λ l more. connection-total.trans k new l less more) (filter (λ l. is_lt (connection_cmp new l)) ks) behind))
     (filter (λ k. is_lt (connection_cmp k new)) ks)
     (All-more (λ k. is_lt (connection_cmp k new) ≡ true) (λ k. Before k new) (λ k e. is-less (connection_cmp k new) e) (filter (λ k. is_lt (connection_cmp k new)) ks) (filter_passes (λ k. is_lt (connection_cmp k new)) ks)))
   where

@@ -290,9 +290,9 @@ new-in c component p (Some d) found family there path =
 pub child-new : (c : Going) (component : Component) (p : Path) → IsFamily c → component_at c (path_of component) ≡ Some component → p ≡ child_of component.itself component.own.children → component_at c p ≡ None
 child-new c component p family there path = new-in c component p (component_at c p) refl family there path
 
-pub new_path : (test : Test) (run : List Label) (c : Going) (component new : Component) (own : Data) → replay test run ≡ Ok (Goes c) → component_at c (path_of component) ≡ Some component
+pub new-path : (test : Test) (run : List Label) (c : Going) (component new : Component) (own : Data) → replay test run ≡ Ok (Goes c) → component_at c (path_of component) ≡ Some component
     → act test (snapshot_of c component) component.own ≡ Requests (Creates new) own → component_at c (path_of new) ≡ None
-new_path test run c component new own e there asks =
+new-path test run c component new own e there asks =
     let is : StandsWell c = replay-well test run (Goes c) e in
     let fine = component-ordered c (path_of component) component is.order there in
     let asked : IsAskedInOrder component.itself component.own.children (Requests (Creates new) own) =
@@ -300,12 +300,12 @@ new_path test run c component new own e there asks =
     new-in c component (path_of new) (component_at c (path_of new)) refl is.family there asked.0
 
 -- so it is inserted
-pub new_inserted : (test : Test) (run : List Label) (c : Going) (component new : Component) (own : Data) → replay test run ≡ Ok (Goes c) → component_at c (path_of component) ≡ Some component
+pub new-inserted : (test : Test) (run : List Label) (c : Going) (component new : Component) (own : Data) → replay test run ≡ Ok (Goes c) → component_at c (path_of component) ≡ Some component
     → act test (snapshot_of c component) component.own ≡ Requests (Creates new) own
     → (with_new new (settle c (path_of component) own)).components ≡ insert new (settle c (path_of component) own).components
-new_inserted test run c component new own e there asks =
+new-inserted test run c component new own e there asks =
     ap (λ o. if is_some o then (settle c (path_of component) own).components else insert new (settle c (path_of component) own).components)
     (found-map (λ x. if same_path (path_of x) (path_of component) then unless_terminated (with_data own) x else x)
     (λ x. if-path (same_path (path_of x) (path_of component)) (unless_terminated (with_data own)) x (unless-path (is_terminated_state x.state) (with_data own) x refl))
     (path_of new) c.components
-    ∙ ap (option_map (λ (x : Component). if same_path (path_of x) (path_of component) then unless_terminated (with_data own) x else x)) (new_path test run c component new own e there asks))
+    ∙ ap (option_map (λ (x : Component). if same_path (path_of x) (path_of component) then unless_terminated (with_data own) x else x)) (new-path test run c component new own e there asks))

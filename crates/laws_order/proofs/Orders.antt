@@ -60,8 +60,8 @@ path_total = record {
   congr = λ p q s. nat_list_cmp_total.congr p.numbers q.numbers s.numbers;
 }
 
-pub end_total : IsTotalOrder end_cmp
-end_total = then-total path_cmp name_cmp (λ e. e.component) (λ e. e.port) path_total nat_list_cmp_total
+pub end-total : IsTotalOrder end_cmp
+end-total = then-total path_cmp name_cmp (λ e. e.component) (λ e. e.port) path_total nat_list_cmp_total
 
-pub connection_total : IsTotalOrder connection_cmp
-connection_total = then-total end_cmp end_cmp (λ k. k.one) (λ k. k.other) end_total end_total
+pub connection-total : IsTotalOrder connection_cmp
+connection-total = then-total end_cmp end_cmp (λ k. k.one) (λ k. k.other) end-total end-total

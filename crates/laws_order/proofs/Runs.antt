@@ -126,9 +126,9 @@ said-option None fine = tt
 said-option (Some d) fine = said d fine
 
 -- what a component asks for by whatever snapshot, as its data are in one configuration, is done in another
-pub applied_ordered : (test : Test) (c old : Going) (itself : ComponentId) (p : Path) (x : Component) (snapshot : Snapshot) → StandsInOrder (Goes c) → StandsInOrder (Goes old) → component_at old p ≡ Some x
+pub applied-stands-in-order : (test : Test) (c old : Going) (itself : ComponentId) (p : Path) (x : Component) (snapshot : Snapshot) → StandsInOrder (Goes c) → StandsInOrder (Goes old) → component_at old p ≡ Some x
     → IfSome (option_map settled (apply test c itself (act test snapshot x.own))) StandsInOrder
-applied_ordered test c old itself p x snapshot is also there =
+applied-stands-in-order test c old itself p x snapshot is also there =
     said-option (option_map settled (apply test c itself (act test snapshot x.own)))
     (settled-leads test Anyhow IsGoingInOrder (apply test c itself (act test snapshot x.own)) (applied-ordered test c old itself p x snapshot (told-going c is) (told-going old also) there))
 
@@ -137,8 +137,8 @@ applied_ordered test c old itself p x snapshot is also there =
 pub replay_ordered : (test : Test) (run : List Label) (c : Configuration) → replay test run ≡ Ok c → StandsInOrder c
 replay_ordered test run c e = said c (replay-holds test IsConfigurationInOrder (starts test) (next-of test) run c e)
 
-pub ends_ordered : (test : Test) (run : Run Label) → StandsInOrder (end_of (graph_of test) run)
-ends_ordered test run = said (end_of (graph_of test) run) (end-holds test IsConfigurationInOrder (starts test) (next-of test) run)
+pub ends-ordered : (test : Test) (run : Run Label) → StandsInOrder (end_of (graph_of test) run)
+ends-ordered test run = said (end_of (graph_of test) run) (end-holds test IsConfigurationInOrder (starts test) (next-of test) run)
 
 -- ---- what follows from the order
 
@@ -176,5 +176,5 @@ pub live_ordered : (c : Configuration) → StandsInOrder c → StandsInOrder (li
 live_ordered (Ended v) is = tt
 live_ordered (Goes c) is = said-going (live_going c) (live-going c (told-going c is))
 
-pub canonical_ends_ordered : (test : Test) (run : Run Label) → StandsInOrder (end_of (canonical_graph test) run)
-canonical_ends_ordered test run = subst StandsInOrder (sym (ends_live test run)) (live_ordered (end_of (graph_of test) run) (ends_ordered test run))
+pub canonical-ends-ordered : (test : Test) (run : Run Label) → StandsInOrder (end_of (canonical_graph test) run)
+canonical-ends-ordered test run = subst StandsInOrder (sym (ends_live test run)) (live_ordered (end_of (graph_of test) run) (ends-ordered test run))

@@ -26,23 +26,23 @@ fields-are (field ∷ fields) =
     ap (λ first. first ++ flat_map references_in_field (map (former-Value-Record-1-at-1.map Value (List ComponentId) references) fields)) (field-is field)
     ∙ ap (λ others. option_elim [] references field ++ others) (fields-are fields)
 
-pub of_record : (at : ℕ) (fields : List (Option Value)) → references (value.Record at fields) ≡ flat_map (option_elim [] references) fields
-of_record at fields = rolled (Value-F.Record at fields) (value.Record at fields) (value.rolls-Record at fields) ∙ fields-are fields
+pub of-record : (at : ℕ) (fields : List (Option Value)) → references (value.Record at fields) ≡ flat_map (option_elim [] references) fields
+of-record at fields = rolled (Value-F.Record at fields) (value.Record at fields) (value.rolls-Record at fields) ∙ fields-are fields
 
-pub of_null : references value.Null ≡ []
-of_null = rolled Value-F.Null value.Null value.rolls-Null
+pub of-null : references value.Null ≡ []
+of-null = rolled Value-F.Null value.Null value.rolls-Null
 
-pub of_omit : references value.Omit ≡ []
-of_omit = rolled Value-F.Omit value.Omit value.rolls-Omit
+pub of-omit : references value.Omit ≡ []
+of-omit = rolled Value-F.Omit value.Omit value.rolls-Omit
 
-pub of_integer : (z : ℤ) → references (value.Integer z) ≡ []
-of_integer z = rolled (Value-F.Integer z) (value.Integer z) (value.rolls-Integer z)
+pub of-integer : (z : ℤ) → references (value.Integer z) ≡ []
+of-integer z = rolled (Value-F.Integer z) (value.Integer z) (value.rolls-Integer z)
 
-pub of_boolean : (b : Bool) → references (value.Boolean b) ≡ []
-of_boolean b = rolled (Value-F.Boolean b) (value.Boolean b) (value.rolls-Boolean b)
+pub of-boolean : (b : Bool) → references (value.Boolean b) ≡ []
+of-boolean b = rolled (Value-F.Boolean b) (value.Boolean b) (value.rolls-Boolean b)
 
-pub of_enumerated : (at n : ℕ) → references (value.Enumerated at n) ≡ []
-of_enumerated at n = rolled (Value-F.Enumerated at n) (value.Enumerated at n) (value.rolls-Enumerated at n)
+pub of-enumerated : (at n : ℕ) → references (value.Enumerated at n) ≡ []
+of-enumerated at n = rolled (Value-F.Enumerated at n) (value.Enumerated at n) (value.rolls-Enumerated at n)
 
-pub of_default : (n : ℕ) → references (value.Default n) ≡ []
-of_default n = rolled (Value-F.Default n) (value.Default n) (value.rolls-Default n)
+pub of-default : (n : ℕ) → references (value.Default n) ≡ []
+of-default n = rolled (Value-F.Default n) (value.Default n) (value.rolls-Default n)

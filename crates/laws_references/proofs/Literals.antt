@@ -4,7 +4,7 @@ use Rattle.std.specs.List.{All, find, zip}
 use Rattle.std.proofs.lemmas.List.Elements.{All-cons, All-map, All-nil}
 use Rattle.ttcn_syntax.specs.declared.tree.definition.Field.{Field}
 use Rattle.ttcn_syntax.specs.declared.tree.value.FieldValue.{FieldValue}
-use Rattle.ttcn_syntax.specs.declared.tree.value.Value as tree
+use Rattle.ttcn_syntax.specs.declared.tree.value.Value as written
 use Rattle.ttcn_syntax.specs.declared.tree.value.Value.TheFolds.{fold-roll-FieldValue, fold-roll-Value, ind-Value, map-FieldValue, map-Value}
 use Rattle.ttcn_syntax.specs.declared.tree.value.Value.TheOpen.{FieldValue-F, Value-F}
 use Rattle.check_scope.specs.Names.{fields_at}
@@ -72,7 +72,7 @@ module _ (P : ComponentId → Type 0) where
   -- ---- values
 
   abbrev Held : Type 0
-  Held = (v : tree.Value) × RefersToRead (value_wanted v)
+  Held = (v : written.Value) × RefersToRead (value_wanted v)
 
   abbrev HeldField : Type 0
   HeldField = (v : FieldValue) × NamedRefers (field_value v)
@@ -85,10 +85,10 @@ module _ (P : ComponentId → Type 0) where
   all-named [] = All-nil NamedRefers
   all-named (e ∷ es) = All-cons NamedRefers (field_value e.0) (map field_value (map (λ e. e.0) es)) e.1 (all-named es)
 
-  abbrev Level : Value-F tree.Value FieldValue → Type 0
-  Level x = RefersToRead (value_step (map-Value tree.Value FieldValue Wanted (List ℕ × Wanted) value_wanted field_value x))
+  abbrev Level : Value-F written.Value FieldValue → Type 0
+  Level x = RefersToRead (value_step (map-Value written.Value FieldValue Wanted (List ℕ × Wanted) value_wanted field_value x))
 
-  value-held : (y : Value-F Held HeldField) → Level (map-Value Held HeldField tree.Value FieldValue (λ v. v.0) (λ v. v.0) y)
+  value-held : (y : Value-F Held HeldField) → Level (map-Value Held HeldField written.Value FieldValue (λ v. v.0) (λ v. v.0) y)
   value-held (Value-F.Expr e) = λ reading is wanted. expression-gives P e reading is
   value-held Value-F.Omit = λ reading is wanted. omit-refers P
   value-held (Value-F.Listed es) = λ reading is wanted.
@@ -98,13 +98,13 @@ module _ (P : ComponentId → Type 0) where
       record-gives reading is (wanted_record wanted) (λ at. by_name reading (fields_at reading.definitions at) (map field_value (map (λ e. e.0) es)))
       (λ at. names-give reading is (fields_at reading.definitions at) (map field_value (map (λ e. e.0) es)) (all-named es))
 
-  abbrev LevelField : FieldValue-F tree.Value FieldValue → Type 0
-  LevelField x = NamedRefers (field_value_step (map-FieldValue tree.Value FieldValue Wanted (List ℕ × Wanted) value_wanted field_value x))
+  abbrev LevelField : FieldValue-F written.Value FieldValue → Type 0
+  LevelField x = NamedRefers (field_value_step (map-FieldValue written.Value FieldValue Wanted (List ℕ × Wanted) value_wanted field_value x))
 
-  field-held : (y : FieldValue-F Held HeldField) → LevelField (map-FieldValue Held HeldField tree.Value FieldValue (λ v. v.0) (λ v. v.0) y)
+  field-held : (y : FieldValue-F Held HeldField) → LevelField (map-FieldValue Held HeldField written.Value FieldValue (λ v. v.0) (λ v. v.0) y)
   field-held y = y.value.1
 
-  pub value-gives : (v : tree.Value) → RefersToRead (value_wanted v)
+  pub value-gives : (v : written.Value) → RefersToRead (value_wanted v)
   value-gives = ind-Value (λ v. RefersToRead (value_wanted v)) (λ v. NamedRefers (field_value v)) (λ x y is.
       subst RefersToRead (sym (fold-roll-Value Wanted (List ℕ × Wanted) value_step field_value_step x))
       (subst Level is (value-held y))) (λ x y is.

@@ -3,7 +3,7 @@ use Rattle.std.proofs.Common.{◌≡◌, ℕ, Bool, true, false, List, [], ◌�
 use Rattle.std.specs.List.{find}
 use Rattle.std.proofs.lemmas.List.Elements.{All-filter, All-map, All-nil}
 use Rattle.laws_references.proofs.More.{component-more}
-use Rattle.laws_references.proofs.Runs.{ends_stand}
+use Rattle.laws_references.proofs.Runs.{ends-stand}
 use Rattle.laws_references.proofs.There.{there-is}
 use Rattle.laws_steps.proofs.Finding.{found-first, found-path}
 use Rattle.laws_references.specs.References.{ComponentRefersTo, DefaultRefersTo, FrameRefersTo, QueueRefersTo, RefersTo}
@@ -80,9 +80,9 @@ live-going test c is = record {
   mappings = All-more (IsOfPort c) (λ m. IsPortLeft (live_going c) m.1) (λ m port. port-left c m.1 port) c.mappings is.mappings;
 }
 
-pub live_left : (test : Test) (c : Configuration) → StandsWithAllReferred test c → StandsWithAllLeft (live_part c)
-live_left test (Ended v) is = tt
-live_left test (Goes c) is = live-going test c is
+pub live-left : (test : Test) (c : Configuration) → StandsWithAllReferred test c → StandsWithAllLeft (live_part c)
+live-left test (Ended v) is = tt
+live-left test (Goes c) is = live-going test c is
 
-pub ends_left : (test : Test) (run : Run Label) → ScriptRefersToNone test → StandsWithAllLeft (end_of (canonical_graph test) run)
-ends_left test run script = subst StandsWithAllLeft (sym (ends_live test run)) (live_left test (end_of (graph_of test) run) (ends_stand test run script))
+pub ends-left : (test : Test) (run : Run Label) → ScriptRefersToNone test → StandsWithAllLeft (end_of (canonical_graph test) run)
+ends-left test run script = subst StandsWithAllLeft (sym (ends_live test run)) (live-left test (end_of (graph_of test) run) (ends-stand test run script))

@@ -74,16 +74,16 @@ front-refers : (P : ComponentId → Type 0) (messages : List Message) → All (M
 front-refers P [] all = tt
 front-refers P (message ∷ messages) all = All-head (MessageRefersTo P) message messages all
 
-pub snapshot_refers : (test : Test) (c : Going) (p : Path) (x : Component) → StandsWithAllReferred test (Goes c) → component_at c p ≡ Some x → SnapshotRefersTo (IsThere c) (snapshot_of c x)
-snapshot_refers test c p x is found =
+pub snapshot-refers : (test : Test) (c : Going) (p : Path) (x : Component) → StandsWithAllReferred test (Goes c) → component_at c p ≡ Some x → SnapshotRefersTo (IsThere c) (snapshot_of c x)
+snapshot-refers test c p x is found =
     let refers : ComponentRefersTo (IsThere c) x = found-refers test c p x is found in
     All-map (λ (front : List ℕ × Option Message). IfSome front.1 (MessageRefersTo (IsThere c))) front_at x.queues
     (All-more (QueueRefersTo (IsThere c)) (λ queue. IfSome (front_of queue.1) (MessageRefersTo (IsThere c))) (λ queue all. front-refers (IsThere c) queue.1 all) x.queues refers.queues)
 
 -- the expiry of a timer
-pub expiry_stands : (test : Test) (c : Going) (p : Path) (x : Component) (number : ℕ) (name : List ℕ) (own : Data) → StandsWithAllReferred test (Goes c) → component_at c p ≡ Some x → expired number name x.own ≡ Some own
+pub expiry-stands : (test : Test) (c : Going) (p : Path) (x : Component) (number : ℕ) (name : List ℕ) (own : Data) → StandsWithAllReferred test (Goes c) → component_at c p ≡ Some x → expired number name x.own ≡ Some own
     → StandsWithAllReferred test (Goes (touch c (path_of x) (exchanged own)))
-expiry_stands test c p x number name own is found expires =
+expiry-stands test c p x number name own is found expires =
     let refers : ComponentRefersTo (IsThere c) x = found-refers test c p x is found in
     let fine : DataReferTo (IsThere c) own = subst (λ o. IfSome o (DataReferTo (IsThere c))) expires (expired-refers (IsThere c) test.definitions number name x.own refers.own) in
     followed test c is (touch c (path_of x) (exchanged own)) (touch-follows (IsThere c) test.definitions c c (path_of x) (exchanged own) (exchanged-gentle (IsThere c) test.definitions own fine) (itself-follows (IsThere c) test.definitions c (told test c is)))
@@ -108,8 +108,8 @@ come-stands test c system_port e v script is found =
 
 steps-stand : (test : Test) (c : Going) → ScriptRefersToNone test → IsFamily c → HasAllReferred test c → Steps test Anyhow (HasAllReferred test) c
 steps-stand test c script family is = record {
-  asked = λ p x found runs. leads test (snapshot_of c x) c p x family is found refl (snapshot_refers test c p x is found);
-  expires = λ p x number name own found runs changed. expiry_stands test c p x number name own is found changed;
+  asked = λ p x found runs. leads test (snapshot_of c x) c p x family is found refl (snapshot-refers test c p x is found);
+  expires = λ p x number name own found runs changed. expiry-stands test c p x number name own is found changed;
   comes = λ system_port e v mapped found. come-stands test c system_port e v script is found;
 }
 
@@ -208,5 +208,5 @@ next-both test c label (Some d) script e is = (reached-next test label c d is.0 
 pub replay_stands : (test : Test) (run : List Label) (c : Configuration) → ScriptRefersToNone test → replay test run ≡ Ok c → StandsWithAllReferred test c
 replay_stands test run c script e = (replay-holds test (ReachedStands test) (start-both test) (λ c label is. next-both test c label (next test c label) script refl is) run c e).1
 
-pub ends_stand : (test : Test) (run : Run Label) → ScriptRefersToNone test → StandsWithAllReferred test (end_of (graph_of test) run)
-ends_stand test run script = (end-holds test (ReachedStands test) (start-both test) (λ c label is. next-both test c label (next test c label) script refl is) run).1
+pub ends-stand : (test : Test) (run : Run Label) → ScriptRefersToNone test → StandsWithAllReferred test (end_of (graph_of test) run)
+ends-stand test run script = (end-holds test (ReachedStands test) (start-both test) (λ c label is. next-both test c label (next test c label) script refl is) run).1

@@ -140,18 +140,18 @@ module _ (c : Going) where
   mapped-stays None stay = tt
   mapped-stays (Some out) stay = settled-stays out stay
 
-pub asked_stays : (test : Test) (c d : Going) (itself : ComponentId) (asked : Act) → apply test c itself asked ≡ Some (Yields (Goes d)) → (id : ComponentId) → IsThere c id → IsThere d id
-asked_stays test c d itself asked e = subst (LeadsOn c) e (applied-stays c test itself asked)
+pub asked-stays : (test : Test) (c d : Going) (itself : ComponentId) (asked : Act) → apply test c itself asked ≡ Some (Yields (Goes d)) → (id : ComponentId) → IsThere c id → IsThere d id
+asked-stays test c d itself asked e = subst (LeadsOn c) e (applied-stays c test itself asked)
 
-pub next_stays : (test : Test) (c d : Going) (label : Label) → next test (Goes c) label ≡ Some (Goes d) → (id : ComponentId) → IsThere c id → IsThere d id
-next_stays test c d label e = subst (λ o. IfSome o (StaysIn c)) e (mapped-stays c (step_in test c label) (step-stays c test label))
+pub next-stays : (test : Test) (c d : Going) (label : Label) → next test (Goes c) label ≡ Some (Goes d) → (id : ComponentId) → IsThere c id → IsThere d id
+next-stays test c d label e = subst (λ o. IfSome o (StaysIn c)) e (mapped-stays c (step_in test c label) (step-stays c test label))
 
 -- so what a snapshot refers to is there behind each step
 front-more : (c d : Going) → ((id : ComponentId) → IsThere c id → IsThere d id) → (o : Option Message) → IfSome o (MessageRefersTo (IsThere c)) → IfSome o (MessageRefersTo (IsThere d))
 front-more c d stay None is = tt
 front-more c d stay (Some message) is = message-more (IsThere c) (IsThere d) stay message is
 
-pub snapshot_stays : (test : Test) (c d : Going) (label : Label) (snapshot : Snapshot) → next test (Goes c) label ≡ Some (Goes d) → SnapshotRefersTo (IsThere c) snapshot → SnapshotRefersTo (IsThere d) snapshot
-snapshot_stays test c d label snapshot e all =
+pub snapshot-stays : (test : Test) (c d : Going) (label : Label) (snapshot : Snapshot) → next test (Goes c) label ≡ Some (Goes d) → SnapshotRefersTo (IsThere c) snapshot → SnapshotRefersTo (IsThere d) snapshot
+snapshot-stays test c d label snapshot e all =
     All-more (λ (front : List ℕ × Option Message). IfSome front.1 (MessageRefersTo (IsThere c))) (λ front. IfSome front.1 (MessageRefersTo (IsThere d)))
-    (λ front is. front-more c d (next_stays test c d label e) front.1 is) snapshot.fronts all
+    (λ front is. front-more c d (next-stays test c d label e) front.1 is) snapshot.fronts all

@@ -13,7 +13,7 @@ use Rattle.ttcn_syntax.specs.declared.tree.statement.Statement.{Statement}
 use Rattle.check_scope.specs.Names.{Entry, Scope}
 use Rattle.check_rules.specs.Statements.{Place, behind_for_start, check_for_start, statement, statements, with_scope}
 use Rattle.laws_checker.proofs.Descent.{first_fine, others_fine, statement_whole}
-use Rattle.laws_checker.proofs.Whole.{variables_whole}
+use Rattle.laws_checker.proofs.Whole.{variables-whole}
 use Rattle.laws_checker.specs.Laws.{IsWhole}
 use Rattle.laws_repeat.proofs.Outside.{outside-behind, outside-both, outside-itself, outside-one}
 use Rattle.laws_repeat.specs.Following.{IsClosed, IsClosedItem, IsInside, IsMade, IsOutside}
@@ -160,7 +160,7 @@ module _ (definitions : List Definition) where
         (parts.0, parts.1, parts.2, parts.3.0)
 
     start-whole : (scope : Scope) (start : ForStart) → check_for_start scope start ≡ [] → IsWhole scope → IsWhole (behind_for_start scope start)
-    start-whole scope (for_start.Variables vs) nothing whole = variables_whole scope vs nothing whole
+    start-whole scope (for_start.Variables vs) nothing whole = variables-whole scope vs nothing whole
     start-whole scope (for_start.Assign a) nothing whole = whole
 
     pub for-closed : (start : ForStart) (condition : Expr) (step : Assignment) (block : List Statement) → action_of s ≡ Action-F.For start condition step block → IsClosed s → IsClosedBlock block

@@ -12,9 +12,9 @@ use Rattle.semantics.specs.Taking.{repeated}
 use Rattle.check_rules.specs.Rules.{AreWellTyped}
 use Rattle.value_types.specs.declared.path.Path.{Path}
 
-pub repeats_found : (test : Test) (run : List Label) (c : Going) (p : Path) (x : Component) → AreWellTyped test.definitions → replay test run ≡ Ok (Goes c) → component_at c p ≡ Some x → StandsAtRepeat x.own.calls
+pub repeats-found : (test : Test) (run : List Label) (c : Going) (p : Path) (x : Component) → AreWellTyped test.definitions → replay test run ≡ Ok (Goes c) → component_at c p ≡ Some x → StandsAtRepeat x.own.calls
     → is_some (repeated x.own.calls) ≡ true
-repeats_found test run c p x well e found is =
+repeats-found test run c p x well e found is =
     repeat-found x.own.calls is
     (some-of (λ (component : Component). AllAreMarked (lists_of component.own.calls)) (component_at c p) x found
     (found-each (λ (component : Component). AllAreMarked (lists_of component.own.calls)) (λ component. same_path (path_of component) p) c.components (replay_marked test well run (Goes c) e)))

@@ -82,5 +82,5 @@ module _ (test : Test) (well : AreWellTyped test.definitions) where
   pub replay_marked : (run : List Label) (c : Configuration) → replay test run ≡ Ok c → StandsMarked test c
   replay_marked run c e = told c (replay-stands test AllAreMarked (marks-last test.definitions well) run c e)
 
-  pub end_marked : (run : Run Label) → StandsMarked test (end_of (graph_of test) run)
-  end_marked run = told (end_of (graph_of test) run) (end-stands test AllAreMarked (marks-last test.definitions well) run)
+  pub end-marked : (run : Run Label) → StandsMarked test (end_of (graph_of test) run)
+  end-marked run = told (end_of (graph_of test) run) (end-stands test AllAreMarked (marks-last test.definitions well) run)

@@ -18,7 +18,7 @@ use Rattle.check_rules.specs.Messages.{check_event, is_timer_name}
 use Rattle.check_rules.specs.Statements.{Place}
 use Rattle.laws_checker.proofs.Nothing.{kept}
 use Rattle.laws_sites.proofs.Blocks.{parts-of, place}
-use Rattle.laws_sites.proofs.Firsts.{last_frame, outside_same}
+use Rattle.laws_sites.proofs.Firsts.{last-frame, outside_same}
 use Rattle.laws_sites.proofs.Frames.{entry-named}
 use Rattle.laws_sites.specs.Awaiting.{AwaitsTimeout, BeginsByTimeout, IsTimeout}
 use Rattle.laws_sites.specs.Standing.{IsFineFrame, IsFineItem, IsFineSite, IsFrameOf, IsFree, StandsByRules}
@@ -71,5 +71,5 @@ pub awaited_outside : (test : Test) (c : Going) (p : Path) (x : Component) (fram
     → component_at c p ≡ Some x → x.own.calls ≡ frame ∷ below → frame.remaining ≡ Doing site s Whole ∷ rest → AwaitsTimeout name (action_of s) → is_own test.definitions site name ≡ false
     → entry frame.timers name ≡ None
 awaited_outside test c p x frame below site s rest name is found calls stands awaits own =
-    let last : IsFineFrame test.definitions frame = last_frame test c p x frame below is found calls in
+    let last : IsFineFrame test.definitions frame = last-frame test c p x frame below is found calls in
     frame-awaits test.definitions last.0 frame site s rest name last.1 stands awaits own

@@ -21,7 +21,7 @@ use Rattle.ttcn_syntax.specs.declared.tree.statement.Timer.{Timer}
 use Rattle.ttcn_syntax.specs.declared.tree.statement.Variable.{Variable}
 use Rattle.check_scope.specs.Names.{kind_at, resolved}
 use Rattle.check_scope.specs.declared.names.Meaning.TheVariants as meaning
-use Rattle.check_rules.proofs.StatementForms.{statement_out}
+use Rattle.check_rules.proofs.StatementForms.{statement-out}
 use Rattle.check_rules.specs.Statements.{Check, Place, StatementRules, action, action_step, alternative, alternative_step, behind_for_start, branch, inside_branch, branch_step, conditional, conditional_step, statement, statement_step, statements}
 use Rattle.laws_checker.proofs.Descent.{first_fine, others_fine}
 use Rattle.laws_sites.proofs.Sites.{behind-constants-fine, behind-scope, behind-timers-fine, behind-variables-fine, constants-fine, timers-fine, variables-fine}
@@ -36,7 +36,7 @@ abbrev told : Does → StatementRules
 told x = action_step (map-Action Action Alternative Branch Conditional Statement StatementRules Check Check Check StatementRules action alternative branch conditional statement x)
 
 told-is : (s : Statement) → statement s ≡ told (action_of s)
-told-is s = statement_out s ∙ fold_out-Action StatementRules Check Check Check StatementRules action_step alternative_step branch_step conditional_step statement_step (out-Statement s).action
+told-is s = statement-out s ∙ fold_out-Action StatementRules Check Check Check StatementRules action_step alternative_step branch_step conditional_step statement_step (out-Statement s).action
 
 module _ (definitions : List Definition) (at : ℕ) where
   abbrev pub place : Site → PlaceIn definitions at → Place

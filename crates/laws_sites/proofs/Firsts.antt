@@ -26,14 +26,14 @@ use Rattle.semantics.specs.Snapshots.{Test}
 use Rattle.check_rules.specs.Rules.{AreWellTyped}
 use Rattle.value_types.specs.declared.path.Path.{Path}
 
-pub component_fine : (test : Test) (c : Going) (p : Path) (x : Component) → StandsByRules test (Goes c) → component_at c p ≡ Some x → IsFineComponent test.definitions x
-component_fine test c p x is found = some-of (IsFineComponent test.definitions) (component_at c p) x found (component-fine test.definitions c p is)
+pub found-component-fine : (test : Test) (c : Going) (p : Path) (x : Component) → StandsByRules test (Goes c) → component_at c p ≡ Some x → IsFineComponent test.definitions x
+found-component-fine test c p x is found = some-of (IsFineComponent test.definitions) (component_at c p) x found (component-fine test.definitions c p is)
 
-pub queues_differ : (test : Test) (c : Going) (p : Path) (x : Component) → StandsByRules test (Goes c) → component_at c p ≡ Some x → HasQueuesByName x.queues
-queues_differ test c p x is found = let fine : IsFineComponent test.definitions x = component_fine test c p x is found in fine.queues
+pub queues-differ : (test : Test) (c : Going) (p : Path) (x : Component) → StandsByRules test (Goes c) → component_at c p ≡ Some x → HasQueuesByName x.queues
+queues-differ test c p x is found = let fine : IsFineComponent test.definitions x = found-component-fine test c p x is found in fine.queues
 
-pub queue_found : (test : Test) (c : Going) (p : Path) (x : Component) → StandsByRules test (Goes c) → component_at c p ≡ Some x → All (λ q. find (λ r. bytes_eq r.0 q.0) x.queues ≡ Some q) x.queues
-queue_found test c p x is found = queues-found x.queues (queues_differ test c p x is found)
+pub queue-found : (test : Test) (c : Going) (p : Path) (x : Component) → StandsByRules test (Goes c) → component_at c p ≡ Some x → All (λ q. find (λ r. bytes_eq r.0 q.0) x.queues ≡ Some q) x.queues
+queue-found test c p x is found = queues-found x.queues (queues-differ test c p x is found)
 
 -- ---- names
 
@@ -74,10 +74,10 @@ outside_same definitions site name own =
 
 -- ---- what stands first
 
-pub last_frame : (test : Test) (c : Going) (p : Path) (x : Component) (frame : Frame) (below : List Frame) → StandsByRules test (Goes c) → component_at c p ≡ Some x → x.own.calls ≡ frame ∷ below
+pub last-frame : (test : Test) (c : Going) (p : Path) (x : Component) (frame : Frame) (below : List Frame) → StandsByRules test (Goes c) → component_at c p ≡ Some x → x.own.calls ≡ frame ∷ below
     → IsFineFrame test.definitions frame
-last_frame test c p x frame below is found calls =
-    let fine : IsFineComponent test.definitions x = component_fine test c p x is found in
+last-frame test c p x frame below is found calls =
+    let fine : IsFineComponent test.definitions x = found-component-fine test c p x is found in
     All-head (IsFineFrame test.definitions) frame below (subst (All (IsFineFrame test.definitions)) calls fine.calls)
 
 first-of : (definitions : List Definition) (at : ℕ) (frame : Frame) (item : Item) (rest : List Item) → IsFrameOf definitions at frame → frame.remaining ≡ item ∷ rest → IsFineItem definitions at item
@@ -89,22 +89,22 @@ of-site definitions at site s part item =
     let here : IsFineSite definitions at site = item.0 in
     subst (λ n. IsFineItem definitions n (Doing site s part)) (sym here.within) item
 
-pub part_fine : (test : Test) (c : Going) (p : Path) (x : Component) (frame : Frame) (below : List Frame) (site : Site) (s : Statement) (part : Part) (rest : List Item) → StandsByRules test (Goes c)
+pub part-fine : (test : Test) (c : Going) (p : Path) (x : Component) (frame : Frame) (below : List Frame) (site : Site) (s : Statement) (part : Part) (rest : List Item) → StandsByRules test (Goes c)
     → component_at c p ≡ Some x → x.own.calls ≡ frame ∷ below → frame.remaining ≡ Doing site s part ∷ rest → IsFineItem test.definitions site.behaviour (Doing site s part)
-part_fine test c p x frame below site s part rest is found calls stands =
-    let last : IsFineFrame test.definitions frame = last_frame test c p x frame below is found calls in
+part-fine test c p x frame below site s part rest is found calls stands =
+    let last : IsFineFrame test.definitions frame = last-frame test c p x frame below is found calls in
     of-site test.definitions last.0 site s part (first-of test.definitions last.0 frame (Doing site s part) rest last.1 stands)
 
-pub whole_fine : (test : Test) (c : Going) (p : Path) (x : Component) (frame : Frame) (below : List Frame) (site : Site) (s : Statement) (rest : List Item) → StandsByRules test (Goes c)
+pub whole-fine : (test : Test) (c : Going) (p : Path) (x : Component) (frame : Frame) (below : List Frame) (site : Site) (s : Statement) (rest : List Item) → StandsByRules test (Goes c)
     → component_at c p ≡ Some x → x.own.calls ≡ frame ∷ below → frame.remaining ≡ Doing site s Whole ∷ rest
     → (inside : PlaceIn test.definitions site.behaviour) × HasFineParts (place_at test.definitions site.behaviour (scope_at test.definitions site) inside) (action_of s)
-whole_fine test c p x frame below site s rest is found calls stands =
-    let item : IsFineItem test.definitions site.behaviour (Doing site s Whole) = part_fine test c p x frame below site s Whole rest is found calls stands in
+whole-fine test c p x frame below site s rest is found calls stands =
+    let item : IsFineItem test.definitions site.behaviour (Doing site s Whole) = part-fine test c p x frame below site s Whole rest is found calls stands in
     (item.1.1.0, parts-of test.definitions site.behaviour site s item.1.1.0 item.0 item.1.1.1)
 
 pub own_free : (test : Test) (c : Going) (p : Path) (x : Component) (frame : Frame) (below : List Frame) (site : Site) (s : Statement) (part : Part) (rest : List Item) (name : List ℕ) → AreWellTyped test.definitions
     → StandsByRules test (Goes c) → component_at c p ≡ Some x → x.own.calls ≡ frame ∷ below → frame.remaining ≡ Doing site s part ∷ rest → is_own test.definitions site name ≡ true
     → IsFree test.definitions site.behaviour name
 own_free test c p x frame below site s part rest name well is found calls stands own =
-    let item : IsFineItem test.definitions site.behaviour (Doing site s part) = part_fine test c p x frame below site s part rest is found calls stands in
+    let item : IsFineItem test.definitions site.behaviour (Doing site s part) = part-fine test c p x frame below site s part rest is found calls stands in
     own-free test.definitions well site.behaviour site name item.0 own

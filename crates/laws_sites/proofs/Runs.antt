@@ -60,15 +60,15 @@ module _ (test : Test) (well : AreWellTyped test.definitions) where
         queues = new-queues test.definitions well (mtc_of test).component_type;
       }
 
-  pub start_fine : IsFineConfiguration test.definitions (start test)
-  start_fine =
+  pub start-fine : IsFineConfiguration test.definitions (start test)
+  start-fine =
       start-leads test Anyhow (IsFineGoing test.definitions)
       (λ body members is made. All-cons (IsFineComponent test.definitions) (mtc_with test body members) []
       (mtc-fine body members (some-of (λ b. Begins test.definitions well test.testcase (statements b)) (testcase_body (kind_at test.definitions test.testcase)) body is (testcase-fine test.definitions well test.testcase)))
       (All-nil (IsFineComponent test.definitions)))
 
   pub start_stands : StandsByRules test (start test)
-  start_stands = said test (start test) start_fine
+  start_stands = said test (start test) start-fine
 
 -- ---- steps
 
@@ -78,15 +78,15 @@ apply_stands test snapshot c p x well is found =
     out-said test (apply test c x.itself (act test snapshot x.own))
     (ask-fine test well snapshot c x is (some-of (IsFineComponent test.definitions) (component_at c p) x found (component-fine test.definitions c p is)))
 
-pub expiry_stands : (test : Test) (c : Going) (p : Path) (x : Component) (number : ℕ) (name : List ℕ) (own : Data) → StandsByRules test (Goes c) → component_at c p ≡ Some x → expired number name x.own ≡ Some own
+pub expiry-stands : (test : Test) (c : Going) (p : Path) (x : Component) (number : ℕ) (name : List ℕ) (own : Data) → StandsByRules test (Goes c) → component_at c p ≡ Some x → expired number name x.own ≡ Some own
     → StandsByRules test (Goes (touch c (path_of x) (exchanged own)))
-expiry_stands test c p x number name own is found expires =
+expiry-stands test c p x number name own is found expires =
     let fine : IsFineComponent test.definitions x = some-of (IsFineComponent test.definitions) (component_at c p) x found (component-fine test.definitions c p is) in
     exchange-fine test.definitions c (path_of x) own is
     (some-of (λ (own : Data). All (IsFineFrame test.definitions) own.calls) (expired number name x.own) own expires (expired-fine test.definitions number name x.own fine.calls))
 
-pub come_stands : (test : Test) (c : Going) (system_port : List ℕ) (e : End) (v : Value) → StandsByRules test (Goes c) → StandsByRules test (Goes (come_in system_port e v c))
-come_stands test c system_port e v is = come-fine test.definitions c system_port e v is
+pub come-stands : (test : Test) (c : Going) (system_port : List ℕ) (e : End) (v : Value) → StandsByRules test (Goes c) → StandsByRules test (Goes (come_in system_port e v c))
+come-stands test c system_port e v is = come-fine test.definitions c system_port e v is
 
 next-of : (test : Test) → AreWellTyped test.definitions → (c : Configuration) (label : Label) → IsFineConfiguration test.definitions c → IfSome (next test c label) (IsFineConfiguration test.definitions)
 next-of test well c label is = next-leads test Anyhow (IsFineGoing test.definitions) (steps-fine test well) c label is
@@ -97,10 +97,10 @@ next_stands test c d label well is e = said test d (some-of (IsFineConfiguration
 -- ---- runs
 
 pub replay_stands : (test : Test) (run : List Label) (c : Configuration) → AreWellTyped test.definitions → replay test run ≡ Ok c → StandsByRules test c
-replay_stands test run c well e = said test c (replay-holds test (IsFineConfiguration test.definitions) (start_fine test well) (next-of test well) run c e)
+replay_stands test run c well e = said test c (replay-holds test (IsFineConfiguration test.definitions) (start-fine test well) (next-of test well) run c e)
 
-pub ends_stand : (test : Test) (run : Run Label) → AreWellTyped test.definitions → StandsByRules test (end_of (graph_of test) run)
-ends_stand test run well = said test (end_of (graph_of test) run) (end-holds test (IsFineConfiguration test.definitions) (start_fine test well) (next-of test well) run)
+pub ends-stand : (test : Test) (run : Run Label) → AreWellTyped test.definitions → StandsByRules test (end_of (graph_of test) run)
+ends-stand test run well = said test (end_of (graph_of test) run) (end-holds test (IsFineConfiguration test.definitions) (start-fine test well) (next-of test well) run)
 
 -- ---- live parts
 

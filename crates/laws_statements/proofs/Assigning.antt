@@ -75,8 +75,8 @@ module _ (scope : Scope) (whole : IsWhole scope) where
       (within-typed of name (subst (λ u. (within scope.definitions u name).broken ≡ []) is first)))
       (nothing-rest (within scope.definitions t name).broken (along scope.definitions (within scope.definitions t name).typing names).broken nothing)
 
-  pub reference_typed : (reference : Reference) → (check_target scope reference).broken ≡ [] → IsType (check_target scope reference).typing
-  reference_typed reference nothing =
+  pub reference-typed : (reference : Reference) → (check_target scope reference).broken ≡ [] → IsType (check_target scope reference).typing
+  reference-typed reference nothing =
       let found = as_target scope.definitions (scope.names reference.name) in
       let rest = along scope.definitions found.typing reference.fields in
       along-typed reference.fields found.typing
@@ -90,8 +90,8 @@ module _ (scope : Scope) (whole : IsWhole scope) where
   target-variable (Some (meaning.Variable None)) known nothing = absurd (let e = known in cc)
   target-variable _ known nothing = absurd (let e = nothing in cc)
 
-  pub reference_variable : (reference : Reference) (t : DataType) → (check_target scope reference).typing ≡ typing.Known t → (check_target scope reference).broken ≡ [] → IsVariable scope reference t
-  reference_variable reference t is nothing =
+  pub reference-variable : (reference : Reference) (t : DataType) → (check_target scope reference).typing ≡ typing.Known t → (check_target scope reference).broken ≡ [] → IsVariable scope reference t
+  reference-variable reference t is nothing =
       let found = as_target scope.definitions (scope.names reference.name) in
       let rest = along scope.definitions found.typing reference.fields in
       let variable = target-variable (scope.names reference.name) (whole.names reference.name) (nothing-first found.broken rest.broken nothing) in
@@ -106,5 +106,5 @@ pub assignment_typed : (scope : Scope) → IsWhole scope → (assignment : Assig
 assignment_typed scope whole assignment nothing =
     let target = check_target scope assignment.target in
     let right = check_rhs scope (target_at scope assignment.target) assignment.value in
-    let is = reference_typed scope whole assignment.target (nothing-first target.broken right nothing) in
+    let is = reference-typed scope whole assignment.target (nothing-first target.broken right nothing) in
     record { data_type = is.0; known = ap type_known is.1; value = nothing-rest target.broken right nothing }

@@ -28,7 +28,7 @@ use Rattle.check_scope.specs.declared.names.Meaning.TheVariants as meaning
 use Rattle.check_scope.specs.declared.rule.Rule.{Rule}
 use Rattle.check_scope.specs.declared.rule.Rule.TheVariants as rule
 use Rattle.check_scope.specs.declared.types.DataType.{DataType}
-use Rattle.check_rules.proofs.StatementForms.{statement_out}
+use Rattle.check_rules.proofs.StatementForms.{statement-out}
 use Rattle.check_rules.specs.Definitions.{check_initial_value, check_member, check_member_variable, check_members, check_parameter, check_parameters, check_port_name, member_variable_entry, parameter_entry, port_entry, with_parameters}
 use Rattle.check_rules.specs.Statements.{Check, Place, StatementRules, action, action_step, alternative, alternative_step, branch, branch_step, conditional, conditional_step, statement, statement_step}
 use Rattle.laws_checker.proofs.Nothing.{kept, nothing-first, nothing-rest}
@@ -170,7 +170,7 @@ action-grows = ind-Action (λ a. Grows (action a)) (λ a. Unit {0}) (λ b. Unit 
     (λ x y is. tt) (λ x y is. tt) (λ x y is. tt) (λ x y is. tt)
 
 pub statement_within : (s : Statement) (place : Place) → (statement s).broken place ≡ [] → IsWithin place.scope ((statement s).scope_behind place.scope)
-statement_within s = subst Grows (sym (statement_out s)) (action-grows (out-Statement s).action)
+statement_within s = subst Grows (sym (statement-out s)) (action-grows (out-Statement s).action)
 
 -- ---- members
 

@@ -28,7 +28,7 @@ use Rattle.laws_checker.proofs.Whole.{declaring-whole, definition_is_fine, modul
 use Rattle.laws_checker.specs.Laws.{IsKnown, IsWhole}
 use Rattle.laws_statements.proofs.Naming.{name_defined}
 use Rattle.laws_statements.proofs.RightSides.{constants_fit}
-use Rattle.laws_statements.proofs.Typing.{some_of, type_known}
+use Rattle.laws_statements.proofs.Typing.{some-of, type_known}
 use Rattle.laws_statements.specs.Members.{AreMemberVariables, AreNew, DeclaresMemberVariables, DeclaresPorts, IsInitialValue, IsMember, scope_behind}
 use Rattle.check_rules.proofs.Meanings.{EachMeans, IfMeans, means-listed}
 use Rattle.check_rules.specs.Rules.{AreWellTyped}
@@ -70,12 +70,12 @@ port-before names (m ∷ members) name at is =
     (port-before (behind names (member_entries names m)) members name at is)
 
 -- the types that are visible between members are those of the module
-pub types_of_module : (definitions : List Definition) (at : ℕ) (before : List Member) (of : TypeName) (t : DataType)
+pub types-of-module : (definitions : List Definition) (at : ℕ) (before : List Member) (of : TypeName) (t : DataType)
     → resolved (scope_behind definitions at before).names of ≡ Some t → resolved (module_names definitions) of ≡ Some t
-types_of_module definitions at before type_name.Integer t is = is
-types_of_module definitions at before type_name.Boolean t is = is
-types_of_module definitions at before type_name.Default t is = is
-types_of_module definitions at before (type_name.Named name) t is = type-before (module_names definitions) before name t is
+types-of-module definitions at before type_name.Integer t is = is
+types-of-module definitions at before type_name.Boolean t is = is
+types-of-module definitions at before type_name.Default t is = is
+types-of-module definitions at before (type_name.Named name) t is = type-before (module_names definitions) before name t is
 
 port-type-is : (m : Option Meaning) (at : ℕ) → port_type_meant m ≡ Some at → m ≡ Some (meaning.PortType at)
 port-type-is (Some (meaning.PortType of)) at is = cc
@@ -114,7 +114,7 @@ variables-fit scope of vs nothing =
     let named : List Rule = check_type scope.names true of in
     let items = λ (t : Option DataType). one_by_one (check_member_variable t) (member_variable_entry t) scope vs in
     let declared = items (resolved scope.names of) in
-    let known = some_of (resolved scope.names of) (type_known scope.names true of (nothing-first named declared nothing)) in
+    let known = some-of (resolved scope.names of) (type_known scope.names true of (nothing-first named declared nothing)) in
     record {
       data_type = known.0;
       known = known.1;
@@ -130,7 +130,7 @@ module _ (definitions : List Definition) (at : ℕ) (before : List Member) where
       let of = port_type_meant (here.names port_type) in
       let items = λ (k : Option ℕ). one_by_one check_port_name (port_entry k) here ports in
       let named : List Rule = unless (is_some of) rule.UnknownName in
-      let known = some_of of (kept (is_some of) rule.UnknownName (nothing-first named (items of) nothing)) in
+      let known = some-of of (kept (is_some of) rule.UnknownName (nothing-first named (items of) nothing)) in
       record {
         of = known.0;
         meant = port-type-is (here.names port_type) known.0 known.1;
@@ -140,11 +140,11 @@ module _ (definitions : List Definition) (at : ℕ) (before : List Member) where
             (subst (λ k. items k ≡ []) known.1 (nothing-rest named (items of) nothing));
       }
 
-  pub member_fits : (m : Member) → check_member here m ≡ [] → IsMember here m
-  member_fits (member.Ports port_type ports) nothing = ports-fit port_type ports nothing
-  member_fits (member.Constants cs) nothing = constants_fit here cs nothing
-  member_fits (member.Variables of variables) nothing = variables-fit here of variables nothing
-  member_fits (member.Timers timers) nothing =
+  pub member-fits : (m : Member) → check_member here m ≡ [] → IsMember here m
+  member-fits (member.Ports port_type ports) nothing = ports-fit port_type ports nothing
+  member-fits (member.Constants cs) nothing = constants_fit here cs nothing
+  member-fits (member.Variables of variables) nothing = variables-fit here of variables nothing
+  member-fits (member.Timers timers) nothing =
       new-names check_timer_name timer_entry (λ s t fine. kept (is_none (s.names t.name)) rule.DuplicateName fine) here timers nothing
 
 -- ---- all members
@@ -190,7 +190,7 @@ module _ (definitions : List Definition) (well : AreWellTyped definitions) (at :
       nothing-first (check_member scope m) (check_members (declaring scope (member_entries scope.names m)) rest) (fine-between before (m ∷ rest) all).1
 
   pub member_is : (before : List Member) (m : Member) (rest : List Member) → before ++ m ∷ rest ≡ c.members → IsMember (scope_behind definitions at before) m
-  member_is before m rest all = member_fits definitions at before m (member_fine before m rest all)
+  member_is before m rest all = member-fits definitions at before m (member_fine before m rest all)
 
 -- one more name
 pub name_leaves_whole : (scope : Scope) → IsWhole scope → (name : List ℕ) (m : Meaning) → IsKnown scope.definitions m → IsWhole (declaring scope ((name, m) ∷ []))

@@ -23,8 +23,8 @@ own-name a = (bytes_eq-Decides a a).1 refl
 some-is : {A : Type 0} {a b : A} → Some a ≡ Some b → a ≡ b
 some-is h = cc
 
-from_zero : (P : ℕ → Type 0) (k : ℕ) → P k → P (0 + k)
-from_zero P k holds = let same : k ≡ 0 + k = omega arith in subst P same holds
+from-zero : (P : ℕ → Type 0) (k : ℕ) → P k → P (0 + k)
+from-zero P k holds = let same : k ≡ 0 + k = omega arith in subst P same holds
 
 module _ (P : List ℕ → Meaning → Type 0) where
   -- P holds of each entry
@@ -83,7 +83,7 @@ module _ (definitions : List Definition) where
   entries-fit at (kind.Port p) is = ((p, is, refl), tt)
   entries-fit at (kind.Component c) is = ((c, is, refl), tt)
   entries-fit at (kind.Constants cs) is =
-      constants-fit at 0 cs.constants (λ k c there. from_zero (λ n. constant_at definitions at n ≡ Some c) k (subst (λ d. constant_of d k ≡ Some c) (sym is) there))
+      constants-fit at 0 cs.constants (λ k c there. from-zero (λ n. constant_at definitions at n ≡ Some c) k (subst (λ d. constant_of d k ≡ Some c) (sym is) there))
   entries-fit at (kind.Template t) is = ((t, is, refl), tt)
   entries-fit at (kind.Function f) is = ((f, is, refl), tt)
   entries-fit at (kind.Altstep a) is = ((a, is, refl), tt)
@@ -103,4 +103,4 @@ module _ (definitions : List Definition) where
 
   pub name_defined : (name : List ℕ) (m : Meaning) → module_names definitions name ≡ Some m → IsDefinedAs definitions name m
   name_defined name m is =
-      listed-holds Fits (entries_from 0 definitions) (all-fit 0 definitions (λ k d there. from_zero (λ n. slice_get definitions n ≡ Some d) k there)) name m is
+      listed-holds Fits (entries_from 0 definitions) (all-fit 0 definitions (λ k d there. from-zero (λ n. slice_get definitions n ≡ Some d) k there)) name m is

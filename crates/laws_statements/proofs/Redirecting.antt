@@ -19,9 +19,9 @@ use Rattle.check_scope.specs.declared.types.Typing.TheVariants as typing
 use Rattle.check_rules.specs.Messages.{check_message, check_receive, check_received, check_selector, check_sender_redirect, check_to, check_value_redirect, incoming, incoming_at, port_meant, received_type, stores, stores_sender, type_of_message}
 use Rattle.laws_checker.proofs.Nothing.{kept, nothing-first, nothing-rest}
 use Rattle.laws_checker.specs.Laws.{IsKnown, IsWhole}
-use Rattle.laws_statements.proofs.Assigning.{reference_typed, reference_variable}
+use Rattle.laws_statements.proofs.Assigning.{reference-typed, reference-variable}
 use Rattle.laws_statements.proofs.MessageTypes.{anywhere_typed, passing_typed}
-use Rattle.laws_statements.proofs.Typing.{same_types}
+use Rattle.laws_statements.proofs.Typing.{same-types}
 use Rattle.laws_statements.specs.Messages.{HasType}
 use Rattle.laws_statements.specs.Redirects.{HasRedirects, StoresMessage, StoresSender}
 
@@ -45,7 +45,7 @@ module _ (scope : Scope) (whole : IsWhole scope) where
 
   stored : (of : DataType) (t : DataType) (found : Typing) → found ≡ typing.Known t → stores (Some of) found ≡ true → found ≡ typing.Known of
   stored of t found is stores_it =
-      let same : of ≡ t = same_types of t (subst (λ f. stores (Some of) f ≡ true) is stores_it) in
+      let same : of ≡ t = same-types of t (subst (λ f. stores (Some of) f ≡ true) is stores_it) in
       subst (λ u. found ≡ typing.Known u) (sym same) is
 
   value-stored : (receive : Receive) (reference : Reference) (given : Option MessageTemplate) → receive.message ≡ given → check_selector scope receive.port ≡ []
@@ -61,14 +61,14 @@ module _ (scope : Scope) (whole : IsWhole scope) where
       let found : Typing = (type_of_message scope (incoming scope receive.port).0 (incoming scope receive.port).1 message).typing in
       let may : List Rule = unless (stores (type_known found) target.typing) rule.Redirect in
       let fine : target.broken ≡ [] = nothing-first target.broken [] (nothing-first (target.broken ++ []) may nothing) in
-      let typed = reference_typed scope whole reference fine in
+      let typed = reference-typed scope whole reference fine in
       let goes : stores (type_known found) target.typing ≡ true = kept (stores (type_known found) target.typing) rule.Redirect (nothing-rest (target.broken ++ []) may nothing) in
       record {
         message = message;
         stands = is;
         data_type = has.data_type;
         is = has.is;
-        variable = reference_variable scope whole reference has.data_type
+        variable = reference-variable scope whole reference has.data_type
             (stored has.data_type typed.0 target.typing typed.1 (subst (λ f. stores (type_known f) target.typing ≡ true) has.is goes)) fine;
       }
 
@@ -81,12 +81,12 @@ module _ (scope : Scope) (whole : IsWhole scope) where
       let target = check_target scope reference in
       let may : List Rule = unless (stores_sender target.typing) rule.Redirect in
       let fine : target.broken ≡ [] = nothing-first target.broken may nothing in
-      let typed = reference_typed scope whole reference fine in
+      let typed = reference-typed scope whole reference fine in
       let goes : stores_sender target.typing ≡ true = kept (stores_sender target.typing) rule.Redirect (nothing-rest target.broken may nothing) in
       let component = of-component typed.0 (subst (λ f. stores_sender f ≡ true) typed.1 goes) in
       record {
         at = component.0;
-        variable = reference_variable scope whole reference (type.Component component.0) (subst (λ t. target.typing ≡ typing.Known t) component.1 typed.1) fine;
+        variable = reference-variable scope whole reference (type.Component component.0) (subst (λ t. target.typing ≡ typing.Known t) component.1 typed.1) fine;
       }
 
   -- ---- redirects

@@ -10,7 +10,7 @@ use Rattle.check_scope.specs.Typings.{refers_to_component, unless}
 use Rattle.check_scope.specs.declared.rule.Rule.{Rule}
 use Rattle.check_scope.specs.declared.rule.Rule.TheVariants as rule
 use Rattle.check_rules.specs.Statements.{check_start, check_started, is_function, runs_there, says_component}
-use Rattle.laws_checker.proofs.Fitting.{arguments_fit}
+use Rattle.laws_checker.proofs.Fitting.{arguments-fit}
 use Rattle.laws_checker.proofs.Nothing.{kept, nothing-first, nothing-rest}
 use Rattle.laws_statements.specs.Resolved.{Activates, Starts}
 
@@ -26,7 +26,7 @@ module _ (scope : Scope) (call : Call) where
       record {
         at = at;
         meant = is;
-        arguments = arguments_fit scope (parameters_of k) call.arguments (nothing-first given on front);
+        arguments = arguments-fit scope (parameters_of k) call.arguments (nothing-first given on front);
         runs = kept (runs_here (component_named scope.definitions (runs_on_of k)) scope.itself) rule.RunsOn (nothing-rest given on front);
         kind = kept (is_altstep k) rule.CallKind (nothing-rest (given ++ on) called nothing);
       }
@@ -52,14 +52,14 @@ module _ (scope : Scope) (call : Call) where
           component = component;
           at = at;
           meant = is;
-          arguments = arguments_fit scope (parameters_of k) call.arguments (nothing-first given says two);
+          arguments = arguments-fit scope (parameters_of k) call.arguments (nothing-first given says two);
           says = kept (says_component k) rule.RunsOn (nothing-rest given says two);
           runs = kept (runs_there started.typing (component_named scope.definitions (runs_on_of k))) rule.RunsOn (nothing-rest (given ++ says) there three);
           function = kept (is_function k) rule.CallKind (nothing-rest (given ++ says ++ there) called nothing);
         }
 
-    start_resolves : check_start scope reference call ≡ [] → Starts scope reference call
-    start_resolves nothing =
+    start-resolves : check_start scope reference call ≡ [] → Starts scope reference call
+    start-resolves nothing =
         let started : Judgement = check_component scope reference false in
         let component : List Rule = unless (refers_to_component started.typing) rule.UnknownName in
         let function : List Rule = check_started scope started.typing call (behaviour_meant (scope.names call.name)) in
@@ -69,4 +69,4 @@ module _ (scope : Scope) (call : Call) where
         (nothing-rest (started.broken ++ component) function nothing)
 
 pub started : (scope : Scope) (reference : ComponentRef) (call : Call) → check_start scope reference call ≡ [] → Starts scope reference call
-started scope reference call nothing = start_resolves scope call reference nothing
+started scope reference call nothing = start-resolves scope call reference nothing

@@ -18,7 +18,7 @@ use Rattle.check_rules.specs.Definitions.{check_component_name, check_parameters
 use Rattle.check_rules.specs.Statements.{Check, Place, check_return, statements}
 use Rattle.laws_checker.proofs.Nothing.{nothing-first, nothing-rest}
 use Rattle.laws_checker.proofs.Whole.{definition_is_fine}
-use Rattle.laws_statements.proofs.Typing.{some_of, type_known}
+use Rattle.laws_statements.proofs.Typing.{some-of, type_known}
 use Rattle.laws_statements.specs.Results.{IsFineWithoutReturns, IsResultKnown, IsReturn, KnowsResults, branches, scope_in}
 use Rattle.check_rules.specs.Rules.{AreWellTyped}
 
@@ -59,7 +59,7 @@ return-fits scope None known None nothing = refl
 return-fits scope None known (Some v) nothing = absurd (let e = nothing in cc)
 return-fits scope (Some name) known None nothing = absurd (let e = nothing in cc)
 return-fits scope (Some name) known (Some v) nothing =
-    let of = some_of (resolved (module_names scope.definitions) name) known in
+    let of = some-of (resolved (module_names scope.definitions) name) known in
     record { data_type = of.0; known = of.1; returned = v; stands = refl; goes = subst (λ t. value v scope (target_of t) ≡ []) of.1 nothing }
 
 pub return_fits : (scope : Scope) → KnowsResults scope.definitions → (at : ℕ) (f : Function) → kind_at scope.definitions at ≡ Some (kind.Function f) → (given : Option Value)

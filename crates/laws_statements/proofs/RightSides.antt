@@ -26,22 +26,22 @@ use Rattle.check_scope.specs.declared.types.Typing.TheVariants as typing
 use Rattle.laws_checker.proofs.Fitting.{call_resolves}
 use Rattle.laws_checker.proofs.Nothing.{kept, nothing-first, nothing-rest}
 use Rattle.laws_checker.specs.Laws.{IsWhole, Resolves}
-use Rattle.laws_statements.proofs.Assigning.{reference_typed, reference_variable}
+use Rattle.laws_statements.proofs.Assigning.{reference-typed, reference-variable}
 use Rattle.laws_statements.proofs.Resolving.{activation_resolves}
-use Rattle.laws_statements.proofs.Typing.{goes_typed, same_types, some_of}
+use Rattle.laws_statements.proofs.Typing.{goes-typed, same-types, some-of}
 use Rattle.laws_statements.proofs.Typing as known
 use Rattle.laws_statements.specs.Results.{IsResultKnown, KnowsResults}
 use Rattle.laws_statements.specs.Targets.{AreConstants, AreVariables, Creates, DeclaresConstants, DeclaresVariables, GivesResult, IsAssignment, IsInitial, IsRightSide}
 
 has-result : (k : Option DefinitionKind) → gives_value k ≡ true → (name : TypeName) × (result_type_of k ≡ Some name)
-has-result (Some (kind.Function f)) is = some_of f.returns is
+has-result (Some (kind.Function f)) is = some-of f.returns is
 has-result _ is = absurd (let e = is in cc)
 
 module _ (scope : Scope) (knows : KnowsResults scope.definitions) where
   created : (t : DataType) (name : List ℕ) (meant : Option ℕ) → component_meant (scope.names name) ≡ meant → check_created (Some t) meant ≡ [] → Creates scope t name
   created t name None is nothing = absurd (let e = nothing in cc)
   created t name (Some at) is nothing =
-      record { at = at; meant = is; is = same_types t (type.Component at) (kept (same_type t (type.Component at)) rule.ValueType nothing) }
+      record { at = at; meant = is; is = same-types t (type.Component at) (kept (same_type t (type.Component at)) rule.ValueType nothing) }
 
   called : (t : DataType) (call : Call) → Resolves scope gives_value call → fits (Some t) (call_typing scope (behaviour_meant (scope.names call.name))) ≡ true → GivesResult scope t call
   called t call resolves fit =
@@ -52,7 +52,7 @@ module _ (scope : Scope) (knows : KnowsResults scope.definitions) where
         resolves = resolves;
         of = named.0;
         result = named.1;
-        is = goes_typed t (resolved (module_names scope.definitions) named.0) (subst (IsResultKnown scope.definitions) named.1 (knows resolves.at))
+        is = goes-typed t (resolved (module_names scope.definitions) named.0) (subst (IsResultKnown scope.definitions) named.1 (knows resolves.at))
             (subst (λ o. goes_to t (result_typing scope o) ≡ true) named.1 goes);
       }
 
@@ -68,7 +68,7 @@ module _ (scope : Scope) (knows : KnowsResults scope.definitions) where
       let activating : List Rule = check_activation scope call in
       let fit : Bool = fits (Some t) (typing.Known type.Default) in (
         activation_resolves scope call (nothing-first activating (unless fit rule.ValueType) nothing),
-        same_types t type.Default (kept fit rule.ValueType (nothing-rest activating (unless fit rule.ValueType) nothing)),
+        same-types t type.Default (kept fit rule.ValueType (nothing-rest activating (unless fit rule.ValueType) nothing)),
       )
 
   initial-fits : (t : DataType) (right : Option Rhs) → check_initial scope (target_of (Some t)) right ≡ [] → IsInitial scope t right
@@ -80,11 +80,11 @@ module _ (scope : Scope) (knows : KnowsResults scope.definitions) where
       let target = check_target scope assignment.target in
       let right = check_rhs scope (target_at scope assignment.target) assignment.value in
       let fine : target.broken ≡ [] = nothing-first target.broken right nothing in
-      let is = reference_typed scope whole assignment.target fine in
+      let is = reference-typed scope whole assignment.target fine in
       let optional : Bool = (target_at scope assignment.target).optional in
       record {
         data_type = is.0;
-        target = reference_variable scope whole assignment.target is.0 is.1 fine;
+        target = reference-variable scope whole assignment.target is.0 is.1 fine;
         right = right_fits is.0 optional assignment.value
             (subst (λ (t : Typing). check_rhs scope (record { data_type = type_known t; optional = optional }) assignment.value ≡ []) is.1 (nothing-rest target.broken right nothing));
       }
@@ -109,7 +109,7 @@ variables_fit scope knows vs nothing =
     let named : List Rule = check_type scope.names true vs.type_name in
     let items = λ (of : Option DataType). one_by_one (check_variable of) (variable_entry of) scope vs.variables in
     let declared = items (resolved scope.names vs.type_name) in
-    let of = some_of (resolved scope.names vs.type_name) (known.type_known scope.names true vs.type_name (nothing-first named declared nothing)) in
+    let of = some-of (resolved scope.names vs.type_name) (known.type_known scope.names true vs.type_name (nothing-first named declared nothing)) in
     record {
       data_type = of.0;
       known = of.1;
@@ -134,7 +134,7 @@ constants_fit scope cs nothing =
     let named : List Rule = check_type scope.names false cs.type_name in
     let items = λ (of : Option DataType). one_by_one (check_constant of) (constant_entry of) scope cs.constants in
     let declared = items (resolved scope.names cs.type_name) in
-    let of = some_of (resolved scope.names cs.type_name) (known.type_known scope.names false cs.type_name (nothing-first named declared nothing)) in
+    let of = some-of (resolved scope.names cs.type_name) (known.type_known scope.names false cs.type_name (nothing-first named declared nothing)) in
     record {
       data_type = of.0;
       known = of.1;

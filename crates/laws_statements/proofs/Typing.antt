@@ -11,9 +11,9 @@ use Rattle.check_scope.specs.declared.types.DataType.TheVariants as type
 use Rattle.laws_checker.proofs.Fitting.{same-number}
 use Rattle.laws_checker.proofs.Nothing.{kept}
 
-pub some_of : {A : Type 0} (o : Option A) → is_some o ≡ true → (a : A) × (o ≡ Some a)
-some_of (Some a) there = (a, refl)
-some_of None there = absurd (let e = there in cc)
+pub some-of : {A : Type 0} (o : Option A) → is_some o ≡ true → (a : A) × (o ≡ Some a)
+some-of (Some a) there = (a, refl)
+some-of None there = absurd (let e = there in cc)
 
 pub type_known : (names : Names) (with_default : Bool) (t : TypeName) → check_type names with_default t ≡ [] → is_some (resolved names t) ≡ true
 type_known names with_default type_name.Integer nothing = refl
@@ -21,16 +21,16 @@ type_known names with_default type_name.Boolean nothing = refl
 type_known names with_default type_name.Default nothing = refl
 type_known names with_default (type_name.Named name) nothing = kept (is_some (type_meant (names name))) rule.UnknownName nothing
 
-pub same_types : (t u : DataType) → same_type t u ≡ true → t ≡ u
-same_types type.Integer type.Integer is = refl
-same_types type.Boolean type.Boolean is = refl
-same_types type.Default type.Default is = refl
-same_types (type.Record at) (type.Record other) is = ap type.Record (same-number at other is)
-same_types (type.Enumerated at) (type.Enumerated other) is = ap type.Enumerated (same-number at other is)
-same_types (type.Component at) (type.Component other) is = ap type.Component (same-number at other is)
-same_types _ _ is = absurd (let e = is in cc)
+pub same-types : (t u : DataType) → same_type t u ≡ true → t ≡ u
+same-types type.Integer type.Integer is = refl
+same-types type.Boolean type.Boolean is = refl
+same-types type.Default type.Default is = refl
+same-types (type.Record at) (type.Record other) is = ap type.Record (same-number at other is)
+same-types (type.Enumerated at) (type.Enumerated other) is = ap type.Enumerated (same-number at other is)
+same-types (type.Component at) (type.Component other) is = ap type.Component (same-number at other is)
+same-types _ _ is = absurd (let e = is in cc)
 
 -- what goes to a type and is of a known one is of this type
-pub goes_typed : (t : DataType) (of : Option DataType) → is_some of ≡ true → goes_to t (typed of) ≡ true → of ≡ Some t
-goes_typed t (Some u) known goes = ap Some (sym (same_types t u goes))
-goes_typed t None known goes = absurd (let e = known in cc)
+pub goes-typed : (t : DataType) (of : Option DataType) → is_some of ≡ true → goes_to t (typed of) ≡ true → of ≡ Some t
+goes-typed t (Some u) known goes = ap Some (sym (same-types t u goes))
+goes-typed t None known goes = absurd (let e = known in cc)

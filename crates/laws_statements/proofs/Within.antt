@@ -81,11 +81,11 @@ condition_stays e scope g within nothing = subst (λ s. check_condition s e ≡ 
 pub guard_stays : (guard : Option Expr) → StaysFine (λ s. check_guard s guard)
 guard_stays guard scope g within nothing = subst (λ s. check_guard s guard ≡ []) (other-names scope g within) (guard-fine scope g.names within.names guard nothing)
 
-pub setverdict_stays : (v : Verdict) (reasons : List LogItem) → StaysFine (λ s. check_setverdict s v reasons)
-setverdict_stays v reasons scope g within nothing = subst (λ s. check_setverdict s v reasons ≡ []) (other-names scope g within) (setverdict-fine scope g.names within.names v reasons nothing)
+pub setverdict-stays : (v : Verdict) (reasons : List LogItem) → StaysFine (λ s. check_setverdict s v reasons)
+setverdict-stays v reasons scope g within nothing = subst (λ s. check_setverdict s v reasons ≡ []) (other-names scope g within) (setverdict-fine scope g.names within.names v reasons nothing)
 
-pub log_stays : (items : List LogItem) → StaysFine (λ s. check_log s items)
-log_stays items scope g within nothing = subst (λ s. check_log s items ≡ []) (other-names scope g within) (log-fine scope g.names within.names items nothing)
+pub log-stays : (items : List LogItem) → StaysFine (λ s. check_log s items)
+log-stays items scope g within nothing = subst (λ s. check_log s items ≡ []) (other-names scope g within) (log-fine scope g.names within.names items nothing)
 
 pub return_stays : (definitions : List Definition) (of : Option TypeName) (place : Place) → place.returns ≡ returns_of definitions of → ReturnsStayFine place
 return_stays definitions of place is given scope g within nothing =

@@ -25,11 +25,11 @@ use Rattle.check_scope.specs.declared.rule.Rule.TheVariants as rule
 use Rattle.check_rules.specs.Messages.{check_event, check_send, check_timer}
 use Rattle.check_rules.specs.Statements.{Check, Place, StatementRules, action, action_step, alternative, alternative_step, behind_for_start, branch, branch_step, check_block, check_condition, check_deactivate, check_ends, check_for_start, check_guard, check_log, check_mapping, check_return, check_setverdict, check_start, check_stop, conditional, conditional_step, inside_branch, leaf_rules, statement, statement_step, statements, with_scope}
 use Rattle.laws_checker.proofs.Nothing.{nothing-first, nothing-rest}
-use Rattle.laws_statements.proofs.Within.{activation_stays, assignment_stays, call_stays, condition_stays, deactivate_stays, ends_stays, event_stays, guard_stays, log_stays, mapping_stays, send_stays, setverdict_stays, start_stays, stop_stays, timer_stays}
+use Rattle.laws_statements.proofs.Within.{activation_stays, assignment_stays, call_stays, condition_stays, deactivate_stays, ends_stays, event_stays, guard_stays, log-stays, mapping_stays, send_stays, setverdict-stays, start_stays, stop_stays, timer_stays}
 use Rattle.laws_statements.proofs.WithinExpressions.{none-append, part-by-part}
 use Rattle.laws_statements.proofs.WithinStatements.{Stays, StaysInside, behind-further, behind-within, block-fine, constants-fine, constants-further, constants-within, each-fine, further-first, further-rest, leaf-stays, plain, timers-fine, variables-fine, variables-further, variables-within}
 use Rattle.laws_statements.specs.Declares as declares
-use Rattle.laws_statements.specs.Declares.{Declared, NoneIsFurther, names_if_any, names_of_all, names_of_branch, names_of_constants, names_of_start, names_of_statement, names_of_statements, names_of_timers, names_of_variables}
+use Rattle.laws_statements.specs.Declares.{Declared, NoneIsFurther, names_of_all, names_of_branch, names_of_constants, names_of_start, names_of_statement, names_of_statements, names_of_timers, names_of_variables}
 use Rattle.laws_statements.specs.Within.{IsWithin, StaysFine}
 
 abbrev names_of_action : Action → Declared
@@ -61,10 +61,10 @@ HeldStatement = (s : Statement) × Stays (statement s) (names_of_statement s)
 abbrev said_of : List HeldStatement → List StatementRules
 said_of block = map statement (map (λ (s : HeldStatement). s.0) block)
 
-abbrev declared_in : List HeldStatement → Declared
-declared_in block = names_of_all (map names_of_statement (map (λ (s : HeldStatement). s.0) block))
+abbrev declared-in : List HeldStatement → Declared
+declared-in block = names_of_all (map names_of_statement (map (λ (s : HeldStatement). s.0) block))
 
-held-block : (block : List HeldStatement) → StaysInside (check_block (said_of block)) (declared_in block)
+held-block : (block : List HeldStatement) → StaysInside (check_block (said_of block)) (declared-in block)
 held-block block = block-fine statement names_of_statement block
 
 start-fine : (s g : Scope) → IsWithin s g → (start : ForStart) → NoneIsFurther s g (names_of_start start) → check_for_start s start ≡ [] → check_for_start g start ≡ []
@@ -81,7 +81,7 @@ start-further s g within (for_start.Variables vs) nothing others none = variable
 start-further s g within (for_start.Assign assignment) nothing others none = none
 
 -- a condition with a block behind it
-guarded-block : (condition : Expr) (block : List HeldStatement) → StaysInside (λ place. check_condition place.scope condition ++ check_block (said_of block) place) (declared_in block)
+guarded-block : (condition : Expr) (block : List HeldStatement) → StaysInside (λ place. check_condition place.scope condition ++ check_block (said_of block) place) (declared-in block)
 guarded-block condition block place g may within none nothing =
     part-by-part (check_condition place.scope condition) (check_block (said_of block) place) (check_condition g condition) (check_block (said_of block) (with_scope place g))
     (condition_stays condition place.scope g within) (held-block block place g may within none) nothing
@@ -119,21 +119,21 @@ action-held (Action-F.If conditionals None) =
 action-held (Action-F.If conditionals (Some last)) =
     let all = λ (place : Place). flat_map (λ (part : Check). part place) (map conditional (map (λ (c : HeldConditional). c.0) conditionals)) in
     let names : Declared = names_of_all (map names_of_conditional (map (λ (c : HeldConditional). c.0) conditionals)) in
-    plain (λ place. all place ++ check_block (said_of last) place) (names ++ declared_in last) (λ place g may within none nothing.
+    plain (λ place. all place ++ check_block (said_of last) place) (names ++ declared-in last) (λ place g may within none nothing.
     part-by-part (all place) (check_block (said_of last) place) (all (with_scope place g)) (check_block (said_of last) (with_scope place g))
-    (each-fine conditional names_of_conditional conditionals place g may within (further-first place.scope g names (declared_in last) none))
-    (held-block last place g may within (further-rest place.scope g names (declared_in last) none)) nothing)
+    (each-fine conditional names_of_conditional conditionals place g may within (further-first place.scope g names (declared-in last) none))
+    (held-block last place g may within (further-rest place.scope g names (declared-in last) none)) nothing)
 action-held (Action-F.While condition block) =
-    plain (λ place. check_condition place.scope condition ++ check_block (said_of block) place) (declared_in block) (guarded-block condition block)
+    plain (λ place. check_condition place.scope condition ++ check_block (said_of block) place) (declared-in block) (guarded-block condition block)
 action-held (Action-F.DoWhile block condition) =
-    plain (λ place. check_block (said_of block) place ++ check_condition place.scope condition) (declared_in block) (λ place g may within none nothing.
+    plain (λ place. check_block (said_of block) place ++ check_condition place.scope condition) (declared-in block) (λ place g may within none nothing.
     part-by-part (check_block (said_of block) place) (check_condition place.scope condition) (check_block (said_of block) (with_scope place g)) (check_condition g condition)
     (held-block block place g may within none) (condition_stays condition place.scope g within) nothing)
 action-held (Action-F.For start condition step block) =
     let behind = λ (s : Scope). behind_for_start s start in
     let head = λ (s : Scope). check_for_start s start ++ check_condition (behind s) condition ++ check_assignment (behind s) step in
     let inside = λ (place : Place). check_block (said_of block) (with_scope place (behind place.scope)) in
-    plain (λ place. head place.scope ++ inside place) (names_of_start start ++ declared_in block) (λ place g may within none nothing.
+    plain (λ place. head place.scope ++ inside place) (names_of_start start ++ declared-in block) (λ place g may within none nothing.
     let h : Scope = place.scope in
     let front : head h ≡ [] = nothing-first (head h) (inside place) nothing in
     let begins : check_for_start h start ≡ [] =
@@ -144,18 +144,18 @@ action-held (Action-F.For start condition step block) =
     (λ fine. part-by-part (check_for_start h start ++ check_condition (behind h) condition) (check_assignment (behind h) step)
     (check_for_start g start ++ check_condition (behind g) condition) (check_assignment (behind g) step)
     (λ fine. part-by-part (check_for_start h start) (check_condition (behind h) condition) (check_for_start g start) (check_condition (behind g) condition)
-    (start-fine h g within start (further-first h g (names_of_start start) (declared_in block) none)) (condition_stays condition (behind h) (behind g) next) fine)
+    (start-fine h g within start (further-first h g (names_of_start start) (declared-in block) none)) (condition_stays condition (behind h) (behind g) next) fine)
     (assignment_stays step (behind h) (behind g) next) fine)
     (held-block block (with_scope place (behind h)) (behind g) may next
-    (start-further h g within start begins (declared_in block) (further-rest h g (names_of_start start) (declared_in block) none))) nothing)
+    (start-further h g within start begins (declared-in block) (further-rest h g (names_of_start start) (declared-in block) none))) nothing)
 action-held Action-F.Repeat = plain (leaf_rules {A = Action} {B = Alternative} {C = Branch} {D = Conditional} {E = Statement} Action-F.Repeat) [] (λ place g may within none nothing. nothing)
 action-held (Action-F.Return given) = plain (λ place. check_return place.scope place.returns given) [] (λ place g may within none nothing. may given place.scope g within nothing)
 action-held Action-F.Stop = plain (λ place. []) [] (λ place g may within none nothing. nothing)
 action-held (Action-F.Assign assignment) = leaf-stays (λ s. check_assignment s assignment) (assignment_stays assignment)
 action-held (Action-F.«Action::Call» call) = leaf-stays (λ s. check_call s stands_alone call) (call_stays stands_alone call)
 action-held (Action-F.«Action::Event» event) = leaf-stays (λ s. check_event s event) (event_stays event)
-action-held (Action-F.Log items) = leaf-stays (λ s. check_log s items) (log_stays items)
-action-held (Action-F.Setverdict verdict reasons) = leaf-stays (λ s. check_setverdict s verdict reasons) (setverdict_stays verdict reasons)
+action-held (Action-F.Log items) = leaf-stays (λ s. check_log s items) (log-stays items)
+action-held (Action-F.Setverdict verdict reasons) = leaf-stays (λ s. check_setverdict s verdict reasons) (setverdict-stays verdict reasons)
 action-held (Action-F.Connect one other) = leaf-stays (λ s. check_ends s one.component other.component) (ends_stays one.component other.component)
 action-held (Action-F.Map mapping) = leaf-stays (λ s. check_mapping s mapping) (mapping_stays mapping)
 action-held (Action-F.Send send) = leaf-stays (λ s. check_send s send) (send_stays send)
@@ -256,9 +256,9 @@ pub statement_stays_within : (s : Statement) (place : Place) (g : Scope) → IsW
     → IsWithin ((statement s).scope_behind place.scope) ((statement s).scope_behind g)
 statement_stays_within s = (statement-stays s).behind
 
-pub statement_stays_further : (s : Statement) (place : Place) (g : Scope) → IsWithin place.scope g → (statement s).broken place ≡ [] → (others : Declared) → NoneIsFurther place.scope g others
+pub statement-stays-further : (s : Statement) (place : Place) (g : Scope) → IsWithin place.scope g → (statement s).broken place ≡ [] → (others : Declared) → NoneIsFurther place.scope g others
     → NoneIsFurther ((statement s).scope_behind place.scope) ((statement s).scope_behind g) others
-statement_stays_further s = (statement-stays s).further
+statement-stays-further s = (statement-stays s).further
 
 pub statements_stay : (body : List Statement) → StaysInside (statements body) (names_of_statements body)
 statements_stay [] place g may within none nothing = refl
@@ -270,7 +270,7 @@ statements_stay (s ∷ others) place g may within none nothing =
     none-append (it.broken (with_scope place g)) (statements others (with_scope place (it.scope_behind g)))
     (statement_stays_fine s place g may within (further-first h g (names_of_statement s) rest none) first)
     (statements_stay others (with_scope place (it.scope_behind h)) (it.scope_behind g) may (statement_stays_within s place g within first)
-    (statement_stays_further s place g within first rest (further-rest h g (names_of_statement s) rest none))
+    (statement-stays-further s place g within first rest (further-rest h g (names_of_statement s) rest none))
     (nothing-rest (it.broken place) (statements others (with_scope place (it.scope_behind h))) nothing))
 
 -- ---- declarations alone

@@ -28,7 +28,7 @@ use Rattle.check_rules.specs.Statements.{branch}
 use Rattle.laws_checker.proofs.Fitting.{call_resolves}
 use Rattle.laws_checker.specs.Laws.{AreArguments, Resolves}
 use Rattle.laws_evaluation.proofs.ModuleReadings.{parameters_known}
-use Rattle.laws_evaluation.proofs.Only.{only_of}
+use Rattle.laws_evaluation.proofs.Only.{only-of}
 use Rattle.laws_evaluation.proofs.Parameters.{all_parameters_known}
 use Rattle.laws_evaluation.proofs.Steps.{alone}
 use Rattle.laws_evaluation.proofs.TypedChains.{fields_differ}
@@ -277,7 +277,7 @@ module _ (test : Test) (well : AreWellTyped test.definitions) (snapshot : Snapsh
         let ps = parameters_of (kind_at ds callee) in
         let whole = judge-whole test well snapshot own members judge is in
         let fit = judge-fit test well snapshot own members judge is in
-        only_of (AreGiven ds ps) (arguments reading ps call.arguments)
+        only-of (AreGiven ds ps) (arguments reading ps call.arguments)
         (arguments_met scope reading whole (fields_differ ds well) (parameters_known ds well) fit (judge-has test well snapshot own members judge is) ps call.arguments (all_parameters_known ds well callee) given)
         (arguments_typed scope reading whole (fields_differ ds well) fit ps call.arguments given)
 

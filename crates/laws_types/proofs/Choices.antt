@@ -15,7 +15,7 @@ use Rattle.check_scope.specs.Scopes.{outer_names}
 use Rattle.check_scope.specs.declared.names.Meaning.{Meaning}
 use Rattle.check_scope.specs.declared.names.Meaning.TheVariants as meaning
 use Rattle.check_rules.specs.Messages.{port_meant}
-use Rattle.laws_evaluation.proofs.Only.{only_always, only_then}
+use Rattle.laws_evaluation.proofs.Only.{only-always, only-then}
 use Rattle.laws_evaluation.specs.Uses.{GivesOnly}
 use Rattle.laws_sites.specs.Standing.{IsFineSite}
 use Rattle.laws_statements.proofs.Naming.{name_defined}
@@ -223,8 +223,8 @@ module _ (stand : Stand) (well : AreWellTyped stand.test.definitions) (site : Si
     all-stored [] own all entered = entered
     all-stored (redirect ∷ redirects) own all entered =
         let first : FitsRedirect stand.test judge.site redirect = All-head (FitsRedirect stand.test judge.site) redirect redirects all in
-        only_then (Entered judge) (Entered judge) (store_all stand.test judge.site redirects) (store stand.test (target_meant stand.test judge.site redirect.reference) redirect.value own)
-        (only_always (Entered judge) (store stand.test (target_meant stand.test judge.site redirect.reference) redirect.value own)
+        only-then (Entered judge) (Entered judge) (store_all stand.test judge.site redirects) (store stand.test (target_meant stand.test judge.site redirect.reference) redirect.value own)
+        (only-always (Entered judge) (store stand.test (target_meant stand.test judge.site redirect.reference) redirect.value own)
         (stored-of stand.test well ct judge.site fits.on fits.names (target_meant stand.test judge.site redirect.reference) first.0 first.1 (Nest ds judge.site.behaviour judge.site.declared) own redirect.value first.2 entered))
         (λ next also. all-stored redirects next (All-tail (FitsRedirect stand.test judge.site) redirect redirects all) also)
 
@@ -257,6 +257,6 @@ module _ (stand : Stand) (well : AreWellTyped stand.test.definitions) (site : Si
   choice-asks s (Refused Unmet) fits = fits
   choice-asks s (Taken chance effect) fits =
       acting-fits stand.test ct stand.snapshot.itself.path (IsMeant stand.test stand.snapshot stand.own stand.frame) (FitsData ds ct) (act_port (port_taken effect)) (outcome_and_then (λ own. with_frames own.calls own) (taken stand.test site s stand.rest chance effect stand.own))
-      (only_then (Entered chance.judge) (FitsData ds ct) (λ own. with_frames own.calls own) (taken stand.test site s stand.rest chance effect stand.own) (taken-fits s chance effect fits.0 fits.1)
+      (only-then (Entered chance.judge) (FitsData ds ct) (λ own. with_frames own.calls own) (taken stand.test site s stand.rest chance effect stand.own) (taken-fits s chance effect fits.0 fits.1)
       (λ own entered. frames-fit stand well site is own.calls own (entered-fits chance.judge own entered)))
       (λ own fits. port-asks (port_taken effect) own fits)

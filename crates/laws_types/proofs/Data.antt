@@ -15,7 +15,7 @@ use Rattle.check_scope.specs.declared.types.Target.{Target as Wanted}
 use Rattle.check_scope.specs.declared.types.Typing.TheVariants as typing
 use Rattle.laws_checker.specs.Laws.{IsWhole}
 use Rattle.laws_evaluation.proofs.Assigned.{variable_assigned}
-use Rattle.laws_evaluation.proofs.TypedValues.{weaker_goes}
+use Rattle.laws_evaluation.proofs.TypedValues.{weaker-goes}
 use Rattle.laws_evaluation.specs.Types.{is_of, names_timer, value_goes}
 use Rattle.laws_evaluation.specs.Uses.{GivesAlways, HoldsAssigned}
 use Rattle.laws_sites.proofs.Firsts.{outside_same}
@@ -35,7 +35,7 @@ use Rattle.value_types.specs.declared.frame.TimerState.{TimerState}
 use Rattle.value_types.specs.declared.value.Value.{Value}
 use Rattle.laws_types.proofs.Declared.{by-name, declared-fine, outside-declared, seen-outside, seen-set, seen-stored}
 use Rattle.laws_steps.proofs.Entries.{put-other, put-own}
-use Rattle.laws_types.proofs.Readings.{seen_whole}
+use Rattle.laws_types.proofs.Readings.{seen-whole}
 use Rattle.laws_types.specs.Fitting.{FitsMembers, FitsNames, IsMemberValue, IsValueOf, RunsOn, or_timer, scope_seen, view_of}
 use Rattle.laws_repeat.specs.Following.{IsOutside}
 use Rattle.laws_types.specs.Typed.{AreDeclared, FitBelow, FitCalls, FitsData, FitsDefault, FitsFrame, HasFrames, IsTarget, Nest, result_of}
@@ -217,7 +217,7 @@ module _ (test : Test) (well : AreWellTyped test.definitions) (component_type : 
       (sym (clean-variable reference.name of is)) (ap (λ u. record { data_type = type_known u; optional = last_optional ds (typing.Known of) false reference.fields }) typed)
 
   clean-whole : IsWhole clean
-  clean-whole = seen_whole ds site (record { values = []; timers = [] }) fine.whole
+  clean-whole = seen-whole ds site (record { values = []; timers = [] }) fine.whole
 
   pub stored : (target : Target) (t : DataType) (is : IsTarget ds site target t) (R : List Item → Type 0) (own : Data) (v : Value) → value_goes v ds (wanted-at is.of t target.reference.fields) ≡ true → At R own
       → GivesAlways (store test target v own) (At R)
@@ -236,7 +236,7 @@ module _ (test : Test) (well : AreWellTyped test.definitions) (component_type : 
   -- a value of the type goes there
   pub stored-of : (target : Target) (t : DataType) → IsTarget ds site target t → (R : List Item → Type 0) (own : Data) (v : Value) → is_of ds t v ≡ true → At R own → GivesAlways (store test target v own) (At R)
   stored-of target t is R own v goes fits =
-      stored target t is R own v (weaker_goes ds v (Some t) (last_optional ds (typing.Known is.of) false target.reference.fields) goes) fits
+      stored target t is R own v (weaker-goes ds v (Some t) (last_optional ds (typing.Known is.of) false target.reference.fields) goes) fits
 
   -- ---- timers
 

@@ -28,11 +28,11 @@ use Rattle.laws_checker.proofs.Fitting.{same-number}
 use Rattle.laws_checker.proofs.Nothing.{kept, nothing-first, nothing-rest}
 use Rattle.laws_checker.specs.Laws.{IsKnown, IsWhole}
 use Rattle.laws_evaluation.proofs.ModuleReadings.{parameters_known}
-use Rattle.laws_evaluation.proofs.Only.{only_then}
+use Rattle.laws_evaluation.proofs.Only.{only-then}
 use Rattle.laws_evaluation.proofs.TypedChains.{fields_differ}
 use Rattle.laws_evaluation.proofs.TypedLiterals.{same-type}
 use Rattle.laws_evaluation.proofs.TypedTemplates.{templates_met}
-use Rattle.laws_evaluation.proofs.TypedValues.{component_goes, goes_out, level_goes}
+use Rattle.laws_evaluation.proofs.TypedValues.{component-value-goes, goes-out, level_goes}
 use Rattle.laws_evaluation.proofs.Using.{wanted_found, wanted_given}
 use Rattle.laws_evaluation.specs.Types.{FitsIn, HasAll, IsOfTyping, is_of, names_timer}
 use Rattle.laws_evaluation.specs.Uses.{GivesOnly, IsReference}
@@ -64,7 +64,7 @@ use Rattle.value_types.specs.declared.value.Value.TheOpen.{Value-F}
 use Rattle.value_types.specs.declared.value.Value.TheVariants as value
 use Rattle.laws_types.proofs.Declared.{declared-fine, declared-locals}
 use Rattle.laws_types.proofs.Forms.{is-timer}
-use Rattle.laws_types.proofs.Readings.{seen_whole, seen_within, site_fits, site_has}
+use Rattle.laws_types.proofs.Readings.{seen-whole, seen-within, site-fits, site-has}
 use Rattle.laws_types.proofs.Stands.{only-mapped}
 use Rattle.laws_types.proofs.Visible.{site-definitions}
 use Rattle.laws_types.specs.Fitting.{DeclaresLocals, FitsMembers, FitsSite, RunsOn, or_timer, scope_seen}
@@ -146,16 +146,16 @@ module _ (test : Test) (well : AreWellTyped test.definitions) (snapshot : Snapsh
   judge-locals = declared-locals ds well site.behaviour site.declared is.names
 
   pub judge-fit : FitsIn judged-in read
-  judge-fit = site_fits test snapshot own site judge.view well judge-fine judge-locals is.on is.seen members
+  judge-fit = site-fits test snapshot own site judge.view well judge-fine judge-locals is.on is.seen members
 
   pub judge-has : HasAll judged-in read
-  judge-has = site_has test snapshot own site judge.view well judge-fine judge-locals is.on is.seen members
+  judge-has = site-has test snapshot own site judge.view well judge-fine judge-locals is.on is.seen members
 
   pub judge-whole : IsWhole judged-in
-  judge-whole = seen_whole ds site judge.view judge-fine.whole
+  judge-whole = seen-whole ds site judge.view judge-fine.whole
 
   pub judge-within : IsWithin here judged-in
-  judge-within = seen_within ds site judge.view
+  judge-within = seen-within ds site judge.view
 
   abbrev Fits : Trial → Type 0
   Fits trial = FitsTrial test site trial
@@ -208,7 +208,7 @@ module _ (test : Test) (well : AreWellTyped test.definitions) (snapshot : Snapsh
       subst (λ m. type_known (along here.definitions (as_target here.definitions m).typing reference.fields).typing ≡ Some t) (sym variable.variable) (ap type_known variable.is)
 
   sender-goes : (at : ℕ) (sender : ComponentId) → nat_eq at sender.component_type ≡ true → is_of ds (type.Component at) (value.Component sender) ≡ true
-  sender-goes at sender same = subst (λ n. is_of ds (type.Component n) (value.Component sender) ≡ true) (sym (same-number at sender.component_type same)) (component_goes ds sender)
+  sender-goes at sender same = subst (λ n. is_of ds (type.Component n) (value.Component sender) ≡ true) (sym (same-number at sender.component_type same)) (component-value-goes ds sender)
 
   sender-if : (reference : Reference) (at : ℕ) (sender : ComponentId) → IsVariable here reference (type.Component at) → (b : Bool) → fits_sender sender (target_at here reference).data_type ≡ b
       → GivesOnly (if b then Yields (record { reference = reference; value = value.Component sender } ∷ []) else dynamic_error) (All (FitsRedirect test site))
@@ -284,9 +284,9 @@ module _ (test : Test) (well : AreWellTyped test.definitions) (snapshot : Snapsh
     from-met : (from : Option ComponentRef) (sender : Option ComponentId) → check_to here from ≡ [] → GivesOnly (from_fits read from sender) (λ b. Unit {0})
     from-met None sender fine = tt
     from-met (Some c) sender fine =
-        only_then (IsReference ds (check_wanted_component judged-in c).typing) (λ b. Unit {0}) (λ v. is_from sender (out-Value v)) (component_at read c)
+        only-then (IsReference ds (check_wanted_component judged-in c).typing) (λ b. Unit {0}) (λ v. is_from sender (out-Value v)) (component_at read c)
         (wanted_given c judged-in read judge-whole judge-fit judge-has (wanted-wide c fine))
-        (λ v of. from-level ds sender (out-Value v) of.component_type (sym (goes_out ds v (target_of (Some (type.Component of.component_type)))) ∙ of.is_component))
+        (λ v of. from-level ds sender (out-Value v) of.component_type (sym (goes-out ds v (target_of (Some (type.Component of.component_type)))) ∙ of.is_component))
 
     template-fine : (m : MessageTemplate) (found : DataType) → check_message here passage.0 passage.1 m ≡ [] → (type_of_message here passage.0 passage.1 m).typing ≡ typing.Known found
         → template m.template judged-in (target_of (Some found)) ≡ []

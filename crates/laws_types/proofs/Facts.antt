@@ -7,7 +7,7 @@ use Rattle.check_scope.specs.Names.{Names, Scope, module_names}
 use Rattle.check_scope.specs.declared.names.Meaning.{Meaning}
 use Rattle.check_scope.specs.declared.names.Meaning.TheVariants as meaning
 use Rattle.laws_evaluation.proofs.ModuleReadings.{module_has_all}
-use Rattle.laws_evaluation.proofs.TypedChains.{names_fit}
+use Rattle.laws_evaluation.proofs.TypedChains.{names-fit}
 use Rattle.laws_evaluation.specs.Types.{FitsIn, HasAll, IsOfTyping, names_timer, names_value}
 use Rattle.semantics.specs.Snapshots.{Snapshot, Test, View, facts_of}
 use Rattle.check_rules.specs.Limits.{longest_chain}
@@ -69,7 +69,7 @@ module _ (test : Test) (well : AreWellTyped test.definitions) (n : ℕ) (enough 
   name-fits : (name : List ℕ) (m : Option Meaning) → module_names ds name ≡ m → IfYields (by_meaning reading name m) (IsOfTyping ds (check_meaning ds (names name)).typing)
   name-fits name None is = error-yields (IsValueOf ds (names name)) (seen_entry inner.values outer.values name) (knows.values name is)
   name-fits name (Some k) is =
-      let given : IfYields (by_meaning of-module name (module_names ds name)) (IsOfTyping ds (check_meaning ds (module_names ds name)).typing) = (names_fit ds well n facts refl facts.names).names name in
+      let given : IfYields (by_meaning of-module name (module_names ds name)) (IsOfTyping ds (check_meaning ds (module_names ds name)).typing) = (names-fit ds well n facts refl facts.names).names name in
       let there : names name ≡ Some k = there-is (λ m. names name ≡ Some m) (module_names ds name) k is (knows.of_module name) in
       subst (λ o. IfYields (by_meaning reading name (Some k)) (IsOfTyping ds (check_meaning ds o).typing)) (sym there)
       (subst (λ r. IfYields r (IsOfTyping ds (check_meaning ds (Some k)).typing)) (same-meaning name (Some k))
@@ -87,7 +87,7 @@ module _ (test : Test) (well : AreWellTyped test.definitions) (n : ℕ) (enough 
     names = λ name. name-fits name (module_names ds name) refl;
     itself = knows.of_self;
     template_names = λ name. template-names name (module_names ds name) refl;
-    templates = (names_fit ds well n facts refl facts.names).templates;
+    templates = (names-fit ds well n facts refl facts.names).templates;
   }
 
   -- ---- what is there

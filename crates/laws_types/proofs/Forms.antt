@@ -19,8 +19,8 @@ use Rattle.ttcn_syntax.specs.declared.tree.value.Call.{Call}
 use Rattle.ttcn_syntax.specs.declared.tree.value.TypeName.{TypeName}
 use Rattle.ttcn_syntax.specs.declared.tree.value.Value as written
 use Rattle.check_rules.specs.Calls.{component_named, result_type_of, runs_on_of}
-use Rattle.check_rules.specs.Expressions.{Judgement, along, check_component, check_field, check_meaning, check_reference, check_wanted_component, expression, is_timer, within as within_typing}
-use Rattle.check_rules.specs.Expressions as expressions
+use Rattle.check_rules.specs.Expressions.{along, check_component, check_field, check_meaning, check_reference, check_wanted_component, expression, is_timer, within as within_typing}
+use Rattle.check_rules.specs.Expressions as said
 use Rattle.check_scope.specs.Names.{Scope, constants_type, field_named, fields_at, kind_at, module_names, resolved}
 use Rattle.check_scope.specs.Typings.{refers_to_component, target_of, typed, unless}
 use Rattle.check_scope.specs.declared.names.Meaning.{Meaning}
@@ -37,9 +37,9 @@ use Rattle.laws_checker.proofs.Descent.{name_resolves}
 use Rattle.laws_checker.proofs.Fitting.{same-number}
 use Rattle.laws_checker.proofs.Nothing.{kept, nothing-first, nothing-rest}
 use Rattle.laws_checker.proofs.Typed.{component-typed}
-use Rattle.laws_evaluation.proofs.Only.{only_of, only_then}
+use Rattle.laws_evaluation.proofs.Only.{only-of, only-then}
 use Rattle.laws_evaluation.proofs.TypedRecords.{values_met, values_typed}
-use Rattle.laws_evaluation.proofs.TypedValues.{goes_out, goes_rolled, level_goes}
+use Rattle.laws_evaluation.proofs.TypedValues.{goes-out, goes-rolled, level_goes}
 use Rattle.laws_evaluation.proofs.Using.{component_found, conditions_met, default_given, wanted_found}
 use Rattle.laws_evaluation.specs.Types.{IsOfTyping, is_of, names_timer, value_goes}
 use Rattle.laws_evaluation.specs.Uses.{GivesOnly}
@@ -128,7 +128,7 @@ told-type typing.AnyComponent known told refers = absurd (told refl)
 told-type typing.NoValue known told refers = absurd (let e = refers in cc)
 told-type typing.Unknown known told refers = absurd (known refl)
 
-self-told : (own : Option ℕ) → (expressions.check_self own false).broken ≡ [] → (expressions.check_self own false).typing ≢ typing.AnyComponent
+self-told : (own : Option ℕ) → (said.check_self own false).broken ≡ [] → (said.check_self own false).typing ≢ typing.AnyComponent
 self-told None nothing is = let e = nothing in cc
 self-told (Some at) nothing is = let e = is in cc
 
@@ -141,7 +141,7 @@ reference-told scope (component.Named r) nothing = fields-told scope.definitions
 reference-type : (definitions : List Definition) (at : ℕ) (c : ComponentId) → is_of definitions (type.Component at) (value.Component c) ≡ true → c.component_type ≡ at
 reference-type definitions at c goes =
     let target = target_of (Some (type.Component at)) in
-    let told = ap (λ v. value_goes v definitions target) (sym (value.rolls-Component c)) ∙ goes_rolled definitions (Value-F.Component c) target in
+    let told = ap (λ v. value_goes v definitions target) (sym (value.rolls-Component c)) ∙ goes-rolled definitions (Value-F.Component c) target in
     sym (same-number at c.component_type (sym told ∙ goes))
 
 -- ---- what follows of an item that breaks no rule
@@ -237,7 +237,7 @@ module _ (stand : Stand) (well : AreWellTyped stand.test.definitions) (site : Si
       subst (λ g. Asking (act_return stand site g)) (sym fine.stands)
       (subst (λ o. Asking (acting (λ found. leave stand stand.below (Some found)) (value_wanted fine.returned read o))) (sym of-result)
       (acting-fits stand.test ct stand.snapshot.itself.path (IsMeant stand.test stand.snapshot stand.own stand.frame) (λ w. is_of ds t w ≡ true) (λ found. leave stand stand.below (Some found)) (value_wanted fine.returned read (Some t))
-      (only_of (λ w. is_of ds t w ≡ true) (value_wanted fine.returned read (Some t))
+      (only-of (λ w. is_of ds t w ≡ true) (value_wanted fine.returned read (Some t))
       (values_met fine.returned scope read (whole stand well site is) (differ stand well site is) (fit stand well site is) (has stand well site is) t false fine.goes)
       (values_typed fine.returned scope read (whole stand well site is) (differ stand well site is) (fit stand well site is) t false fine.goes))
       (λ found of. leave-asks stand well ct is.here.members is.here.defaults (result_of ds site.behaviour) stand.below (Some found) (t, of-result, of) is.below)))
@@ -338,11 +338,11 @@ module _ (stand : Stand) (well : AreWellTyped stand.test.definitions) (site : Si
   visible-timer (Some m) state there timed = timer-of (Some m) timed
   visible-timer None state there timed = absurd (let e = there in cc)
 
-  stop-if : (timed : Bool) (reference : ComponentRef) → expressions.names_timer here reference ≡ timed → (if timed then [] else (check_wanted_component here reference).broken) ≡ [] → (r : Reference) → reference ≡ component.Named r → r.fields ≡ []
+  stop-if : (timed : Bool) (reference : ComponentRef) → said.names_timer here reference ≡ timed → (if timed then [] else (check_wanted_component here reference).broken) ≡ [] → (r : Reference) → reference ≡ component.Named r → r.fields ≡ []
       → is_some (here.names r.name) ≡ true
   stop-if true reference same nothing r named bare =
       subst (λ m. is_some m ≡ true) (sym (timer-of (here.names r.name) (sym (same-test (here.names r.name)) ∙ sym (ap (λ fs. is_timer fs (here.names r.name)) bare)
-      ∙ subst (λ c. expressions.names_timer here c ≡ true) named same))) refl
+      ∙ subst (λ c. said.names_timer here c ≡ true) named same))) refl
   stop-if false reference same nothing r named bare =
       name_resolves here r (nothing-first (check_reference here r).broken (unless (refers_to_component (check_reference here r).typing) rule.UnknownName)
       (subst (λ c. (check_wanted_component here c).broken ≡ []) named nothing))
@@ -356,23 +356,23 @@ module _ (stand : Stand) (well : AreWellTyped stand.test.definitions) (site : Si
   stop-named r [] bare nothing (Some runs) found =
       timer-asks r.name timer.Inactive
       (visible-timer (here.names r.name) (entry (view stand well site is).timers r.name)
-      (stop-if (expressions.names_timer here (component.Named r)) (component.Named r) refl nothing r refl bare)
+      (stop-if (said.names_timer here (component.Named r)) (component.Named r) refl nothing r refl bare)
       (sym (has-timers r.name) ∙ ap is_some found))
     where
       has-timers : (name : List ℕ) → is_some ((reading stand well site is).timers name) ≡ names_timer (scope.names name)
       has-timers = (has stand well site is).timers
   stop-named r [] bare nothing None found =
-      stop-component (component.Named r) (wider-if (expressions.names_timer scope (component.Named r)) refl (stop_stays (component.Named r) here scope (within stand well site is) nothing))
+      stop-component (component.Named r) (wider-if (said.names_timer scope (component.Named r)) refl (stop_stays (component.Named r) here scope (within stand well site is) nothing))
     where
-      wider-if : (b : Bool) → expressions.names_timer scope (component.Named r) ≡ b → (if b then [] else (check_wanted_component scope (component.Named r)).broken) ≡ [] → (check_wanted_component scope (component.Named r)).broken ≡ []
+      wider-if : (b : Bool) → said.names_timer scope (component.Named r) ≡ b → (if b then [] else (check_wanted_component scope (component.Named r)).broken) ≡ [] → (check_wanted_component scope (component.Named r)).broken ≡ []
       wider-if false same broke = broke
       wider-if true same broke =
           absurd (let no : true ≡ false = sym same ∙ ap (λ fs. is_timer fs (scope.names r.name)) bare ∙ same-test (scope.names r.name) ∙ sym ((has stand well site is).timers r.name) ∙ ap is_some found in cc)
   stop-named r (field ∷ fields) bare nothing (Some runs) found = absurd (let e = found in cc)
   stop-named r (field ∷ fields) bare nothing None found =
-      stop-component (component.Named r) (wider-if (expressions.names_timer scope (component.Named r)) refl (stop_stays (component.Named r) here scope (within stand well site is) nothing))
+      stop-component (component.Named r) (wider-if (said.names_timer scope (component.Named r)) refl (stop_stays (component.Named r) here scope (within stand well site is) nothing))
     where
-      wider-if : (b : Bool) → expressions.names_timer scope (component.Named r) ≡ b → (if b then [] else (check_wanted_component scope (component.Named r)).broken) ≡ [] → (check_wanted_component scope (component.Named r)).broken ≡ []
+      wider-if : (b : Bool) → said.names_timer scope (component.Named r) ≡ b → (if b then [] else (check_wanted_component scope (component.Named r)).broken) ≡ [] → (check_wanted_component scope (component.Named r)).broken ≡ []
       wider-if false same broke = broke
       wider-if true same broke = absurd (let no : true ≡ false = sym same ∙ ap (λ fs. is_timer fs (scope.names r.name)) bare in cc)
 
@@ -390,8 +390,8 @@ module _ (stand : Stand) (well : AreWellTyped stand.test.definitions) (site : Si
   deactivate-asks None nothing = with-less [] (done stand) done-fits (All-nil (FitsDefault ds ct))
   deactivate-asks (Some r) nothing =
       continuing-fits stand.test ct stand.snapshot.itself.path (IsMeant stand.test stand.snapshot stand.own stand.frame) (outcome_and_then (λ v. without_default (done stand) (out-Value v)) (referred (reading stand well site is) r))
-      (only_then (λ v. is_of ds type.Default v ≡ true) (FitsData ds ct) (λ v. without_default (done stand) (out-Value v)) (referred (reading stand well site is) r)
+      (only-then (λ v. is_of ds type.Default v ≡ true) (FitsData ds ct) (λ v. without_default (done stand) (out-Value v)) (referred (reading stand well site is) r)
       (default_given r scope (reading stand well site is) (whole stand well site is) (fit stand well site is) (has stand well site is) (deactivate_stays (Some r) here scope (within stand well site is) nothing))
-      (λ v goes. level-default ds (FitsData ds ct) (done stand) (out-Value v) (sym (goes_out ds v (target_of (Some type.Default))) ∙ goes) done-fits
+      (λ v goes. level-default ds (FitsData ds ct) (done stand) (out-Value v) (sym (goes-out ds v (target_of (Some type.Default))) ∙ goes) done-fits
       (λ n. with-less (filter (λ d. not (nat_eq d.number n)) (done stand).defaults) (done stand) done-fits
       (All-filter (λ d. not (nat_eq d.number n)) (FitsDefault ds ct) (done stand).defaults is.here.defaults))))

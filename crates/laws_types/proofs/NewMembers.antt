@@ -12,7 +12,7 @@ use Rattle.ttcn_syntax.specs.declared.tree.definition.Member.TheVariants as memb
 use Rattle.ttcn_syntax.specs.declared.tree.definition.MemberVariable.{MemberVariable}
 use Rattle.ttcn_syntax.specs.declared.tree.statement.Constant.{Constant}
 use Rattle.ttcn_syntax.specs.declared.tree.statement.Timer.{Timer}
-use Rattle.ttcn_syntax.specs.declared.tree.value.Value as tree
+use Rattle.ttcn_syntax.specs.declared.tree.value.Value as written
 use Rattle.check_rules.specs.Targets.{timer_entry}
 use Rattle.check_rules.specs.Templates.{template_meant}
 use Rattle.check_rules.specs.Values as checked
@@ -24,13 +24,13 @@ use Rattle.check_scope.specs.declared.types.DataType.{DataType}
 use Rattle.check_rules.specs.Definitions.{port_entry}
 use Rattle.laws_checker.proofs.Whole.{module_whole}
 use Rattle.laws_checker.specs.Laws.{IsKnown, IsWhole}
-use Rattle.laws_evaluation.proofs.Only.{only_of, only_then}
+use Rattle.laws_evaluation.proofs.Only.{only-of, only-then}
 use Rattle.laws_evaluation.proofs.TypedChains.{fields_differ}
 use Rattle.laws_evaluation.proofs.TypedRecords.{values_met, values_typed}
 use Rattle.laws_evaluation.specs.Types.{FitsIn, HasAll, is_of, names_timer}
 use Rattle.laws_evaluation.specs.Uses.{GivesOnly}
 use Rattle.laws_statements.proofs.Growing.{new_name_within, within_both, within_itself}
-use Rattle.laws_statements.proofs.Members.{member_is, name_leaves_whole, types_of_module}
+use Rattle.laws_statements.proofs.Members.{member_is, name_leaves_whole, types-of-module}
 use Rattle.laws_statements.specs.Members.{AreMemberVariables, AreNew, DeclaresMemberVariables, DeclaresPorts, IsInitialValue, IsMember, scope_behind}
 use Rattle.laws_statements.specs.Targets.{AreConstants, DeclaresConstants}
 use Rattle.laws_statements.specs.Within.{IsWithin}
@@ -184,10 +184,10 @@ module _ (test : Test) (well : AreWellTyped test.definitions) (itself : Componen
 
   -- ---- values
 
-  wanted : (names : Names) (frame : Frame) (t : DataType) (v : tree.Value) → Stands names frame → checked.value v (scope-of ds itself names) (target_of (Some t)) ≡ []
+  wanted : (names : Names) (frame : Frame) (t : DataType) (v : written.Value) → Stands names frame → checked.value v (scope-of ds itself names) (target_of (Some t)) ≡ []
       → GivesOnly (value_wanted v (reading_of_members test itself snapshot frame) (Some t)) (λ w. is_of ds t w ≡ true)
   wanted names frame t v is nothing =
-      only_of (λ w. is_of ds t w ≡ true) (value_wanted v (reading_of_members test itself snapshot frame) (Some t))
+      only-of (λ w. is_of ds t w ≡ true) (value_wanted v (reading_of_members test itself snapshot frame) (Some t))
       (values_met v (scope-of ds itself names) (reading_of_members test itself snapshot frame) is.whole (fields_differ ds well) (fits names frame is) (has names frame is) t false nothing)
       (values_typed v (scope-of ds itself names) (reading_of_members test itself snapshot frame) is.whole (fields_differ ds well) (fits names frame is) t false nothing)
 
@@ -198,7 +198,7 @@ module _ (test : Test) (well : AreWellTyped test.definitions) (itself : Componen
       (value_wanted c.value (reading_of_members test itself snapshot frame) (Some t)) (wanted names frame t c.value is nothing)
       (λ w of. with-value names frame c.name (meaning.Constant (Some t)) w is unseen refl refl refl of)
 
-  initial-declared : (names : Names) (frame : Frame) (t : DataType) (name : List ℕ) (v : tree.Value) → Stands names frame → names name ≡ None → checked.value v (scope-of ds itself names) (target_of (Some t)) ≡ []
+  initial-declared : (names : Names) (frame : Frame) (t : DataType) (name : List ℕ) (v : written.Value) → Stands names frame → names name ≡ None → checked.value v (scope-of ds itself names) (target_of (Some t)) ≡ []
       → GivesOnly (declared_with test itself snapshot (Some t) frame name v) (Stands (with-name names (name, meaning.Variable (Some t))))
   initial-declared names frame t name v is unseen nothing =
       only-mapped (λ w. is_of ds t w ≡ true) (Stands (with-name names (name, meaning.Variable (Some t)))) (λ found. declare name found frame)
@@ -213,7 +213,7 @@ module _ (test : Test) (well : AreWellTyped test.definitions) (itself : Componen
     turns : (xs : List A) (names : Names) (frame : Frame) → Are names xs → Stands names frame → GivesOnly (declared_in_turn step xs frame) (Stands (after entry-of names xs))
     turns [] names frame are is = is
     turns (a ∷ xs) names frame are is =
-        only_then (Stands (with-name names (entry-of a))) (Stands (after entry-of names (a ∷ xs))) (declared_in_turn step xs) (step frame a) (one names a xs frame are is)
+        only-then (Stands (with-name names (entry-of a))) (Stands (after entry-of names (a ∷ xs))) (declared_in_turn step xs) (step frame a) (one names a xs frame are is)
         (λ next also. turns xs (with-name names (entry-of a)) next (others names a xs are) also)
 
     in-turn : (xs : List A) (names : Names) (frame : Frame) → Are names xs → Stands names frame → GivesOnly (declared_in_turn step xs frame) (Stands (behind names (map entry-of xs)))
@@ -225,7 +225,7 @@ module _ (test : Test) (well : AreWellTyped test.definitions) (itself : Componen
   ports-stand of (port ∷ ports) names frame are is =
       ports-stand of ports (with-name names (port, meaning.Port (Some of))) frame are.1 (with-port names frame port of is (none-is (names port) are.0))
 
-  variable-declared : (names : Names) (t : DataType) (v : Option tree.Value) (name : List ℕ) (frame : Frame) → Stands names frame → names name ≡ None
+  variable-declared : (names : Names) (t : DataType) (v : Option written.Value) (name : List ℕ) (frame : Frame) → Stands names frame → names name ≡ None
       → IfSome v (λ v. checked.value v (scope-of ds itself names) (target_of (Some t)) ≡ []) → GivesOnly (declared_variable test itself snapshot (Some t) frame name v) (Stands (with-name names (name, meaning.Variable (Some t))))
   variable-declared names t None name frame is unseen nothing = without-value names frame name (meaning.Variable (Some t)) is unseen refl refl refl
   variable-declared names t (Some v) name frame is unseen nothing = initial-declared names frame t name v is unseen nothing
@@ -238,7 +238,7 @@ module _ (test : Test) (well : AreWellTyped test.definitions) (itself : Componen
       in-turn (λ f c. declared_with test itself snapshot (Some t) f c.name c.value) (λ (c : Constant). (c.name, meaning.Constant (Some t))) (λ names cs. AreConstants (scope-of ds itself names) t cs)
       (λ names c cs frame are is. constant-declared names frame t c is (none-is (names c.name) are.0) are.1) (λ names c cs are. are.2) cs names frame are is
 
-  initial-if : (names : Names) (t : DataType) (v : Option tree.Value) → IsInitialValue (scope-of ds itself names) t v
+  initial-if : (names : Names) (t : DataType) (v : Option written.Value) → IsInitialValue (scope-of ds itself names) t v
       → IfSome v (λ v. checked.value v (scope-of ds itself names) (target_of (Some t)) ≡ [])
   initial-if names t None is = tt
   initial-if names t (Some v) is = is
@@ -267,7 +267,7 @@ module _ (test : Test) (well : AreWellTyped test.definitions) (itself : Componen
       let of : DeclaresConstants (scope_behind ds itself.component_type before) cs = fine in
       subst (λ o. GivesOnly (declared_in_turn (λ f c. declared_with test itself snapshot o f c.name c.value) cs.constants frame)
       (Stands (behind names (map (λ c. (c.name, meaning.Constant (resolved names cs.type_name))) cs.constants))))
-      (sym (types_of_module ds itself.component_type before cs.type_name of.data_type of.known))
+      (sym (types-of-module ds itself.component_type before cs.type_name of.data_type of.known))
       (subst (λ o. GivesOnly (declared_in_turn (λ f c. declared_with test itself snapshot (Some of.data_type) f c.name c.value) cs.constants frame)
       (Stands (behind names (map (λ c. (c.name, meaning.Constant o)) cs.constants)))) (sym of.known)
       (constants-stand cs.constants of.data_type names frame of.each is))
@@ -276,7 +276,7 @@ module _ (test : Test) (well : AreWellTyped test.definitions) (itself : Componen
       let of : DeclaresMemberVariables (scope_behind ds itself.component_type before) type_name variables = fine in
       subst (λ o. GivesOnly (declared_in_turn (λ f v. declared_variable test itself snapshot o f v.name v.value) variables frame)
       (Stands (behind names (map (λ v. (v.name, meaning.Variable (resolved names type_name))) variables))))
-      (sym (types_of_module ds itself.component_type before type_name of.data_type of.known))
+      (sym (types-of-module ds itself.component_type before type_name of.data_type of.known))
       (subst (λ o. GivesOnly (declared_in_turn (λ f v. declared_variable test itself snapshot (Some of.data_type) f v.name v.value) variables frame)
       (Stands (behind names (map (λ v. (v.name, meaning.Variable o)) variables)))) (sym of.known)
       (variables-stand variables of.data_type names frame of.each is))
@@ -290,7 +290,7 @@ module _ (test : Test) (well : AreWellTyped test.definitions) (itself : Componen
         let names : Names = behind_members (module_names ds) before in
         let next : Names = behind names (member_entries names m) in
         let same : behind_members (module_names ds) (before ++ m ∷ []) ≡ next = behind-one-more (module_names ds) before m in
-        only_then (Stands next) (Stands (behind_members next rest)) (declared_in_turn (declared_member test itself snapshot) rest) (declared_member test itself snapshot frame m)
+        only-then (Stands next) (Stands (behind_members next rest)) (declared_in_turn (declared_member test itself snapshot) rest) (declared_member test itself snapshot frame m)
         (member-stands before m frame (member_is ds well itself.component_type c defined before m rest all) is)
         (λ more also. subst (λ names. GivesOnly (declared_in_turn (declared_member test itself snapshot) rest more) (Stands (behind_members names rest))) same
         (all-members (before ++ m ∷ []) rest more (append_assoc before (m ∷ []) rest ∙ all) (subst (λ names. Stands names more) (sym same) also)))

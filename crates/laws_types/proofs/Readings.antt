@@ -183,15 +183,15 @@ module _ (test : Test) (well : AreWellTyped test.definitions) (itself : Componen
 
 -- ---- the scope itself
 
-pub seen_within : (definitions : List Definition) (site : Site) (view : View) → IsWithin (scope_at definitions site) (scope_seen definitions site view)
-seen_within definitions site view = record {
+pub seen-within : (definitions : List Definition) (site : Site) (view : View) → IsWithin (scope_at definitions site) (scope_seen definitions site view)
+seen-within definitions site view = record {
   definitions = sym (site-definitions definitions site);
   itself = sym (site-itself definitions site);
   names = λ name. if-visible (entry view.timers name) ((scope_at definitions site).names name);
 }
 
-pub seen_whole : (definitions : List Definition) (site : Site) (view : View) → IsWhole (scope_at definitions site) → IsWhole (scope_seen definitions site view)
-seen_whole definitions site view whole = record {
+pub seen-whole : (definitions : List Definition) (site : Site) (view : View) → IsWhole (scope_at definitions site) → IsWhole (scope_seen definitions site view)
+seen-whole definitions site view whole = record {
   names = λ name. known-extra definitions (entry view.timers name) ((scope_at definitions site).names name)
       (subst (λ ds. IfSome ((scope_at definitions site).names name) (IsKnown ds)) (site-definitions definitions site) (whole.names name));
   fields = λ at. subst (λ ds. All (HasFieldType ds) (fields_at ds at)) (site-definitions definitions site) (whole.fields at);
@@ -201,12 +201,12 @@ pub le-itself : (n : ℕ) → n ≤ n
 le-itself n = omega arith
 
 -- what is read at a site fits
-pub site_fits : (test : Test) (snapshot : Snapshot) (own : Data) (site : Site) (view : View) → AreWellTyped test.definitions → IsFineSite test.definitions site.behaviour site → DeclaresLocals site
+pub site-fits : (test : Test) (snapshot : Snapshot) (own : Data) (site : Site) (view : View) → AreWellTyped test.definitions → IsFineSite test.definitions site.behaviour site → DeclaresLocals site
     → RunsOn test.definitions site.behaviour snapshot.itself.component_type → FitsSite test.definitions site view → FitsMembers test.definitions snapshot.itself.component_type (members_in snapshot own)
     → FitsIn (scope_seen test.definitions site view) (reading_in test snapshot own site view)
-site_fits test snapshot own site view well fine locals on fits fit = seen-fits test well snapshot.itself site view (members_in snapshot own) fine locals on fits fit snapshot longest_chain (le-itself longest_chain)
+site-fits test snapshot own site view well fine locals on fits fit = seen-fits test well snapshot.itself site view (members_in snapshot own) fine locals on fits fit snapshot longest_chain (le-itself longest_chain)
 
-pub site_has : (test : Test) (snapshot : Snapshot) (own : Data) (site : Site) (view : View) → AreWellTyped test.definitions → IsFineSite test.definitions site.behaviour site → DeclaresLocals site
+pub site-has : (test : Test) (snapshot : Snapshot) (own : Data) (site : Site) (view : View) → AreWellTyped test.definitions → IsFineSite test.definitions site.behaviour site → DeclaresLocals site
     → RunsOn test.definitions site.behaviour snapshot.itself.component_type → FitsSite test.definitions site view → FitsMembers test.definitions snapshot.itself.component_type (members_in snapshot own)
     → HasAll (scope_seen test.definitions site view) (reading_in test snapshot own site view)
-site_has test snapshot own site view well fine locals on fits fit = seen-has test well snapshot.itself site view (members_in snapshot own) fine locals on fits fit snapshot longest_chain (le-itself longest_chain)
+site-has test snapshot own site view well fine locals on fits fit = seen-has test well snapshot.itself site view (members_in snapshot own) fine locals on fits fit snapshot longest_chain (le-itself longest_chain)

@@ -22,7 +22,7 @@ use Rattle.ttcn_syntax.specs.declared.tree.value.Value as written
 use Rattle.check_rules.specs.Calls.{altstep_meant, is_altstep, parameters_of, stands_alone}
 use Rattle.check_rules.specs.Expressions.{along, check_meaning}
 use Rattle.check_rules.specs.Targets.{as_target, check_assignment, check_constant, check_initial, check_new_name, check_rhs, check_target, check_timer_name, check_variable, last_optional, target_at}
-use Rattle.check_rules.specs.Values as judged
+use Rattle.check_rules.specs.Values as checked
 use Rattle.check_scope.specs.Names.{Entry, Scope, component_meant, kind_at, members_of, module_names, resolved}
 use Rattle.check_scope.specs.Typings.{target_of, type_known}
 use Rattle.check_scope.specs.declared.names.Meaning.{Meaning}
@@ -33,11 +33,11 @@ use Rattle.check_scope.specs.declared.types.Target.{Target as Wanted}
 use Rattle.check_scope.specs.declared.types.Typing.TheVariants as typing
 use Rattle.laws_checker.proofs.Nothing.{nothing-first, nothing-rest}
 use Rattle.laws_checker.specs.Laws.{IsKnown}
-use Rattle.laws_evaluation.proofs.Only.{only_of, only_then}
+use Rattle.laws_evaluation.proofs.Only.{only-of, only-then}
 use Rattle.laws_evaluation.proofs.Parameters.{all_parameters_known}
 use Rattle.laws_evaluation.proofs.TypedRecords.{values_met, values_typed}
 use Rattle.laws_evaluation.proofs.TypedTemplates.{arguments_met, arguments_typed}
-use Rattle.laws_evaluation.proofs.TypedValues.{component_goes, goes_rolled}
+use Rattle.laws_evaluation.proofs.TypedValues.{component-value-goes, goes-rolled}
 use Rattle.laws_evaluation.specs.Types.{AreGiven, is_of, names_timer, value_goes}
 use Rattle.laws_evaluation.specs.Uses.{GivesOnly}
 use Rattle.laws_sites.proofs.Sites.{new-free}
@@ -104,7 +104,7 @@ new-if test new false o is = tt
 
 default-goes : (definitions : List Definition) (n : ℕ) → is_of definitions type.Default (value.Default n) ≡ true
 default-goes definitions n =
-    ap (λ v. value_goes v definitions (target_of (Some type.Default))) (sym (value.rolls-Default n)) ∙ goes_rolled definitions (Value-F.Default n) (target_of (Some type.Default))
+    ap (λ v. value_goes v definitions (target_of (Some type.Default))) (sym (value.rolls-Default n)) ∙ goes-rolled definitions (Value-F.Default n) (target_of (Some type.Default))
 
 no-component : (m : Option Meaning) → IfMeans IsPart m → component_meant m ≡ None
 no-component None is = refl
@@ -184,8 +184,8 @@ module _ (stand : Stand) (well : AreWellTyped stand.test.definitions) (site : Si
       let ps = parameters_of (kind_at ds at) in
       let read = reading stand well site is in
       subst (λ m. GivesOnly (activated_at stand site call own m) (Now declared R)) (sym (altstep-there call.name at activates.meant))
-      (only_then (AreGiven ds ps) (Now declared R) (λ values. if nat_lt own.activations most then Yields (activate at own values) else dynamic_error) (arguments read ps call.arguments)
-      (only_of (AreGiven ds ps) (arguments read ps call.arguments)
+      (only-then (AreGiven ds ps) (Now declared R) (λ values. if nat_lt own.activations most then Yields (activate at own values) else dynamic_error) (arguments read ps call.arguments)
+      (only-of (AreGiven ds ps) (arguments read ps call.arguments)
       (arguments_met scope read (whole stand well site is) (differ stand well site is) (known stand well site is) (fit stand well site is) (has stand well site is) ps call.arguments (all_parameters_known ds well at) activates.arguments)
       (arguments_typed scope read (whole stand well site is) (differ stand well site is) (fit stand well site is) ps call.arguments activates.arguments))
       (λ values of. activate-if (nat_lt own.activations most) declared R at own values
@@ -203,11 +203,11 @@ module _ (stand : Stand) (well : AreWellTyped stand.test.definitions) (site : Si
         always-fits stand.test component_type stand.snapshot.itself.path (IsMeant stand.test stand.snapshot stand.own stand.frame) (Now declared (Nesting declared)) (Requests Continues) (store stand.test target v own)
         (stored stand.test well component_type (site_of b declared) is.on names target t goal (Nesting declared) own v goes fits) (λ new also. fits-at stand well site is declared new also)
 
-    value-asks : (v : written.Value) → judged.value v scope (record { data_type = Some t; optional = o }) ≡ [] → Asking (assign stand site target (Some t) own (rhs.Value v))
+    value-asks : (v : written.Value) → checked.value v scope (record { data_type = Some t; optional = o }) ≡ [] → Asking (assign stand site target (Some t) own (rhs.Value v))
     value-asks v nothing =
         let read = reading stand well site is in
         acting-fits stand.test component_type stand.snapshot.itself.path (IsMeant stand.test stand.snapshot stand.own stand.frame) (λ w. value_goes w ds (record { data_type = Some t; optional = o }) ≡ true) (λ found. continuing (store stand.test target found own)) (value_wanted v read (Some t))
-        (only_of (λ w. value_goes w ds (record { data_type = Some t; optional = o }) ≡ true) (value_wanted v read (Some t))
+        (only-of (λ w. value_goes w ds (record { data_type = Some t; optional = o }) ≡ true) (value_wanted v read (Some t))
         (values_met v scope read (whole stand well site is) (differ stand well site is) (fit stand well site is) (has stand well site is) t o nothing)
         (values_typed v scope read (whole stand well site is) (differ stand well site is) (fit stand well site is) t o nothing))
         store-asks
@@ -223,7 +223,7 @@ module _ (stand : Stand) (well : AreWellTyped stand.test.definitions) (site : Si
         (if nat_lt own.children most then new_members stand.test new stand.snapshot else dynamic_error)
         (new-if stand.test new (nat_lt own.children most) (new_members stand.test new stand.snapshot) (new_members_fit stand.test new stand.snapshot well))
         (λ members fit. always-fits stand.test component_type stand.snapshot.itself.path (IsMeant stand.test stand.snapshot stand.own stand.frame) (Now declared (Nesting declared)) (λ changed. Requests (Creates (new_component stand.test new members)) (with_child changed)) (store stand.test target (value.Component new) own)
-        (stored-of stand.test well component_type (site_of b declared) is.on names target t goal (Nesting declared) own (value.Component new) (subst (λ t. is_of ds t (value.Component new) ≡ true) (sym same) (component_goes ds new)) fits)
+        (stored-of stand.test well component_type (site_of b declared) is.on names target t goal (Nesting declared) own (value.Component new) (subst (λ t. is_of ds t (value.Component new) ≡ true) (sym same) (component-value-goes ds new)) fits)
         (λ changed also. (component-fits stand.test new members fit, fits-at stand well site is declared (with_child changed) (with-one-more changed also))))
 
     created-asks : (name : List ℕ) → fine.Creates scope t name → Asking (created stand target own (component_meant (module_names ds name)))
@@ -363,11 +363,11 @@ module _ (stand : Stand) (well : AreWellTyped stand.test.definitions) (site : Si
       absurd (let e = subst (λ (e : Entry). IsKnown ds e.1) declares known-entry in cc)
   constant-asks (Some t) (Some c) after entry rules declares known-entry same nest =
       let read = reading stand well site is in
-      let unseen = new-unseen here.names c.name (nothing-first (check_new_name here.names c.name) (judged.value c.value here (target_of (Some t))) rules) in
-      let nothing = value_stays c.value (target_of (Some t)) here scope (within stand well site is) (nothing-rest (check_new_name here.names c.name) (judged.value c.value here (target_of (Some t))) rules) in
+      let unseen = new-unseen here.names c.name (nothing-first (check_new_name here.names c.name) (checked.value c.value here (target_of (Some t))) rules) in
+      let nothing = value_stays c.value (target_of (Some t)) here scope (within stand well site is) (nothing-rest (check_new_name here.names c.name) (checked.value c.value here (target_of (Some t))) rules) in
       let nested : Nesting ((c.name, meaning.Constant (Some t)) ∷ site.declared) stand.rest = subst (λ (e : Entry). Nesting (e ∷ site.declared) stand.rest) declares (subst (λ n. Nesting n stand.rest) same nest) in
       acting-fits stand.test component_type stand.snapshot.itself.path (IsMeant stand.test stand.snapshot stand.own stand.frame) (λ w. is_of ds t w ≡ true) (λ v. Requests Continues (declaring_data stand (declare c.name v))) (value_wanted c.value read (Some t))
-      (only_of (λ w. is_of ds t w ≡ true) (value_wanted c.value read (Some t))
+      (only-of (λ w. is_of ds t w ≡ true) (value_wanted c.value read (Some t))
       (values_met c.value scope read (whole stand well site is) (differ stand well site is) (fit stand well site is) (has stand well site is) t false nothing)
       (values_typed c.value scope read (whole stand well site is) (differ stand well site is) (fit stand well site is) t false nothing))
       (λ v of. fits-at stand well site is ((c.name, meaning.Constant (Some t)) ∷ site.declared) (declaring_data stand (declare c.name v)) (behind-declared c.name (meaning.Constant (Some t)) tt refl unseen nested v refl of))

@@ -22,7 +22,7 @@ use Rattle.value_types.specs.Outcomes.{Fails, Outcome, Yields, or_unmet, outcome
 use Rattle.step_script.specs.Fitting.{FitsScript}
 use Rattle.laws_types.proofs.Scripts.{script-none}
 use Rattle.laws_types.proofs.Starting.{start_fits}
-use Rattle.laws_types.proofs.Steps.{next_fits, step_fits}
+use Rattle.laws_types.proofs.Steps.{next-fits, step-fits}
 use Rattle.laws_types.proofs.Verdicts.{ends-quietly, next-none, start-none}
 use Rattle.laws_types.specs.Runs.{HasNoError, StaysWellTyped}
 use Rattle.laws_types.specs.Typed.{FitsTypes}
@@ -48,11 +48,11 @@ next-all test well script c d label (rules, order, reached, marked, quiet, fits)
   some-of (ReachedStands test) (next test c label) d e (next-both test c label (next test c label) (script-none test well script) refl reached),
   next_marked test well c d label marked e,
   next-none test well c d label rules quiet e,
-  next_fits test c d label well script rules order reached.1 marked fits e,
+  next-fits test c d label well script rules order reached.1 marked fits e,
 )
 
 met-at : (test : Test) → AreWellTyped test.definitions → FitsScript test → (c : Configuration) (label : Label) → Stands test c → IfSome (step test c label) (λ out. GivesOnly out (FitsTypes test))
-met-at test well script c label (rules, order, reached, marked, quiet, fits) = step_fits test c label well script rules order reached.1 marked fits
+met-at test well script c label (rules, order, reached, marked, quiet, fits) = step-fits test c label well script rules order reached.1 marked fits
 
 -- ---- labels one after the other
 
@@ -102,8 +102,8 @@ ends test well there script (Then run label) =
     let before : Stands test (end_of (graph_of test) run) = ends test well there script run in
     after-all test (end_of (graph_of test) run) (next test (end_of (graph_of test) run) label) before (λ d e. next-all test well script (end_of (graph_of test) run) d label before e)
 
-pub ends_fit : (test : Test) (run : Run Label) → AreWellTyped test.definitions → is_some (testcase_body (kind_at test.definitions test.testcase)) ≡ true → FitsScript test → FitsTypes test (end_of (graph_of test) run)
-ends_fit test run well there script = (ends test well there script run).5
+pub ends-fit : (test : Test) (run : Run Label) → AreWellTyped test.definitions → is_some (testcase_body (kind_at test.definitions test.testcase)) ≡ true → FitsScript test → FitsTypes test (end_of (graph_of test) run)
+ends-fit test run well there script = (ends test well there script run).5
 
 -- ---- all of it
 

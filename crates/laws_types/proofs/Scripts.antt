@@ -17,7 +17,7 @@ use Rattle.check_scope.specs.declared.types.DataType.TheVariants as type
 use Rattle.laws_checker.proofs.Nothing.{nothing-first, nothing-rest}
 use Rattle.laws_checker.proofs.Whole.{definition_is_fine}
 use Rattle.laws_evaluation.proofs.TypedLiterals.{same-type}
-use Rattle.laws_evaluation.proofs.TypedValues.{goes_rolled, level_goes, with_goes}
+use Rattle.laws_evaluation.proofs.TypedValues.{goes-rolled, level_goes, with_goes}
 use Rattle.laws_evaluation.specs.Types.{go_to_fields, goes_to_field, value_goes, wants}
 use Rattle.laws_references.proofs.Values.{LevelRefersTo, StateRefersTo, refers-rolled}
 use Rattle.laws_references.specs.References.{RefersTo, RefersToNone, references}
@@ -126,7 +126,7 @@ module _ (ds : List Definition) (well : AreWellTyped ds) where
   rolled-none : (x : Value-F Held) → RefersNowhere (roll-Value (map-Value Held Value bare x))
   rolled-none x of optional plain goes =
       refers-rolled NoneOf (map-Value Held Value bare x)
-      (level-none x of optional plain (sym (goes_rolled ds (map-Value Held Value bare x) (record { data_type = of; optional = optional })) ∙ goes))
+      (level-none x of optional plain (sym (goes-rolled ds (map-Value Held Value bare x) (record { data_type = of; optional = optional })) ∙ goes))
 
   value-none : (v : Value) → RefersNowhere v
   value-none = ind-Value RefersNowhere (λ x y is-bare. subst (λ (w : Value-F Value). RefersNowhere (roll-Value w)) is-bare (rolled-none y))

@@ -30,7 +30,7 @@ use Rattle.laws_checker.proofs.Whole.{definition_is_fine}
 use Rattle.laws_checker.specs.Laws.{IsKnown}
 use Rattle.laws_evaluation.proofs.Sending.{message_sent}
 use Rattle.laws_evaluation.proofs.TypedLiterals.{same-type}
-use Rattle.laws_evaluation.proofs.TypedValues.{goes_out, level_goes}
+use Rattle.laws_evaluation.proofs.TypedValues.{goes-out, level_goes}
 use Rattle.laws_evaluation.specs.Uses.{GivesOnly, IsSpecific}
 use Rattle.laws_statements.proofs.MessageTypes.{passing_typed}
 use Rattle.laws_statements.proofs.Within.{message_stays, message_type_stays, wanted_stays}
@@ -163,7 +163,7 @@ level-type definitions of plain Value-F.Omit goes = absurd (let e = goes in cc)
 message-fits : (definitions : List Definition) (of : DataType) → IsPlain of → (v : Value) → IsSpecific definitions (target_of (Some of)) v → (sender : Option ComponentId) → FitsMessage definitions (record { value = v; sender = sender })
 message-fits definitions of plain v is sender = record {
   data_type = of;
-  is_typed = level-type definitions of plain (out-Value v) (sym (goes_out definitions v (target_of (Some of))) ∙ is.goes);
+  is_typed = level-type definitions of plain (out-Value v) (sym (goes-out definitions v (target_of (Some of))) ∙ is.goes);
   goes = is.goes;
   is_whole = is.is_whole;
 }

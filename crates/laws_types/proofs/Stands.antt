@@ -15,7 +15,7 @@ use Rattle.check_rules.specs.Statements.{is_function, statements}
 use Rattle.laws_checker.proofs.Fitting.{same-number}
 use Rattle.laws_checker.specs.Laws.{AreArguments, IsWhole}
 use Rattle.laws_evaluation.proofs.ModuleReadings.{parameters_known}
-use Rattle.laws_evaluation.proofs.Only.{only_of}
+use Rattle.laws_evaluation.proofs.Only.{only-of}
 use Rattle.laws_evaluation.proofs.Parameters.{all_parameters_known}
 use Rattle.laws_evaluation.proofs.TypedChains.{fields_differ}
 use Rattle.laws_evaluation.proofs.TypedTemplates.{arguments_met, arguments_typed}
@@ -41,7 +41,7 @@ use Rattle.value_types.specs.declared.value.ComponentId.{ComponentId}
 use Rattle.laws_types.proofs.Data.{Any, DataAt, LastAt, data-fits, data-going}
 use Rattle.laws_types.proofs.Declared.{declared-fine, declared-locals}
 use Rattle.laws_types.proofs.NewFrames.{IsPart, body-nests, frame-begins, module-meant}
-use Rattle.laws_types.proofs.Readings.{seen_whole, seen_within, site_fits, site_has}
+use Rattle.laws_types.proofs.Readings.{seen-whole, seen-within, site-fits, site-has}
 use Rattle.laws_types.specs.internal.Asked.{FitsAct, IsMeant}
 use Rattle.laws_types.specs.Fitting.{DeclaresLocals, FitsMembers, FitsSite, RunsOn, scope_seen, view_of}
 use Rattle.laws_types.specs.Typed.{AreDeclared, Awaits, FitBelow, FitsData, FitsFrame, Nest, result_of}
@@ -173,16 +173,16 @@ module _ (stand : Stand) (well : AreWellTyped stand.test.definitions) (site : Si
       record { values = fits.values; timers = λ name. is.member_timers name ∙ fits.timers name }
 
   pub fit : FitsIn wide reading
-  fit = site_fits stand.test stand.snapshot stand.own site view well fine-site locals is.on view-fits members-fit
+  fit = site-fits stand.test stand.snapshot stand.own site view well fine-site locals is.on view-fits members-fit
 
   pub has : HasAll wide reading
-  has = site_has stand.test stand.snapshot stand.own site view well fine-site locals is.on view-fits members-fit
+  has = site-has stand.test stand.snapshot stand.own site view well fine-site locals is.on view-fits members-fit
 
   pub whole : IsWhole wide
-  whole = seen_whole ds site view fine-site.whole
+  whole = seen-whole ds site view fine-site.whole
 
   pub within : IsWithin (scope_at ds site) wide
-  within = seen_within ds site view
+  within = seen-within ds site view
 
   pub differ : FieldsDiffer ds
   differ = fields_differ ds well
@@ -210,7 +210,7 @@ module _ (stand : Stand) (well : AreWellTyped stand.test.definitions) (site : Si
   frame-if ct at given (Some body) there fine on given-fine =
       let ps = parameters_of (kind_at ds at) in
       only-mapped (AreGiven ds ps) (λ frame. FitsFrame ds ct at [] frame × Nest ds at [] frame.remaining) (λ values. function_frame stand.test at values body) (arguments reading ps given)
-      (only_of (AreGiven ds ps) (arguments reading ps given)
+      (only-of (AreGiven ds ps) (arguments reading ps given)
       (arguments_met wide reading whole differ known fit has ps given (all_parameters_known ds well at) given-fine) (arguments_typed wide reading whole differ fit ps given given-fine))
       (λ values of. (frame-begins ds well ct at values (items ds (beginning at) body) on of, body-nests ds well at body fine))
 

@@ -10,7 +10,7 @@ use Rattle.ttcn_syntax.specs.declared.tree.statement.Verdict.TheVariants as verd
 use Rattle.check_rules.specs.Calls.{parameters_of}
 use Rattle.check_scope.specs.Names.{kind_at}
 use Rattle.check_rules.specs.Statements.{statements}
-use Rattle.laws_evaluation.proofs.Only.{only_then}
+use Rattle.laws_evaluation.proofs.Only.{only-then}
 use Rattle.laws_evaluation.specs.Types.{AreGiven}
 use Rattle.laws_evaluation.specs.Uses.{GivesOnly}
 use Rattle.laws_sites.proofs.Outside.{Begins, testcase-fine}
@@ -80,6 +80,6 @@ module _ (test : Test) (well : AreWellTyped test.definitions) where
 pub start_fits : (test : Test) → AreWellTyped test.definitions → is_some (testcase_body (kind_at test.definitions test.testcase)) ≡ true
     → GivesOnly (outcome_and_then (started test) (or_unmet (testcase_body (kind_at test.definitions test.testcase)))) (FitsTypes test)
 start_fits test well there =
-    only_then (λ body. Begins test.definitions well test.testcase (statements body)) (FitsTypes test) (started test) (or_unmet (testcase_body (kind_at test.definitions test.testcase)))
+    only-then (λ body. Begins test.definitions well test.testcase (statements body)) (FitsTypes test) (started test) (or_unmet (testcase_body (kind_at test.definitions test.testcase)))
     (body-found test well (testcase_body (kind_at test.definitions test.testcase)) there (testcase-fine test.definitions well test.testcase))
     (λ body fine. started-fits test well body there fine)

@@ -9,11 +9,11 @@ use Rattle.std.proofs.lemmas.Map.Text.{is_eq-slice_cmp}
 use Rattle.std.proofs.lemmas.Slice.Eq.{bytes_eq-Decides}
 use Rattle.ttcn_syntax.specs.declared.tree.definition.Definition.{Definition}
 use Rattle.laws_evaluation.specs.Uses.{GivesOnly}
-use Rattle.laws_references.proofs.Found.{component_is_there}
+use Rattle.laws_references.proofs.Found.{component-is-there}
 use Rattle.laws_references.proofs.Runs.{found-refers, next-each}
 use Rattle.laws_references.specs.References.{ComponentRefersTo, FrameRefersTo}
 use Rattle.laws_references.specs.There.{IsThere, StandsWithAllReferred}
-use Rattle.laws_sites.proofs.Firsts.{last_frame}
+use Rattle.laws_sites.proofs.Firsts.{last-frame}
 use Rattle.laws_sites.specs.Standing.{IsFineFrame, StandsByRules}
 use Rattle.laws_steps.proofs.Found.{found-each, some-of}
 use Rattle.laws_order.specs.Order.{HasNoMarkFirst, StandsInOrder}
@@ -151,7 +151,7 @@ pub meant-found : (test : Test) (snapshot : Snapshot) (c : Going) (p : Path) (x 
 meant-found test snapshot c p x frame below order referred found calls same id (site, reference, means) =
     let refers : ComponentRefersTo (IsThere c) x = found-refers test c p x referred found in
     let seen : FrameRefersTo (IsThere c) frame = All-head (FrameRefersTo (IsThere c)) frame below (subst (All (FrameRefersTo (IsThere c))) calls refers.own.calls) in
-    is-found c id order (subst (λ o. IfYields o (IsThere c)) means (component_is_there test snapshot c p x site (last_view snapshot frame) reference referred found same seen))
+    is-found c id order (subst (λ o. IfYields o (IsThere c)) means (component-is-there test snapshot c p x site (last_view snapshot frame) reference referred found same seen))
 
 -- ---- steps
 
@@ -165,17 +165,17 @@ asked-by test snapshot x frame below well here calls same seen repeats fine mark
     (λ at. subst (λ (i : ComponentId). GivesOnly (repeat_alt x.own) (FitsData test.definitions i.component_type)) (sym same) (repeats (subst StandsAtRepeat (sym calls) at))) calls fine (no-mark x.own frame below calls marks))
 
 -- the step of a component's statement, by any such snapshot
-pub asked_fits : (test : Test) (snapshot : Snapshot) (c : Going) (p : Path) (x : Component) (frame : Frame) (below : List Frame) → AreWellTyped test.definitions → StandsByRules test (Goes c) → StandsInOrder (Goes c) → StandsWithAllReferred test (Goes c)
+pub asked-act-fits : (test : Test) (snapshot : Snapshot) (c : Going) (p : Path) (x : Component) (frame : Frame) (below : List Frame) → AreWellTyped test.definitions → StandsByRules test (Goes c) → StandsInOrder (Goes c) → StandsWithAllReferred test (Goes c)
     → StandsMarked test (Goes c) → FitsTypes test (Goes c) → component_at c p ≡ Some x → x.own.calls ≡ frame ∷ below → snapshot.itself ≡ x.itself → Sees test.definitions snapshot x.own frame
     → IfSome (apply test c x.itself (act test snapshot x.own)) (λ out. GivesOnly out (FitsTypes test))
-asked_fits test snapshot c p x frame below well rules order referred marked fits found calls same seen =
+asked-act-fits test snapshot c p x frame below well rules order referred marked fits found calls same seen =
     let here : FitsComponent test.definitions x = some-of (FitsComponent test.definitions) (component_at c p) x found (found-each (FitsComponent test.definitions) (λ component. same_path (path_of component) p) c.components fits) in
     let marks : HasNoMarkFirst x = some-of HasNoMarkFirst (component_at c p) x found (found-each HasNoMarkFirst (λ component. same_path (path_of component) p) c.components order.marks) in
     let places : AllAreMarked (lists_of x.own.calls) =
     some-of (λ (component : Component). AllAreMarked (lists_of component.own.calls)) (component_at c p) x found
     (found-each (λ (component : Component). AllAreMarked (lists_of component.own.calls)) (λ component. same_path (path_of component) p) c.components marked) in
     apply-fits test c x.itself fits (types-in p c.components x order.ordered.components found) (IsMeant test snapshot x.own frame) (meant-found test snapshot c p x frame below order referred found calls same) (act test snapshot x.own)
-    (asked-by test snapshot x frame below well here calls same seen (finds-alt test well x here places) (last_frame test c p x frame below rules found calls) marks)
+    (asked-by test snapshot x frame below well here calls same seen (finds-alt test well x here places) (last-frame test c p x frame below rules found calls) marks)
 
 -- by its own
 statement-fits : (test : Test) (c : Going) (p : Path) (x : Component) (frame : Frame) (below : List Frame) → AreWellTyped test.definitions → StandsByRules test (Goes c) → StandsInOrder (Goes c) → StandsWithAllReferred test (Goes c)
@@ -183,7 +183,7 @@ statement-fits : (test : Test) (c : Going) (p : Path) (x : Component) (frame : F
     → IfSome (apply test c x.itself (act test (snapshot_of c x) x.own)) (λ out. GivesOnly out (FitsTypes test))
 statement-fits test c p x frame below well rules order referred marked fits found calls =
     let here : FitsComponent test.definitions x = some-of (FitsComponent test.definitions) (component_at c p) x found (found-each (FitsComponent test.definitions) (λ component. same_path (path_of component) p) c.components fits) in
-    asked_fits test (snapshot_of c x) c p x frame below well rules order referred marked fits found calls refl (sees test.definitions c x frame below here calls)
+    asked-act-fits test (snapshot_of c x) c p x frame below well rules order referred marked fits found calls refl (sees test.definitions c x frame below here calls)
 
 framed : (test : Test) (c : Going) (p : Path) (x : Component) (frames : List Frame) → AreWellTyped test.definitions → StandsByRules test (Goes c) → StandsInOrder (Goes c) → StandsWithAllReferred test (Goes c)
     → StandsMarked test (Goes c) → FitsTypes test (Goes c) → component_at c p ≡ Some x → x.own.calls ≡ frames → HasFrames frames
@@ -222,19 +222,19 @@ delivery-if test c system_port (Some e) script fits =
     come-if test c system_port e (next_message test c system_port) fits (next-each (FitsIn test.definitions) test c system_port (script-messages test script))
 
 -- the step of a label
-pub step_fits : (test : Test) (c : Configuration) (label : Label) → AreWellTyped test.definitions → FitsScript test → StandsByRules test c → StandsInOrder c → StandsWithAllReferred test c → StandsMarked test c → FitsTypes test c
+pub step-fits : (test : Test) (c : Configuration) (label : Label) → AreWellTyped test.definitions → FitsScript test → StandsByRules test c → StandsInOrder c → StandsWithAllReferred test c → StandsMarked test c → FitsTypes test c
     → IfSome (step test c label) (λ out. GivesOnly out (FitsTypes test))
-step_fits test (Ended v) label well script rules order referred marked fits = tt
-step_fits test (Goes c) (Statement path) well script rules order referred marked fits =
+step-fits test (Ended v) label well script rules order referred marked fits = tt
+step-fits test (Goes c) (Statement path) well script rules order referred marked fits =
     then-fits test (statement_step test c) (component_at c path)
     (λ x found. let here : FitsComponent test.definitions x = component-fits-at test c path x fits found in
     running-fits test x (is_running_state x.state) (apply test c x.itself (act test (snapshot_of c x) x.own)) refl
     (λ runs. framed test c path x x.own.calls well rules order referred marked fits found refl (here.running runs)))
-step_fits test (Goes c) (Expiry path number name) well script rules order referred marked fits =
+step-fits test (Goes c) (Expiry path number name) well script rules order referred marked fits =
     then-fits test (expiry_step c number name) (component_at c path)
     (λ x found. running-fits test x (is_running_state x.state) (option_map (λ own. Yields (Goes (touch c (path_of x) (exchanged own)))) (expired number name x.own)) refl
     (λ runs. expiry-if test c x (expired number name x.own) fits (types-in path c.components x order.ordered.components found) (component-fits-at test c path x fits found) runs (own-expires number name x.own)))
-step_fits test (Goes c) (Delivery system_port) well script rules order referred marked fits = delivery-if test c system_port (entry c.mappings system_port) script fits
+step-fits test (Goes c) (Delivery system_port) well script rules order referred marked fits = delivery-if test c system_port (entry c.mappings system_port) script fits
 
 settled-keeps : (test : Test) (o : Option (Outcome Configuration)) (d : Configuration) → IfSome o (λ out. GivesOnly out (FitsTypes test)) → option_map settled o ≡ Some d → FitsTypes test d
 settled-keeps test None d fits is = absurd (let e = is in cc)
@@ -247,5 +247,5 @@ settled-keeps test (Some (Fails why)) d fits is = subst (FitsTypes test) (some-c
     some-conf : {a b : Configuration} → Some a ≡ Some b → a ≡ b
     some-conf h = cc
 
-pub next_fits : (test : Test) (c d : Configuration) (label : Label) → AreWellTyped test.definitions → FitsScript test → StandsByRules test c → StandsInOrder c → StandsWithAllReferred test c → StandsMarked test c → FitsTypes test c → next test c label ≡ Some d → FitsTypes test d
-next_fits test c d label well script rules order referred marked fits is = settled-keeps test (step test c label) d (step_fits test c label well script rules order referred marked fits) is
+pub next-fits : (test : Test) (c d : Configuration) (label : Label) → AreWellTyped test.definitions → FitsScript test → StandsByRules test c → StandsInOrder c → StandsWithAllReferred test c → StandsMarked test c → FitsTypes test c → next test c label ≡ Some d → FitsTypes test d
+next-fits test c d label well script rules order referred marked fits is = settled-keeps test (step test c label) d (step-fits test c label well script rules order referred marked fits) is

@@ -15,12 +15,12 @@ unfolding shape_in shape_below
 shape_in_step zero ts = refl
 shape_in_step (suc depth) ts = refl
 
-pub value_below_step : (depth : ℕ) (ts : List Spanned) → 0 < depth → value_below depth ts ≡ value_by (value_below (depth - 1)) (head_token ts) ts
+pub value-below-step : (depth : ℕ) (ts : List Spanned) → 0 < depth → value_below depth ts ≡ value_by (value_below (depth - 1)) (head_token ts) ts
 unfolding value_below
-value_below_step zero ts h = absurd (omega (arith, h))
-value_below_step (suc depth) ts h = let one : suc depth - 1 ≡ depth = omega arith in rw one (value_in_step depth ts)
+value-below-step zero ts h = absurd (omega (arith, h))
+value-below-step (suc depth) ts h = let one : suc depth - 1 ≡ depth = omega arith in rw one (value_in_step depth ts)
 
-pub shape_below_step : (depth : ℕ) (ts : List Spanned) → 0 < depth → shape_below depth ts ≡ shape_by (shape_below (depth - 1)) (head_token ts) ts
+pub shape-below-step : (depth : ℕ) (ts : List Spanned) → 0 < depth → shape_below depth ts ≡ shape_by (shape_below (depth - 1)) (head_token ts) ts
 unfolding shape_below
-shape_below_step zero ts h = absurd (omega (arith, h))
-shape_below_step (suc depth) ts h = let one : suc depth - 1 ≡ depth = omega arith in rw one (shape_in_step depth ts)
+shape-below-step zero ts h = absurd (omega (arith, h))
+shape-below-step (suc depth) ts h = let one : suc depth - 1 ≡ depth = omega arith in rw one (shape_in_step depth ts)

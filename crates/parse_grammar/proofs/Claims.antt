@@ -13,7 +13,7 @@ use Rattle.ttcn_syntax.specs.declared.tree.expression.Link.{Link}
 use Rattle.ttcn_syntax.specs.declared.tree.template.Bound.{Bound}
 use Rattle.ttcn_syntax.specs.declared.tree.template.Bound.TheVariants as bound
 use Rattle.ttcn_syntax.specs.declared.tree.template.TemplateBody.{TemplateBody}
-use Rattle.ttcn_syntax.specs.declared.tree.statement.Action.TheVariants as action
+use Rattle.ttcn_syntax.specs.declared.tree.statement.Action.TheVariants as form
 use Rattle.ttcn_syntax.specs.declared.tree.statement.Assignment.{Assignment}
 use Rattle.ttcn_syntax.specs.declared.tree.statement.Event.{Event}
 use Rattle.parse_reader.specs.declared.shape.Shape.{Shape}
@@ -35,7 +35,7 @@ use Rattle.parse_reader.specs.internal.Statements as read_statements
 use Rattle.parse_reader.specs.internal.Definitions as read_definitions
 use Rattle.parse_reader.specs.Modules as read_modules
 use Rattle.parse_grammar.proofs.Follow.{Follows, number}
-use Rattle.parse_grammar.proofs.Spellings.{shrinks, turn_shrinks}
+use Rattle.parse_grammar.proofs.Spellings.{shrinks, turn-shrinks}
 
 -- ---- expressions
 
@@ -81,13 +81,13 @@ pub data BoundRead : Bound → List Spanned → List Spanned → Type 0 where
 -- an assignment, also where it is the whole statement
 pub record AssignmentRead (a : Assignment) (ts rest : List Spanned) : Type 0 where
   pub reads : Follows 20 rest → read_actions.assignment ts ≡ Some (a, rest)
-  pub acts : (d : ℕ) → Follows 20 rest → read_statements.action_in (read_statements.block_in d) ts ≡ Some (action.Assign a, rest)
+  pub acts : (d : ℕ) → Follows 20 rest → read_statements.action_in (read_statements.block_in d) ts ≡ Some (form.Assign a, rest)
 
 -- an event, also where it is the whole statement
 pub record EventRead (e : Event) (ts rest : List Spanned) : Type 0 where
   pub no_call : calls ts ≡ false
   pub reads : Follows 27 rest → read_events.an_event ts ≡ Some (e, rest)
-  pub acts : (d : ℕ) → Follows 27 rest → read_statements.action_in (read_statements.block_in d) ts ≡ Some (action.Event e, rest)
+  pub acts : (d : ℕ) → Follows 27 rest → read_statements.action_in (read_statements.block_in d) ts ≡ Some (form.Event e, rest)
 
 -- ---- all phrases
 
@@ -193,4 +193,4 @@ pub leaves : {p : Part} {ts rest : List Spanned} → Known p ts rest → length 
 leaves s = shrinks (spelling s)
 
 pub leave : {ps : Parts} {ts rest : List Spanned} → KnownInTurn ps ts rest → length rest ≤ length ts
-leave s = turn_shrinks (spellings s)
+leave s = turn-shrinks (spellings s)

@@ -18,18 +18,18 @@ at_one_place [] = []
 at_one_place (t ∷ ts) = record { token = t; place = record { line = 1; column = 1 } } ∷ at_one_place ts
 
 -- `1 < 2 == true` compares what `1 < 2` gives
-one_less_two_is_true : expression (at_one_place (token.Int 1 ∷ token.Symbol mark.Less ∷ token.Int 2 ∷ token.Symbol mark.Equal ∷ token.Word word.True ∷ []))
+one-less-two-is-true : expression (at_one_place (token.Int 1 ∷ token.Symbol mark.Less ∷ token.Int 2 ∷ token.Symbol mark.Equal ∷ token.Word word.True ∷ []))
     ≡ Some (expr.Chain (expr.Chain (expr.Int 1) (link operator.Less (expr.Int 2) ∷ [])) (link operator.Equal (expr.Bool true) ∷ []), [])
 unfolding expression chain links_from eat_operator most_links negation signed primary same_level same_symbol same_word sees sees_word
-one_less_two_is_true = refl
+one-less-two-is-true = refl
 
 -- `not true == false` denies the comparison
-denied_comparison : expression (at_one_place (token.Word word.Not ∷ token.Word word.True ∷ token.Symbol mark.Equal ∷ token.Word word.False ∷ []))
+denied-comparison : expression (at_one_place (token.Word word.Not ∷ token.Word word.True ∷ token.Symbol mark.Equal ∷ token.Word word.False ∷ []))
     ≡ Some (expr.Not (expr.Chain (expr.Bool true) (link operator.Equal (expr.Bool false) ∷ [])), [])
 unfolding expression chain links_from eat_operator most_links negation signed primary same_level same_symbol same_word sees sees_word
-denied_comparison = refl
+denied-comparison = refl
 
 -- of `(1 < 2 < 3)` no expression is read
-no_chain_of_comparisons : expression (at_one_place (token.Symbol mark.LeftParen ∷ token.Int 1 ∷ token.Symbol mark.Less ∷ token.Int 2 ∷ token.Symbol mark.Less ∷ token.Int 3 ∷ token.Symbol mark.RightParen ∷ [])) ≡ None
+no-chain-of-comparisons : expression (at_one_place (token.Symbol mark.LeftParen ∷ token.Int 1 ∷ token.Symbol mark.Less ∷ token.Int 2 ∷ token.Symbol mark.Less ∷ token.Int 3 ∷ token.Symbol mark.RightParen ∷ [])) ≡ None
 unfolding expression chain links_from eat_operator most_links negation signed primary same_level same_symbol same_word sees sees_word bracketed inner expect
-no_chain_of_comparisons = refl
+no-chain-of-comparisons = refl

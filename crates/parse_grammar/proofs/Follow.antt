@@ -17,7 +17,7 @@ use Rattle.parse_limits.specs.Groups.{Is}
 use Rattle.parse_grammar.specs.Grammar.{EndsInBrace, Ends, last, earlier, in_brace, before_semicolon, before_brace}
 use Rattle.parse_reader.specs.internal.Reading.{head_token, may_end, sees, sees_word}
 use Rattle.parse_reader.specs.internal.Expressions.{next_field}
-use Rattle.parse_grammar.proofs.Tokens.{sees_here, sees_is, sees_word_is}
+use Rattle.parse_grammar.proofs.Tokens.{sees-here, sees-is, sees-word-is}
 
 pub either : (b : Bool) → (b ≡ true) ⊎ (b ≡ false)
 either true = inl refl
@@ -86,69 +86,69 @@ pub record Follows (n : ℕ) (rest : List Spanned) : Type 0 where
 pub loosen : (m n : ℕ) (rest : List Spanned) → m ≤ n → Follows n rest → Follows m rest
 loosen m n rest less f = record { least = omega (arith, less, f.least) }
 
-pub follows_at : (n : ℕ) (k : Spanned) (rest : List Spanned) (t : Token) → Is k t → n ≤ rank (Some t) → Follows n (k ∷ rest)
-follows_at n k rest t is less = record { least = rw is less }
+pub follows-at : (n : ℕ) (k : Spanned) (rest : List Spanned) (t : Token) → Is k t → n ≤ rank (Some t) → Follows n (k ∷ rest)
+follows-at n k rest t is less = record { least = rw is less }
 
-pub follows_end : (rest : List Spanned) → rest ≡ [] → Follows 30 rest
-follows_end rest is = record { least = rw is (omega arith) }
+pub follows-end : (rest : List Spanned) → rest ≡ [] → Follows 30 rest
+follows-end rest is = record { least = rw is (omega arith) }
 
 -- ---- what does not come next
 
 pub no_symbol : (s : Symbol) (n : ℕ) (rest : List Spanned) → Follows n rest → symbol_rank s < n → sees s rest ≡ false
 no_symbol s n rest f less = elim (either (sees s rest)) [
-  | inl there ↦ (let begins = sees_is s rest there in
+  | inl there ↦ (let begins = sees-is s rest there in
       let next : rank (head_token rest) ≡ symbol_rank s = ap (λ ts. rank (head_token ts)) begins.all ∙ ap (λ t. rank (Some t)) begins.is in
       absurd (omega (arith, f.least, less, next)))
   | inr other ↦ other
 ]
 
-pub no_word : (w : Word) (n : ℕ) (rest : List Spanned) → Follows n rest → word_rank w < n → sees_word w rest ≡ false
-no_word w n rest f less = elim (either (sees_word w rest)) [
-  | inl there ↦ (let begins = sees_word_is w rest there in
+pub no-word : (w : Word) (n : ℕ) (rest : List Spanned) → Follows n rest → word_rank w < n → sees_word w rest ≡ false
+no-word w n rest f less = elim (either (sees_word w rest)) [
+  | inl there ↦ (let begins = sees-word-is w rest there in
       let next : rank (head_token rest) ≡ word_rank w = ap (λ ts. rank (head_token ts)) begins.all ∙ ap (λ t. rank (Some t)) begins.is in
       absurd (omega (arith, f.least, less, next)))
   | inr other ↦ other
 ]
 
-pub no_field : (n : ℕ) (rest : List Spanned) → Follows n rest → 0 < n → next_field rest ≡ None
-no_field n rest f less = rw (no_symbol mark.Dot n rest f less) refl
+pub no-field : (n : ℕ) (rest : List Spanned) → Follows n rest → 0 < n → next_field rest ≡ None
+no-field n rest f less = rw (no_symbol mark.Dot n rest f less) refl
 
 -- ---- operators
 
-pub written_operator : (o : Operator) → operator_of (written o) ≡ Some o
-written_operator operator.Or = refl
-written_operator operator.Xor = refl
-written_operator operator.And = refl
-written_operator operator.Equal = refl
-written_operator operator.NotEqual = refl
-written_operator operator.Less = refl
-written_operator operator.Greater = refl
-written_operator operator.LessEqual = refl
-written_operator operator.GreaterEqual = refl
-written_operator operator.Add = refl
-written_operator operator.Subtract = refl
-written_operator operator.Multiply = refl
-written_operator operator.Divide = refl
-written_operator operator.Mod = refl
-written_operator operator.Rem = refl
+pub written-operator : (o : Operator) → operator_of (written o) ≡ Some o
+written-operator operator.Or = refl
+written-operator operator.Xor = refl
+written-operator operator.And = refl
+written-operator operator.Equal = refl
+written-operator operator.NotEqual = refl
+written-operator operator.Less = refl
+written-operator operator.Greater = refl
+written-operator operator.LessEqual = refl
+written-operator operator.GreaterEqual = refl
+written-operator operator.Add = refl
+written-operator operator.Subtract = refl
+written-operator operator.Multiply = refl
+written-operator operator.Divide = refl
+written-operator operator.Mod = refl
+written-operator operator.Rem = refl
 
 -- an operator comes one below the number of its level
-pub written_rank : (o : Operator) → number (level_of o) ≡ suc (rank (Some (written o)))
-written_rank operator.Or = refl
-written_rank operator.Xor = refl
-written_rank operator.And = refl
-written_rank operator.Equal = refl
-written_rank operator.NotEqual = refl
-written_rank operator.Less = refl
-written_rank operator.Greater = refl
-written_rank operator.LessEqual = refl
-written_rank operator.GreaterEqual = refl
-written_rank operator.Add = refl
-written_rank operator.Subtract = refl
-written_rank operator.Multiply = refl
-written_rank operator.Divide = refl
-written_rank operator.Mod = refl
-written_rank operator.Rem = refl
+pub written-rank : (o : Operator) → number (level_of o) ≡ suc (rank (Some (written o)))
+written-rank operator.Or = refl
+written-rank operator.Xor = refl
+written-rank operator.And = refl
+written-rank operator.Equal = refl
+written-rank operator.NotEqual = refl
+written-rank operator.Less = refl
+written-rank operator.Greater = refl
+written-rank operator.LessEqual = refl
+written-rank operator.GreaterEqual = refl
+written-rank operator.Add = refl
+written-rank operator.Subtract = refl
+written-rank operator.Multiply = refl
+written-rank operator.Divide = refl
+written-rank operator.Mod = refl
+written-rank operator.Rem = refl
 
 pub tighter : {outer inner : Level} → Joins outer inner → suc (number inner) < number outer
 tighter or_joins = omega arith
@@ -160,42 +160,42 @@ tighter sum_joins = omega arith
 tighter product_joins = omega arith
 
 -- every operand reaches over dots, brackets and ':='
-pub at_least : (l : Level) → 3 < number l
-at_least level.Sign = omega arith
-at_least level.Product = omega arith
-at_least level.Sum = omega arith
-at_least level.Order = omega arith
-at_least level.Equality = omega arith
-at_least level.Not = omega arith
-at_least level.And = omega arith
-at_least level.Xor = omega arith
-at_least level.Or = omega arith
+pub at-least : (l : Level) → 3 < number l
+at-least level.Sign = omega arith
+at-least level.Product = omega arith
+at-least level.Sum = omega arith
+at-least level.Order = omega arith
+at-least level.Equality = omega arith
+at-least level.Not = omega arith
+at-least level.And = omega arith
+at-least level.Xor = omega arith
+at-least level.Or = omega arith
 
 -- ---- what may end
 
-pub brace_shrinks : {ts rest : List Spanned} → EndsInBrace ts rest → length rest < length ts
-brace_shrinks (last is) = omega arith
-brace_shrinks (earlier more) = omega (arith, brace_shrinks more)
+pub brace-shrinks : {ts rest : List Spanned} → EndsInBrace ts rest → length rest < length ts
+brace-shrinks (last is) = omega arith
+brace-shrinks (earlier more) = omega (arith, brace-shrinks more)
 
 dropped : (n : ℕ) (k : Spanned) (ts : List Spanned) (m : ℕ) → n ≡ suc m → drop n (k ∷ ts) ≡ drop m ts
 dropped n k ts m e = rw e refl
 
-brace_seen : {ts rest : List Spanned} → EndsInBrace ts rest → sees mark.RightBrace (drop (length ts - length rest - 1) ts) ≡ true
-brace_seen (last {k = k} {rest = rest} is) =
-    let none : length (k ∷ rest) - length rest - 1 ≡ 0 = omega arith in rw none (sees_here mark.RightBrace k rest is)
-brace_seen (earlier {k = k} {ts = ts} {rest = rest} more) =
-    let shorter = brace_shrinks more in
+brace-seen : {ts rest : List Spanned} → EndsInBrace ts rest → sees mark.RightBrace (drop (length ts - length rest - 1) ts) ≡ true
+brace-seen (last {k = k} {rest = rest} is) =
+    let none : length (k ∷ rest) - length rest - 1 ≡ 0 = omega arith in rw none (sees-here mark.RightBrace k rest is)
+brace-seen (earlier {k = k} {ts = ts} {rest = rest} more) =
+    let shorter = brace-shrinks more in
     let one : length (k ∷ ts) - length rest - 1 ≡ suc (length ts - length rest - 1) = omega (arith, shorter) in
-    rw (dropped (length (k ∷ ts) - length rest - 1) k ts (length ts - length rest - 1) one) (brace_seen more)
+    rw (dropped (length (k ∷ ts) - length rest - 1) k ts (length ts - length rest - 1) one) (brace-seen more)
 
-or_true : (a b : Bool) → b ≡ true → (a || b) ≡ true
-or_true true b h = refl
-or_true false b h = h
+or-true : (a b : Bool) → b ≡ true → (a || b) ≡ true
+or-true true b h = refl
+or-true false b h = h
 
-pub may_end_here : {ts rest : List Spanned} → Ends ts rest → may_end ts rest ≡ true
+pub may-end-here : {ts rest : List Spanned} → Ends ts rest → may_end ts rest ≡ true
 unfolding may_end
-may_end_here {ts = ts} (in_brace {rest = rest} brace) =
-    or_true (sees mark.Semicolon rest) _ (or_true (sees mark.RightBrace rest) _ (brace_seen brace))
-may_end_here (before_semicolon {k = k} {rest = rest} is) = rw (sees_here mark.Semicolon k rest is) refl
-may_end_here {ts = ts} (before_brace {k = k} {rest = rest} is) =
-    or_true (sees mark.Semicolon (k ∷ rest)) _ (rw (sees_here mark.RightBrace k rest is) refl)
+may-end-here {ts = ts} (in_brace {rest = rest} brace) =
+    or-true (sees mark.Semicolon rest) _ (or-true (sees mark.RightBrace rest) _ (brace-seen brace))
+may-end-here (before_semicolon {k = k} {rest = rest} is) = rw (sees-here mark.Semicolon k rest is) refl
+may-end-here {ts = ts} (before_brace {k = k} {rest = rest} is) =
+    or-true (sees mark.Semicolon (k ∷ rest)) _ (rw (sees-here mark.RightBrace k rest is) refl)

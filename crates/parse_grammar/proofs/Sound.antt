@@ -19,12 +19,12 @@ use Rattle.ttcn_syntax.specs.declared.tree.expression.Expr.{Expr}
 use Rattle.ttcn_syntax.specs.declared.tree.expression.Expr.TheVariants as expr
 use Rattle.ttcn_syntax.specs.declared.tree.expression.Link.{Link}
 use Rattle.parse_limits.specs.Groups.{Balanced, Group, Is, braces, nothing, pair, plain}
-use Rattle.parse_grammar.specs.Grammar.{Ends, EndsInBrace, InTurn, Part, Parts, Phrase, Production, Spells, a_component, a_primary, a_reference, an_operand, the_links, dotted, each, key, nil, one, phrase, turn, commas, semicolons, ◌▸◌}
+use Rattle.parse_grammar.specs.Grammar.{Ends, InTurn, Part, Parts, Spells, a_component, a_primary, a_reference, an_operand, the_links, dotted, each, key, one, phrase, turn, commas, semicolons, ◌▸◌}
 use Rattle.parse_reader.specs.Trees.{link}
 use Rattle.parse_grammar.specs.Grammar as spelled
 use Rattle.parse_reader.specs.internal.Reading.{Parsed, Parser, after_semicolons, and_then, behind, ended, expect, expect_word, head_token, here, is_symbol, is_word, items, items_from, may_end, name, name_of, same_level, second, sees, sees_word, separated, separated_from, separated_until, token_by}
 use Rattle.parse_reader.specs.internal.Expressions.{after_field, after_operator, at_level, behind_field, behind_operator, bracketed, chain, component, component_by, eat_field, eat_operator, expression, expression_from, field_of, fields_from, inner, is_present, links_from, most_links, named_reference, negation, next_field, next_operator, primary, primary_by, reference, referred, runs, signed, tree_of, at_and, at_equality, at_not, at_or, at_order, at_product, at_sum, at_xor}
-use Rattle.parse_grammar.proofs.Tokens.{Begins, expect_is, expect_word_is, first_step, name_is, read_is, sees_is, sees_word_is, with_rest_is}
+use Rattle.parse_grammar.proofs.Tokens.{Begins, expect-is, expect-word-is, first-step, name-is, read-is, sees-is, sees-word-is, with-rest-is}
 
 -- ---- what is read
 
@@ -42,15 +42,15 @@ pub either : (b : Bool) → (b ≡ true) ⊎ (b ≡ false)
 either true = inl refl
 either false = inr refl
 
-pub some_is : {A : Type 0} {a b : A} → Some a ≡ Some b → a ≡ b
-some_is {A = A} {a = a} h =
+pub some-is : {A : Type 0} {a b : A} → Some a ≡ Some b → a ≡ b
+some-is {A = A} {a = a} h =
     let the : Option A → A = λ o. elim o as (λ _. A) [ Some r ↦ r | None ↦ a ] in ap the h
 
 -- what holds of what was given holds of what was read
 pub give : {A : Type 0} (P : A → List Spanned → Type 0) {p x : A × List Spanned} → ◌≡◌ {A = Parsed A} (Some p) (Some x)
     → P p.0 p.1 → P x.0 x.1
 give P {p = p} {x = x} h held =
-    let parts = read_is h in
+    let parts = read-is h in
     let first : P x.0 p.1 = rw parts.0 at held in
     rw parts.1 at first
 
@@ -64,38 +64,38 @@ refused = record { held = λ x h. cc }
 pub after : {A B : Type 0} {Q : A → List Spanned → Type 0} {P : B → List Spanned → Type 0} {o : Parsed A} {f : A → Parser B} → Holds Q o
     → ((a : A) (rest : List Spanned) → Q a rest → Holds P (f a rest)) → Holds P (and_then o f)
 after {o = o} {f = f} begun more =
-    record { held = λ y h. (let s = first_step o f y h in (more s.0.0 s.0.1 (begun.held s.0 s.1)).held y s.2) }
+    record { held = λ y h. (let s = first-step o f y h in (more s.0.0 s.0.1 (begun.held s.0 s.1)).held y s.2) }
 
 -- what follows from what holds
 pub implied : {A : Type 0} {Q P : A → List Spanned → Type 0} {o : Parsed A} → Holds Q o
     → ((a : A) (rest : List Spanned) → Q a rest → P a rest) → Holds P o
 implied begun more = record { held = λ x h. more x.0 x.1 (begun.held x h) }
 
-pub sound_expect : (s : Symbol) → Sound (λ _. spelled.sym s) (expect s)
-sound_expect s ts = record { held = λ x h. (let b = expect_is s ts x h in rw b.all (spelled.this b.is)) }
+pub sound-expect : (s : Symbol) → Sound (λ _. spelled.sym s) (expect s)
+sound-expect s ts = record { held = λ x h. (let b = expect-is s ts x h in rw b.all (spelled.this b.is)) }
 
-pub sound_expect_word : (w : Word) → Sound (λ _. key w) (expect_word w)
-sound_expect_word w ts = record { held = λ x h. (let b = expect_word_is w ts x h in rw b.all (spelled.this b.is)) }
+pub sound-expect-word : (w : Word) → Sound (λ _. key w) (expect_word w)
+sound-expect-word w ts = record { held = λ x h. (let b = expect-word-is w ts x h in rw b.all (spelled.this b.is)) }
 
-pub sound_name : Sound spelled.id name
-sound_name ts = record { held = λ x h. (let b = name_is ts x h in rw b.all (spelled.this b.is)) }
+pub sound-name : Sound spelled.id name
+sound-name ts = record { held = λ x h. (let b = name-is ts x h in rw b.all (spelled.this b.is)) }
 
 -- ---- what one token spells
 
 -- what is read of one token is spelled by it
-pub sound_token : {A : Type 0} (spelt : A → Token) (f : Option Token → Option A) → f None ≡ None
+pub sound-token : {A : Type 0} (spelt : A → Token) (f : Option Token → Option A) → f None ≡ None
     → ((t : Token) (a : A) → f (Some t) ≡ Some a → t ≡ spelt a) → Sound (λ a. spelled.one (spelt a)) (token_by f)
-sound_token spelt f nothing_there written_so ts =
+sound-token spelt f nothing_there written_so ts =
     record {
-      held = λ x h. (let parts = with_rest_is f nothing_there ts x h in
+      held = λ x h. (let parts = with-rest-is f nothing_there ts x h in
           rw parts.1 (spelled.this (written_so parts.0.token x.0 parts.2)));
     }
 
 -- the place of the next token
-pub sound_here : Sound spelled.at here
+pub sound-here : Sound spelled.at here
 unfolding here
-sound_here [] = refused
-sound_here (k ∷ ts) = done spelled.here
+sound-here [] = refused
+sound-here (k ∷ ts) = done spelled.here
 
 -- the symbol comes next, or it does not
 pub eaten : {A : Type 0} {P : A → List Spanned → Type 0} (p q : Parser A) (s : Symbol) (ts : List Spanned)
@@ -103,16 +103,16 @@ pub eaten : {A : Type 0} {P : A → List Spanned → Type 0} (p q : Parser A) (s
     → Holds P ((if sees s ts then p else q) (if sees s ts then behind ts else ts))
 eaten p q s ts there missing =
     elim (either (sees s ts)) [
-      | inl e ↦ (let b = sees_is s ts e in rw e (there (rw b.all (spelled.this b.is))))
+      | inl e ↦ (let b = sees-is s ts e in rw e (there (rw b.all (spelled.this b.is))))
       | inr e ↦ rw e missing
     ]
 
-pub word_eaten : {A : Type 0} {P : A → List Spanned → Type 0} (p q : Parser A) (w : Word) (ts : List Spanned)
+pub word-eaten : {A : Type 0} {P : A → List Spanned → Type 0} (p q : Parser A) (w : Word) (ts : List Spanned)
     → (Spells (key w) ts (behind ts) → Holds P (p (behind ts))) → Holds P (q ts)
     → Holds P ((if sees_word w ts then p else q) (if sees_word w ts then behind ts else ts))
-word_eaten p q w ts there missing =
+word-eaten p q w ts there missing =
     elim (either (sees_word w ts)) [
-      | inl e ↦ (let b = sees_word_is w ts e in rw e (there (rw b.all (spelled.this b.is))))
+      | inl e ↦ (let b = sees-word-is w ts e in rw e (there (rw b.all (spelled.this b.is))))
       | inr e ↦ rw e missing
     ]
 
@@ -139,18 +139,18 @@ both false b h = cc
 
 -- ---- semicolons
 
-semicolons_step : (b : Bool) (k : Spanned) (ts : List Spanned) → sees mark.Semicolon (k ∷ ts) ≡ b → Spells semicolons ts (after_semicolons ts)
+semicolons-step : (b : Bool) (k : Spanned) (ts : List Spanned) → sees mark.Semicolon (k ∷ ts) ≡ b → Spells semicolons ts (after_semicolons ts)
     → Spells semicolons (k ∷ ts) (if b then after_semicolons ts else k ∷ ts)
-semicolons_step true k ts h more =
-    let begins = sees_is mark.Semicolon (k ∷ ts) h in
+semicolons-step true k ts h more =
+    let begins = sees-is mark.Semicolon (k ∷ ts) h in
     let same : k ≡ begins.first = cc in
     spelled.next_semicolon (ap (λ s. s.token) same ∙ begins.is) more
-semicolons_step false k ts h more = spelled.no_semicolon
+semicolons-step false k ts h more = spelled.no_semicolon
 
-pub sound_semicolons : (ts : List Spanned) → Spells semicolons ts (after_semicolons ts)
+pub sound-semicolons : (ts : List Spanned) → Spells semicolons ts (after_semicolons ts)
 unfolding after_semicolons
-sound_semicolons [] = spelled.no_semicolon
-sound_semicolons (k ∷ ts) = semicolons_step (sees mark.Semicolon (k ∷ ts)) k ts refl (sound_semicolons ts)
+sound-semicolons [] = spelled.no_semicolon
+sound-semicolons (k ∷ ts) = semicolons-step (sees mark.Semicolon (k ∷ ts)) k ts refl (sound-semicolons ts)
 
 -- ---- lists
 
@@ -161,35 +161,35 @@ pub record Added {A : Type 0} (part : A → Part) (found : List A) (ts : List Sp
   pub all : xs ≡ found ++ head ∷ others
   pub spelling : Spells (commas (part head ▸ each part others)) ts rest
 
-pub comma_between : {p q : Part} {ps : Parts} {ts gap middle rest : List Spanned} → Spells p ts gap → Spells (spelled.sym mark.Comma) gap middle
+pub comma-between : {p q : Part} {ps : Parts} {ts gap middle rest : List Spanned} → Spells p ts gap → Spells (spelled.sym mark.Comma) gap middle
     → Spells (commas (q ▸ ps)) middle rest → Spells (commas (p ▸ q ▸ ps)) ts rest
-comma_between before (spelled.this is) more = spelled.and_more before is more
+comma-between before (spelled.this is) more = spelled.and_more before is more
 
-added_more : {A : Type 0} {part : A → Part} {found : List A} {ts gap middle rest : List Spanned} {xs : List A} (a : A) → Spells (part a) ts gap
+added-more : {A : Type 0} {part : A → Part} {found : List A} {ts gap middle rest : List Spanned} {xs : List A} (a : A) → Spells (part a) ts gap
     → Spells (spelled.sym mark.Comma) gap middle → Added part (found ++ a ∷ []) middle xs rest → Added part found ts xs rest
-added_more {found = found} a before comma more =
+added-more {found = found} a before comma more =
     record {
       head = a;
       others = more.head ∷ more.others;
       all = more.all ∙ append_assoc found (a ∷ []) (more.head ∷ more.others);
-      spelling = comma_between before comma more.spelling;
+      spelling = comma-between before comma more.spelling;
     }
 
-pub sound_separated_from : {A : Type 0} (part : A → Part) (p : Parser A) → Sound part p → (n : ℕ) (found : List A) (ts : List Spanned)
+pub sound-separated-from : {A : Type 0} (part : A → Part) (p : Parser A) → Sound part p → (n : ℕ) (found : List A) (ts : List Spanned)
     → Holds (Added part found ts) (separated_from p n found ts)
 unfolding separated_from
-sound_separated_from part p sound zero found ts = refused
-sound_separated_from part p sound (suc n) found ts =
+sound-separated-from part p sound zero found ts = refused
+sound-separated-from part p sound (suc n) found ts =
     after (sound ts) (λ a rest before. eaten _ _ mark.Comma rest
-    (λ comma. implied (sound_separated_from part p sound n (found ++ a ∷ []) (behind rest)) (λ xs end more. added_more a before comma more))
+    (λ comma. implied (sound-separated-from part p sound n (found ++ a ∷ []) (behind rest)) (λ xs end more. added-more a before comma more))
     (done (record { head = a; others = []; all = refl; spelling = spelled.last_one before })))
 
-separated_added : {A : Type 0} {part : A → Part} {ts rest : List Spanned} (xs : List A) → Added part [] ts xs rest → Spells (commas (each part xs)) ts rest
-separated_added xs more = rw more.all more.spelling
+separated-added : {A : Type 0} {part : A → Part} {ts rest : List Spanned} (xs : List A) → Added part [] ts xs rest → Spells (commas (each part xs)) ts rest
+separated-added xs more = rw more.all more.spelling
 
 -- X {',' X}
-pub sound_separated : {A : Type 0} (part : A → Part) (p : Parser A) → Sound part p → Sound (λ xs. commas (each part xs)) (separated p)
-sound_separated part p sound ts = implied (sound_separated_from part p sound (length ts) [] ts) (λ xs rest more. separated_added xs more)
+pub sound-separated : {A : Type 0} (part : A → Part) (p : Parser A) → Sound part p → Sound (λ xs. commas (each part xs)) (separated p)
+sound-separated part p sound ts = implied (sound-separated-from part p sound (length ts) [] ts) (λ xs rest more. separated-added xs more)
 
 -- items, and a symbol behind them
 pub record Until (inside closing : Part) (ts rest : List Spanned) : Type 0 where
@@ -197,18 +197,18 @@ pub record Until (inside closing : Part) (ts rest : List Spanned) : Type 0 where
   pub body : Spells inside ts gap
   pub closed : Spells closing gap rest
 
-some_added : {A : Type 0} {part : A → Part} {ts rest : List Spanned} (xs : List A) → Added part [] ts xs rest
+some-added : {A : Type 0} {part : A → Part} {ts rest : List Spanned} (xs : List A) → Added part [] ts xs rest
     → Spells (spelled.separated (each part xs)) ts rest
-some_added xs more = rw more.all more.spelling
+some-added xs more = rw more.all more.spelling
 
 -- [X {',' X}] and the symbol behind it
-pub sound_until : {A : Type 0} (part : A → Part) (close : Symbol) (p : Parser A) → Sound part p → (ts : List Spanned)
+pub sound-until : {A : Type 0} (part : A → Part) (close : Symbol) (p : Parser A) → Sound part p → (ts : List Spanned)
     → Holds (λ xs rest. Until (spelled.separated (each part xs)) (spelled.sym close) ts rest) (separated_until close p ts)
 unfolding separated_until
-sound_until part close p sound ts =
+sound-until part close p sound ts =
     eaten _ _ close ts (λ closing. done (record { gap = ts; body = spelled.all spelled.end; closed = closing }))
-    (after (sound_separated_from part p sound (length ts) [] ts) (λ xs gap body. after (sound_expect close gap) (λ _ rest closing.
-    done (record { gap = gap; body = some_added xs body; closed = closing }))))
+    (after (sound-separated-from part p sound (length ts) [] ts) (λ xs gap body. after (sound-expect close gap) (λ _ rest closing.
+    done (record { gap = gap; body = some-added xs body; closed = closing }))))
 
 -- ---- items
 
@@ -218,34 +218,34 @@ pub record Gathered {A : Type 0} (part : A → Part) (found : List A) (ts : List
   pub all : xs ≡ found ++ others
   pub spelling : Spells (spelled.items (each part others)) ts rest
 
-no_item_gathered : {A : Type 0} {part : A → Part} {found : List A} {ts : List Spanned} → Gathered part found ts found ts
-no_item_gathered {found = found} = record { others = []; all = sym (append-nil found); spelling = spelled.no_item }
+no-item-gathered : {A : Type 0} {part : A → Part} {found : List A} {ts : List Spanned} → Gathered part found ts found ts
+no-item-gathered {found = found} = record { others = []; all = sym (append-nil found); spelling = spelled.no_item }
 
-item_gathered : {A : Type 0} {part : A → Part} {found : List A} {ts gap rest : List Spanned} {xs : List A} (a : A) → Spells (part a) ts gap
+item-gathered : {A : Type 0} {part : A → Part} {found : List A} {ts gap rest : List Spanned} {xs : List A} (a : A) → Spells (part a) ts gap
     → Gathered part (found ++ a ∷ []) (after_semicolons gap) xs rest → Gathered part found ts xs rest
-item_gathered {found = found} {gap = gap} a before more =
+item-gathered {found = found} {gap = gap} a before more =
     record {
       others = a ∷ more.others;
       all = more.all ∙ append_assoc found (a ∷ []) more.others;
-      spelling = spelled.next_item before (sound_semicolons gap) more.spelling;
+      spelling = spelled.next_item before (sound-semicolons gap) more.spelling;
     }
 
-sound_items_from : {A : Type 0} (part : A → Part) (stops : List Spanned → Bool) (p : Parser A) → Sound part p → (n : ℕ) (found : List A) (ts : List Spanned)
+sound-items-from : {A : Type 0} (part : A → Part) (stops : List Spanned → Bool) (p : Parser A) → Sound part p → (n : ℕ) (found : List A) (ts : List Spanned)
     → Holds (Gathered part found ts) (items_from stops p n found ts)
 unfolding items_from
-sound_items_from part stops p sound zero found ts = done no_item_gathered
-sound_items_from part stops p sound (suc n) found ts =
-    chosen (stops ts) (λ _. done no_item_gathered)
-    (after (sound ts) (λ a gap before. implied (sound_items_from part stops p sound n (found ++ a ∷ []) (after_semicolons gap))
-    (λ xs rest more. item_gathered a before more)))
+sound-items-from part stops p sound zero found ts = done no-item-gathered
+sound-items-from part stops p sound (suc n) found ts =
+    chosen (stops ts) (λ _. done no-item-gathered)
+    (after (sound ts) (λ a gap before. implied (sound-items-from part stops p sound n (found ++ a ∷ []) (after_semicolons gap))
+    (λ xs rest more. item-gathered a before more)))
 
-items_gathered : {A : Type 0} {part : A → Part} {ts rest : List Spanned} (xs : List A) → Gathered part [] ts xs rest → Spells (spelled.items (each part xs)) ts rest
-items_gathered xs more = rw more.all more.spelling
+items-gathered : {A : Type 0} {part : A → Part} {ts rest : List Spanned} (xs : List A) → Gathered part [] ts xs rest → Spells (spelled.items (each part xs)) ts rest
+items-gathered xs more = rw more.all more.spelling
 
 -- {X {';'}}
-pub sound_items : {A : Type 0} (part : A → Part) (stops : List Spanned → Bool) (p : Parser A) → Sound part p
+pub sound-items : {A : Type 0} (part : A → Part) (stops : List Spanned → Bool) (p : Parser A) → Sound part p
     → Sound (λ xs. spelled.items (each part xs)) (items stops p)
-sound_items part stops p sound ts = implied (sound_items_from part stops p sound (length ts) [] ts) (λ xs rest more. items_gathered xs more)
+sound-items part stops p sound ts = implied (sound-items-from part stops p sound (length ts) [] ts) (λ xs rest more. items-gathered xs more)
 
 -- ---- what is left is behind what was taken
 
@@ -257,20 +257,20 @@ onward : {ts middle rest : List Spanned} → Suffix ts middle → Suffix middle 
 onward same more = more
 onward (longer s) more = longer (onward s more)
 
-balanced_suffix : {ts rest : List Spanned} → Balanced ts rest → Suffix ts rest
-balanced_suffix nothing = same
-balanced_suffix (plain o c more) = longer (balanced_suffix more)
-balanced_suffix (pair is p inside close more) = longer (onward (balanced_suffix inside) (longer (balanced_suffix more)))
+balanced-suffix : {ts rest : List Spanned} → Balanced ts rest → Suffix ts rest
+balanced-suffix nothing = same
+balanced-suffix (plain o c more) = longer (balanced-suffix more)
+balanced-suffix (pair is p inside close more) = longer (onward (balanced-suffix inside) (longer (balanced-suffix more)))
 
-group_suffix : {ts rest : List Spanned} → Group ts rest → Suffix ts rest
-group_suffix (braces is inside close) = longer (onward (balanced_suffix inside) (longer same))
+group-suffix : {ts rest : List Spanned} → Group ts rest → Suffix ts rest
+group-suffix (braces is inside close) = longer (onward (balanced-suffix inside) (longer same))
 
 mutual
   pub suffix : {p : Part} {ts rest : List Spanned} → Spells p ts rest → Suffix ts rest
   suffix (spelled.this is) = longer same
   suffix spelled.here = same
-  suffix (spelled.by made parts) = turn_suffix parts
-  suffix (spelled.all parts) = turn_suffix parts
+  suffix (spelled.by made parts) = turn-suffix parts
+  suffix (spelled.all parts) = turn-suffix parts
   suffix (spelled.last_one s) = suffix s
   suffix (spelled.and_more s is more) = onward (suffix s) (longer (suffix more))
   suffix spelled.no_item = same
@@ -278,47 +278,47 @@ mutual
   suffix (spelled.at_its_end s ends) = suffix s
   suffix spelled.no_semicolon = same
   suffix (spelled.next_semicolon is s) = longer (suffix s)
-  suffix (spelled.balanced g) = group_suffix g
+  suffix (spelled.balanced g) = group-suffix g
 
-  turn_suffix : {ps : Parts} {ts rest : List Spanned} → InTurn ps ts rest → Suffix ts rest
-  turn_suffix spelled.end = same
-  turn_suffix (spelled.then s more) = onward (suffix s) (turn_suffix more)
+  turn-suffix : {ps : Parts} {ts rest : List Spanned} → InTurn ps ts rest → Suffix ts rest
+  turn-suffix spelled.end = same
+  turn-suffix (spelled.then s more) = onward (suffix s) (turn-suffix more)
 
 -- ---- ends
 
-suffix_shorter : {ts rest : List Spanned} → Suffix ts rest → length rest ≤ length ts
-suffix_shorter same = omega arith
-suffix_shorter (longer s) = omega (arith, suffix_shorter s)
+suffix-shorter : {ts rest : List Spanned} → Suffix ts rest → length rest ≤ length ts
+suffix-shorter same = omega arith
+suffix-shorter (longer s) = omega (arith, suffix-shorter s)
 
-ends_later : {k : Spanned} {ts rest : List Spanned} → Ends ts rest → Ends (k ∷ ts) rest
-ends_later (spelled.in_brace e) = spelled.in_brace (spelled.earlier e)
-ends_later (spelled.before_semicolon is) = spelled.before_semicolon is
-ends_later (spelled.before_brace is) = spelled.before_brace is
+ends-later : {k : Spanned} {ts rest : List Spanned} → Ends ts rest → Ends (k ∷ ts) rest
+ends-later (spelled.in_brace e) = spelled.in_brace (spelled.earlier e)
+ends-later (spelled.before_semicolon is) = spelled.before_semicolon is
+ends-later (spelled.before_brace is) = spelled.before_brace is
 
-before_a_brace : (before ts : List Spanned) → sees mark.RightBrace ts ≡ true → Ends before ts
-before_a_brace before ts h = let b = sees_is mark.RightBrace ts h in rw b.all (spelled.before_brace b.is)
+before-a-brace : (before ts : List Spanned) → sees mark.RightBrace ts ≡ true → Ends before ts
+before-a-brace before ts h = let b = sees-is mark.RightBrace ts h in rw b.all (spelled.before_brace b.is)
 
-before_a_semicolon : (before ts : List Spanned) → sees mark.Semicolon ts ≡ true → Ends before ts
-before_a_semicolon before ts h = let b = sees_is mark.Semicolon ts h in rw b.all (spelled.before_semicolon b.is)
+before-a-semicolon : (before ts : List Spanned) → sees mark.Semicolon ts ≡ true → Ends before ts
+before-a-semicolon before ts h = let b = sees-is mark.Semicolon ts h in rw b.all (spelled.before_semicolon b.is)
 
-last_is_brace : (k : Spanned) (ts : List Spanned) → Begins (token.Symbol mark.RightBrace) (k ∷ ts) ts → Ends (k ∷ ts) ts
-last_is_brace k ts b =
+last-is-brace : (k : Spanned) (ts : List Spanned) → Begins (token.Symbol mark.RightBrace) (k ∷ ts) ts → Ends (k ∷ ts) ts
+last-is-brace k ts b =
     let first : k ≡ b.first = cc in
     spelled.in_brace (spelled.last (ap (λ s. s.token) first ∙ b.is))
 
 -- the last token that was taken is '}'
-brace_last : {ts rest : List Spanned} → Suffix ts rest → sees mark.RightBrace (drop (length ts - length rest - 1) ts) ≡ true → Ends ts rest
-brace_last {ts = ts} same h =
-    let none_taken : length ts - length ts - 1 ≡ 0 = omega arith in
-    before_a_brace ts ts (rw none_taken at h)
-brace_last {ts = k ∷ ts} (longer same) h =
+brace-last : {ts rest : List Spanned} → Suffix ts rest → sees mark.RightBrace (drop (length ts - length rest - 1) ts) ≡ true → Ends ts rest
+brace-last {ts = ts} same h =
+    let none-taken : length ts - length ts - 1 ≡ 0 = omega arith in
+    before-a-brace ts ts (rw none-taken at h)
+brace-last {ts = k ∷ ts} (longer same) h =
     let one_taken : length (k ∷ ts) - length ts - 1 ≡ 0 = omega arith in
-    last_is_brace k ts (sees_is mark.RightBrace (k ∷ ts) (rw one_taken at h))
-brace_last {ts = k ∷ (j ∷ ts)} {rest = rest} (longer (longer s)) h =
-    let shorter = suffix_shorter s in
+    last-is-brace k ts (sees-is mark.RightBrace (k ∷ ts) (rw one_taken at h))
+brace-last {ts = k ∷ (j ∷ ts)} {rest = rest} (longer (longer s)) h =
+    let shorter = suffix-shorter s in
     let many_taken : length (k ∷ (j ∷ ts)) - length rest - 1 ≡ suc (length (j ∷ ts) - length rest - 1) = omega (arith, shorter) in
     let e : sees mark.RightBrace (drop (suc (length (j ∷ ts) - length rest - 1)) (k ∷ (j ∷ ts))) ≡ true = rw many_taken at h in
-    ends_later (brace_last (longer s) e)
+    ends-later (brace-last (longer s) e)
 
 end_of : (a b c : Bool) → (a || (b || c)) ≡ true → (a ≡ true) ⊎ ((b ≡ true) ⊎ (c ≡ true))
 end_of true b c h = inl refl
@@ -326,38 +326,38 @@ end_of false true c h = inr (inl refl)
 end_of false false true h = inr (inr refl)
 end_of false false false h = cc
 
-may_end_is : {ts rest : List Spanned} → Suffix ts rest → may_end ts rest ≡ true → Ends ts rest
+may-end-is : {ts rest : List Spanned} → Suffix ts rest → may_end ts rest ≡ true → Ends ts rest
 unfolding may_end
-may_end_is {ts = ts} {rest = rest} s h =
+may-end-is {ts = ts} {rest = rest} s h =
     elim (end_of (sees mark.Semicolon rest) (sees mark.RightBrace rest) (sees mark.RightBrace (drop (length ts - length rest - 1) ts)) h) [
-      | inl e ↦ before_a_semicolon ts rest e
-      | inr other ↦ elim other [ inl e ↦ before_a_brace ts rest e | inr e ↦ brace_last s e ]
+      | inl e ↦ before-a-semicolon ts rest e
+      | inr other ↦ elim other [ inl e ↦ before-a-brace ts rest e | inr e ↦ brace-last s e ]
     ]
 
 -- X, which may end there
-pub sound_ended : {A : Type 0} (part : A → Part) (p : Parser A) → Sound part p → Sound (λ a. spelled.ended (part a)) (ended p)
+pub sound-ended : {A : Type 0} (part : A → Part) (p : Parser A) → Sound part p → Sound (λ a. spelled.ended (part a)) (ended p)
 unfolding ended
-sound_ended part p sound ts =
-    after (sound ts) (λ a rest s. chosen (may_end ts rest) (λ e. done (spelled.at_its_end s (may_end_is (suffix s) e))) refused)
+sound-ended part p sound ts =
+    after (sound ts) (λ a rest s. chosen (may_end ts rest) (λ e. done (spelled.at_its_end s (may-end-is (suffix s) e))) refused)
 
 -- ---- references
 
-sound_dotted : (found : List (List ℕ)) (ts : List Spanned) (f : List ℕ) → next_field ts ≡ Some f → Spells (dotted f) ts (behind (behind ts))
-sound_dotted found ts f h = field_step (sees mark.Dot ts) refl h
+sound-dotted : (found : List (List ℕ)) (ts : List Spanned) (f : List ℕ) → next_field ts ≡ Some f → Spells (dotted f) ts (behind (behind ts))
+sound-dotted found ts f h = field_step (sees mark.Dot ts) refl h
   where
-    name_there : (t : Token) → name_of (Some t) ≡ Some f → t ≡ token.Id f
-    name_there (token.Id bytes) h = ap token.Id (some_is h)
-    name_there _ h = cc
+    name-there : (t : Token) → name_of (Some t) ≡ Some f → t ≡ token.Id f
+    name-there (token.Id bytes) h = ap token.Id (some-is h)
+    name-there _ h = cc
 
-    name_step : (rest : List Spanned) → name_of (head_token rest) ≡ Some f → Spells (spelled.id f) rest (behind rest)
-    name_step [] h = cc
-    name_step (k ∷ rest) h = spelled.this (name_there k.token h)
+    name-step : (rest : List Spanned) → name_of (head_token rest) ≡ Some f → Spells (spelled.id f) rest (behind rest)
+    name-step [] h = cc
+    name-step (k ∷ rest) h = spelled.this (name-there k.token h)
 
     field_step : (b : Bool) → sees mark.Dot ts ≡ b → field_of b (second ts) ≡ Some f → Spells (dotted f) ts (behind (behind ts))
     field_step true e h =
-        let b = sees_is mark.Dot ts e in
+        let b = sees-is mark.Dot ts e in
         let dot : Spells (spelled.sym mark.Dot) ts (behind ts) = rw b.all (spelled.this b.is) in
-        spelled.all (spelled.then dot (spelled.then (name_step (behind ts) h) spelled.end))
+        spelled.all (spelled.then dot (spelled.then (name-step (behind ts) h) spelled.end))
     field_step false e h = cc
 
 -- parts were added to those that were found
@@ -366,69 +366,69 @@ pub record Joined {A : Type 0} (part : A → Part) (found : List A) (ts : List S
   pub all : xs ≡ found ++ others
   pub spelling : InTurn (each part others) ts rest
 
-pub none_joined : {A : Type 0} {part : A → Part} {found : List A} {ts : List Spanned} → Joined part found ts found ts
-none_joined {found = found} = record { others = []; all = sym (append-nil found); spelling = spelled.end }
+pub none-joined : {A : Type 0} {part : A → Part} {found : List A} {ts : List Spanned} → Joined part found ts found ts
+none-joined {found = found} = record { others = []; all = sym (append-nil found); spelling = spelled.end }
 
-pub one_joined : {A : Type 0} {part : A → Part} {found : List A} {ts gap rest : List Spanned} {xs : List A} (a : A) → Spells (part a) ts gap
+pub one-joined : {A : Type 0} {part : A → Part} {found : List A} {ts gap rest : List Spanned} {xs : List A} (a : A) → Spells (part a) ts gap
     → Joined part (found ++ a ∷ []) gap xs rest → Joined part found ts xs rest
-one_joined {found = found} a before more =
+one-joined {found = found} a before more =
     record {
       others = a ∷ more.others;
       all = more.all ∙ append_assoc found (a ∷ []) more.others;
       spelling = spelled.then before more.spelling;
     }
 
-fields_step : (n : ℕ) (found : List (List ℕ)) (ts : List Spanned)
+fields-step : (n : ℕ) (found : List (List ℕ)) (ts : List Spanned)
     → ((found : List (List ℕ)) (ts : List Spanned) → Holds (Joined dotted found ts) (fields_from n found ts))
     → (o : Option (List ℕ)) → next_field ts ≡ o → Holds (Joined dotted found ts) (after_field (fields_from n) found o (behind_field o ts))
-fields_step n found ts others None next = done none_joined
-fields_step n found ts others (Some f) next =
-    implied (others (found ++ f ∷ []) (behind (behind ts))) (λ fs rest more. one_joined f (sound_dotted found ts f next) more)
+fields-step n found ts others None next = done none-joined
+fields-step n found ts others (Some f) next =
+    implied (others (found ++ f ∷ []) (behind (behind ts))) (λ fs rest more. one-joined f (sound-dotted found ts f next) more)
 
-sound_fields_from : (n : ℕ) (found : List (List ℕ)) (ts : List Spanned) → Holds (Joined dotted found ts) (fields_from n found ts)
+sound-fields-from : (n : ℕ) (found : List (List ℕ)) (ts : List Spanned) → Holds (Joined dotted found ts) (fields_from n found ts)
 unfolding fields_from eat_field
-sound_fields_from zero found ts = done none_joined
-sound_fields_from (suc n) found ts = fields_step n found ts (λ found ts. sound_fields_from n found ts) (next_field ts) refl
+sound-fields-from zero found ts = done none-joined
+sound-fields-from (suc n) found ts = fields-step n found ts (λ found ts. sound-fields-from n found ts) (next_field ts) refl
 
-pub all_joined : {A : Type 0} (part : A → Part) {ts rest : List Spanned} (xs : List A) → Joined part [] ts xs rest → Spells (turn (each part xs)) ts rest
-all_joined part xs more = spelled.all (rw more.all more.spelling)
+pub all-joined : {A : Type 0} (part : A → Part) {ts rest : List Spanned} (xs : List A) → Joined part [] ts xs rest → Spells (turn (each part xs)) ts rest
+all-joined part xs more = spelled.all (rw more.all more.spelling)
 
-pub sound_reference : Sound (λ r. phrase (a_reference r)) reference
+pub sound-reference : Sound (λ r. phrase (a_reference r)) reference
 unfolding reference
-sound_reference ts =
-    after (sound_name ts) (λ bytes a first. after (sound_fields_from (length a) [] a) (λ fs rest others.
-    done (spelled.by (spelled.dotted_name bytes fs) (spelled.then first (spelled.then (all_joined dotted fs others) spelled.end)))))
+sound-reference ts =
+    after (sound-name ts) (λ bytes a first. after (sound-fields-from (length a) [] a) (λ fs rest others.
+    done (spelled.by (spelled.dotted_name bytes fs) (spelled.then first (spelled.then (all-joined dotted fs others) spelled.end)))))
 
-sound_named_reference : Sound (λ c. phrase (a_component c)) named_reference
+sound-named-reference : Sound (λ c. phrase (a_component c)) named_reference
 unfolding named_reference
-sound_named_reference ts = after (sound_reference ts) (λ r rest s. done (spelled.by (spelled.named r) (spelled.then s spelled.end)))
+sound-named-reference ts = after (sound-reference ts) (λ r rest s. done (spelled.by (spelled.named r) (spelled.then s spelled.end)))
 
-component_step : (k : Spanned) (ts : List Spanned) (t : Token) → Is k t
+component-step : (k : Spanned) (ts : List Spanned) (t : Token) → Is k t
     → Holds (λ c rest. Spells (phrase (a_component c)) (k ∷ ts) rest) (component_by (Some t) (k ∷ ts))
-component_step k ts (token.Word word.SelfWord) is = done (spelled.by spelled.itself (spelled.then (spelled.this is) spelled.end))
-component_step k ts (token.Word word.Mtc) is = done (spelled.by spelled.mtc (spelled.then (spelled.this is) spelled.end))
-component_step k ts _ is = sound_named_reference (k ∷ ts)
+component-step k ts (token.Word word.SelfWord) is = done (spelled.by spelled.itself (spelled.then (spelled.this is) spelled.end))
+component-step k ts (token.Word word.Mtc) is = done (spelled.by spelled.mtc (spelled.then (spelled.this is) spelled.end))
+component-step k ts _ is = sound-named-reference (k ∷ ts)
 
-pub sound_component : Sound (λ c. phrase (a_component c)) component
+pub sound-component : Sound (λ c. phrase (a_component c)) component
 unfolding component
-sound_component [] = sound_named_reference []
-sound_component (k ∷ ts) = component_step k ts k.token refl
+sound-component [] = sound-named-reference []
+sound-component (k ∷ ts) = component-step k ts k.token refl
 
 -- ---- tokens that were looked at
 
-pub symbol_at : (s : Symbol) (ts : List Spanned) → sees s ts ≡ true → Spells (spelled.sym s) ts (behind ts)
-symbol_at s ts h = let b = sees_is s ts h in rw b.all (spelled.this b.is)
+pub symbol-at : (s : Symbol) (ts : List Spanned) → sees s ts ≡ true → Spells (spelled.sym s) ts (behind ts)
+symbol-at s ts h = let b = sees-is s ts h in rw b.all (spelled.this b.is)
 
-pub word_at : (w : Word) (ts : List Spanned) → sees_word w ts ≡ true → Spells (key w) ts (behind ts)
-word_at w ts h = let b = sees_word_is w ts h in rw b.all (spelled.this b.is)
+pub word-at : (w : Word) (ts : List Spanned) → sees_word w ts ≡ true → Spells (key w) ts (behind ts)
+word-at w ts h = let b = sees-word-is w ts h in rw b.all (spelled.this b.is)
 
-pub symbol_second : (s : Symbol) (ts : List Spanned) → is_symbol s (second ts) ≡ true → Spells (spelled.sym s) (behind ts) (behind (behind ts))
+pub symbol-second : (s : Symbol) (ts : List Spanned) → is_symbol s (second ts) ≡ true → Spells (spelled.sym s) (behind ts) (behind (behind ts))
 unfolding sees
-symbol_second s ts h = symbol_at s (behind ts) h
+symbol-second s ts h = symbol-at s (behind ts) h
 
-pub word_second : (w : Word) (ts : List Spanned) → is_word w (second ts) ≡ true → Spells (key w) (behind ts) (behind (behind ts))
+pub word-second : (w : Word) (ts : List Spanned) → is_word w (second ts) ≡ true → Spells (key w) (behind ts) (behind (behind ts))
 unfolding sees_word
-word_second w ts h = word_at w (behind ts) h
+word-second w ts h = word-at w (behind ts) h
 
 -- ---- operands
 
@@ -449,116 +449,116 @@ abbrev pub SoundFrom : Level → (Option Expr → Parser Expr) → Type 0
 SoundFrom l p = (begun : Option Expr) (first ts : List Spanned) → Began begun first ts
     → Holds (λ e rest. Spells (operand_part l e) first rest) (p begun ts)
 
-sound_bracketed : (p : Parser Expr) → Sound (operand_part level.Or) p → Sound primary_part (bracketed p)
+sound-bracketed : (p : Parser Expr) → Sound (operand_part level.Or) p → Sound primary_part (bracketed p)
 unfolding bracketed
-sound_bracketed p sound ts =
-    after (sound_expect mark.LeftParen ts) (λ _ a s1. after (sound a) (λ e b s2. after (sound_expect mark.RightParen b) (λ _ c s3.
+sound-bracketed p sound ts =
+    after (sound-expect mark.LeftParen ts) (λ _ a s1. after (sound a) (λ e b s2. after (sound-expect mark.RightParen b) (λ _ c s3.
     done (spelled.by (spelled.bracketed e) (spelled.then s1 (spelled.then s2 (spelled.then s3 spelled.end)))))))
 
-sound_is_present : Sound primary_part is_present
+sound-is-present : Sound primary_part is_present
 unfolding is_present
-sound_is_present ts =
-    after (sound_expect_word word.Ispresent ts) (λ _ a s1. after (sound_expect mark.LeftParen a) (λ _ b s2.
-    after (sound_reference b) (λ r c s3. after (sound_expect mark.RightParen c) (λ _ d s4.
+sound-is-present ts =
+    after (sound-expect-word word.Ispresent ts) (λ _ a s1. after (sound-expect mark.LeftParen a) (λ _ b s2.
+    after (sound-reference b) (λ r c s3. after (sound-expect mark.RightParen c) (λ _ d s4.
     done (spelled.by (spelled.is_present r) (spelled.then s1 (spelled.then s2 (spelled.then s3 (spelled.then s4 spelled.end)))))))))
 
 runs_on : {c : ComponentRef} {ts : List Spanned} (rest : List Spanned) → Spells (phrase (a_component c)) ts rest → runs rest ≡ true
     → Spells (primary_part (expr.Running c)) ts (behind (behind rest))
 runs_on {c = c} rest s h =
     let parts = both (sees mark.Dot rest) (is_word word.Running (second rest)) h in
-    spelled.by (spelled.running c) (spelled.then s (spelled.then (symbol_at mark.Dot rest parts.0)
-    (spelled.then (word_second word.Running rest parts.1) spelled.end)))
+    spelled.by (spelled.running c) (spelled.then s (spelled.then (symbol-at mark.Dot rest parts.0)
+    (spelled.then (word-second word.Running rest parts.1) spelled.end)))
 
-sound_referred : Sound primary_part referred
+sound-referred : Sound primary_part referred
 unfolding referred
-sound_referred ts =
-    after (sound_component ts) (λ c rest s. chosen (runs rest) (λ e. done (runs_on rest s e))
+sound-referred ts =
+    after (sound-component ts) (λ c rest s. chosen (runs rest) (λ e. done (runs_on rest s e))
     (done (spelled.by (spelled.referred c) (spelled.then s spelled.end))))
 
 module _ (p : Parser Expr) (sound : Sound (operand_part level.Or) p) where
-  primary_step : (k : Spanned) (ts : List Spanned) (t : Token) → Is k t
+  primary-step : (k : Spanned) (ts : List Spanned) (t : Token) → Is k t
       → Holds (λ e rest. Spells (primary_part e) (k ∷ ts) rest) (primary_by p (Some t) (k ∷ ts))
-  primary_step k ts (token.Int n) is = done (spelled.by (spelled.number n) (spelled.then (spelled.this is) spelled.end))
-  primary_step k ts (token.Word word.True) is = done (spelled.by spelled.true_word (spelled.then (spelled.this is) spelled.end))
-  primary_step k ts (token.Word word.False) is = done (spelled.by spelled.false_word (spelled.then (spelled.this is) spelled.end))
-  primary_step k ts (token.Word word.Null) is = done (spelled.by spelled.null (spelled.then (spelled.this is) spelled.end))
-  primary_step k ts (token.Word word.Ispresent) is = sound_is_present (k ∷ ts)
-  primary_step k ts (token.Symbol mark.LeftParen) is = sound_bracketed p sound (k ∷ ts)
-  primary_step k ts _ is = sound_referred (k ∷ ts)
+  primary-step k ts (token.Int n) is = done (spelled.by (spelled.number n) (spelled.then (spelled.this is) spelled.end))
+  primary-step k ts (token.Word word.True) is = done (spelled.by spelled.true_word (spelled.then (spelled.this is) spelled.end))
+  primary-step k ts (token.Word word.False) is = done (spelled.by spelled.false_word (spelled.then (spelled.this is) spelled.end))
+  primary-step k ts (token.Word word.Null) is = done (spelled.by spelled.null (spelled.then (spelled.this is) spelled.end))
+  primary-step k ts (token.Word word.Ispresent) is = sound-is-present (k ∷ ts)
+  primary-step k ts (token.Symbol mark.LeftParen) is = sound-bracketed p sound (k ∷ ts)
+  primary-step k ts _ is = sound-referred (k ∷ ts)
 
-  pub sound_primary : Sound primary_part (primary p)
+  pub sound-primary : Sound primary_part (primary p)
   unfolding primary
-  sound_primary [] = sound_referred []
-  sound_primary (k ∷ ts) = primary_step k ts k.token refl
+  sound-primary [] = sound-referred []
+  sound-primary (k ∷ ts) = primary-step k ts k.token refl
 
-  unsigned_or_signed : Sound (operand_part level.Sign) (signed p None)
+  unsigned-or-signed : Sound (operand_part level.Sign) (signed p None)
   unfolding signed
-  unsigned_or_signed ts =
+  unsigned-or-signed ts =
       eaten _ _ mark.Plus ts
-      (λ s. after (sound_primary (behind ts)) (λ e rest t. done (spelled.by (spelled.plus e) (spelled.then s (spelled.then t spelled.end)))))
+      (λ s. after (sound-primary (behind ts)) (λ e rest t. done (spelled.by (spelled.plus e) (spelled.then s (spelled.then t spelled.end)))))
       (eaten _ _ mark.Minus ts
-      (λ s. after (sound_primary (behind ts)) (λ e rest t. done (spelled.by (spelled.minus e) (spelled.then s (spelled.then t spelled.end)))))
-      (implied (sound_primary ts) (λ e rest t. spelled.by (spelled.unsigned e) (spelled.then t spelled.end))))
+      (λ s. after (sound-primary (behind ts)) (λ e rest t. done (spelled.by (spelled.minus e) (spelled.then s (spelled.then t spelled.end)))))
+      (implied (sound-primary ts) (λ e rest t. spelled.by (spelled.unsigned e) (spelled.then t spelled.end))))
 
-  sound_signed : SoundFrom level.Sign (signed p)
+  sound-signed : SoundFrom level.Sign (signed p)
   unfolding signed
-  sound_signed (Some e) first ts began = done (spelled.by (spelled.unsigned e) (spelled.then began spelled.end))
-  sound_signed None first ts began = rw began (unsigned_or_signed ts)
+  sound-signed (Some e) first ts began = done (spelled.by (spelled.unsigned e) (spelled.then began spelled.end))
+  sound-signed None first ts began = rw began (unsigned-or-signed ts)
 
-sound_negation : (p : Option Expr → Parser Expr) → SoundFrom level.Equality p → SoundFrom level.Not (negation p)
+sound-negation : (p : Option Expr → Parser Expr) → SoundFrom level.Equality p → SoundFrom level.Not (negation p)
 unfolding negation
-sound_negation p sound (Some e) first ts began =
+sound-negation p sound (Some e) first ts began =
     implied (sound (Some e) first ts began) (λ e rest s. spelled.by (spelled.affirmed e) (spelled.then s spelled.end))
-sound_negation p sound None first ts began = rw began
-    (word_eaten _ _ word.Not ts
+sound-negation p sound None first ts began = rw began
+    (word-eaten _ _ word.Not ts
     (λ s. after (sound None (behind ts) (behind ts) refl) (λ e rest t. done (spelled.by (spelled.negated e) (spelled.then s (spelled.then t spelled.end)))))
     (implied (sound None ts ts refl) (λ e rest t. spelled.by (spelled.affirmed e) (spelled.then t spelled.end))))
 
 -- ---- operators
 
-word_written : (w : Word) (o : Operator) → word_operator w ≡ Some o → token.Word w ≡ written o
-word_written word.Or o h = ap written (some_is h)
-word_written word.Xor o h = ap written (some_is h)
-word_written word.And o h = ap written (some_is h)
-word_written word.Mod o h = ap written (some_is h)
-word_written word.Rem o h = ap written (some_is h)
-word_written _ o h = cc
+word-written : (w : Word) (o : Operator) → word_operator w ≡ Some o → token.Word w ≡ written o
+word-written word.Or o h = ap written (some-is h)
+word-written word.Xor o h = ap written (some-is h)
+word-written word.And o h = ap written (some-is h)
+word-written word.Mod o h = ap written (some-is h)
+word-written word.Rem o h = ap written (some-is h)
+word-written _ o h = cc
 
-symbol_written : (s : Symbol) (o : Operator) → symbol_operator s ≡ Some o → token.Symbol s ≡ written o
-symbol_written mark.Equal o h = ap written (some_is h)
-symbol_written mark.NotEqual o h = ap written (some_is h)
-symbol_written mark.Less o h = ap written (some_is h)
-symbol_written mark.Greater o h = ap written (some_is h)
-symbol_written mark.LessEqual o h = ap written (some_is h)
-symbol_written mark.GreaterEqual o h = ap written (some_is h)
-symbol_written mark.Plus o h = ap written (some_is h)
-symbol_written mark.Minus o h = ap written (some_is h)
-symbol_written mark.Star o h = ap written (some_is h)
-symbol_written mark.Slash o h = ap written (some_is h)
-symbol_written _ o h = cc
+symbol-written : (s : Symbol) (o : Operator) → symbol_operator s ≡ Some o → token.Symbol s ≡ written o
+symbol-written mark.Equal o h = ap written (some-is h)
+symbol-written mark.NotEqual o h = ap written (some-is h)
+symbol-written mark.Less o h = ap written (some-is h)
+symbol-written mark.Greater o h = ap written (some-is h)
+symbol-written mark.LessEqual o h = ap written (some-is h)
+symbol-written mark.GreaterEqual o h = ap written (some-is h)
+symbol-written mark.Plus o h = ap written (some-is h)
+symbol-written mark.Minus o h = ap written (some-is h)
+symbol-written mark.Star o h = ap written (some-is h)
+symbol-written mark.Slash o h = ap written (some-is h)
+symbol-written _ o h = cc
 
-operator_written : (t : Token) (o : Operator) → operator_of t ≡ Some o → t ≡ written o
-operator_written (token.Word w) o h = word_written w o h
-operator_written (token.Symbol s) o h = symbol_written s o h
-operator_written _ o h = cc
+operator-written : (t : Token) (o : Operator) → operator_of t ≡ Some o → t ≡ written o
+operator-written (token.Word w) o h = word-written w o h
+operator-written (token.Symbol s) o h = symbol-written s o h
+operator-written _ o h = cc
 
 kept : (b : Bool) (o found : Operator) → (if b then Some o else None) ≡ Some found → (b ≡ true) × (o ≡ found)
-kept true o found h = (refl, some_is h)
+kept true o found h = (refl, some-is h)
 kept false o found h = cc
 
-of_level : (outer : Level) (o : Option Operator) (found : Operator) → at_level outer o ≡ Some found → (o ≡ Some found) × (level_of found ≡ outer)
+of-level : (outer : Level) (o : Option Operator) (found : Operator) → at_level outer o ≡ Some found → (o ≡ Some found) × (level_of found ≡ outer)
 unfolding same_level
-of_level outer None found h = cc
-of_level outer (Some o) found h =
+of-level outer None found h = cc
+of-level outer (Some o) found h =
     let parts = kept (same_level (level_of o) outer) o found h in
     let equal : level_of o ≡ outer = same_true a_level.the_type (search rules) (level_of o) outer parts.0 in
     (ap Some parts.1, ap level_of (sym parts.1) ∙ equal)
 
-operator_is : (outer : Level) (ts : List Spanned) (o : Operator) → next_operator outer ts ≡ Some o
+operator-is : (outer : Level) (ts : List Spanned) (o : Operator) → next_operator outer ts ≡ Some o
     → Spells (spelled.one (written o)) ts (behind ts) × (level_of o ≡ outer)
-operator_is outer [] o h = cc
-operator_is outer (k ∷ ts) o h =
-    let parts = of_level outer (operator_of k.token) o h in (spelled.this (operator_written k.token o parts.0), parts.1)
+operator-is outer [] o h = cc
+operator-is outer (k ∷ ts) o h =
+    let parts = of-level outer (operator_of k.token) o h in (spelled.this (operator-written k.token o parts.0), parts.1)
 
 -- ---- chains
 
@@ -569,14 +569,14 @@ record Linked (outer : Level) (most : ℕ) (found : List Link) (ts : List Spanne
   few : length others ≤ most
   spelling : Spells (phrase (the_links outer others)) ts rest
 
-none_linked : (outer : Level) (n : ℕ) (found : List Link) (ts : List Spanned) → Linked outer n found ts found ts
-none_linked outer n found ts =
+none-linked : (outer : Level) (n : ℕ) (found : List Link) (ts : List Spanned) → Linked outer n found ts found ts
+none-linked outer n found ts =
     record { others = []; all = sym (append-nil found); few = omega arith; spelling = spelled.by (spelled.no_link outer) spelled.end }
 
-one_linked : {outer tighter : Level} → Joins outer tighter → (n : ℕ) (found : List Link) (ts middle : List Spanned) (xs : List Link) (rest : List Spanned)
+one-linked : {outer tighter : Level} → Joins outer tighter → (n : ℕ) (found : List Link) (ts middle : List Spanned) (xs : List Link) (rest : List Spanned)
     (o : Operator) (e : Expr) → Spells (spelled.one (written o)) ts (behind ts) → level_of o ≡ outer → Spells (operand_part tighter e) (behind ts) middle
     → Linked outer n (found ++ link o e ∷ []) middle xs rest → Linked outer (suc n) found ts xs rest
-one_linked j n found ts middle xs rest o e operator level operand more =
+one-linked j n found ts middle xs rest o e operator level operand more =
     record {
       others = link o e ∷ more.others;
       all = more.all ∙ append_assoc found (link o e ∷ []) more.others;
@@ -585,91 +585,91 @@ one_linked j n found ts middle xs rest o e operator level operand more =
           (spelled.then operator (spelled.then operand (spelled.then more.spelling spelled.end)));
     }
 
-links_step : (outer tighter : Level) → Joins outer tighter → (p : Parser Expr) → Sound (operand_part tighter) p → (n : ℕ) (found : List Link) (ts : List Spanned)
+links-step : (outer tighter : Level) → Joins outer tighter → (p : Parser Expr) → Sound (operand_part tighter) p → (n : ℕ) (found : List Link) (ts : List Spanned)
     → ((found : List Link) (ts : List Spanned) → Holds (Linked outer n found ts) (links_from p outer n found ts))
     → (o : Option Operator) → next_operator outer ts ≡ o
     → Holds (Linked outer (suc n) found ts) (after_operator p (links_from p outer n) found o (behind_operator o ts))
-links_step outer tighter j p sound n found ts others None next = done (none_linked outer (suc n) found ts)
-links_step outer tighter j p sound n found ts others (Some o) next =
-    let operator = operator_is outer ts o next in
+links-step outer tighter j p sound n found ts others None next = done (none-linked outer (suc n) found ts)
+links-step outer tighter j p sound n found ts others (Some o) next =
+    let operator = operator-is outer ts o next in
     after (sound (behind ts)) (λ e middle operand. implied (others (found ++ link o e ∷ []) middle)
-    (λ xs rest more. one_linked j n found ts middle xs rest o e operator.0 operator.1 operand more))
+    (λ xs rest more. one-linked j n found ts middle xs rest o e operator.0 operator.1 operand more))
 
-sound_links : (outer tighter : Level) → Joins outer tighter → (p : Parser Expr) → Sound (operand_part tighter) p → (n : ℕ) (found : List Link) (ts : List Spanned)
+sound-links : (outer tighter : Level) → Joins outer tighter → (p : Parser Expr) → Sound (operand_part tighter) p → (n : ℕ) (found : List Link) (ts : List Spanned)
     → Holds (Linked outer n found ts) (links_from p outer n found ts)
 unfolding links_from eat_operator
-sound_links outer tighter j p sound zero found ts = done (none_linked outer 0 found ts)
-sound_links outer tighter j p sound (suc n) found ts =
-    links_step outer tighter j p sound n found ts (λ found ts. sound_links outer tighter j p sound n found ts) (next_operator outer ts) refl
+sound-links outer tighter j p sound zero found ts = done (none-linked outer 0 found ts)
+sound-links outer tighter j p sound (suc n) found ts =
+    links-step outer tighter j p sound n found ts (λ found ts. sound-links outer tighter j p sound n found ts) (next_operator outer ts) refl
 
 no_more : {outer : Level} {ts rest : List Spanned} → Spells (phrase (the_links outer [])) ts rest → ts ≡ rest
 no_more (spelled.by (spelled.no_link outer) spelled.end) = refl
 
-at_most_none : {A : Type 0} (xs : List A) → length xs ≤ 0 → xs ≡ []
-at_most_none [] h = refl
-at_most_none (x ∷ xs) h = absurd (omega (arith, h))
+at-most-none : {A : Type 0} (xs : List A) → length xs ≤ 0 → xs ≡ []
+at-most-none [] h = refl
+at-most-none (x ∷ xs) h = absurd (omega (arith, h))
 
-most_of_order : (outer : Level) (ts : List Spanned) → outer ≡ level.Order → most_links outer ts ≡ 1
+most-of-order : (outer : Level) (ts : List Spanned) → outer ≡ level.Order → most_links outer ts ≡ 1
 unfolding most_links same_level
-most_of_order outer ts is = rw (true_same a_level.the_type outer level.Order is) refl
+most-of-order outer ts is = rw (true_same a_level.the_type outer level.Order is) refl
 
-one_of_order : (outer : Level) (ts : List Spanned) (n : ℕ) → n ≤ most_links outer ts → outer ≡ level.Order → n ≤ 1
-one_of_order outer ts n few is = rw (most_of_order outer ts is) at few
+one-of-order : (outer : Level) (ts : List Spanned) (n : ℕ) → n ≤ most_links outer ts → outer ≡ level.Order → n ≤ 1
+one-of-order outer ts n few is = rw (most-of-order outer ts is) at few
 
-chain_step : {outer tighter : Level} → Joins outer tighter → (first : Expr) (ls : List Link) (ts middle rest : List Spanned)
+chain-step : {outer tighter : Level} → Joins outer tighter → (first : Expr) (ls : List Link) (ts middle rest : List Spanned)
     → Spells (operand_part tighter first) ts middle → Spells (phrase (the_links outer ls)) middle rest
     → (outer ≡ level.Order → length ls ≤ 1) → Spells (operand_part outer (tree_of first ls)) ts rest
-chain_step j first [] ts middle rest operand more few =
+chain-step j first [] ts middle rest operand more few =
     spelled.by (spelled.alone first j) (spelled.then (rw (no_more more) at operand) spelled.end)
-chain_step j first (l ∷ ls) ts middle rest operand more few =
-    spelled.by (spelled.joined first l ls j (λ is. at_most_none ls (omega (arith, few is)))) (spelled.then operand (spelled.then more spelled.end))
+chain-step j first (l ∷ ls) ts middle rest operand more few =
+    spelled.by (spelled.joined first l ls j (λ is. at-most-none ls (omega (arith, few is)))) (spelled.then operand (spelled.then more spelled.end))
 
-sound_chain : {outer tighter : Level} → Joins outer tighter → (p : Option Expr → Parser Expr) → SoundFrom tighter p → SoundFrom outer (chain outer p)
+sound-chain : {outer tighter : Level} → Joins outer tighter → (p : Option Expr → Parser Expr) → SoundFrom tighter p → SoundFrom outer (chain outer p)
 unfolding chain
-sound_chain {outer = outer} {tighter = tighter} j p sound begun start ts began =
+sound-chain {outer = outer} {tighter = tighter} j p sound begun start ts began =
     after (sound begun start ts began) (λ first middle operand.
-    after (sound_links outer tighter j (p None) (λ ts. sound None ts ts refl) (most_links outer middle) [] middle) (λ ls rest more.
-    done (rw more.all (chain_step j first more.others start middle rest operand more.spelling
-    (one_of_order outer middle (length more.others) more.few)))))
+    after (sound-links outer tighter j (p None) (λ ts. sound None ts ts refl) (most_links outer middle) [] middle) (λ ls rest more.
+    done (rw more.all (chain-step j first more.others start middle rest operand more.spelling
+    (one-of-order outer middle (length more.others) more.few)))))
 
 -- ---- expressions
 
 module _ (p : Parser Expr) (sound : Sound (operand_part level.Or) p) where
-  sound_product : SoundFrom level.Product (at_product p)
-  sound_product = sound_chain product_joins (signed p) (sound_signed p sound)
+  sound-product : SoundFrom level.Product (at_product p)
+  sound-product = sound-chain product_joins (signed p) (sound-signed p sound)
 
-  sound_sum : SoundFrom level.Sum (at_sum p)
-  sound_sum = sound_chain sum_joins (at_product p) sound_product
+  sound-sum : SoundFrom level.Sum (at_sum p)
+  sound-sum = sound-chain sum_joins (at_product p) sound-product
 
-  sound_order : SoundFrom level.Order (at_order p)
-  sound_order = sound_chain order_joins (at_sum p) sound_sum
+  sound-order : SoundFrom level.Order (at_order p)
+  sound-order = sound-chain order_joins (at_sum p) sound-sum
 
-  sound_equality : SoundFrom level.Equality (at_equality p)
-  sound_equality = sound_chain equality_joins (at_order p) sound_order
+  sound-equality : SoundFrom level.Equality (at_equality p)
+  sound-equality = sound-chain equality_joins (at_order p) sound-order
 
-  sound_not : SoundFrom level.Not (at_not p)
-  sound_not = sound_negation (at_equality p) sound_equality
+  sound-not : SoundFrom level.Not (at_not p)
+  sound-not = sound-negation (at_equality p) sound-equality
 
-  sound_and : SoundFrom level.And (at_and p)
-  sound_and = sound_chain and_joins (at_not p) sound_not
+  sound-and : SoundFrom level.And (at_and p)
+  sound-and = sound-chain and_joins (at_not p) sound-not
 
-  sound_xor : SoundFrom level.Xor (at_xor p)
-  sound_xor = sound_chain xor_joins (at_and p) sound_and
+  sound-xor : SoundFrom level.Xor (at_xor p)
+  sound-xor = sound-chain xor_joins (at_and p) sound-and
 
-  pub sound_or : SoundFrom level.Or (at_or p)
-  sound_or = sound_chain or_joins (at_xor p) sound_xor
+  pub sound-or : SoundFrom level.Or (at_or p)
+  sound-or = sound-chain or_joins (at_xor p) sound-xor
 
-sound_inner : (depth : ℕ) → Sound (operand_part level.Or) (inner depth)
+sound-inner : (depth : ℕ) → Sound (operand_part level.Or) (inner depth)
 unfolding inner
-sound_inner zero ts = refused
-sound_inner (suc depth) ts = sound_or (inner depth) (sound_inner depth) None ts ts refl
+sound-inner zero ts = refused
+sound-inner (suc depth) ts = sound-or (inner depth) (sound-inner depth) None ts ts refl
 
-pub sound_expression : Sound (operand_part level.Or) expression
+pub sound-expression : Sound (operand_part level.Or) expression
 unfolding expression
-sound_expression ts = sound_or (inner (length ts)) (sound_inner (length ts)) None ts ts refl
+sound-expression ts = sound-or (inner (length ts)) (sound-inner (length ts)) None ts ts refl
 
 -- an expression whose first primary was read
-pub sound_expression_from : (e : Expr) (first ts : List Spanned) → Spells (primary_part e) first ts
+pub sound-expression-from : (e : Expr) (first ts : List Spanned) → Spells (primary_part e) first ts
     → Holds (λ e rest. Spells (operand_part level.Or e) first rest) (expression_from e ts)
 unfolding expression_from
-sound_expression_from e first ts began = sound_or (inner (length ts)) (sound_inner (length ts)) (Some e) first ts began
+sound-expression-from e first ts began = sound-or (inner (length ts)) (sound-inner (length ts)) (Some e) first ts began

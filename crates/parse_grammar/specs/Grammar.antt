@@ -35,9 +35,9 @@ use Rattle.ttcn_syntax.specs.declared.tree.template.Template.{Template}
 use Rattle.ttcn_syntax.specs.declared.tree.template.TemplateBody.{TemplateBody}
 use Rattle.ttcn_syntax.specs.declared.tree.template.TemplateBody.TheVariants as body
 use Rattle.ttcn_syntax.specs.declared.tree.statement.Action.{Action}
-use Rattle.ttcn_syntax.specs.declared.tree.statement.Action.TheVariants as action
+use Rattle.ttcn_syntax.specs.declared.tree.statement.Action.TheVariants as form
 use Rattle.ttcn_syntax.specs.declared.tree.statement.Alternative.{Alternative}
-use Rattle.ttcn_syntax.specs.declared.tree.statement.Alternative.TheVariants as alternative
+use Rattle.ttcn_syntax.specs.declared.tree.statement.Alternative.TheVariants as alternative_form
 use Rattle.ttcn_syntax.specs.declared.tree.statement.Assignment.{Assignment}
 use Rattle.ttcn_syntax.specs.declared.tree.statement.Branch.{Branch}
 use Rattle.ttcn_syntax.specs.declared.tree.statement.Conditional.{Conditional}
@@ -53,7 +53,7 @@ use Rattle.ttcn_syntax.specs.declared.tree.statement.MapOperation.{MapOperation}
 use Rattle.ttcn_syntax.specs.declared.tree.statement.MapOperation.TheVariants as operation
 use Rattle.ttcn_syntax.specs.declared.tree.statement.PortRef.{PortRef}
 use Rattle.ttcn_syntax.specs.declared.tree.statement.PortSelector.{PortSelector}
-use Rattle.ttcn_syntax.specs.declared.tree.statement.PortSelector.TheVariants as port_selector
+use Rattle.ttcn_syntax.specs.declared.tree.statement.PortSelector.TheVariants as selector
 use Rattle.ttcn_syntax.specs.declared.tree.statement.Statement.{Statement}
 use Rattle.ttcn_syntax.specs.declared.tree.statement.Timer.{Timer}
 use Rattle.ttcn_syntax.specs.declared.tree.statement.Variable.{Variable}
@@ -365,8 +365,8 @@ pub data Production : Phrase → Parts → Type 0 where
       → Production (an_assignment (record { target = r; value = v })) (phrase (a_reference r) ▸ set_to a_rhs v)
   -- Event = (Id | 'any' 'port') '.' 'receive' ['(' Typed ')'] ['from' CRef] [Into]
   --       | Id '.' 'timeout' | CRef '.' 'done' | 'all' 'component' '.' 'done'
-  one_port : (name : List ℕ) → Production (a_port (port_selector.Named name)) (id name ▸ nil)
-  any_port : Production (a_port port_selector.Any) (key word.Any ▸ key word.Port ▸ nil)
+  one_port : (name : List ℕ) → Production (a_port (selector.Named name)) (id name ▸ nil)
+  any_port : Production (a_port selector.Any) (key word.Any ▸ key word.Port ▸ nil)
   receive : (port : PortSelector) (m : Option MessageTemplate) (from : Option ComponentRef) (v sender : Option Reference)
       → Production (an_event (event.Receive (record { port = port; message = m; from = from; value = v; sender = sender })))
       (phrase (a_port port) ▸ sym mark.Dot ▸ key word.Receive
@@ -387,67 +387,67 @@ pub data Production : Phrase → Parts → Type 0 where
   -- '(' Expr ')' Block
   condition : (e : Expr) (ss : List Statement) → Production (a_conditional (conditional e ss)) (in_brackets e ▸ phrase (a_block ss) ▸ nil)
   -- Stmt
-  act_variables : (vs : Variables) → Production (an_action (action.Variables vs)) (phrase (the_variables vs) ▸ nil)
-  act_constants : (cs : Constants) → Production (an_action (action.Constants cs)) (phrase (the_constants cs) ▸ nil)
-  act_timers : (all : List Timer) → Production (an_action (action.Timers all)) (phrase (the_timers all) ▸ nil)
-  act_assign : (a : Assignment) → Production (an_action (action.Assign a)) (phrase (an_assignment a) ▸ nil)
-  act_call : (c : Call) → Production (an_action (action.Call c)) (phrase (a_call c) ▸ nil)
-  act_event : (e : Event) → Production (an_action (action.Event e)) (phrase (an_event e) ▸ nil)
-  act_alt : (bs : List Branch) → Production (an_action (action.Alt bs)) (key word.Alt ▸ branches bs ▸ nil)
-  act_repeat : Production (an_action action.Repeat) (key word.Repeat ▸ nil)
+  act_variables : (vs : Variables) → Production (an_action (form.Variables vs)) (phrase (the_variables vs) ▸ nil)
+  act_constants : (cs : Constants) → Production (an_action (form.Constants cs)) (phrase (the_constants cs) ▸ nil)
+  act_timers : (all : List Timer) → Production (an_action (form.Timers all)) (phrase (the_timers all) ▸ nil)
+  act_assign : (a : Assignment) → Production (an_action (form.Assign a)) (phrase (an_assignment a) ▸ nil)
+  act_call : (c : Call) → Production (an_action (form.Call c)) (phrase (a_call c) ▸ nil)
+  act_event : (e : Event) → Production (an_action (form.Event e)) (phrase (an_event e) ▸ nil)
+  act_alt : (bs : List Branch) → Production (an_action (form.Alt bs)) (key word.Alt ▸ branches bs ▸ nil)
+  act_repeat : Production (an_action form.Repeat) (key word.Repeat ▸ nil)
   act_if : (c : Conditional) (cs : List Conditional) (last : Option (List Statement))
-      → Production (an_action (action.If (c ∷ cs) last)) (key word.If ▸ phrase (a_conditional c) ▸ turn (each else_if cs)
+      → Production (an_action (form.If (c ∷ cs) last)) (key word.If ▸ phrase (a_conditional c) ▸ turn (each else_if cs)
       ▸ optional (λ ss. key word.Else ▸ phrase (a_block ss) ▸ nil) last ▸ nil)
   act_while : (e : Expr) (ss : List Statement)
-      → Production (an_action (action.While e ss)) (key word.While ▸ in_brackets e ▸ phrase (a_block ss) ▸ nil)
+      → Production (an_action (form.While e ss)) (key word.While ▸ in_brackets e ▸ phrase (a_block ss) ▸ nil)
   act_do : (e : Expr) (ss : List Statement)
-      → Production (an_action (action.DoWhile ss e)) (key word.Do ▸ phrase (a_block ss) ▸ key word.While ▸ in_brackets e ▸ nil)
+      → Production (an_action (form.DoWhile ss e)) (key word.Do ▸ phrase (a_block ss) ▸ key word.While ▸ in_brackets e ▸ nil)
   act_for : (start : ForStart) (e : Expr) (a : Assignment) (ss : List Statement)
-      → Production (an_action (action.For start e a ss)) (key word.For ▸ sym mark.LeftParen ▸ phrase (a_for_start start)
+      → Production (an_action (form.For start e a ss)) (key word.For ▸ sym mark.LeftParen ▸ phrase (a_for_start start)
       ▸ sym mark.Semicolon ▸ phrase (an_operand level.Or e) ▸ sym mark.Semicolon ▸ phrase (an_assignment a) ▸ sym mark.RightParen
       ▸ phrase (a_block ss) ▸ nil)
-  act_return : (v : Option Value) → Production (an_action (action.Return v)) (key word.Return ▸ optional (λ v. phrase (a_value v) ▸ nil) v ▸ nil)
-  act_stop : Production (an_action action.Stop) (key word.Stop ▸ nil)
-  act_log : (is : List LogItem) → Production (an_action (action.Log is))
+  act_return : (v : Option Value) → Production (an_action (form.Return v)) (key word.Return ▸ optional (λ v. phrase (a_value v) ▸ nil) v ▸ nil)
+  act_stop : Production (an_action form.Stop) (key word.Stop ▸ nil)
+  act_log : (is : List LogItem) → Production (an_action (form.Log is))
       (key word.Log ▸ sym mark.LeftParen ▸ separated (each (λ i. phrase (a_log_item i)) is) ▸ sym mark.RightParen ▸ nil)
-  act_setverdict : (v : Verdict) (is : List LogItem) → Production (an_action (action.Setverdict v is))
+  act_setverdict : (v : Verdict) (is : List LogItem) → Production (an_action (form.Setverdict v is))
       (key word.Setverdict ▸ sym mark.LeftParen ▸ commas (key (verdict_word v) ▸ each (λ i. phrase (a_log_item i)) is) ▸ sym mark.RightParen ▸ nil)
-  act_connect : (a b : PortRef) → Production (an_action (action.Connect a b))
+  act_connect : (a b : PortRef) → Production (an_action (form.Connect a b))
       (key word.Connect ▸ sym mark.LeftParen ▸ phrase (a_port_ref a) ▸ sym mark.Comma ▸ phrase (a_port_ref b) ▸ sym mark.RightParen ▸ nil)
   -- ('map' | 'unmap') '(' CRef ':' Id ',' 'system' ':' Id ')', where the two ports stand in either order
   act_map : (o : MapOperation) (p : PortRef) (q : List ℕ)
-      → Production (an_action (action.Map (record { operation = o; port = p; system_port = q })))
+      → Production (an_action (form.Map (record { operation = o; port = p; system_port = q })))
       (key (map_word o) ▸ sym mark.LeftParen ▸ phrase (a_port_ref p) ▸ sym mark.Comma ▸ system_port q ▸ sym mark.RightParen ▸ nil)
   act_map_turned : (o : MapOperation) (p : PortRef) (q : List ℕ)
-      → Production (an_action (action.Map (record { operation = o; port = p; system_port = q })))
+      → Production (an_action (form.Map (record { operation = o; port = p; system_port = q })))
       (key (map_word o) ▸ sym mark.LeftParen ▸ system_port q ▸ sym mark.Comma ▸ phrase (a_port_ref p) ▸ sym mark.RightParen ▸ nil)
   act_send : (port : List ℕ) (m : MessageTemplate) (to : Option ComponentRef)
-      → Production (an_action (action.Send (record { port = port; message = m; to = to })))
+      → Production (an_action (form.Send (record { port = port; message = m; to = to })))
       (id port ▸ sym mark.Dot ▸ key word.Send ▸ sym mark.LeftParen ▸ phrase (a_message m) ▸ sym mark.RightParen
       ▸ optional (λ c. key word.To ▸ phrase (a_component c) ▸ nil) to ▸ nil)
-  act_start_component : (c : ComponentRef) (f : Call) → Production (an_action (action.StartComponent c f))
+  act_start_component : (c : ComponentRef) (f : Call) → Production (an_action (form.StartComponent c f))
       (phrase (a_component c) ▸ sym mark.Dot ▸ key word.Start ▸ sym mark.LeftParen ▸ phrase (a_call f) ▸ sym mark.RightParen ▸ nil)
-  act_start_timer : (name : List ℕ) → Production (an_action (action.StartTimer name)) (id name ▸ sym mark.Dot ▸ key word.Start ▸ nil)
-  act_start_timer_with : (name : List ℕ) → Production (an_action (action.StartTimer name))
+  act_start_timer : (name : List ℕ) → Production (an_action (form.StartTimer name)) (id name ▸ sym mark.Dot ▸ key word.Start ▸ nil)
+  act_start_timer_with : (name : List ℕ) → Production (an_action (form.StartTimer name))
       (id name ▸ sym mark.Dot ▸ key word.Start ▸ sym mark.LeftParen ▸ one token.Float ▸ sym mark.RightParen ▸ nil)
-  act_stop_of : (c : ComponentRef) → Production (an_action (action.StopOf c)) (phrase (a_component c) ▸ sym mark.Dot ▸ key word.Stop ▸ nil)
-  act_activate : (c : Call) → Production (an_action (action.Activate c))
+  act_stop_of : (c : ComponentRef) → Production (an_action (form.StopOf c)) (phrase (a_component c) ▸ sym mark.Dot ▸ key word.Stop ▸ nil)
+  act_activate : (c : Call) → Production (an_action (form.Activate c))
       (key word.Activate ▸ sym mark.LeftParen ▸ phrase (a_call c) ▸ sym mark.RightParen ▸ nil)
-  act_deactivate : (r : Option Reference) → Production (an_action (action.Deactivate r))
+  act_deactivate : (r : Option Reference) → Production (an_action (form.Deactivate r))
       (key word.Deactivate ▸ optional (λ r. sym mark.LeftParen ▸ phrase (a_reference r) ▸ sym mark.RightParen ▸ nil) r ▸ nil)
   statement : (place : Span) (a : Action) → Production (a_statement (statement_at place a)) (at place ▸ phrase (an_action a) ▸ nil)
   -- Block = '{' {';'} {Stmt {';'}} '}'
   block : (ss : List Statement) → Production (a_block ss) (sym mark.LeftBrace ▸ semicolons ▸ statements ss ▸ sym mark.RightBrace ▸ nil)
   -- Branch = '[' [Expr] ']' (Event | Id Args) [Block] | '[' 'else' ']' Block
   alternative_event : (guard : Option Expr) (e : Event) (ss : Option (List Statement))
-      → Production (an_alternative (alternative.Event guard e ss))
+      → Production (an_alternative (alternative_form.Event guard e ss))
       (sym mark.LeftBracket ▸ optional (λ e. phrase (an_operand level.Or e) ▸ nil) guard ▸ sym mark.RightBracket ▸ phrase (an_event e)
       ▸ optional (λ ss. phrase (a_block ss) ▸ nil) ss ▸ nil)
   alternative_call : (guard : Option Expr) (c : Call) (ss : Option (List Statement))
-      → Production (an_alternative (alternative.Call guard c ss))
+      → Production (an_alternative (alternative_form.Call guard c ss))
       (sym mark.LeftBracket ▸ optional (λ e. phrase (an_operand level.Or e) ▸ nil) guard ▸ sym mark.RightBracket ▸ phrase (a_call c)
       ▸ optional (λ ss. phrase (a_block ss) ▸ nil) ss ▸ nil)
-  alternative_else : (ss : List Statement) → Production (an_alternative (alternative.Else ss))
+  alternative_else : (ss : List Statement) → Production (an_alternative (alternative_form.Else ss))
       (sym mark.LeftBracket ▸ key word.Else ▸ sym mark.RightBracket ▸ phrase (a_block ss) ▸ nil)
   branch : (place : Span) (a : Alternative) → Production (a_branch (branch_at place a)) (at place ▸ phrase (an_alternative a) ▸ nil)
   -- Field = Type Id ['optional']

@@ -10,34 +10,34 @@ use Rattle.parse_limits.specs.Groups.Group.{braces}
 
 -- ---- symbols
 
-pub partner_opens : (s : Symbol) {t : Symbol} → partner s ≡ Some t → opens (token.Symbol s) ≡ true
-partner_opens mark.LeftBrace h = refl
-partner_opens mark.LeftParen h = refl
-partner_opens mark.LeftBracket h = refl
-partner_opens _ h = cc
+pub partner-opens : (s : Symbol) {t : Symbol} → partner s ≡ Some t → opens (token.Symbol s) ≡ true
+partner-opens mark.LeftBrace h = refl
+partner-opens mark.LeftParen h = refl
+partner-opens mark.LeftBracket h = refl
+partner-opens _ h = cc
 
-pub opening_stays_open : (s : Symbol) {t : Symbol} → partner s ≡ Some t → closes (token.Symbol s) ≡ false
-opening_stays_open mark.LeftBrace h = refl
-opening_stays_open mark.LeftParen h = refl
-opening_stays_open mark.LeftBracket h = refl
-opening_stays_open _ h = cc
+pub opening-stays-open : (s : Symbol) {t : Symbol} → partner s ≡ Some t → closes (token.Symbol s) ≡ false
+opening-stays-open mark.LeftBrace h = refl
+opening-stays-open mark.LeftParen h = refl
+opening-stays-open mark.LeftBracket h = refl
+opening-stays-open _ h = cc
 
-none_or_closes : Option Symbol → Bool
-none_or_closes None = true
-none_or_closes (Some t) = closes (token.Symbol t)
+none-or-closes : Option Symbol → Bool
+none-or-closes None = true
+none-or-closes (Some t) = closes (token.Symbol t)
 
-pub partner_closes : (s : Symbol) {t : Symbol} → partner s ≡ Some t → closes (token.Symbol t) ≡ true
-unfolding none_or_closes
-partner_closes mark.LeftBrace h = sym (ap none_or_closes h)
-partner_closes mark.LeftParen h = sym (ap none_or_closes h)
-partner_closes mark.LeftBracket h = sym (ap none_or_closes h)
-partner_closes _ h = cc
+pub partner-closes : (s : Symbol) {t : Symbol} → partner s ≡ Some t → closes (token.Symbol t) ≡ true
+unfolding none-or-closes
+partner-closes mark.LeftBrace h = sym (ap none-or-closes h)
+partner-closes mark.LeftParen h = sym (ap none-or-closes h)
+partner-closes mark.LeftBracket h = sym (ap none-or-closes h)
+partner-closes _ h = cc
 
-pub no_partner_opens : (s : Symbol) → partner s ≡ None → opens (token.Symbol s) ≡ false
-no_partner_opens mark.LeftBrace h = cc
-no_partner_opens mark.LeftParen h = cc
-no_partner_opens mark.LeftBracket h = cc
-no_partner_opens _ h = refl
+pub no-partner-opens : (s : Symbol) → partner s ≡ None → opens (token.Symbol s) ≡ false
+no-partner-opens mark.LeftBrace h = cc
+no-partner-opens mark.LeftParen h = cc
+no-partner-opens mark.LeftBracket h = cc
+no-partner-opens _ h = refl
 
 -- ---- the first closing bracket
 
@@ -49,30 +49,30 @@ moved : {ts others rest : List Spanned} → ts ≡ others → Balanced others re
 moved {rest = rest} same b = subst (λ m. Balanced m rest) (sym same) b
 
 -- what a balanced run of tokens up to a closing bracket leaves is the same for each
-pub first_closing : {ts rest other : List Spanned} {c d : Spanned} → Balanced ts (c ∷ rest) → closes c.token ≡ true → Balanced ts (d ∷ other) → closes d.token ≡ true
+pub first-closing : {ts rest other : List Spanned} {c d : Spanned} → Balanced ts (c ∷ rest) → closes c.token ≡ true → Balanced ts (d ∷ other) → closes d.token ≡ true
     → c ∷ rest ≡ d ∷ other
-first_closing nothing hc nothing hd = refl
-first_closing nothing hc (plain no_open no_close b) hd = cc
-first_closing nothing hc (pair {opening = s} is p b ic b') hd = cc (ap closes is, opening_stays_open s p)
-first_closing (plain no_open no_close a) hc nothing hd = cc
-first_closing (plain no_open no_close a) hc (plain no_open' no_close' b) hd = first_closing a hc b hd
-first_closing (plain no_open no_close a) hc (pair {opening = s} is p b ic b') hd = cc (ap opens is, partner_opens s p)
-first_closing (pair {opening = s} is p a ic a') hc nothing hd = cc (ap closes is, opening_stays_open s p)
-first_closing (pair {opening = s} is p a ic a') hc (plain no_open no_close b) hd = cc (ap opens is, partner_opens s p)
-first_closing (pair {opening = s} is p a ic a') hc (pair {opening = s'} is' p' b ic' b') hd =
-    let same = first_closing a (ap closes ic ∙ partner_closes s p) b (ap closes ic' ∙ partner_closes s' p') in
-    first_closing a' hc (moved (ap behind_first same) b') hd
+first-closing nothing hc nothing hd = refl
+first-closing nothing hc (plain no_open no_close b) hd = cc
+first-closing nothing hc (pair {opening = s} is p b ic b') hd = cc (ap closes is, opening-stays-open s p)
+first-closing (plain no_open no_close a) hc nothing hd = cc
+first-closing (plain no_open no_close a) hc (plain no_open' no_close' b) hd = first-closing a hc b hd
+first-closing (plain no_open no_close a) hc (pair {opening = s} is p b ic b') hd = cc (ap opens is, partner-opens s p)
+first-closing (pair {opening = s} is p a ic a') hc nothing hd = cc (ap closes is, opening-stays-open s p)
+first-closing (pair {opening = s} is p a ic a') hc (plain no_open no_close b) hd = cc (ap opens is, partner-opens s p)
+first-closing (pair {opening = s} is p a ic a') hc (pair {opening = s'} is' p' b ic' b') hd =
+    let same = first-closing a (ap closes ic ∙ partner-closes s p) b (ap closes ic' ∙ partner-closes s' p') in
+    first-closing a' hc (moved (ap behind_first same) b') hd
 
-pub one_rest : {ts rest other : List Spanned} {c d : Spanned} → Balanced ts (c ∷ rest) → closes c.token ≡ true → Balanced ts (d ∷ other) → closes d.token ≡ true → rest ≡ other
-one_rest a hc b hd = ap behind_first (first_closing a hc b hd)
+pub one-rest : {ts rest other : List Spanned} {c d : Spanned} → Balanced ts (c ∷ rest) → closes c.token ≡ true → Balanced ts (d ∷ other) → closes d.token ≡ true → rest ≡ other
+one-rest a hc b hd = ap behind_first (first-closing a hc b hd)
 
-first_or : Spanned → List Spanned → Spanned
-first_or k [] = k
-first_or k (first ∷ ts) = first
+first-or : Spanned → List Spanned → Spanned
+first-or k [] = k
+first-or k (first ∷ ts) = first
 
-pub one_first : {ts rest other : List Spanned} {c d : Spanned} → Balanced ts (c ∷ rest) → closes c.token ≡ true → Balanced ts (d ∷ other) → closes d.token ≡ true → c ≡ d
-unfolding first_or
-one_first {c = c} a hc b hd = ap (first_or c) (first_closing a hc b hd)
+pub one-first : {ts rest other : List Spanned} {c d : Spanned} → Balanced ts (c ∷ rest) → closes c.token ≡ true → Balanced ts (d ∷ other) → closes d.token ≡ true → c ≡ d
+unfolding first-or
+one-first {c = c} a hc b hd = ap (first-or c) (first-closing a hc b hd)
 
-pub one_group : {ts rest other : List Spanned} → Group ts rest → Group ts other → rest ≡ other
-one_group (braces is b ic) (braces is' b' ic') = one_rest b (ap closes ic) b' (ap closes ic')
+pub one-group : {ts rest other : List Spanned} → Group ts rest → Group ts other → rest ≡ other
+one-group (braces is b ic) (braces is' b' ic') = one-rest b (ap closes ic) b' (ap closes ic')

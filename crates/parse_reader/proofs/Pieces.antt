@@ -15,10 +15,10 @@ step (Some p) f g same = same p.0 p.1
 step None f g same = refl
 
 -- the same of a piece of a piece
-pub piece_within : {A B C D : Type 0} (o : Parsed A) (f : A → Parser B) (h : B → Parser C) (k : C → Parser D) (g : A → Parser D)
+pub piece-within : {A B C D : Type 0} (o : Parsed A) (f : A → Parser B) (h : B → Parser C) (k : C → Parser D) (g : A → Parser D)
     → ((a : A) (rest : List Spanned) → and_then (and_then (f a rest) h) k ≡ g a rest) → and_then (and_then (and_then o f) h) k ≡ and_then o g
-piece_within (Some p) f h k g same = same p.0 p.1
-piece_within None f h k g same = refl
+piece-within (Some p) f h k g same = same p.0 p.1
+piece-within None f h k g same = refl
 
 pub again : {A B C : Type 0} (o : Parsed A) (g : A → Parser B) (f : B → Parser C) → and_then o (λ a r. and_then (g a r) f) ≡ and_then (and_then o g) f
 again (Some p) g f = refl

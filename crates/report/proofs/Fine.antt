@@ -3,7 +3,7 @@ use Rattle.std.proofs.Common.{◌≡◌, ℕ, false, List, [], ◌∷◌, ◌++�
 use Rattle.report.specs.Labels.{fine_text, label_text, path_text}
 use Rattle.report.specs.Runs.{IsProperFine}
 use Rattle.report.specs.internal.Reader.{HasBareEnds}
-use Rattle.report.proofs.Wholes.{apart, label_ends, label_same, name_ends, name_same}
+use Rattle.report.proofs.Wholes.{apart, label-ends, label-same, name-ends, name-same}
 use Rattle.step_labels.specs.declared.fine.FineLabel.{FineLabel}
 use Rattle.step_labels.specs.declared.fine.FineLabel.TheVariants.{Snap, Choose, Plain}
 use Rattle.step_labels.specs.declared.label.Label.{Label}
@@ -12,8 +12,8 @@ use Rattle.ttcn_syntax.specs.Characters.{is_blank}
 use Rattle.value_types.specs.declared.path.Path.{Path}
 
 -- a word before a text whose ends are bare
-behind_word : (first : ℕ) (others text : List ℕ) → is_blank first ≡ false → HasBareEnds text → HasBareEnds (first ∷ (others ++ text))
-behind_word first others text no_blank h = record {
+behind-word : (first : ℕ) (others text : List ℕ) → is_blank first ≡ false → HasBareEnds text → HasBareEnds (first ∷ (others ++ text))
+behind-word first others text no_blank h = record {
   first = first;
   others = others ++ text;
   begins = refl;
@@ -24,30 +24,30 @@ behind_word first others text no_blank h = record {
   no_blank_last = h.no_blank_last;
 }
 
-pub fine_ends : (label : FineLabel) → IsProperFine label → HasBareEnds (fine_text label)
-fine_ends (Snap path) proper = behind_word 115 (codes "nap ") (path_text path.numbers) refl (name_ends path.numbers proper)
-fine_ends (Choose path) proper = behind_word 99 (codes "hoose ") (path_text path.numbers) refl (name_ends path.numbers proper)
-fine_ends (Plain label) proper = label_ends label proper
+pub fine-ends : (label : FineLabel) → IsProperFine label → HasBareEnds (fine_text label)
+fine-ends (Snap path) proper = behind-word 115 (codes "nap ") (path_text path.numbers) refl (name-ends path.numbers proper)
+fine-ends (Choose path) proper = behind-word 99 (codes "hoose ") (path_text path.numbers) refl (name-ends path.numbers proper)
+fine-ends (Plain label) proper = label-ends label proper
 
 -- no label begins as a snapshot does, nor as a choice does
-no_snap : (text : List ℕ) (path : Path) (label : Label) → text ≡ fine_text (Snap path) → text ≡ label_text label → ⊥
-no_snap text path (Statement q) left right = apart text _ _ 0 (omega arith) left right
-no_snap text path (Expiry q frame timer) left right = apart text _ _ 0 (omega arith) left right
-no_snap text path (Delivery name) left right = apart text _ _ 1 (omega arith) left right
+no-snap : (text : List ℕ) (path : Path) (label : Label) → text ≡ fine_text (Snap path) → text ≡ label_text label → ⊥
+no-snap text path (Statement q) left right = apart text _ _ 0 (omega arith) left right
+no-snap text path (Expiry q frame timer) left right = apart text _ _ 0 (omega arith) left right
+no-snap text path (Delivery name) left right = apart text _ _ 1 (omega arith) left right
 
-no_choice : (text : List ℕ) (path : Path) (label : Label) → text ≡ fine_text (Choose path) → text ≡ label_text label → ⊥
-no_choice text path (Statement q) left right = apart text _ _ 0 (omega arith) left right
-no_choice text path (Expiry q frame timer) left right = apart text _ _ 0 (omega arith) left right
-no_choice text path (Delivery name) left right = apart text _ _ 0 (omega arith) left right
+no-choice : (text : List ℕ) (path : Path) (label : Label) → text ≡ fine_text (Choose path) → text ≡ label_text label → ⊥
+no-choice text path (Statement q) left right = apart text _ _ 0 (omega arith) left right
+no-choice text path (Expiry q frame timer) left right = apart text _ _ 0 (omega arith) left right
+no-choice text path (Delivery name) left right = apart text _ _ 0 (omega arith) left right
 
 -- a text is that of one label of a fine run
-pub fine_same : (text : List ℕ) (one other : FineLabel) → IsProperFine one → IsProperFine other → text ≡ fine_text one → text ≡ fine_text other → one ≡ other
-fine_same text (Snap one) (Snap other) p q left right = ap Snap (name_same one other p q (let is : codes "snap " ++ path_text one.numbers ≡ codes "snap " ++ path_text other.numbers = sym left ∙ right in cc))
-fine_same text (Choose one) (Choose other) p q left right = ap Choose (name_same one other p q (let is : codes "choose " ++ path_text one.numbers ≡ codes "choose " ++ path_text other.numbers = sym left ∙ right in cc))
-fine_same text (Plain one) (Plain other) p q left right = ap Plain (label_same text one other p q left right)
-fine_same text (Snap one) (Choose other) p q left right = absurd (apart text _ _ 0 (omega arith) left right)
-fine_same text (Snap one) (Plain other) p q left right = absurd (no_snap text one other left right)
-fine_same text (Choose one) (Snap other) p q left right = absurd (apart text _ _ 0 (omega arith) left right)
-fine_same text (Choose one) (Plain other) p q left right = absurd (no_choice text one other left right)
-fine_same text (Plain one) (Snap other) p q left right = absurd (no_snap text other one right left)
-fine_same text (Plain one) (Choose other) p q left right = absurd (no_choice text other one right left)
+pub fine-same : (text : List ℕ) (one other : FineLabel) → IsProperFine one → IsProperFine other → text ≡ fine_text one → text ≡ fine_text other → one ≡ other
+fine-same text (Snap one) (Snap other) p q left right = ap Snap (name-same one other p q (let is : codes "snap " ++ path_text one.numbers ≡ codes "snap " ++ path_text other.numbers = sym left ∙ right in cc))
+fine-same text (Choose one) (Choose other) p q left right = ap Choose (name-same one other p q (let is : codes "choose " ++ path_text one.numbers ≡ codes "choose " ++ path_text other.numbers = sym left ∙ right in cc))
+fine-same text (Plain one) (Plain other) p q left right = ap Plain (label-same text one other p q left right)
+fine-same text (Snap one) (Choose other) p q left right = absurd (apart text _ _ 0 (omega arith) left right)
+fine-same text (Snap one) (Plain other) p q left right = absurd (no-snap text one other left right)
+fine-same text (Choose one) (Snap other) p q left right = absurd (apart text _ _ 0 (omega arith) left right)
+fine-same text (Choose one) (Plain other) p q left right = absurd (no-choice text one other left right)
+fine-same text (Plain one) (Snap other) p q left right = absurd (no-snap text other one right left)
+fine-same text (Plain one) (Choose other) p q left right = absurd (no-choice text other one right left)

@@ -29,7 +29,7 @@ use Rattle.report_script.proofs.Stands.{allowed, followed, mapped, some-same, va
 use Rattle.report_script.specs.Scripts.{are_ports, json_in, message_given, message_in, message_of, messages_given, messages_in, most_bytes, or_refused, port_given, ports_given, script_of, script_of_json, script_said, system_names, test_with, type_named}
 use Rattle.report_script.specs.Values.{value_given}
 use Rattle.report_script.specs.declared.error.ScriptError.{ScriptError}
-use Rattle.report_script.specs.declared.error.ScriptError.TheVariants as refusal
+use Rattle.report_script.specs.declared.error.ScriptError.TheVariants as scripting
 use Rattle.semantics.specs.Snapshots.{Script}
 use Rattle.semantics.specs.Statements.{takes, types_at}
 use Rattle.step_script.specs.Fitting.{ComesIn, FitsPort, FitsScript}
@@ -152,7 +152,7 @@ module _ (definitions : List Definition) (well : AreWellTyped definitions) where
 
   -- ---- scripts
 
-  ports-given : (b : Bool) (o : Option Script) (script : Script) → cond b (or_refused refusal.BadMessage o) (Err refusal.NoSuchPort) ≡ Ok script → o ≡ Some script
+  ports-given : (b : Bool) (o : Option Script) (script : Script) → cond b (or_refused scripting.BadMessage o) (Err scripting.NoSuchPort) ≡ Ok script → o ≡ Some script
   ports-given true None script is = absurd (let e = is in cc)
   ports-given true (Some ports) script is = cc
   ports-given false o script is = absurd (let e = is in cc)
@@ -167,7 +167,7 @@ module _ (definitions : List Definition) (well : AreWellTyped definitions) where
   json-fits testcase None script is = absurd (let e = is in cc)
   json-fits testcase (Some d) script is = object-fits testcase (as_object d) script is
 
-  not-large : (b : Bool) (r : Result Script ScriptError) (script : Script) → cond b (Err refusal.TooLarge) r ≡ Ok script → r ≡ Ok script
+  not-large : (b : Bool) (r : Result Script ScriptError) (script : Script) → cond b (Err scripting.TooLarge) r ≡ Ok script → r ≡ Ok script
   not-large true r script is = absurd (let e = is in cc)
   not-large false r script is = is
 

@@ -14,10 +14,10 @@ joined before x None = refl
 joined before x (Some xs) = ap Some (sym (append_assoc before (x ∷ []) xs))
 
 -- one port more is read
-pub more_ports : (definitions : List Definition) (names : Names) (all : Option Script) (es rest : List Entry) (e : Entry) (name : List ℕ) (messages : List Value) (ports new : Script)
+pub more-ports : (definitions : List Definition) (names : Names) (all : Option Script) (es rest : List Entry) (e : Entry) (name : List ℕ) (messages : List Value) (ports new : Script)
     → all ≡ option_map (λ found. ports ++ found) (ports_given definitions names (members_view es)) → es ≡ e ∷ rest → Some messages ≡ port_given definitions names (string_bytes e.0) (view e.1)
     → name ≡ string_bytes e.0 → new ≡ ports ++ (name, messages) ∷ [] → all ≡ option_map (λ found. new ++ found) (ports_given definitions names (members_view rest))
-more_ports definitions names all es rest e name messages ports new so_far split here named pushed =
+more-ports definitions names all es rest e name messages ports new so_far split here named pushed =
     let others = ports_given definitions names (members_view rest) in
     so_far ∙ ap (λ xs. option_map (λ found. ports ++ found) (ports_given definitions names (members_view xs))) split
     ∙ ap (λ o. option_map (λ found. ports ++ found) (option_and_then (λ queue. option_map (λ found. (string_bytes e.0, queue) ∷ found) others) o)) (sym here)

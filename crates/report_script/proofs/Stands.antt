@@ -14,7 +14,7 @@ use Rattle.check_scope.specs.declared.types.DataType.{DataType}
 use Rattle.check_scope.specs.declared.types.DataType.TheVariants as type
 use Rattle.check_scope.specs.declared.types.Target.{Target}
 use Rattle.laws_evaluation.proofs.TypedRecords.{true-both}
-use Rattle.laws_evaluation.proofs.TypedValues.{goes_rolled, level_goes, nat_eq-refl, with_goes}
+use Rattle.laws_evaluation.proofs.TypedValues.{goes-rolled, level_goes, nat_eq-refl, with_goes}
 use Rattle.laws_evaluation.specs.Types.{go_to_fields, goes_to_field, value_goes, wants}
 use Rattle.report_script.specs.Values.{Given, Parts, are_fields, boolean_given, enumerator_given, field_given, fields_given, integer_given, name_given, omitted, part_named, parts_given, record_at, record_given, value_given}
 use Rattle.semantics.specs.Events.{type_in, type_of}
@@ -60,7 +60,7 @@ with_whole = former-Value-Record-1-at-1.map Value Bool is_complete
 rolled : (definitions : List Definition) (target : Target) (x : Value-F Value) → level_goes definitions x target ≡ true → complete_step (map-Value Value Bool is_complete x) ≡ true
     → (target.optional ≡ false → type_in x ≡ target.data_type) → Stands definitions target (roll-Value x)
 rolled definitions target x goes complete typed = record {
-  goes = goes_rolled definitions x target ∙ goes;
+  goes = goes-rolled definitions x target ∙ goes;
   is_whole = fold-roll-Value Bool complete_step x ∙ complete;
   is_typed = λ present. ap type_in (out-roll-Value x) ∙ typed present;
 }

@@ -12,11 +12,11 @@ use Rattle.serde_json.specs.Data.{Data}
 use Rattle.serde_json.specs.Find.{as_object}
 use Rattle.serde_json.specs.Read.{read}
 
-pub json_read : (text : List ℕ) (d : Data) → IsUtf8 text → read text ≡ Some d → json_in text ≡ Some d
-json_read text d whole is = rw (is_utf8-from_IsUtf8 text whole) is
+pub json-read : (text : List ℕ) (d : Data) → IsUtf8 text → read text ≡ Some d → json_in text ≡ Some d
+json-read text d whole is = rw (is_utf8-from_IsUtf8 text whole) is
 
-pub json_none : (text : List ℕ) → (IsUtf8 text → read text ≡ None) → json_in text ≡ None
-json_none text none = by (is_utf8 text) refl
+pub json-none : (text : List ℕ) → (IsUtf8 text → read text ≡ None) → json_in text ≡ None
+json-none text none = by (is_utf8 text) refl
   where
     by : (b : Bool) → is_utf8 text ≡ b → (if b then read text else None) ≡ None
     by true whole = none (IsUtf8-from_is_utf8 text whole)

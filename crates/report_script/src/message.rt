@@ -1,29 +1,18 @@
 //! Messages that come in at system ports (ES 201 873-1, 22.2).
 ghost use Rattle.std.specs.Prelude.{◌≡◌, IfOk, Some, true};
-ghost use Rattle.check_rules.specs.Messages as messages;
 ghost use Rattle.check_scope.specs.internal.Checking.{view};
 ghost use Rattle.report_script.specs.Scripts as spec;
 ghost use Rattle.semantics.specs.Statements.{takes, types_at};
 ghost use Rattle.serde_json.specs.View.{items_view, view as data_of};
 
 use crate::value::read_value;
-use check_scope::names::Meaning;
+use check_rules::port_meant;
 use check_scope::scope::{Scope, type_meant};
 use check_scope::types::{DataType, Target};
 use serde_json::Value as Json;
 use std::alloc::{AllocError, Global};
 use ttcn_syntax::Seq;
 use value_types::Value;
-
-/// The port that a name stands for: the position of its type, which may be unknown.
-pub(crate) fn port_meant(meaning: Option<Meaning>) -> Option<Option<usize>>
-    ensures { result ≡ messages.port_meant meaning }
-{
-    match meaning {
-        Some(Meaning::Port(at)) => Some(at),
-        _ => None,
-    }
-}
 
 /// Whether messages of a type come in at a port whose type stands at a position, if that is known.
 fn comes_in(scope: &Scope<'_>, port: Option<usize>, data_type: DataType) -> bool

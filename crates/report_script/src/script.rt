@@ -12,8 +12,8 @@ ghost use Rattle.serde_json.specs.View.{members_view, view as data_of};
 ghost use Rattle.step_script.specs.Fitting.{FitsScript};
 
 use crate::error::ScriptError;
-use crate::message::{port_meant, read_port};
-use check_rules::{Program, TestId, component_named};
+use crate::message::read_port;
+use check_rules::{Program, TestId, component_named, port_meant};
 use check_scope::least::Least;
 use check_scope::scope::Scope;
 use serde_json::error::Category;

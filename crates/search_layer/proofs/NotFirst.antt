@@ -5,12 +5,12 @@ use Rattle.std.specs.List.Sorted.{IsStrictlyIncreasing}
 use Rattle.std.proofs.lemmas.List.Kept.{AllPairs-from_increasing}
 use mathlib.Core.Logic.{dite}
 use native.Mathlib.Decide.{dec_le, ℕ_discrete}
-use Rattle.search_layer.proofs.AllWorked.{stands_behind}
-use Rattle.search_layer.proofs.Drawing.{stands_at}
+use Rattle.search_layer.proofs.AllWorked.{stands-behind}
+use Rattle.search_layer.proofs.Drawing.{stands-at}
 use Rattle.std.proofs.lemmas.List.{map-append}
 use Rattle.std.proofs.lemmas.Option.{slice_get_within}
 use Rattle.std.proofs.lemmas.List.Elements.{All-from_get_or}
-use Rattle.search_layer.proofs.Newly.{all_placed, newly_push}
+use Rattle.search_layer.proofs.Newly.{all-placed, newly-push}
 use Rattle.search_layer.specs.internal.Search.{as_found, Found, state_of, newly}
 use Rattle.std.specs.Prelude.{◌||◌, slice_get, Some, All}
 use Rattle.std.specs.List.{list_any}
@@ -18,20 +18,20 @@ use Rattle.summary.specs.Sums.{Join, Observation}
 use Rattle.shared.specs.Totals.{Stands}
 use Rattle.search_layer.specs.declared.visited.Candidate.{Candidate}
 use Rattle.search_layer.specs.internal.Work.{AreFirst}
-use Rattle.search_layer.proofs.Known.{known_after}
+use Rattle.search_layer.proofs.Known.{known-after}
 
-either_known : (a b : Bool) → ((a ≡ false) → (b ≡ false) → ⊥) → (a || b) ≡ true
-either_known true b h = refl
-either_known false true h = refl
-either_known false false h = absurd (h refl refl)
+either-known : (a b : Bool) → ((a ≡ false) → (b ≡ false) → ⊥) → (a || b) ≡ true
+either-known true b h = refl
+either-known false true h = refl
+either-known false false h = absurd (h refl refl)
 
-get_middle : {X : Type 0} (front : List X) (x : X) (rest : List X) → slice_get ((front ++ x ∷ []) ++ rest) (length front) ≡ Some x
-get_middle [] x rest = refl
-get_middle (y ∷ front) x rest = get_middle front x rest
+get-middle : {X : Type 0} (front : List X) (x : X) (rest : List X) → slice_get ((front ++ x ∷ []) ++ rest) (length front) ≡ Some x
+get-middle [] x rest = refl
+get-middle (y ∷ front) x rest = get-middle front x rest
 
-take_front : {X : Type 0} (front : List X) (x : X) (rest : List X) → take (length front) ((front ++ x ∷ []) ++ rest) ≡ front
-take_front [] x rest = refl
-take_front (y ∷ front) x rest = ap (λ ys. y ∷ ys) (take_front front x rest)
+take-front : {X : Type 0} (front : List X) (x : X) (rest : List X) → take (length front) ((front ++ x ∷ []) ++ rest) ≡ front
+take-front [] x rest = refl
+take-front (y ∷ front) x rest = ap (λ ys. y ∷ ys) (take-front front x rest)
 
 -- so many of the positions are behind us
 pub record IsUpTo (firsts : List ℕ) (next at : ℕ) : Type 0 where
@@ -39,15 +39,15 @@ pub record IsUpTo (firsts : List ℕ) (next at : ℕ) : Type 0 where
   pub before : (k : ℕ) → k < next → get_or firsts k 0 < at
   pub behind : (k : ℕ) → next ≤ k → k < length firsts → at ≤ get_or firsts k 0
 
-index_of : (xs : List ℕ) (x : ℕ) → Stands x xs → (k : ℕ) × (k < length xs) × (get_or xs k 0 ≡ x)
-index_of [] x has = absurd (omega arith)
-index_of (y ∷ xs) x has = dite (ℕ_discrete y x)
+index-of : (xs : List ℕ) (x : ℕ) → Stands x xs → (k : ℕ) × (k < length xs) × (get_or xs k 0 ≡ x)
+index-of [] x has = absurd (omega arith)
+index-of (y ∷ xs) x has = dite (ℕ_discrete y x)
     (λ here. (0, omega arith, here))
-    (λ other. let r = index_of xs x (stands_behind y x xs other has) in (suc r.0, (let l = r.1 in omega arith), r.2))
+    (λ other. let r = index-of xs x (stands-behind y x xs other has) in (suc r.0, (let l = r.1 in omega arith), r.2))
 
-pub not_there : (firsts : List ℕ) (next at : ℕ) → IsStrictlyIncreasing firsts → IsUpTo firsts next at → (next < length firsts → get_or firsts next 0 ≢ at) → Stands at firsts → ⊥
-not_there firsts next at up h other has =
-    let r = index_of firsts at has in
+pub not-there : (firsts : List ℕ) (next at : ℕ) → IsStrictlyIncreasing firsts → IsUpTo firsts next at → (next < length firsts → get_or firsts next 0 ≢ at) → Stands at firsts → ⊥
+not-there firsts next at up h other has =
+    let r = index-of firsts at has in
     let l = r.1 in
     let e = r.2 in
     dite (dec_le (suc r.0) next) (λ low. let b = h.before r.0 low in omega arith)
@@ -55,8 +55,8 @@ not_there firsts next at up h other has =
     (λ here. other (omega arith) (ap (λ k. get_or firsts k 0) here ∙ e))
     (λ more. let far : next < r.0 = omega arith in let p = AllPairs-from_increasing firsts up next r.0 0 far l in let b = h.behind next (omega arith) (omega arith) in omega arith))
 
-pub up_first : (firsts : List ℕ) (next at : ℕ) → IsStrictlyIncreasing firsts → IsUpTo firsts next at → next < length firsts → get_or firsts next 0 ≡ at → IsUpTo firsts (next + 1) (at + 1)
-up_first firsts next at up h low is = record {
+pub up-first : (firsts : List ℕ) (next at : ℕ) → IsStrictlyIncreasing firsts → IsUpTo firsts next at → next < length firsts → get_or firsts next 0 ≡ at → IsUpTo firsts (next + 1) (at + 1)
+up-first firsts next at up h low is = record {
   next_within = omega arith;
   before = λ k less. dite (ℕ_discrete next k)
       (λ here. let e : get_or firsts k 0 ≡ at = ap (λ n. get_or firsts n 0) (sym here) ∙ is in omega arith)
@@ -64,76 +64,76 @@ up_first firsts next at up h low is = record {
   behind = λ k more near. let p = AllPairs-from_increasing firsts up next k 0 (omega arith) near in omega arith;
 }
 
-pub up_other : (firsts : List ℕ) (next at : ℕ) → IsStrictlyIncreasing firsts → IsUpTo firsts next at → (next < length firsts → get_or firsts next 0 ≢ at) → IsUpTo firsts next (at + 1)
-up_other firsts next at up h other = record {
+pub up-other : (firsts : List ℕ) (next at : ℕ) → IsStrictlyIncreasing firsts → IsUpTo firsts next at → (next < length firsts → get_or firsts next 0 ≢ at) → IsUpTo firsts next (at + 1)
+up-other firsts next at up h other = record {
   next_within = h.next_within;
   before = λ k less. let b = h.before k less in omega arith;
   behind = λ k more near. dite (ℕ_discrete (get_or firsts k 0) at)
-      (λ here. absurd (not_there firsts next at up h other (subst (λ x. Stands x firsts) here (stands_at firsts k near))))
+      (λ here. absurd (not-there firsts next at up h other (subst (λ x. Stands x firsts) here (stands-at firsts k near))))
       (λ apart. let b = h.behind k more near in omega arith);
 }
 
 -- each position is that of a candidate
-pub positions_within : {C L : Type 0} (eq : C → C → Bool) (known : List C) (cs : List (Candidate C L)) (firsts : List ℕ) → AreFirst eq known cs firsts → All (λ at. at < length cs) firsts
-positions_within eq known cs firsts h = All-from_get_or (λ at. at < length cs) firsts 0 (λ k low.
-    let m = (h.members (get_or firsts k 0)).0 (stands_at firsts k low) in slice_get_within cs (get_or firsts k 0) m.0 m.1)
+pub positions-within : {C L : Type 0} (eq : C → C → Bool) (known : List C) (cs : List (Candidate C L)) (firsts : List ℕ) → AreFirst eq known cs firsts → All (λ at. at < length cs) firsts
+positions-within eq known cs firsts h = All-from_get_or (λ at. at < length cs) firsts 0 (λ k low.
+    let m = (h.members (get_or firsts k 0)).0 (stands-at firsts k low) in slice_get_within cs (get_or firsts k 0) m.0 m.1)
 
 module _ {C L : Type 0} (eq : C → C → Bool) (laws : IsEquivalence eq) where
   -- a state is known after candidates were placed, where it was before or is equal to one of theirs
-  known_newly : (known : List C) (x : C) (front : List (Candidate C L))
+  known-newly : (known : List C) (x : C) (front : List (Candidate C L))
       → list_any (eq x) (known ++ map state_of (newly eq known front)) ≡ (list_any (eq x) known || list_any (λ c. eq x c.state) front)
-  known_newly known x front =
+  known-newly known x front =
       let found : Found C L (Unit {0}) = as_found known [] 0 tt in
       let j : Join (Unit {0}) = record { none = tt; join = λ _ _. tt } in
       let r : Observation C L (Unit {0}) = record { at = λ _. tt; by = λ _ _. tt } in
-      ap (λ (f : Found C L (Unit {0})). list_any (eq x) f.states) (sym (all_placed j r eq found front))
-      ∙ known_after j r eq (λ x y z a b. laws.congr x y z a ∙ b) found x front
+      ap (λ (f : Found C L (Unit {0})). list_any (eq x) f.states) (sym (all-placed j r eq found front))
+      ∙ known-after j r eq (λ x y z a b. laws.congr x y z a ∙ b) found x front
 
   module _ (known : List C) (cs : List (Candidate C L)) (firsts : List ℕ) (front rest : List (Candidate C L)) (c : Candidate C L) (at : ℕ)
       (h : AreFirst eq known cs firsts) (split : cs ≡ (front ++ c ∷ []) ++ rest) (at_is : at ≡ length front) where
     there : slice_get cs at ≡ Some c
-    there = (λ i. slice_get (split i) (at_is i)) ∙ get_middle front c rest
+    there = (λ i. slice_get (split i) (at_is i)) ∙ get-middle front c rest
 
     fronts : take at cs ≡ front
-    fronts = (λ i. take (at_is i) (split i)) ∙ take_front front c rest
+    fronts = (λ i. take (at_is i) (split i)) ∙ take-front front c rest
 
     -- the candidate at one of the positions is new when its turn comes
-    pub first_is_new : Stands at firsts → list_any (eq c.state) (known ++ map state_of (newly eq known front)) ≡ false
-    first_is_new has =
+    pub first-is-new : Stands at firsts → list_any (eq c.state) (known ++ map state_of (newly eq known front)) ≡ false
+    first-is-new has =
         let m = (h.members at).0 has in
         let same : m.0 ≡ c = cc (m.1, there) in
         let old : list_any (eq c.state) known ≡ false = ap (λ (d : Candidate C L). list_any (eq d.state) known) (sym same) ∙ m.2 in
         let earlier : list_any (λ d. eq c.state d.state) front ≡ false =
         (λ i. list_any (λ (d : Candidate C L). eq (sym same i).state d.state) (sym fronts i)) ∙ m.3 in
-        known_newly known c.state front ∙ (λ i. old i || earlier i)
+        known-newly known c.state front ∙ (λ i. old i || earlier i)
 
     -- a candidate elsewhere is known
-    pub other_is_known : (Stands at firsts → ⊥) → list_any (eq c.state) (known ++ map state_of (newly eq known front)) ≡ true
-    other_is_known other =
-        known_newly known c.state front
-        ∙ either_known (list_any (eq c.state) known) (list_any (λ d. eq c.state d.state) front)
+    pub other-is-known : (Stands at firsts → ⊥) → list_any (eq c.state) (known ++ map state_of (newly eq known front)) ≡ true
+    other-is-known other =
+        known-newly known c.state front
+        ∙ either-known (list_any (eq c.state) known) (list_any (λ d. eq c.state d.state) front)
         (λ a b. other ((h.members at).1 (c, there, a, ap (list_any (λ (d : Candidate C L). eq c.state d.state)) fronts ∙ b)))
 
   -- candidates and one more that is new
   pub with_new : (known : List C) (front : List (Candidate C L)) (c : Candidate C L) → list_any (eq c.state) (known ++ map state_of (newly eq known front)) ≡ false
       → newly eq known (front ++ c ∷ []) ≡ newly eq known front ++ c ∷ []
-  with_new known front c new = newly_push eq known front c ∙ ap (λ b. newly eq known front ++ cond b [] (c ∷ [])) new
+  with_new known front c new = newly-push eq known front c ∙ ap (λ b. newly eq known front ++ cond b [] (c ∷ [])) new
 
   -- candidates and one more that is known
   pub with_known : (known : List C) (front : List (Candidate C L)) (c : Candidate C L) → list_any (eq c.state) (known ++ map state_of (newly eq known front)) ≡ true
       → newly eq known (front ++ c ∷ []) ≡ newly eq known front
-  with_known known front c old = newly_push eq known front c ∙ ap (λ b. newly eq known front ++ cond b [] (c ∷ [])) old ∙ append-nil (newly eq known front)
+  with_known known front c old = newly-push eq known front c ∙ ap (λ b. newly eq known front ++ cond b [] (c ∷ [])) old ∙ append-nil (newly eq known front)
 
   -- what is kept of a new candidate comes behind what was kept
-  pub kept_new : {X : Type 0} (f : Candidate C L → X) (known : List C) (front : List (Candidate C L)) (c : Candidate C L) (old before after : List X)
+  pub kept-new : {X : Type 0} (f : Candidate C L → X) (known : List C) (front : List (Candidate C L)) (c : Candidate C L) (old before after : List X)
       → list_any (eq c.state) (known ++ map state_of (newly eq known front)) ≡ false
       → before ≡ old ++ map f (newly eq known front) → after ≡ before ++ f c ∷ [] → after ≡ old ++ map f (newly eq known (front ++ c ∷ []))
-  kept_new f known front c old before after new so_far is =
+  kept-new f known front c old before after new so_far is =
       is ∙ ap (λ xs. xs ++ f c ∷ []) so_far ∙ append_assoc old (map f (newly eq known front)) (f c ∷ [])
       ∙ ap (λ xs. old ++ xs) (sym (map-append f (newly eq known front) (c ∷ [])) ∙ ap (map f) (sym (with_new known front c new)))
 
   -- nothing is kept of a known one
-  pub kept_known : {X : Type 0} (f : Candidate C L → X) (known : List C) (front : List (Candidate C L)) (c : Candidate C L) (old before : List X)
+  pub kept-known : {X : Type 0} (f : Candidate C L → X) (known : List C) (front : List (Candidate C L)) (c : Candidate C L) (old before : List X)
       → list_any (eq c.state) (known ++ map state_of (newly eq known front)) ≡ true
       → before ≡ old ++ map f (newly eq known front) → before ≡ old ++ map f (newly eq known (front ++ c ∷ []))
-  kept_known f known front c old before known_is so_far = so_far ∙ ap (λ ds. old ++ map f ds) (sym (with_known known front c known_is))
+  kept-known f known front c old before known_is so_far = so_far ∙ ap (λ ds. old ++ map f ds) (sym (with_known known front c known_is))

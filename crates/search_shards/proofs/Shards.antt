@@ -27,11 +27,11 @@ module _ {T : Type 0} where
       by rest false e = subst (λ (b : Bool). IsDistinct eq (cond b (x ∷ filter p xs) (filter p xs))) (sym e) rest
 
   -- a value is not equal to one before it
-  pub none_before : (eq : T → T → Bool) → IsEquivalence eq → (xs ys : List T) (x : T) → IsDistinct eq (xs ++ x ∷ ys) → list_any (eq x) xs ≡ false
-  none_before eq laws [] ys x apart = refl
-  none_before eq laws (z ∷ zs) ys x apart =
+  pub none-before : (eq : T → T → Bool) → IsEquivalence eq → (xs ys : List T) (x : T) → IsDistinct eq (xs ++ x ∷ ys) → list_any (eq x) xs ≡ false
+  none-before eq laws [] ys x apart = refl
+  none-before eq laws (z ∷ zs) ys x apart =
       let here : eq x z ≡ false = laws.symm x z ∙ at zs (IsDistinct-head eq z (zs ++ x ∷ ys) apart) in
-      λ i. here i || none_before eq laws zs ys x (IsDistinct-tail eq z (zs ++ x ∷ ys) apart) i
+      λ i. here i || none-before eq laws zs ys x (IsDistinct-tail eq z (zs ++ x ∷ ys) apart) i
     where
       at : (ws : List T) → AllByRecursion (λ y. eq z y ≡ false) (ws ++ x ∷ ys) → eq z x ≡ false
       at [] h = h.0
@@ -76,8 +76,8 @@ module _ {T : Type 0} (eq : T → T → Bool) (input : T → List (List ℕ)) wh
         ∙ list_any-filter eq (shard_of input (length shards)) q (λ x e. ap (λ (w : List (List ℕ)). shard_of (λ (z : List (List ℕ)). z) (length shards) w) (sym (respects q x e))) (values_in shards places)
 
     -- no two values of a shard are equal
-    pub distinct_each : All (IsDistinct eq) shards
-    distinct_each = All-from_get_or (IsDistinct eq) shards [] (λ s low.
+    pub distinct-each : All (IsDistinct eq) shards
+    distinct-each = All-from_get_or (IsDistinct eq) shards [] (λ s low.
         subst (IsDistinct eq) (sym (kept.each s low)) (IsDistinct-filter eq (λ x. nat_eq (shard_of input (length shards) x) s) (values_in shards places) kept.distinct))
 
 -- a value that is put behind those of a shard
@@ -126,15 +126,15 @@ module _ {T : Type 0} (shards : List (List T)) (n : ℕ) (x : T) (low : n < leng
 
   module _ (eq : T → T → Bool) (input : T → List (List ℕ)) (laws : IsEquivalence eq) (places : List Place) (kept : IsSharded eq input shards places)
       (own : n ≡ shard_of input (length shards) x) (fresh : list_any (eq x) (values_in shards places) ≡ false) where
-    keeps_at : get_or shards n [] ++ x ∷ [] ≡ filter (λ y. nat_eq (shard_of input (length shards) y) n) (values_in shards places ++ x ∷ [])
-    keeps_at =
+    keeps-at : get_or shards n [] ++ x ∷ [] ≡ filter (λ y. nat_eq (shard_of input (length shards) y) n) (values_in shards places ++ x ∷ [])
+    keeps-at =
         let p : T → Bool = λ y. nat_eq (shard_of input (length shards) y) n in
         ap (λ (xs : List T). xs ++ x ∷ []) (kept.each n low)
         ∙ ap (λ (b : Bool). filter p (values_in shards places) ++ cond b (x ∷ []) []) (sym (eq-eqb (shard_of input (length shards) x) n (sym own)))
         ∙ sym (filter-append p (values_in shards places) (x ∷ []))
 
-    keeps_off : (s : ℕ) → s ≢ n → s < length shards → get_or shards s [] ≡ filter (λ y. nat_eq (shard_of input (length shards) y) s) (values_in shards places ++ x ∷ [])
-    keeps_off s off in' =
+    keeps-off : (s : ℕ) → s ≢ n → s < length shards → get_or shards s [] ≡ filter (λ y. nat_eq (shard_of input (length shards) y) s) (values_in shards places ++ x ∷ [])
+    keeps-off s off in' =
         let p : T → Bool = λ y. nat_eq (shard_of input (length shards) y) s in
         kept.each s in'
         ∙ sym (append-nil (filter p (values_in shards places)))
@@ -145,8 +145,8 @@ module _ {T : Type 0} (shards : List (List T)) (n : ℕ) (x : T) (low : n < leng
     keeps s in' = by (nat_eq s n) refl
       where
         by : (b : Bool) → nat_eq s n ≡ b → get_or grown s [] ≡ filter (λ y. nat_eq (shard_of input (length shards) y) s) (values_in shards places ++ x ∷ [])
-        by true e = subst (λ (m : ℕ). get_or grown m [] ≡ filter (λ y. nat_eq (shard_of input (length shards) y) m) (values_in shards places ++ x ∷ [])) (sym (eqb-true s n e)) (grown-at ∙ keeps_at)
-        by false e = let off = eqb-false s n e in grown-off s off ∙ keeps_off s off in'
+        by true e = subst (λ (m : ℕ). get_or grown m [] ≡ filter (λ y. nat_eq (shard_of input (length shards) y) m) (values_in shards places ++ x ∷ [])) (sym (eqb-true s n e)) (grown-at ∙ keeps-at)
+        by false e = let off = eqb-false s n e in grown-off s off ∙ keeps-off s off in'
 
     pub IsSharded-push : IsSharded eq input grown (places ++ new_place ∷ [])
     IsSharded-push =
@@ -162,44 +162,44 @@ module _ {T : Type 0} (shards : List (List T)) (n : ℕ) (x : T) (low : n < leng
 
 -- a loop that moves values into a set, or shards into a list, one by one
 module _ {T : Type 0} where
-  pub all_moved : (all moved rest none : List T) → all ≡ moved ++ rest → length rest ≡ 0 → none ≡ [] → moved ++ none ≡ all
-  all_moved all moved [] none split empty e = ap (λ (xs : List T). moved ++ xs) e ∙ sym split
-  all_moved all moved (x ∷ rest) none split empty e = absurd (omega arith)
+  pub all-moved : (all moved rest none : List T) → all ≡ moved ++ rest → length rest ≡ 0 → none ≡ [] → moved ++ none ≡ all
+  all-moved all moved [] none split empty e = ap (λ (xs : List T). moved ++ xs) e ∙ sym split
+  all-moved all moved (x ∷ rest) none split empty e = absurd (omega arith)
 
-  pub one_moved : (all moved next items rest : List T) (x : T) → all ≡ moved ++ items → items ≡ x ∷ rest → next ≡ moved ++ x ∷ [] → all ≡ next ++ rest
-  one_moved all moved next items rest x split e more =
+  pub one-moved : (all moved next items rest : List T) (x : T) → all ≡ moved ++ items → items ≡ x ∷ rest → next ≡ moved ++ x ∷ [] → all ≡ next ++ rest
+  one-moved all moved next items rest x split e more =
       split ∙ ap (λ (xs : List T). moved ++ xs) e ∙ sym (append_assoc moved (x ∷ []) rest) ∙ ap (λ (xs : List T). xs ++ rest) (sym more)
 
-  pub one_inserted : (eq : T → T → Bool) → IsEquivalence eq → (all keys next items rest : List T) (x : T) → IsDistinct eq all
+  pub one-inserted : (eq : T → T → Bool) → IsEquivalence eq → (all keys next items rest : List T) (x : T) → IsDistinct eq all
       → all ≡ keys ++ items → items ≡ x ∷ rest → next ≡ insert_key eq keys x → all ≡ next ++ rest
-  one_inserted eq laws all keys next items rest x apart split e more =
-      let fresh = none_before eq laws keys rest x (subst (IsDistinct eq) (split ∙ ap (λ (xs : List T). keys ++ xs) e) apart) in
-      one_moved all keys next items rest x split e (more ∙ ap (λ (b : Bool). if b then keys else keys ++ x ∷ []) fresh)
+  one-inserted eq laws all keys next items rest x apart split e more =
+      let fresh = none-before eq laws keys rest x (subst (IsDistinct eq) (split ∙ ap (λ (xs : List T). keys ++ xs) e) apart) in
+      one-moved all keys next items rest x split e (more ∙ ap (λ (b : Bool). if b then keys else keys ++ x ∷ []) fresh)
 
-  pub moved_has : (P : T → Type 0) (all moved items rest : List T) (x : T) → All P all → all ≡ moved ++ items → items ≡ x ∷ rest → P x
-  moved_has P all moved items rest x each split e =
+  pub moved-has : (P : T → Type 0) (all moved items rest : List T) (x : T) → All P all → all ≡ moved ++ items → items ≡ x ∷ rest → P x
+  moved-has P all moved items rest x each split e =
       subst P (get_or-append_seam moved x rest x)
       (All-get_or P (moved ++ x ∷ rest) (length moved) x (let both = length-append moved (x ∷ rest) in omega arith)
       (subst (All P) (split ∙ ap (λ (xs : List T). moved ++ xs) e) each))
 
   -- none but lists with no values
-  pub none_more : (lists : List (List T)) (one : List T) → ((s : ℕ) → get_or lists s [] ≡ []) → one ≡ [] → (s : ℕ) → get_or (lists ++ one ∷ []) s [] ≡ []
-  none_more [] one none e zero = e
-  none_more [] one none e (suc s) = refl
-  none_more (x ∷ xs) one none e zero = none 0
-  none_more (x ∷ xs) one none e (suc s) = none_more xs one (λ k. none (suc k)) e s
+  pub none-more : (lists : List (List T)) (one : List T) → ((s : ℕ) → get_or lists s [] ≡ []) → one ≡ [] → (s : ℕ) → get_or (lists ++ one ∷ []) s [] ≡ []
+  none-more [] one none e zero = e
+  none-more [] one none e (suc s) = refl
+  none-more (x ∷ xs) one none e zero = none 0
+  none-more (x ∷ xs) one none e (suc s) = none-more xs one (λ k. none (suc k)) e s
 
   -- answers that are all shards: each is as what it stands for
-  pub same_from_answers : {E : Type 0} (before after : List T) (answers : List (Result T E)) → answers ≡ map Ok after → length answers ≡ length before
+  pub same-from-answers : {E : Type 0} (before after : List T) (answers : List (Result T E)) → answers ≡ map Ok after → length answers ≡ length before
       → ((i : ℕ) (d : Result T E) → i < length before → (x : T) × ((e : T) → get_or before i e ≡ x) × IfOk (get_or answers i d) (λ y. y ≡ x)) → after ≡ before
-  same_from_answers [] [] answers all long each = refl
-  same_from_answers {E} [] (y ∷ ys) answers all long each = let short = ap length all in let m = length-map {B = Result T E} ys Ok in absurd (omega arith)
-  same_from_answers (x ∷ xs) [] answers all long each = let short = ap length all in absurd (omega arith)
-  same_from_answers {E} (x ∷ xs) (y ∷ ys) answers all long each =
+  same-from-answers [] [] answers all long each = refl
+  same-from-answers {E} [] (y ∷ ys) answers all long each = let short = ap length all in let m = length-map {B = Result T E} ys Ok in absurd (omega arith)
+  same-from-answers (x ∷ xs) [] answers all long each = let short = ap length all in absurd (omega arith)
+  same-from-answers {E} (x ∷ xs) (y ∷ ys) answers all long each =
       let first = each 0 (Ok y) (omega arith) in
       let same : y ≡ first.0 = subst (λ (as' : List (Result T E)). IfOk (get_or as' 0 (Ok y)) (λ z. z ≡ first.0)) all first.2 in
       let is : x ≡ first.0 = first.1 x in
       let m = length-map {B = Result T E} ys Ok in
       let short = ap length all in
-      λ j. (same ∙ sym is) j ∷ same_from_answers xs ys (map Ok ys) refl (omega arith)
+      λ j. (same ∙ sym is) j ∷ same-from-answers xs ys (map Ok ys) refl (omega arith)
       (λ i d low. subst (λ (as' : List (Result T E)). (z : T) × ((e : T) → get_or xs i e ≡ z) × IfOk (get_or as' (suc i) d) (λ w. w ≡ z)) all (each (suc i) d (omega arith))) j

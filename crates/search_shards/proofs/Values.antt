@@ -29,8 +29,8 @@ module _ {T : Type 0} where
 
   module _ (shards : List (List T)) where
     -- a place that holds a value is that of a shard
-    pub shard_low : (p : Place) → IsHeld shards p → p.shard < length shards
-    shard_low p held = elim (cases_lt p.shard (length shards)) [
+    pub shard-low : (p : Place) → IsHeld shards p → p.shard < length shards
+    shard-low p held = elim (cases_lt p.shard (length shards)) [
       | inl low ↦ low
       | inr past ↦ (let none = ap length (get_or_past shards p.shard [] past) in absurd (omega arith))
     ]
@@ -63,22 +63,22 @@ module _ {T : Type 0} where
 
     -- the place of a number below the length
     module _ (places : List Place) (held : All (IsHeld shards) places) (keys : List T) (are : values_in shards places ≡ keys) (i : ℕ) (low : i < length keys) where
-      pub in_places : i < length places
-      in_places = let count = length-values_in places held in let long = ap length are in omega arith
+      pub in-places : i < length places
+      in-places = let count = length-values_in places held in let long = ap length are in omega arith
 
       module _ (p : Place) (at : p ≡ get_or places i p) where
-        pub place_held : IsHeld shards p
-        place_held = subst (IsHeld shards) (sym at) (All-get_or (IsHeld shards) places i p in_places held)
+        pub place-held : IsHeld shards p
+        place-held = subst (IsHeld shards) (sym at) (All-get_or (IsHeld shards) places i p in-places held)
 
         module _ (kept : List T) (read : kept ≡ get_or shards p.shard kept) where
-          kept_is : kept ≡ get_or shards p.shard []
-          kept_is = read ∙ get_or_default shards p.shard kept [] (shard_low p place_held)
+          kept-is : kept ≡ get_or shards p.shard []
+          kept-is = read ∙ get_or_default shards p.shard kept [] (shard-low p place-held)
 
-          pub in_shard : p.index < length kept
-          in_shard = subst (λ (xs : List T). p.index < length xs) (sym kept_is) place_held
+          pub in-shard : p.index < length kept
+          in-shard = subst (λ (xs : List T). p.index < length xs) (sym kept-is) place-held
 
           pub value_of : (x : T) → slice_get kept p.index ≡ Some x → slice_get keys i ≡ Some x
           value_of x has =
               ap (λ (xs : List T). slice_get xs i) (sym are)
-              ∙ values_in-get places i p x held (slice_get-get_or places i p in_places ∙ ap Some (sym at))
-              (ap (λ (xs : List T). slice_get xs p.index) (sym kept_is) ∙ has)
+              ∙ values_in-get places i p x held (slice_get-get_or places i p in-places ∙ ap Some (sym at))
+              (ap (λ (xs : List T). slice_get xs p.index) (sym kept-is) ∙ has)

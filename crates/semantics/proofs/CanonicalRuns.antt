@@ -57,8 +57,8 @@ module _ (test : Test) where
   all_runs_alike zero = refl
   all_runs_alike (suc n) = ap (λ rs. rs ++ runs_of h (suc n)) (all_runs_alike n) ∙ ap (λ rs. all_runs g n ++ rs) (runs-of-alike (suc n))
 
-  pub marks_alike : (run : Run Label) → h.mark (end_of h run) ≡ g.mark (end_of g run)
-  marks_alike run = ap mark_of (ends_live run) ∙ mark_live (end_of g run)
+  pub marks-alike : (run : Run Label) → h.mark (end_of h run) ≡ g.mark (end_of g run)
+  marks-alike run = ap mark_of (ends_live run) ∙ mark_live (end_of g run)
 
   module _ {S : Type 0} (j : Join S) (r : Observation Configuration Label S) (sees : SeesLiveParts r) where
     shown-alike : (run : Run Label) → shown h j r run ≡ shown g j r run
@@ -78,10 +78,10 @@ module _ (test : Test) where
 
   module _ (cmp : Label → Label → Ordering) (n mark : ℕ) (run : Run Label) where
     to-canonical : (other : Run Label) → HasMark g n mark other → HasMark h n mark other
-    to-canonical other has = record { is_run = subst (λ T. T) (sym (runs_alike other)) has.is_run; short = has.short; marked = marks_alike other ∙ has.marked }
+    to-canonical other has = record { is_run = subst (λ T. T) (sym (runs_alike other)) has.is_run; short = has.short; marked = marks-alike other ∙ has.marked }
 
     from-canonical : (other : Run Label) → HasMark h n mark other → HasMark g n mark other
-    from-canonical other has = record { is_run = subst (λ T. T) (runs_alike other) has.is_run; short = has.short; marked = sym (marks_alike other) ∙ has.marked }
+    from-canonical other has = record { is_run = subst (λ T. T) (runs_alike other) has.is_run; short = has.short; marked = sym (marks-alike other) ∙ has.marked }
 
     pub best_alike : IsBest h cmp n mark run ↔ IsBest g cmp n mark run
     best_alike = (

@@ -269,11 +269,11 @@ starts = starts-holds
 pub repeats_inner : RepeatsInner
 repeats_inner test snapshot own frame below = repeats_inner-holds test snapshot own frame below
 
-pub takes_done : TakesDone
-takes_done test snapshot own frame below = takes_done-holds test snapshot own frame below
+pub takes-done : TakesDone
+takes-done test snapshot own frame below = takes_done-holds test snapshot own frame below
 
-pub awaits_done : AwaitsDone
-awaits_done test snapshot own frame below = awaits_done-holds test snapshot own frame below
+pub awaits-done : AwaitsDone
+awaits-done test snapshot own frame below = awaits_done-holds test snapshot own frame below
 
 pub sends_behind : SendsBehind
 sends_behind test of own other frame below waiting site s rest = sends_behind-holds test of own other frame below waiting site s rest

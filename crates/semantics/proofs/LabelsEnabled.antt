@@ -16,7 +16,7 @@ use Rattle.semantics.specs.Order.{HasTimersInOrder, IsOrdered, IsOrderedWithin}
 use Rattle.semantics.specs.Snapshots.{Test, snapshot_of}
 use Rattle.semantics.specs.Statements.{act}
 use Rattle.semantics.specs.Storing.{with_calls, with_members, with_timers}
-use Rattle.semantics.specs.Steps.{Delivery, Expiry, Label, Statement, apply, come_in, delivery_step, exchanged, expire_in, touch, expired, expired_call, expired_frame, expiry_step, next_message, statement_step, step, step_in}
+use Rattle.semantics.specs.Steps.{Delivery, Expiry, Label, Statement, apply, come_in, exchanged, expire_in, touch, expired, expired_call, expired_frame, expiry_step, next_message, statement_step, step, step_in}
 use Rattle.value_types.specs.Frames.{entry, is_running}
 use Rattle.value_types.specs.Outcomes.{Yields}
 use Rattle.value_types.specs.declared.frame.TimerState.{TimerState}

@@ -5,7 +5,7 @@ use Rattle.std.specs.Ordering.{is_lt}
 use Rattle.std.proofs.lemmas.Slice.Eq.{bytes_eq-Decides}
 use Rattle.ttcn_syntax.specs.declared.tree.statement.Verdict.{Verdict}
 use Rattle.ttcn_syntax.specs.declared.tree.statement.Verdict.TheVariants as verdict
-use Rattle.semantics.proofs.Verdicts.{none_worse, worse_associates, worse_commutes, worse_none, worse_pairs}
+use Rattle.semantics.proofs.Verdicts.{none-worse, worse-associates, worse-commutes, worse-none, worse-pairs}
 use Rattle.semantics.specs.Configurations.{Component, Connection, End, Going, Message, Terminated, component_at, is_terminated_state, path_of, path_cmp, same_path, worse}
 use Rattle.semantics.specs.Entries.{Entries, Identifier}
 use Rattle.semantics.specs.LiveParts.{forget_verdict, husk, is_live, live_component, live_going}
@@ -148,13 +148,13 @@ total (x ∷ xs) = worse (contribution x) (total xs)
 
 forget-one : (b : Bool) (v w : Verdict) → (if b then worse v w else v) ≡ worse v (if b then w else verdict.None)
 forget-one true v w = refl
-forget-one false v w = sym (worse_none v)
+forget-one false v w = sym (worse-none v)
 
 pub fold-total : (v : Verdict) (xs : List Component) → fold forget_verdict v xs ≡ worse v (total xs)
 unfolding total contribution
-fold-total v [] = sym (worse_none v)
+fold-total v [] = sym (worse-none v)
 fold-total v (x ∷ xs) =
-    fold-total (forget_verdict v x) xs ∙ ap (λ w. worse w (total xs)) (forget-one (is_over x) v x.verdict) ∙ worse_associates v (contribution x) (total xs)
+    fold-total (forget_verdict v x) xs ∙ ap (λ w. worse w (total xs)) (forget-one (is_over x) v x.verdict) ∙ worse-associates v (contribution x) (total xs)
 
 pub contribution-over : (x : Component) → is_over x ≡ true → contribution x ≡ x.verdict
 unfolding contribution
@@ -172,14 +172,14 @@ contribution-live x = by-state (λ y. contribution (live_component y) ≡ verdic
 contribution-gentle : (f : Component → Component) → IsGentle f → (x : Component) → worse (contribution x) (contribution (f (live_component x))) ≡ contribution (f x)
 contribution-gentle f gentle x = by-state (λ y. worse (contribution y) (contribution (f (live_component y))) ≡ contribution (f y)) x
     (λ e. ap (λ y. worse (contribution x) (contribution (f y))) (live-over x e) ∙ ap (λ y. worse (contribution x) (contribution y)) (gentle.over (husk (path_of x)) refl)
-    ∙ ap (λ w. worse (contribution x) w) (sym (ap contribution (live-over x e)) ∙ contribution-live x) ∙ worse_none (contribution x) ∙ sym (ap contribution (gentle.over x e)))
-    (λ e. ap (λ w. worse w (contribution (f (live_component x)))) (contribution-alive x e) ∙ none_worse (contribution (f (live_component x))) ∙ ap (λ y. contribution (f y)) (live-alive x e))
+    ∙ ap (λ w. worse (contribution x) w) (sym (ap contribution (live-over x e)) ∙ contribution-live x) ∙ worse-none (contribution x) ∙ sym (ap contribution (gentle.over x e)))
+    (λ e. ap (λ w. worse w (contribution (f (live_component x)))) (contribution-alive x e) ∙ none-worse (contribution (f (live_component x))) ∙ ap (λ y. contribution (f y)) (live-alive x e))
 
 total-gentle : (f : Component → Component) → IsGentle f → (xs : List Component) → worse (total xs) (total (map f (map live_component xs))) ≡ total (map f xs)
 unfolding total
 total-gentle f gentle [] = refl
 total-gentle f gentle (x ∷ xs) =
-    worse_pairs (contribution x) (total xs) (contribution (f (live_component x))) (total (map f (map live_component xs)))
+    worse-pairs (contribution x) (total xs) (contribution (f (live_component x))) (total (map f (map live_component xs)))
     ∙ ap (λ w. worse w (worse (total xs) (total (map f (map live_component xs))))) (contribution-gentle f gentle x)
     ∙ ap (worse (contribution (f x))) (total-gentle f gentle xs)
 
@@ -196,12 +196,12 @@ Keeps f = (c : Going) → live_going (f (live_going c)) ≡ live_going (f c)
 pub keeps-both : (f g : Going → Going) → Keeps f → Keeps g → Keeps (λ c. f (g c))
 keeps-both f g one other c = sym (one (g (live_going c))) ∙ ap (λ d. live_going (f d)) (other c) ∙ one (g c)
 
-abbrev going_of : List Component → List Connection → Entries End → Entries ℕ → Verdict → Going
-going_of cs ks ms ns v = record { components = cs; connections = ks; mappings = ms; delivered = ns; forgotten = v }
+abbrev going-of : List Component → List Connection → Entries End → Entries ℕ → Verdict → Going
+going-of cs ks ms ns v = record { components = cs; connections = ks; mappings = ms; delivered = ns; forgotten = v }
 
 -- two configurations of equal parts
-going-alike : (cs ds : List Component) (ks ls : List Connection) (ms : Entries End) (ns : Entries ℕ) (v w : Verdict) → cs ≡ ds → ks ≡ ls → v ≡ w → going_of cs ks ms ns v ≡ going_of ds ls ms ns w
-going-alike cs ds ks ls ms ns v w a b e = ap (λ xs. going_of xs ks ms ns v) a ∙ ap (λ xs. going_of ds xs ms ns v) b ∙ ap (going_of ds ls ms ns) e
+going-alike : (cs ds : List Component) (ks ls : List Connection) (ms : Entries End) (ns : Entries ℕ) (v w : Verdict) → cs ≡ ds → ks ≡ ls → v ≡ w → going-of cs ks ms ns v ≡ going-of ds ls ms ns w
+going-alike cs ds ks ls ms ns v w a b e = ap (λ xs. going-of xs ks ms ns v) a ∙ ap (λ xs. going-of ds xs ms ns v) b ∙ ap (going-of ds ls ms ns) e
 
 both-over : (a b c d : Bool) → (a ≡ true → c ≡ true) → (b ≡ true → d ≡ true) → not (c && d) ≡ true → not (a && b) ≡ true
 both-over true true c d one other e = absurd (let i = one refl in let j = other refl in cc)
@@ -236,7 +236,7 @@ keeps-changed f gentle c =
     forgotten : fold forget_verdict (fold forget_verdict c.forgotten c.components) (map f (map live_component c.components)) ≡ fold forget_verdict c.forgotten (map f c.components)
     forgotten = fold-total (fold forget_verdict c.forgotten c.components) (map f (map live_component c.components))
         ∙ ap (λ v. worse v (total (map f (map live_component c.components)))) (fold-total c.forgotten c.components)
-        ∙ worse_associates c.forgotten (total c.components) (total (map f (map live_component c.components)))
+        ∙ worse-associates c.forgotten (total c.components) (total (map f (map live_component c.components)))
         ∙ ap (worse c.forgotten) (total-gentle f gentle c.components)
         ∙ sym (fold-total c.forgotten (map f c.components))
 
@@ -277,9 +277,9 @@ id-gentle = record { path = λ x. refl; over = λ x e. refl }
 
 pub live-twice : (c : Going) → live_going (live_going c) ≡ live_going c
 live-twice c =
-    ap (λ xs. live_going (going_of xs (live_going c).connections c.mappings c.delivered (live_going c).forgotten)) (sym (map-same (live_going c).components))
+    ap (λ xs. live_going (going-of xs (live_going c).connections c.mappings c.delivered (live_going c).forgotten)) (sym (map-same (live_going c).components))
     ∙ keeps-changed (λ x. x) id-gentle c
-    ∙ ap (λ xs. live_going (going_of xs c.connections c.mappings c.delivered c.forgotten)) (map-same c.components)
+    ∙ ap (λ xs. live_going (going-of xs c.connections c.mappings c.delivered c.forgotten)) (map-same c.components)
 
 pub alike : (f : Going → Going) → Keeps f → (c d : Going) → live_going c ≡ live_going d → live_going (f c) ≡ live_going (f d)
 alike f keeps c d e = sym (keeps c) ∙ ap (λ x. live_going (f x)) e ∙ keeps d
@@ -367,8 +367,8 @@ insert-total-first : (b : Bool) (new x : Component) (xs us : List Component) →
 unfolding total
 insert-total-first true new x xs us e = refl
 insert-total-first false new x xs us e =
-    ap (worse (contribution x)) e ∙ sym (worse_associates (contribution x) (contribution new) (total xs)) ∙ ap (λ v. worse v (total xs)) (worse_commutes (contribution x) (contribution new))
-    ∙ worse_associates (contribution new) (contribution x) (total xs)
+    ap (worse (contribution x)) e ∙ sym (worse-associates (contribution x) (contribution new) (total xs)) ∙ ap (λ v. worse v (total xs)) (worse-commutes (contribution x) (contribution new))
+    ∙ worse-associates (contribution new) (contribution x) (total xs)
 
 insert-total : (new : Component) (xs : List Component) → total (insert new xs) ≡ worse (contribution new) (total xs)
 unfolding total
@@ -378,24 +378,24 @@ insert-total new (x ∷ xs) = insert-total-first (is_before new x) new x xs (ins
 total-live : (xs : List Component) → total (map live_component xs) ≡ verdict.None
 unfolding total
 total-live [] = refl
-total-live (x ∷ xs) = ap (λ v. worse v (total (map live_component xs))) (contribution-live x) ∙ none_worse (total (map live_component xs)) ∙ total-live xs
+total-live (x ∷ xs) = ap (λ v. worse v (total (map live_component xs))) (contribution-live x) ∙ none-worse (total (map live_component xs)) ∙ total-live xs
 
-abbrev new_if : Bool → Component → Going → Going
-new_if b new c = going_of (if b then c.components else insert new c.components) c.connections c.mappings c.delivered c.forgotten
+abbrev new-if : Bool → Component → Going → Going
+new-if b new c = going-of (if b then c.components else insert new c.components) c.connections c.mappings c.delivered c.forgotten
 
-keeps-new-if : (b : Bool) (new : Component) (c : Going) → is_some (component_at c (path_of new)) ≡ b → live_going (new_if b new (live_going c)) ≡ live_going (new_if b new c)
+keeps-new-if : (b : Bool) (new : Component) (c : Going) → is_some (component_at c (path_of new)) ≡ b → live_going (new-if b new (live_going c)) ≡ live_going (new-if b new c)
 keeps-new-if true new c is = live-twice c
 keeps-new-if false new c is = going-alike _ _ _ _ _ _ _ _ (insert-live new c.components) connections forgotten
   where
     none : is_new (path_of new) c.components ≡ true
     none = ap not is
 
-    connections : filter (is_live (new_if false new (live_going c))) (filter (is_live c) c.connections) ≡ filter (is_live (new_if false new c)) c.connections
-    connections = filter-alike (is_live (new_if false new (live_going c))) (is_live (new_if false new c))
+    connections : filter (is_live (new-if false new (live_going c))) (filter (is_live c) c.connections) ≡ filter (is_live (new-if false new c)) c.connections
+    connections = filter-alike (is_live (new-if false new (live_going c))) (is_live (new-if false new c))
         (λ k. ap (λ b. not (b && over_in (insert new (map live_component c.components)) k.other.component)) (insert-over new k.one.component c.components)
         ∙ ap (λ b. not (over_in (insert new c.components) k.one.component && b)) (insert-over new k.other.component c.components))
         (filter (is_live c) c.connections)
-        ∙ filter-stronger (is_live (new_if false new c)) (is_live c)
+        ∙ filter-stronger (is_live (new-if false new c)) (is_live c)
         (λ k. both-over (over_in c.components k.one.component) (over_in c.components k.other.component) (over_in (insert new c.components) k.one.component) (over_in (insert new c.components) k.other.component)
         (insert-stays new k.one.component c.components none) (insert-stays new k.other.component c.components none))
         c.connections
@@ -403,9 +403,9 @@ keeps-new-if false new c is = going-alike _ _ _ _ _ _ _ _ (insert-live new c.com
     forgotten : fold forget_verdict (fold forget_verdict c.forgotten c.components) (insert new (map live_component c.components)) ≡ fold forget_verdict c.forgotten (insert new c.components)
     forgotten = fold-total (fold forget_verdict c.forgotten c.components) (insert new (map live_component c.components))
         ∙ ap (λ v. worse v (total (insert new (map live_component c.components)))) (fold-total c.forgotten c.components)
-        ∙ ap (worse (worse c.forgotten (total c.components))) (insert-total new (map live_component c.components) ∙ ap (worse (contribution new)) (total-live c.components) ∙ worse_none (contribution new))
-        ∙ worse_associates c.forgotten (total c.components) (contribution new)
-        ∙ ap (worse c.forgotten) (worse_commutes (total c.components) (contribution new) ∙ sym (insert-total new c.components))
+        ∙ ap (worse (worse c.forgotten (total c.components))) (insert-total new (map live_component c.components) ∙ ap (worse (contribution new)) (total-live c.components) ∙ worse-none (contribution new))
+        ∙ worse-associates c.forgotten (total c.components) (contribution new)
+        ∙ ap (worse c.forgotten) (worse-commutes (total c.components) (contribution new) ∙ sym (insert-total new c.components))
         ∙ sym (fold-total c.forgotten (insert new c.components))
 
 some-live : (o : Option Component) → is_some (option_map live_component o) ≡ is_some o
@@ -414,7 +414,7 @@ some-live (Some x) = refl
 
 pub keeps_new : (new : Component) → Keeps (with_new new)
 keeps_new new c =
-    ap (λ b. live_going (new_if b new (live_going c))) (ap is_some (component-live c (path_of new)) ∙ some-live (component_at c (path_of new)))
+    ap (λ b. live_going (new-if b new (live_going c))) (ap is_some (component-live c (path_of new)) ∙ some-live (component_at c (path_of new)))
     ∙ keeps-new-if (is_some (component_at c (path_of new))) new c refl
 
 -- ---- connections
@@ -447,21 +447,21 @@ keeps_connection new c = going-alike _ _ _ _ _ _ _ _
 
 -- ---- mappings
 
-pub keeps_mappings : (change : Entries End → Entries End) → Keeps (λ c. with_mappings (change c.mappings) c)
-keeps_mappings change c = ap (with_mappings (change c.mappings)) (live-twice c)
+pub keeps-mappings : (change : Entries End → Entries End) → Keeps (λ c. with_mappings (change c.mappings) c)
+keeps-mappings change c = ap (with_mappings (change c.mappings)) (live-twice c)
 
 -- a component terminates
-pub keeps_terminated : (p : Path) → Keeps (terminate p)
-keeps_terminated p =
-    keeps-both (λ c. with_mappings (without_component p c.mappings) c) (λ c. touch c p (with_state Terminated)) (keeps_mappings (without_component p)) (keeps_touch (with_state Terminated) (λ x. refl) p)
+pub keeps-terminated : (p : Path) → Keeps (terminate p)
+keeps-terminated p =
+    keeps-both (λ c. with_mappings (without_component p c.mappings) c) (λ c. touch c p (with_state Terminated)) (keeps-mappings (without_component p)) (keeps_touch (with_state Terminated) (λ x. refl) p)
 
 -- ---- deliveries
 
-pub keeps_delivery : (system_port : Identifier) → Keeps (with_delivery system_port)
-keeps_delivery system_port c = ap (with_delivery system_port) (live-twice c)
+pub keeps-delivery : (system_port : Identifier) → Keeps (with_delivery system_port)
+keeps-delivery system_port c = ap (with_delivery system_port) (live-twice c)
 
-pub keeps_behind : (message : Message) (e : End) → Keeps (put_behind message e)
-keeps_behind message e = keeps_touch (at_queue e.port (λ messages. messages ++ message ∷ [])) (λ x. refl) e.component
+pub keeps-behind : (message : Message) (e : End) → Keeps (put_behind message e)
+keeps-behind message e = keeps_touch (at_queue e.port (λ messages. messages ++ message ∷ [])) (λ x. refl) e.component
 
-pub keeps_come_in : (system_port : Identifier) (e : End) (v : Value) → Keeps (come_in system_port e v)
-keeps_come_in system_port e v = keeps-both (with_delivery system_port) (put_behind (record { value = v; sender = None }) e) (keeps_delivery system_port) (keeps_behind (record { value = v; sender = None }) e)
+pub keeps-come-in : (system_port : Identifier) (e : End) (v : Value) → Keeps (come_in system_port e v)
+keeps-come-in system_port e v = keeps-both (with_delivery system_port) (put_behind (record { value = v; sender = None }) e) (keeps-delivery system_port) (keeps-behind (record { value = v; sender = None }) e)

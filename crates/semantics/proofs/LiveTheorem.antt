@@ -4,17 +4,17 @@ use Rattle.std.specs.List.{filter, find, flat_map, fold, list_any}
 use Rattle.std.specs.Option.{option_and_then}
 use Rattle.ttcn_syntax.specs.declared.tree.statement.Verdict.{Verdict}
 use Rattle.ttcn_syntax.specs.declared.tree.statement.Verdict.TheVariants as verdict
-use Rattle.semantics.proofs.LiveSteps.{alike, by-state, component-live, contribution, contribution-alive, contribution-over, fold-total, found-over, is_over, keeps_behind, keeps_come_in, keeps_connection, keeps_mappings, keeps_new, keeps_terminated, keeps_touch, live-alive, live-over, live-over-in, live-path, live-twice, map-same, map-twice, over_in, path-is, pick, total}
-use Rattle.semantics.proofs.Verdicts.{none_worse, worse_associates, worse_none, worse_pairs}
+use Rattle.semantics.proofs.LiveSteps.{alike, by-state, component-live, contribution, contribution-alive, contribution-over, fold-total, found-over, is_over, keeps-behind, keeps-come-in, keeps_connection, keeps-mappings, keeps_new, keeps-terminated, keeps_touch, live-alive, live-over, live-over-in, live-path, live-twice, map-same, map-twice, over_in, path-is, pick, total}
+use Rattle.semantics.proofs.Verdicts.{none-worse, worse-associates, worse-none, worse-pairs}
 use Rattle.semantics.specs.Configurations.{Component, Configuration, Connection, Created, Data, End, Ended, Frame, Goes, Going, Message, Running, State, Terminated, component_at, is_running_state, is_terminated_state, overall, path_of, same_end, same_path, worse}
-use Rattle.semantics.specs.Entries.{Entries, Identifier, put}
+use Rattle.semantics.specs.Entries.{Identifier, put}
 use Rattle.semantics.specs.Labels.{deliveries, expiries, labels, labels_of_component, statement_labels}
 use Rattle.semantics.specs.LiveParts.{forget_verdict, is_live, live_component, live_going, live_part}
 use Rattle.semantics.specs.Places.{blocked, branch_in, branch_of, branch_of_component, if_none, place_in_frames, place_of, place_of_frames, standings, unless_fault, with_place}
 use Rattle.semantics.specs.Runs.{mark_of}
 use Rattle.semantics.specs.Snapshots.{Test, mtc_of, snapshot_of}
 use Rattle.semantics.specs.Statements.{Act, Connects, Continues, Creates, Errs, Maps, Removes, Request, Requests, Sends, Starts, Stops, Unmaps, Waits, Worsens, act}
-use Rattle.semantics.specs.Steps.{Delivery, Expiry, Label, Statement, addressed, apply, at_queue, begin, come_in, connect, connection, deliver, delivery_step, ending, exchanged, expired, expiry_step, if_running, is_connected, is_double, is_kept_apart, is_kept_unmapped, is_mapped, is_terminated_at, is_terminated_component, map_port, maps_otherwise, next, next_message, opposite, peers, perform, put_behind, send, send_out, send_to_peer, settle, settled, start_component, start_created, start_in, statement_step, step, step_in, terminate, touch, unmap_port, with_connection, with_data, with_mappings, with_new, with_verdict, without_first}
+use Rattle.semantics.specs.Steps.{Delivery, Expiry, Label, Statement, addressed, apply, at_queue, begin, come_in, connect, connection, deliver, ending, exchanged, expired, expiry_step, if_running, is_connected, is_double, is_kept_apart, is_kept_unmapped, is_mapped, is_terminated_at, is_terminated_component, map_port, maps_otherwise, next, next_message, opposite, peers, perform, put_behind, send, send_out, send_to_peer, settle, settled, start_component, start_created, start_in, statement_step, step, step_in, terminate, touch, unmap_port, with_connection, with_data, with_mappings, with_new, with_verdict, without_first}
 use Rattle.value_types.specs.Frames.{entry}
 use Rattle.value_types.specs.Outcomes.{Fails, Outcome, Yields, dynamic_error, outcome_map}
 use Rattle.value_types.specs.declared.path.Path.{Path}
@@ -114,7 +114,7 @@ live_outcome = outcome_map live_part
 
 deliver-alike : (c d : Going) → Alike c d → (m : Message) (ends : List End) → live_outcome (ending (deliver c m ends)) ≡ live_outcome (ending (deliver d m ends))
 deliver-alike c d same m [] = refl
-deliver-alike c d same m (e ∷ []) = ap (λ x. Yields (Goes x)) (alike (put_behind m e) (keeps_behind m e) c d same)
+deliver-alike c d same m (e ∷ []) = ap (λ x. Yields (Goes x)) (alike (put_behind m e) (keeps-behind m e) c d same)
 deliver-alike c d same m (e ∷ f ∷ ends) = refl
 
 send-out-alike : (c d : Going) → Alike c d → (to : Option Path) → live_outcome (ending (send_out c to)) ≡ live_outcome (ending (send_out d to))
@@ -151,24 +151,24 @@ states-live : (o : Option Component) → option_map (λ x. x.state) (option_map 
 states-live None = refl
 states-live (Some x) = ap Some (live-state x)
 
-abbrev state_at : Going → Path → Option State
-state_at c p = option_map (λ x. x.state) (component_at c p)
+abbrev state-at : Going → Path → Option State
+state-at c p = option_map (λ x. x.state) (component_at c p)
 
-state-live : (c : Going) (p : Path) → state_at (live_going c) p ≡ state_at c p
+state-live : (c : Going) (p : Path) → state-at (live_going c) p ≡ state-at c p
 state-live c p = ap (option_map (λ x. x.state)) (component-live c p) ∙ states-live (component_at c p)
 
-alike-state : (c d : Going) → Alike c d → (p : Path) → state_at c p ≡ state_at d p
-alike-state c d same p = sym (state-live c p) ∙ ap (λ x. state_at x p) same ∙ state-live d p
+alike-state : (c d : Going) → Alike c d → (p : Path) → state-at c p ≡ state-at d p
+alike-state c d same p = sym (state-live c p) ∙ ap (λ x. state-at x p) same ∙ state-live d p
 
-abbrev start_by : Going → Path → Frame → Option State → Outcome Going
-start_by c p frame None = start_created c p frame None
-start_by c p frame (Some s) = start_in c p frame s
+abbrev start-by : Going → Path → Frame → Option State → Outcome Going
+start-by c p frame None = start_created c p frame None
+start-by c p frame (Some s) = start_in c p frame s
 
-start-state : (c : Going) (p : Path) (frame : Frame) (o : Option Component) → start_created c p frame o ≡ start_by c p frame (option_map (λ x. x.state) o)
+start-state : (c : Going) (p : Path) (frame : Frame) (o : Option Component) → start_created c p frame o ≡ start-by c p frame (option_map (λ x. x.state) o)
 start-state c p frame None = refl
 start-state c p frame (Some x) = refl
 
-started-alike : (c d : Going) → Alike c d → (p : Path) (frame : Frame) (o : Option State) → live_outcome (ending (start_by c p frame o)) ≡ live_outcome (ending (start_by d p frame o))
+started-alike : (c d : Going) → Alike c d → (p : Path) (frame : Frame) (o : Option State) → live_outcome (ending (start-by c p frame o)) ≡ live_outcome (ending (start-by d p frame o))
 started-alike c d same p frame None = refl
 started-alike c d same p frame (Some Created) = ap (λ x. Yields (Goes x)) (alike (λ x. touch x p (begin frame)) (keeps_touch (begin frame) (λ x. refl) p) c d same)
 started-alike c d same p frame (Some Running) = refl
@@ -177,8 +177,8 @@ started-alike c d same p frame (Some Terminated) = refl
 start-alike : (c d : Going) → Alike c d → (p : Path) (frame : Frame) → live_outcome (ending (start_component c p frame)) ≡ live_outcome (ending (start_component d p frame))
 start-alike c d same p frame =
     ap (λ o. live_outcome (ending o)) (start-state c p frame (component_at c p))
-    ∙ started-alike c d same p frame (state_at c p)
-    ∙ ap (λ o. live_outcome (ending (start_by d p frame o))) (alike-state c d same p)
+    ∙ started-alike c d same p frame (state-at c p)
+    ∙ ap (λ o. live_outcome (ending (start-by d p frame o))) (alike-state c d same p)
     ∙ sym (ap (λ o. live_outcome (ending o)) (start-state d p frame (component_at d p)))
 
 -- the worst verdict of all
@@ -188,32 +188,32 @@ verdicts (x ∷ xs) = worse x.verdict (verdicts xs)
 
 fold-verdicts : (v : Verdict) (xs : List Component) → fold (λ w x. worse w x.verdict) v xs ≡ worse v (verdicts xs)
 unfolding verdicts
-fold-verdicts v [] = sym (worse_none v)
-fold-verdicts v (x ∷ xs) = fold-verdicts (worse v x.verdict) xs ∙ worse_associates v x.verdict (verdicts xs)
+fold-verdicts v [] = sym (worse-none v)
+fold-verdicts v (x ∷ xs) = fold-verdicts (worse v x.verdict) xs ∙ worse-associates v x.verdict (verdicts xs)
 
 verdict-live : (x : Component) → worse (contribution x) (live_component x).verdict ≡ x.verdict
 verdict-live x = by-state (λ y. worse (contribution y) (live_component y).verdict ≡ y.verdict) x
-    (λ e. ap (λ y. worse (contribution x) y.verdict) (live-over x e) ∙ worse_none (contribution x) ∙ contribution-over x e)
-    (λ e. ap (λ v. worse v (live_component x).verdict) (contribution-alive x e) ∙ none_worse (live_component x).verdict ∙ ap (λ y. y.verdict) (live-alive x e))
+    (λ e. ap (λ y. worse (contribution x) y.verdict) (live-over x e) ∙ worse-none (contribution x) ∙ contribution-over x e)
+    (λ e. ap (λ v. worse v (live_component x).verdict) (contribution-alive x e) ∙ none-worse (live_component x).verdict ∙ ap (λ y. y.verdict) (live-alive x e))
 
 verdicts-live : (xs : List Component) → worse (total xs) (verdicts (map live_component xs)) ≡ verdicts xs
 unfolding verdicts total
 verdicts-live [] = refl
 verdicts-live (x ∷ xs) =
-    worse_pairs (contribution x) (total xs) (live_component x).verdict (verdicts (map live_component xs))
+    worse-pairs (contribution x) (total xs) (live_component x).verdict (verdicts (map live_component xs))
     ∙ ap (λ v. worse v (worse (total xs) (verdicts (map live_component xs)))) (verdict-live x) ∙ ap (worse x.verdict) (verdicts-live xs)
 
 pub overall-live : (c : Going) → overall (live_going c) ≡ overall c
 overall-live c =
     fold-verdicts (fold forget_verdict c.forgotten c.components) (map live_component c.components)
     ∙ ap (λ v. worse v (verdicts (map live_component c.components))) (fold-total c.forgotten c.components)
-    ∙ worse_associates c.forgotten (total c.components) (verdicts (map live_component c.components))
+    ∙ worse-associates c.forgotten (total c.components) (verdicts (map live_component c.components))
     ∙ ap (worse c.forgotten) (verdicts-live c.components)
     ∙ sym (fold-verdicts c.forgotten c.components)
 
 stop-told : (b : Bool) (c d : Going) → Alike c d → (p : Path) → live_part (if b then Ended (overall c) else Goes (terminate p c)) ≡ live_part (if b then Ended (overall d) else Goes (terminate p d))
 stop-told true c d same p = ap Ended (sym (overall-live c) ∙ ap overall same ∙ overall-live d)
-stop-told false c d same p = ap Goes (alike (terminate p) (keeps_terminated p) c d same)
+stop-told false c d same p = ap Goes (alike (terminate p) (keeps-terminated p) c d same)
 
 -- ---- connecting
 
@@ -254,7 +254,7 @@ unmapped-told c d same e q false is =
 map-told : (b : Bool) (c d : Going) → Alike c d → (e : End) (q : Identifier)
     → live_outcome (ending (if b then dynamic_error else Yields (with_mappings (put q e c.mappings) c))) ≡ live_outcome (ending (if b then dynamic_error else Yields (with_mappings (put q e d.mappings) d)))
 map-told true c d same e q = refl
-map-told false c d same e q = ap (λ x. Yields (Goes x)) (alike (λ x. with_mappings (put q e x.mappings) x) (keeps_mappings (put q e)) c d same)
+map-told false c d same e q = ap (λ x. Yields (Goes x)) (alike (λ x. with_mappings (put q e x.mappings) x) (keeps-mappings (put q e)) c d same)
 
 map-alike : (c d : Going) → Alike c d → (e : End) (q : Identifier) → live_outcome (ending (map_port c e q)) ≡ live_outcome (ending (map_port d e q))
 map-alike c d same e q =
@@ -264,7 +264,7 @@ map-alike c d same e q =
     ∙ ap (λ a. a || is_connected d e || list_any (maps_otherwise e q) d.mappings) (alike-over c d same e.component))
 
 unmap-alike : (c d : Going) → Alike c d → (e : End) (q : Identifier) → live_going (unmap_port c e q) ≡ live_going (unmap_port d e q)
-unmap-alike c d same e q = alike (λ x. unmap_port x e q) (keeps_mappings (filter (λ m. not (same_end e m.1 && bytes_eq m.0 q)))) c d same
+unmap-alike c d same e q = alike (λ x. unmap_port x e q) (keeps-mappings (filter (λ m. not (same_end e m.1 && bytes_eq m.0 q)))) c d same
 
 -- ---- what a component asks for
 
@@ -381,7 +381,7 @@ expiry-told c number name (Some x) = expiry-live c number name x
 delivery-told : (c : Going) (name : Identifier) (e : End) (o : Option Value)
     → option_map live_outcome (option_map (λ v. Yields (Goes (come_in name e v (live_going c)))) o) ≡ option_map live_outcome (option_map (λ v. Yields (Goes (come_in name e v c))) o)
 delivery-told c name e None = refl
-delivery-told c name e (Some v) = ap (λ x. Some (Yields (Goes x))) (keeps_come_in name e v c)
+delivery-told c name e (Some v) = ap (λ x. Some (Yields (Goes x))) (keeps-come-in name e v c)
 
 delivery-live : (test : Test) (c : Going) (name : Identifier) (o : Option End)
     → option_map live_outcome (option_and_then (λ e. option_map (λ v. Yields (Goes (come_in name e v (live_going c)))) (next_message test (live_going c) name)) o)

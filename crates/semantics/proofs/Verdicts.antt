@@ -35,31 +35,31 @@ greater-number n m =
     (λ lt. ap (λ o. match_ordering o m n n) (sym (nat_cmp_is n m Greater lt)) ∙ sym (max-eq_left (omega (arith, lt)))) differ)
     (cases_order n m)
 
-max_assoc : (n m k : ℕ) → max (max n m) k ≡ max n (max m k)
-max_assoc n m k = omega arith
+max-assoc : (n m k : ℕ) → max (max n m) k ≡ max n (max m k)
+max-assoc n m k = omega arith
 
 badness-worse : (v w : Verdict) → badness (worse v w) ≡ max (badness v) (badness w)
 badness-worse v w = chosen-badness (nat_cmp (badness v) (badness w)) v w ∙ greater-number (badness v) (badness w)
 
-pub worse_commutes : (v w : Verdict) → worse v w ≡ worse w v
-worse_commutes v w = same-badness (worse v w) (worse w v) (badness-worse v w ∙ max_comm (badness v) (badness w) ∙ sym (badness-worse w v))
+pub worse-commutes : (v w : Verdict) → worse v w ≡ worse w v
+worse-commutes v w = same-badness (worse v w) (worse w v) (badness-worse v w ∙ max_comm (badness v) (badness w) ∙ sym (badness-worse w v))
 
-pub worse_associates : (u v w : Verdict) → worse (worse u v) w ≡ worse u (worse v w)
-worse_associates u v w = same-badness (worse (worse u v) w) (worse u (worse v w))
-    (badness-worse (worse u v) w ∙ ap (λ n. max n (badness w)) (badness-worse u v) ∙ max_assoc (badness u) (badness v) (badness w)
+pub worse-associates : (u v w : Verdict) → worse (worse u v) w ≡ worse u (worse v w)
+worse-associates u v w = same-badness (worse (worse u v) w) (worse u (worse v w))
+    (badness-worse (worse u v) w ∙ ap (λ n. max n (badness w)) (badness-worse u v) ∙ max-assoc (badness u) (badness v) (badness w)
     ∙ sym (badness-worse u (worse v w) ∙ ap (max (badness u)) (badness-worse v w)))
 
-pub worse_none : (v : Verdict) → worse v verdict.None ≡ v
-worse_none verdict.None = refl
-worse_none verdict.Pass = refl
-worse_none verdict.Inconc = refl
-worse_none verdict.Fail = refl
-worse_none verdict.Error = refl
+pub worse-none : (v : Verdict) → worse v verdict.None ≡ v
+worse-none verdict.None = refl
+worse-none verdict.Pass = refl
+worse-none verdict.Inconc = refl
+worse-none verdict.Fail = refl
+worse-none verdict.Error = refl
 
-pub none_worse : (v : Verdict) → worse verdict.None v ≡ v
-none_worse v = worse_commutes verdict.None v ∙ worse_none v
+pub none-worse : (v : Verdict) → worse verdict.None v ≡ v
+none-worse v = worse-commutes verdict.None v ∙ worse-none v
 
 -- two pairs, pair by pair or part by part
-pub worse_pairs : (a b c d : Verdict) → worse (worse a b) (worse c d) ≡ worse (worse a c) (worse b d)
-worse_pairs a b c d =
-    worse_associates a b (worse c d) ∙ ap (worse a) (sym (worse_associates b c d) ∙ ap (λ v. worse v d) (worse_commutes b c) ∙ worse_associates c b d) ∙ sym (worse_associates a c (worse b d))
+pub worse-pairs : (a b c d : Verdict) → worse (worse a b) (worse c d) ≡ worse (worse a c) (worse b d)
+worse-pairs a b c d =
+    worse-associates a b (worse c d) ∙ ap (worse a) (sym (worse-associates b c d) ∙ ap (λ v. worse v d) (worse-commutes b c) ∙ worse-associates c b d) ∙ sym (worse-associates a c (worse b d))

@@ -1,5 +1,5 @@
 -- The place of the branch that a step takes.
-use Rattle.std.proofs.Common.{◌≡◌, List, ◌∷◌, map, refl, sym, ap, subst, ◌∙◌, Option, Some, None, Result, Ok, Err}
+use Rattle.std.proofs.Common.{◌≡◌, List, ◌∷◌, map, refl, sym, ap, subst, ◌∙◌, Option, Some, None, Result, Ok}
 use Rattle.ttcn_syntax.specs.declared.place.Span.{Span}
 use Rattle.std.specs.Prelude.{IfOk}
 use Rattle.step_acts.proofs.Choosing.{choice-there}
@@ -21,24 +21,22 @@ use Rattle.semantics.specs.Statements as said
 use Rattle.config_parts.specs.Acts.{act_by}
 use Rattle.config_parts.specs.Legend.{Legend}
 use Rattle.config_parts.specs.declared.act.Act.{Act}
-use Rattle.value_types.specs.declared.fault.Fault.{Fault}
-use Rattle.value_types.specs.declared.fault.Fault.TheVariants.{Dynamic, Memory}
 
-no_place : (asked : said.Act) → unless_fault asked None ≡ None
-no_place said.Waits = refl
-no_place (said.Errs why) = refl
-no_place (said.Requests request own) = refl
+no-place : (asked : said.Act) → unless_fault asked None ≡ None
+no-place said.Waits = refl
+no-place (said.Errs why) = refl
+no-place (said.Requests request own) = refl
 
-act_place : (legend : Legend) (a : Act) (place : Option Span) → unless_fault (act_by legend a) place ≡ place
-act_place legend act place = refl
+act-place : (legend : Legend) (a : Act) (place : Option Span) → unless_fault (act_by legend a) place ≡ place
+act-place legend act place = refl
 
 -- where no branch is chosen, none is taken
-pub none_taken : (asked : said.Act) (place : Option Span) → place ≡ None → None ≡ unless_fault asked place
-none_taken asked place none = sym (ap (unless_fault asked) none ∙ no_place asked)
+pub none-taken : (asked : said.Act) (place : Option Span) → place ≡ None → None ≡ unless_fault asked place
+none-taken asked place none = sym (ap (unless_fault asked) none ∙ no-place asked)
 
 pub asked_place : (legend : Legend) (asked : said.Act) (answer : Option Act) (place : Option Span) → Asks legend asked (Ok answer) → place ≡ unless_fault asked place
 asked_place legend asked None place asks = sym (ap (λ a. unless_fault a place) asks)
-asked_place legend asked (Some a) place asks = sym (ap (λ b. unless_fault b place) asks ∙ act_place legend a place)
+asked_place legend asked (Some a) place asks = sym (ap (λ b. unless_fault b place) asks ∙ act-place legend a place)
 
 pub fault_place : (asked : said.Act) (place : Option Span) → IsFault asked → None ≡ unless_fault asked place
 fault_place said.Waits place is = absurd is

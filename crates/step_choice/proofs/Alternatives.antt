@@ -4,7 +4,7 @@ use Rattle.ttcn_syntax.specs.declared.tree.expression.Expr.{Expr}
 use Rattle.ttcn_syntax.specs.declared.tree.statement.Action.{Action}
 use Rattle.ttcn_syntax.specs.declared.tree.statement.Action.TheOpen.{Alternative-F}
 use Rattle.ttcn_syntax.specs.declared.tree.statement.Alternative.{Alternative, out-Alternative, out-roll-Alternative}
-use Rattle.ttcn_syntax.specs.declared.tree.statement.Alternative.TheVariants as form
+use Rattle.ttcn_syntax.specs.declared.tree.statement.Alternative.TheVariants as alternative_form
 use Rattle.ttcn_syntax.specs.declared.tree.statement.Branch.{Branch, out-Branch}
 use Rattle.ttcn_syntax.specs.declared.tree.statement.Conditional.{Conditional}
 use Rattle.ttcn_syntax.specs.declared.tree.statement.Event.{Event}
@@ -30,14 +30,14 @@ use Rattle.value_types.specs.declared.fault.Fault.{Fault}
 abbrev pub Has : Branch → Alternative → Type 0
 Has b alternative = (out-Branch b).alternative ≡ alternative
 
-has-Event : (b : Branch) (guard : Option Expr) (event : Event) (block : Option (List Statement)) → Has b (form.Event guard event block) → out-Alternative (out-Branch b).alternative ≡ Alternative-F.«Alternative::Event» guard event block
-has-Event b guard event block is = ap out-Alternative (is ∙ sym (form.rolls-Event guard event block)) ∙ out-roll-Alternative (Alternative-F.«Alternative::Event» guard event block)
+has-Event : (b : Branch) (guard : Option Expr) (event : Event) (block : Option (List Statement)) → Has b (alternative_form.Event guard event block) → out-Alternative (out-Branch b).alternative ≡ Alternative-F.«Alternative::Event» guard event block
+has-Event b guard event block is = ap out-Alternative (is ∙ sym (alternative_form.rolls-Event guard event block)) ∙ out-roll-Alternative (Alternative-F.«Alternative::Event» guard event block)
 
-has-Call : (b : Branch) (guard : Option Expr) (call : Call) (block : Option (List Statement)) → Has b (form.Call guard call block) → out-Alternative (out-Branch b).alternative ≡ Alternative-F.«Alternative::Call» guard call block
-has-Call b guard call block is = ap out-Alternative (is ∙ sym (form.rolls-Call guard call block)) ∙ out-roll-Alternative (Alternative-F.«Alternative::Call» guard call block)
+has-Call : (b : Branch) (guard : Option Expr) (call : Call) (block : Option (List Statement)) → Has b (alternative_form.Call guard call block) → out-Alternative (out-Branch b).alternative ≡ Alternative-F.«Alternative::Call» guard call block
+has-Call b guard call block is = ap out-Alternative (is ∙ sym (alternative_form.rolls-Call guard call block)) ∙ out-roll-Alternative (Alternative-F.«Alternative::Call» guard call block)
 
-has-Else : (b : Branch) (block : List Statement) → Has b (form.Else block) → out-Alternative (out-Branch b).alternative ≡ Alternative-F.Else block
-has-Else b block is = ap out-Alternative (is ∙ sym (form.rolls-Else block)) ∙ out-roll-Alternative (Alternative-F.Else block)
+has-Else : (b : Branch) (block : List Statement) → Has b (alternative_form.Else block) → out-Alternative (out-Branch b).alternative ≡ Alternative-F.Else block
+has-Else b block is = ap out-Alternative (is ∙ sym (alternative_form.rolls-Else block)) ∙ out-roll-Alternative (Alternative-F.Else block)
 
 -- what is found of an alternative is found of its branch
 of-alternative : (s : Snapshot) (levels way : ℕ) (site : Site) (inner : Cells) (b : Branch) (alternative : Alternative-F Action Alternative Branch Conditional Statement) (result : Result (Option Taken) Fault)
@@ -49,21 +49,21 @@ of-alternative s levels way site inner b alternative result is found =
     subst P (sym is) found
 
 pub of-event : (s : Snapshot) (levels way : ℕ) (site : Site) (inner : Cells) (b : Branch) (guard : Option Expr) (event : Event) (block : Option (List Statement)) (result : Result (Option Taken) Fault)
-    → Has b (form.Event guard event block)
+    → Has b (alternative_form.Event guard event block)
     → Finds s (Is way (items_if_any (test_of s).definitions site block)) (first_of s (behind_guard (guard_holds (reads s site inner) guard) (open_branch (test_of s) (judge_of s site inner) (out-Branch b).place (Some event) (items_if_any (test_of s).definitions site block) ∷ []))) result
     → Finds s (Is way (items_of_branch (test_of s).definitions site b)) (first_of_branch s levels site inner b) result
 of-event s levels way site inner b guard event block result is found =
     of-alternative s levels way site inner b (Alternative-F.«Alternative::Event» guard event block) result (has-Event b guard event block is) found
 
 pub of-call : (s : Snapshot) (levels way : ℕ) (site : Site) (inner : Cells) (b : Branch) (guard : Option Expr) (call : Call) (block : Option (List Statement)) (result : Result (Option Taken) Fault)
-    → Has b (form.Call guard call block)
+    → Has b (alternative_form.Call guard call block)
     → Finds s (Is way (items_if_any (test_of s).definitions site block)) (first_of s (behind_guard (guard_holds (reads s site inner) guard) (written_call (below levels s) (test_of s) (seen_by s) (own_by s) (judge_of s site inner) call (items_if_any (test_of s).definitions site block) (altstep_meant (module_names (test_of s).definitions call.name))))) result
     → Finds s (Is way (items_of_branch (test_of s).definitions site b)) (first_of_branch s levels site inner b) result
 of-call s levels way site inner b guard call block result is found =
     of-alternative s levels way site inner b (Alternative-F.«Alternative::Call» guard call block) result (has-Call b guard call block is) found
 
 pub of-else : (s : Snapshot) (levels way : ℕ) (site : Site) (inner : Cells) (b : Branch) (block : List Statement) (result : Result (Option Taken) Fault)
-    → Has b (form.Else block)
+    → Has b (alternative_form.Else block)
     → Finds s (Is way (items (test_of s).definitions site block)) (first_of s (open_branch (test_of s) (judge_of s site inner) (out-Branch b).place None (items (test_of s).definitions site block) ∷ [])) result
     → Finds s (Is way (items_of_branch (test_of s).definitions site b)) (first_of_branch s levels site inner b) result
 of-else s levels way site inner b block result is found =
@@ -71,5 +71,5 @@ of-else s levels way site inner b block result is found =
 
 -- what is known of a branch is known of its event
 pub facts-of-event : (s : Snapshot) (site : Site) (b : Branch) (guard : Option Expr) (event : Event) (block : Option (List Statement)) (facts : EventFacts)
-    → Has b (form.Event guard event block) → facts ≡ branch_facts (test_of s).definitions site b → facts ≡ event_facts (test_of s).definitions site event
+    → Has b (alternative_form.Event guard event block) → facts ≡ branch_facts (test_of s).definitions site b → facts ≡ event_facts (test_of s).definitions site event
 facts-of-event s site b guard event block facts is same = same ∙ ap (alternative_facts (test_of s).definitions site) (has-Event b guard event block is)

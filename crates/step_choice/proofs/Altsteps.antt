@@ -1,5 +1,5 @@
 -- The branches of an altstep, from a call of the altstep.
-use Rattle.std.proofs.Common.{◌≡◌, ℕ, zero, suc, List, [], ◌∷◌, map, length, Option, Some, None, IsSome, is_some, Result, Ok, Err, refl, sym, ap, subst, ◌∙◌}
+use Rattle.std.proofs.Common.{◌≡◌, ℕ, zero, suc, List, [], ◌∷◌, map, length, Option, Some, None, IsSome, is_some, Result, Ok, Err, sym, ap, subst, ◌∙◌}
 use Rattle.std.proofs.lemmas.List.{length-map}
 use Rattle.std.proofs.lemmas.List.Elements.{Contains-append_left}
 use Rattle.std.specs.List.{flat_map, slice_get}
@@ -32,7 +32,7 @@ use Rattle.config_parts.specs.declared.frame.Cells.{Cells}
 use Rattle.graph_names.specs.Known.{names_of_branch, names_of_kind}
 use Rattle.ttcn_graph.specs.Graphs.{beginnings}
 use Rattle.ttcn_graph.specs.Ways.{items_of_branch}
-use Rattle.value_types.specs.Outcomes.{Failure, Unmet}
+use Rattle.value_types.specs.Outcomes.{Unmet}
 use Rattle.value_types.specs.declared.fault.Fault.{Fault}
 use Rattle.value_types.specs.declared.fault.Fault.TheVariants.{Dynamic, Memory}
 use Rattle.value_types.specs.declared.value.Value.{Value}

@@ -1,10 +1,8 @@
 -- The first choice among branches that are written out, part by part.
-use Rattle.std.proofs.Common.{◌≡◌, ℕ, List, [], ◌∷◌, ◌++◌, map, refl, ap, sym, ◌∙◌}
-use Rattle.std.specs.List.{flat_map}
+use Rattle.std.proofs.Common.{◌≡◌, ℕ, List, [], ◌∷◌, ◌++◌, map, refl, ap, ◌∙◌}
 use Rattle.semantics.specs.Branches.{Chance, Fault, Open, Written, through}
 use Rattle.semantics.specs.Configurations.{Data}
-use Rattle.semantics.specs.Events as events
-use Rattle.semantics.specs.Events.{Choice, Effect, Faulty, Happened, Passed, Refused, Trial, chosen_by, first_choice, try_chance}
+use Rattle.semantics.specs.Events.{Choice, Faulty, Happened, Passed, Trial, chosen_by, first_choice, try_chance}
 use Rattle.semantics.specs.Items.{Item}
 use Rattle.semantics.specs.Snapshots.{Snapshot, Test}
 use Rattle.step_choice.specs.internal.Later.{chance_through, choice_through, or_later}

@@ -1,14 +1,11 @@
 -- What a call finds of a choice, part by part.
-use Rattle.std.proofs.Common.{◌≡◌, ℕ, List, Option, Some, None, Result, Ok, Err, refl, sym, ap, ◌∙◌}
-use Rattle.semantics.specs.Branches.{Chance}
-use Rattle.semantics.specs.Events as events
-use Rattle.semantics.specs.Events.{Choice, Effect, Refused}
+use Rattle.std.proofs.Common.{◌≡◌, ℕ, List, Option, Some, None, Result, Ok, Err, ap, ◌∙◌}
+use Rattle.semantics.specs.Events.{Choice}
 use Rattle.semantics.specs.Items.{Item}
-use Rattle.step_choice.specs.Choices.{Finds, IsTaken}
+use Rattle.step_choice.specs.Choices.{Finds}
 use Rattle.step_choice.specs.declared.taken.Taken.{Taken}
 use Rattle.step_choice.specs.internal.Later.{or_later}
 use Rattle.step_snapshot.specs.declared.snapshot.Snapshot.{Snapshot}
-use Rattle.value_types.specs.Outcomes.{Failure, Outcome, Fails, Yields, Gives}
 use Rattle.value_types.specs.declared.fault.Fault.{Fault}
 use Rattle.value_types.specs.declared.fault.Fault.TheVariants.{Dynamic, Memory}
 

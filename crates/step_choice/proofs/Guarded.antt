@@ -1,20 +1,16 @@
 -- Branches behind guards, and calls of altsteps, as they are found.
-use Rattle.std.proofs.Common.{◌≡◌, ℕ, zero, suc, Bool, true, false, List, [], ◌∷◌, ◌++◌, map, Option, Some, None, Result, Ok, Err, refl, sym, ap, subst, ◌∙◌}
-use Rattle.std.specs.List.{flat_map}
+use Rattle.std.proofs.Common.{◌≡◌, ℕ, zero, suc, Bool, true, false, List, [], ◌∷◌, Option, Some, None, Result, Ok, Err, refl, sym, ap, subst}
 use Rattle.std.proofs.lemmas.List.Elements.{All-nil}
 use Rattle.ttcn_syntax.specs.declared.place.Span.{Span}
 use Rattle.ttcn_syntax.specs.declared.tree.definition.Altstep.{Altstep}
 use Rattle.ttcn_syntax.specs.declared.tree.definition.DefinitionKind.{DefinitionKind}
 use Rattle.ttcn_syntax.specs.declared.tree.definition.DefinitionKind.TheVariants as kind
-use Rattle.ttcn_syntax.specs.declared.tree.statement.Branch.{Branch}
 use Rattle.ttcn_syntax.specs.declared.tree.statement.Event.{Event}
-use Rattle.semantics.specs.Branches as rules
 use Rattle.semantics.specs.Branches.{Chance, Judge, Written, behind_guard, branches_of, open_branch, written_with}
 use Rattle.semantics.specs.Events as events
-use Rattle.semantics.specs.Events.{Choice, Effect, Passed, Refused, Trial, chosen_by, try_event}
+use Rattle.semantics.specs.Events.{Passed, chosen_by, try_event}
 use Rattle.semantics.specs.Items.{Item}
-use Rattle.semantics.specs.Sites.{Site}
-use Rattle.step_choice.specs.Choices.{Finds, IsTaken}
+use Rattle.step_choice.specs.Choices.{Finds}
 use Rattle.step_snapshot.specs.Tests.{extent_of}
 use Rattle.config_parts.specs.Views.{IsFrameWithin}
 use Rattle.step_choice.specs.declared.taken.Deed.{Deed}
@@ -23,8 +19,7 @@ use Rattle.step_choice.specs.declared.taken.Taken.{Taken}
 use Rattle.step_choice.specs.internal.Judged.{Is, Tries, altstep_of, below, first_of, test_of}
 use Rattle.step_snapshot.specs.Seen.{own_by, seen_by}
 use Rattle.step_snapshot.specs.declared.snapshot.Snapshot.{Snapshot}
-use Rattle.config_parts.specs.declared.frame.Frame.{Frame}
-use Rattle.value_types.specs.Outcomes.{Failure, Fails, Gives, Outcome, Unmet, Yields}
+use Rattle.value_types.specs.Outcomes.{Fails, Gives, Outcome, Yields}
 use Rattle.value_types.specs.declared.fault.Fault.{Fault}
 use Rattle.value_types.specs.declared.fault.Fault.TheVariants.{Dynamic, Memory}
 use Rattle.value_types.specs.declared.value.Value.{Value}

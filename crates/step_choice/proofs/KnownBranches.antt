@@ -1,5 +1,5 @@
 -- The names that the branch of a choice changes are those of the branches, and those that altsteps have.
-use Rattle.std.proofs.Common.{◌≡◌, ℕ, zero, suc, Bool, true, false, List, [], ◌∷◌, ◌++◌, map, length, Option, Some, None, Result, Ok, Err, IfOk, IfSome, refl, sym, ap, arith, subst, ◌∙◌}
+use Rattle.std.proofs.Common.{◌≡◌, ℕ, zero, suc, Bool, true, false, List, [], ◌∷◌, ◌++◌, map, Option, Some, None, Result, Ok, Err, IfOk, IfSome, sym, ap, arith, subst, ◌∙◌}
 use Rattle.std.specs.List.{All, flat_map}
 use Rattle.std.specs.Option.{option_map}
 use Rattle.std.proofs.lemmas.List.Elements.{All-append, All-cons, All-head, All-nil, All-tail}
@@ -22,7 +22,7 @@ use Rattle.semantics.specs.Events as events
 use Rattle.semantics.specs.Events.{Choice, Effect, Faulty, Happened, Passed, Trial, chosen_by, first_choice, try_chance}
 use Rattle.semantics.specs.Items.{Item, action_of, items, items_if_any}
 use Rattle.semantics.specs.Sites.{Site}
-use Rattle.semantics.specs.Snapshots as rules
+use Rattle.semantics.specs.Snapshots as snapshots
 use Rattle.semantics.specs.Snapshots.{Test}
 use Rattle.step_choice.proofs.KnownEffects.{EffectKnown, deed-known, event-known, left-known, right-known}
 use Rattle.step_choice.specs.Choices.{Chooses, choice_from, judge_at}
@@ -91,7 +91,7 @@ branches-known names (Some (kind.Testcase d)) all = no-names names
 abbrev WritesKnown : List (List ℕ) → Writing → Type 0
 WritesKnown names write = (judge : Judge) (branches : List Branch) → NoneIsMissing names (flat_map names_of_branch branches) → All (WrittenKnown names) (write judge branches)
 
-module _ (names : List (List ℕ)) (test : Test) (snapshot : rules.Snapshot) (own : Data) (known : (at : ℕ) → NoneIsMissing names (names_of_kind (kind_at test.definitions at))) where
+module _ (names : List (List ℕ)) (test : Test) (snapshot : snapshots.Snapshot) (own : Data) (known : (at : ℕ) → NoneIsMissing names (names_of_kind (kind_at test.definitions at))) where
   with-known : (below : Writing) → WritesKnown names below → (at : ℕ) (before : List Item) (given : Outcome (List Value)) → All (WrittenKnown names) (written_with below test snapshot own at before given)
   with-known below writes at before (Fails why) = one-fault names (Fault why) tt
   with-known below writes at before (Yields values) =
@@ -139,12 +139,12 @@ either-chosen K chance found Passed others effect is here later = later is
 either-chosen K chance found (Faulty why) others effect is here later = absurd (let e = is in cc)
 either-chosen K chance found (Happened so) others effect is here later = here (let same : so ≡ effect = cc in ap Happened same)
 
-chance-known : (names : List (List ℕ)) (test : Test) (snapshot : rules.Snapshot) (own : Data) (judge : Judge) (e : Option Event) (effect : Effect) → try_chance test snapshot own judge e ≡ Happened effect
+chance-known : (names : List (List ℕ)) (test : Test) (snapshot : snapshots.Snapshot) (own : Data) (judge : Judge) (e : Option Event) (effect : Effect) → try_chance test snapshot own judge e ≡ Happened effect
     → NoneIsMissing names (names-waited e) → EffectKnown names effect
 chance-known names test snapshot own judge None effect is all = let same : events.Plain ≡ effect = cc in subst (EffectKnown names) same tt
 chance-known names test snapshot own judge (Some e) effect is all = event-known names test snapshot own judge e effect is all
 
-first-known : (names : List (List ℕ)) (test : Test) (snapshot : rules.Snapshot) (own : Data) (written : List Written) (chance : Chance) (effect : Effect) → first_choice test snapshot own written ≡ events.Taken chance effect
+first-known : (names : List (List ℕ)) (test : Test) (snapshot : snapshots.Snapshot) (own : Data) (written : List Written) (chance : Chance) (effect : Effect) → first_choice test snapshot own written ≡ events.Taken chance effect
     → All (WrittenKnown names) written → EffectKnown names effect
 first-known names test snapshot own [] chance effect is all = absurd (let e = is in cc)
 first-known names test snapshot own (Fault why ∷ written) chance effect is all = absurd (let e = is in cc)

@@ -1,5 +1,5 @@
 -- The first messages of ports, one by one.
-use Rattle.std.proofs.Common.{◌≡◌, ℕ, zero, ◌+◌, ◌<◌, List, [], ◌∷◌, map, length, drop, get_or, Option, Some, refl, sym, ap, ◌∙◌}
+use Rattle.std.proofs.Common.{◌≡◌, ℕ, zero, ◌+◌, ◌<◌, List, [], ◌∷◌, map, length, drop, get_or, Some, sym, ap, ◌∙◌}
 use Rattle.std.proofs.lemmas.List.{at_drop_more}
 use Rattle.std.specs.List.{slice_get}
 use Rattle.ttcn_syntax.specs.declared.tree.statement.Receive.{Receive}

@@ -1,5 +1,5 @@
 -- What comes of a message in front of a port.
-use Rattle.std.proofs.Common.{◌≡◌, ℕ, Bool, true, false, List, [], ◌∷◌, Option, Some, None, Result, Ok, Err, cond, refl, sym, ap, ◌∙◌}
+use Rattle.std.proofs.Common.{◌≡◌, ℕ, Bool, true, false, List, [], ◌∷◌, Option, Some, None, Ok, Err, cond, refl, ap}
 use Rattle.std.specs.declared.alloc.Global.{Global}
 use Rattle.std.specs.declared.vec.Vec.{Vec}
 use Rattle.ttcn_syntax.specs.declared.tree.statement.Receive.{Receive}
@@ -8,16 +8,15 @@ use Rattle.check_scope.specs.Typings.{same_type}
 use Rattle.check_scope.specs.declared.types.DataType.{DataType}
 use Rattle.semantics.specs.Configurations.{Message}
 use Rattle.semantics.specs.Events as events
-use Rattle.semantics.specs.Events.{Faulty, Happened, Passed, Redirect, Trial, tried, try_type, try_typed}
+use Rattle.semantics.specs.Events.{Happened, Passed, Redirect, Trial, tried, try_type, try_typed}
 use Rattle.semantics.specs.Sites.{Site}
 use Rattle.semantics.specs.Snapshots.{Test}
 use Rattle.step_choice.specs.Deeds as deeds
-use Rattle.step_choice.specs.declared.taken.Deed.{Deed}
 use Rattle.step_choice.specs.declared.taken.Deed.TheVariants as code
 use Rattle.step_choice.specs.declared.taken.Stored.{Stored}
 use Rattle.step_choice.specs.internal.Judged.{Stores, Tries, names_of, test_of, type_fits}
 use Rattle.step_snapshot.specs.declared.snapshot.Snapshot.{Snapshot}
-use Rattle.value_types.specs.Outcomes.{Fails, Outcome, Yields}
+use Rattle.value_types.specs.Outcomes.{Outcome}
 use Rattle.value_types.specs.Readings.{Reading}
 use Rattle.value_types.specs.declared.fault.Fault.{Fault}
 use Rattle.value_types.specs.declared.fault.Fault.TheVariants.{Dynamic, Memory}

@@ -1,18 +1,17 @@
 -- What is stored of a message goes where the redirects say.
-use Rattle.std.proofs.Common.{◌≡◌, Bool, true, false, List, [], ◌∷◌, ◌++◌, map, Option, Some, None, cond, refl, sym, ap, ◌∙◌}
+use Rattle.std.proofs.Common.{◌≡◌, true, false, List, [], ◌∷◌, ◌++◌, map, Option, Some, None, cond, refl, sym, ap, ◌∙◌}
 use Rattle.std.proofs.lemmas.List.{map-append}
 use Rattle.ttcn_syntax.specs.declared.tree.expression.Reference.{Reference}
 use Rattle.semantics.specs.Events.{Redirect, fits_sender, redirected_sender, redirected_value}
 use Rattle.semantics.specs.Items.{Target}
 use Rattle.semantics.specs.Sites.{Site, scope_at}
 use Rattle.semantics.specs.Snapshots.{Test}
-use Rattle.semantics.specs.Storing.{target_meant}
 use Rattle.step_choice.specs.Deeds.{stored_by, stored_of}
 use Rattle.step_choice.specs.declared.taken.Stored.{Stored}
 use Rattle.graph_items.specs.Standing.{target_of}
 use Rattle.graph_sites.specs.Facts.{goal_at, goal_by, goal_if_any}
 use Rattle.graph_sites.specs.declared.facts.Goal.{Goal}
-use Rattle.value_types.specs.Outcomes.{DynamicError, Fails, Outcome, Yields, outcome_map}
+use Rattle.value_types.specs.Outcomes.{DynamicError, Fails, Yields}
 use Rattle.value_types.specs.declared.value.ComponentId.{ComponentId}
 use Rattle.value_types.specs.declared.value.Value.{Value}
 use Rattle.value_types.specs.declared.value.Value.TheVariants as value

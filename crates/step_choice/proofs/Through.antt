@@ -1,12 +1,11 @@
 -- A branch that is taken of an altstep, from a call of the altstep.
-use Rattle.std.proofs.Common.{◌≡◌, ℕ, ◌<◌, List, [], ◌∷◌, ◌++◌, map, length, get_or, Some, refl, sym, ap, subst, ◌∙◌}
+use Rattle.std.proofs.Common.{◌≡◌, ℕ, List, [], ◌∷◌, ◌++◌, map, length, get_or, Some, refl, sym, ap, subst, ◌∙◌}
 use Rattle.std.proofs.lemmas.List.{map-append}
 use Rattle.std.proofs.lemmas.List.Elements.{All-push}
 use Rattle.std.specs.List.{All, slice_get}
-use Rattle.ttcn_syntax.specs.declared.tree.definition.Definition.{Definition}
-use Rattle.semantics.specs.Branches as rules
+use Rattle.semantics.specs.Branches as branches
 use Rattle.semantics.specs.Branches.{Chance, argument_values}
-use Rattle.semantics.specs.Configurations as configurations
+use Rattle.semantics.specs.Configurations as rules
 use Rattle.semantics.specs.Entries.{Entries}
 use Rattle.semantics.specs.Events.{Effect}
 use Rattle.semantics.specs.Items.{Item}
@@ -17,7 +16,7 @@ use Rattle.step_choice.specs.internal.Judged.{Is, IsAmong, test_of}
 use Rattle.step_choice.specs.internal.Later.{chance_through}
 use Rattle.step_snapshot.specs.Tests.{extent_of, legend_by}
 use Rattle.step_snapshot.specs.declared.snapshot.Snapshot.{Snapshot}
-use Rattle.config_parts.specs.Legend.{Legend, entries_by, frame_by}
+use Rattle.config_parts.specs.Legend.{entries_by, frame_by}
 use Rattle.config_parts.specs.Views.{HasSlotsWithin, IsFrameWithin, view_by}
 use Rattle.config_parts.specs.declared.frame.Cells.{Cells}
 use Rattle.config_parts.specs.declared.frame.Frame.{Frame}
@@ -26,7 +25,7 @@ use Rattle.value_types.specs.declared.frame.TimerState.{TimerState}
 use Rattle.value_types.specs.declared.value.Value.{Value}
 
 -- the frame of an altstep
-abbrev frame-of : List Item → Entries Value → Entries TimerState → configurations.Frame
+abbrev frame-of : List Item → Entries Value → Entries TimerState → rules.Frame
 frame-of items values timers = record { remaining = items; values = values; timers = timers }
 
 abbrev frame-at : ℕ → Cells → Frame
@@ -37,7 +36,7 @@ with-frames taken way frames = record { place = taken.place; way = way; frames =
 
 frame-by : (s : Snapshot) (at remaining : ℕ) (inner : Cells) (values : List Value) (items : List Item) → get_or (s.test.now).graphs.lists remaining [] ≡ items
     → view_by (legend_by s.test.now) inner ≡ view_of_arguments (argument_values (test_of s).definitions at values)
-    → frame_by (legend_by s.test.now) (frame-at remaining inner) ≡ rules.frame_with (test_of s).definitions at values items
+    → frame_by (legend_by s.test.now) (frame-at remaining inner) ≡ branches.frame_with (test_of s).definitions at values items
 frame-by s at remaining inner values items there seen =
     ap (λ is. frame-of is (entries_by (legend_by s.test.now) inner.values) (entries_by (legend_by s.test.now) inner.timers)) there
     ∙ ap (λ (v : View). frame-of items v.values v.timers) seen

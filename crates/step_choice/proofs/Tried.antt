@@ -1,12 +1,12 @@
 -- What a call says of a trial, part by part.
-use Rattle.std.proofs.Common.{◌≡◌, ℕ, Bool, true, false, List, Option, Some, None, Result, Ok, Err, refl, sym, ap, subst, ◌∙◌}
+use Rattle.std.proofs.Common.{◌≡◌, Bool, true, false, Option, Some, None, Result, Ok, Err, refl, sym, ap, subst}
 use Rattle.semantics.specs.Events as events
-use Rattle.semantics.specs.Events.{Effect, Faulty, Happened, Passed, Trial, happened_if, or_next, tried}
+use Rattle.semantics.specs.Events.{Passed, Trial, happened_if, or_next, tried}
 use Rattle.semantics.specs.Sites.{Site}
 use Rattle.step_choice.specs.declared.taken.Deed.{Deed}
 use Rattle.step_choice.specs.internal.Judged.{Tries, deed_if}
 use Rattle.step_snapshot.specs.declared.snapshot.Snapshot.{Snapshot}
-use Rattle.value_types.specs.Outcomes.{Failure, Fails, Gives, Outcome, Yields}
+use Rattle.value_types.specs.Outcomes.{Fails, Gives, Outcome, Yields}
 use Rattle.value_types.specs.declared.fault.Fault.{Fault}
 use Rattle.value_types.specs.declared.fault.Fault.TheVariants.{Dynamic, Memory}
 

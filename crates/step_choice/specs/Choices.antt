@@ -1,5 +1,5 @@
 -- What a component chooses at an `alt`, as code finds it (ES 201 873-1, 20.2).
-use Rattle.std.specs.Prelude.{◌≡◌, ℕ, ◌<◌, List, [], ◌∷◌, ◌++◌, map, length, Option, Some, None, Result, Ok, Err}
+use Rattle.std.specs.Prelude.{◌≡◌, ℕ, List, [], ◌∷◌, ◌++◌, map, Option, Some, None, Result, Ok, Err}
 use Rattle.std.specs.List.{All, slice_get}
 use Rattle.std.specs.Option.{option_map}
 use Rattle.ttcn_syntax.specs.declared.tree.definition.Definition.{Definition}
@@ -10,7 +10,7 @@ use Rattle.semantics.specs.Events as events
 use Rattle.semantics.specs.Events.{Choice, Effect, Refused, first_choice}
 use Rattle.semantics.specs.Items.{Doing, Item, Mark, Whole, action_of}
 use Rattle.semantics.specs.Sites.{Site}
-use Rattle.semantics.specs.Snapshots as rules
+use Rattle.semantics.specs.Snapshots as snapshots
 use Rattle.semantics.specs.Snapshots.{Test}
 use Rattle.semantics.specs.Storing.{last_values}
 use Rattle.step_choice.specs.Deeds.{deed_by, deed_of}
@@ -18,10 +18,8 @@ use Rattle.step_choice.specs.declared.taken.Taken.{Taken}
 use Rattle.step_snapshot.specs.Seen.{own_by, seen_by}
 use Rattle.step_snapshot.specs.Tests.{extent_of, legend_by, test_by}
 use Rattle.step_snapshot.specs.declared.snapshot.Snapshot.{Snapshot}
-use Rattle.step_snapshot.specs.declared.test_case.TestCase.{TestCase}
 use Rattle.config_parts.specs.Legend.{frame_by}
 use Rattle.config_parts.specs.Views.{IsFrameWithin}
-use Rattle.config_parts.specs.declared.frame.Frame.{Frame}
 use Rattle.ttcn_graph.specs.Ways.{ways_of}
 use Rattle.value_types.specs.Outcomes.{Failure}
 use Rattle.value_types.specs.declared.fault.Fault.{Fault}
@@ -30,15 +28,15 @@ use Rattle.value_types.specs.declared.fault.Fault.TheVariants.{Dynamic, Memory}
 -- ---- choices
 
 -- where the branches at a statement are judged: at its site, in the last frame
-abbrev pub judge_at : rules.Snapshot → Data → Site → Judge
+abbrev pub judge_at : snapshots.Snapshot → Data → Site → Judge
 judge_at snapshot own site = record { site = site; view = record { values = last_values own.calls; timers = snapshot.timers } }
 
 -- the choice among branches with those of the defaults behind them
-abbrev pub choice_from : Test → rules.Snapshot → Data → List Written → Choice
+abbrev pub choice_from : Test → snapshots.Snapshot → Data → List Written → Choice
 choice_from test snapshot own written = first_choice test snapshot own (written ++ written_defaults test snapshot own)
 
 -- what a component chooses at a statement, where that is an `alt` or stands for one
-abbrev pub choice_of : Test → rules.Snapshot → Data → Site → Statement → Option Choice
+abbrev pub choice_of : Test → snapshots.Snapshot → Data → Site → Statement → Option Choice
 choice_of test snapshot own site s =
     option_map (choice_from test snapshot own) (written_alt test snapshot own (judge_at snapshot own site) (out-Statement s).place (action_of s))
 

@@ -5,7 +5,6 @@ use Rattle.std.proofs.lemmas.List.{get_or-map}
 use Rattle.std.proofs.lemmas.List.Elements.{All-nil, Contains-append_left, Contains-append_right}
 use Rattle.std.specs.List.{flat_map}
 use Rattle.check_scope.specs.Names.{kind_at, members_of}
-use Rattle.semantics.specs.Items.{Item}
 use Rattle.step_snapshot.specs.Slots.{NoneIsMissing}
 use Rattle.step_snapshot.specs.declared.test_case.TestCase.{TestCase}
 use Rattle.config_parts.specs.Views.{HasSlotsWithin}

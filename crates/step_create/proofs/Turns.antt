@@ -5,7 +5,7 @@ use Rattle.std.proofs.lemmas.List.{drop_all}
 use Rattle.std.specs.Result.{IsErrAnd}
 use Rattle.semantics.specs.Configurations.{Frame}
 use Rattle.semantics.specs.Creating.{declared_in_turn}
-use Rattle.value_types.proofs.Faults.{given_by, handed_on_by}
+use Rattle.value_types.proofs.Faults.{given-by, handed-on-by}
 use Rattle.value_types.specs.Outcomes.{Failure, Fails, GivesBy, Outcome, Yields, outcome_and_then}
 use Rattle.value_types.specs.declared.fault.Fault.{Fault}
 
@@ -37,6 +37,6 @@ pub fault-turned : {A C : Type 0} (f : C → Frame) (declared : Frame → A → 
     → n < length xs → x ≡ get_or xs n x → HaveTurned declared xs first n now → IsErrAnd r (λ e. e ≡ fault) → GivesBy f (declared now x) (Err fault)
     → GivesBy f (declared_in_turn declared xs first) r
 fault-turned f declared xs first now n x fault r within is turned same gives =
-    handed_on_by f (declared now x) (declared_in_turn declared xs first) fault r same (given_by f (declared now x) fault gives)
+    handed-on-by f (declared now x) (declared_in_turn declared xs first) fault r same (given-by f (declared now x) fault gives)
     (λ (why : Failure) (fails : declared now x ≡ Fails why).
     turned ∙ next-turned declared xs now n x within is ∙ ap (outcome_and_then (declared_in_turn declared (drop (suc n) xs))) fails)

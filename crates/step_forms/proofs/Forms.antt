@@ -15,7 +15,7 @@ use Rattle.ttcn_syntax.specs.declared.tree.value.Call.{Call}
 use Rattle.ttcn_syntax.specs.declared.tree.value.Value.{Value as WrittenValue}
 use Rattle.step_forms.specs.Asks.{Asks}
 use Rattle.semantics.specs.Items.{action_of}
-use Rattle.semantics.specs.Items as items
+use Rattle.semantics.specs.Items as rules
 use Rattle.semantics.specs.Sites.{Site}
 use Rattle.semantics.specs.Statements as said
 use Rattle.config_parts.specs.Legend.{Legend}
@@ -63,6 +63,6 @@ pub does-Deactivate : (s : Statement) (reference : Option Reference) → Does s 
 does-Deactivate s reference is = ap out-Action (is ∙ sym (form.rolls-Deactivate reference)) ∙ out-roll-Action (Action-F.Deactivate reference)
 
 -- what the whole of a statement asks for, by its form
-pub whole-asks : (legend : Legend) (stand : said.Stand) (site : Site) (s : Statement) (does : items.Does) (r : Result (Option Act) Fault) → action_of s ≡ does → Asks legend (said.act_whole stand site s does) r
+pub whole-asks : (legend : Legend) (stand : said.Stand) (site : Site) (s : Statement) (does : rules.Does) (r : Result (Option Act) Fault) → action_of s ≡ does → Asks legend (said.act_whole stand site s does) r
     → Asks legend (said.act_whole stand site s (action_of s)) r
 whole-asks legend stand site s does r is asks = subst (λ d. Asks legend (said.act_whole stand site s d) r) (sym is) asks

@@ -1,5 +1,5 @@
 -- The order of places in a text, and of components with the places where they stand.
-use Rattle.std.specs.Prelude.{◌≡◌, Some, refl}
+use Rattle.std.specs.Prelude.{Some, refl}
 use Rattle.std.specs.Cmp.{IsPartialOrder, IsTotalOrder, nat_cmp_total, on_total, po, then_total}
 use Rattle.std.specs.FinSet.{IsAntisymmetric, nat_cmp-IsAntisymmetric}
 use Rattle.std.specs.Ordering.{eq_by_cmp, nat_cmp, on, then_cmp}

@@ -6,7 +6,7 @@ use Rattle.check_scope.specs.declared.types.DataType.{DataType}
 use Rattle.laws_evaluation.specs.Types.{is_of}
 use Rattle.semantics.specs.Entries.{Identifier}
 use Rattle.semantics.specs.Events.{type_of}
-use Rattle.semantics.specs.Snapshots.{Script, Test}
+use Rattle.semantics.specs.Snapshots.{Test}
 use Rattle.semantics.specs.Statements.{port_type, system_type, types_at}
 use Rattle.value_types.specs.Values.{is_complete}
 use Rattle.value_types.specs.declared.value.Value.{Value}

@@ -1,5 +1,5 @@
 -- Arguments as the values of a frame's names.
-use Rattle.std.proofs.Common.{◌≡◌, Bor, IfSome, ℕ, zero, suc, ◌+◌, ◌<◌, List, [], ◌∷◌, ◌++◌, map, length, drop, Option, Some, None, Result, Ok, Err, IfOk, refl, sym, ap, arith, subst, append_assoc, append-nil, length-append, ◌∙◌}
+use Rattle.std.proofs.Common.{◌≡◌, Bor, IfSome, ℕ, zero, suc, ◌+◌, List, [], ◌∷◌, ◌++◌, map, length, drop, Option, Some, None, Result, Ok, Err, IfOk, refl, sym, ap, arith, subst, append_assoc, append-nil, length-append, ◌∙◌}
 use Rattle.std.specs.Prelude.{Contains}
 use Rattle.std.proofs.lemmas.List.{drop_all, drop_at}
 use Rattle.std.proofs.lemmas.Option.{slice_get_past, slice_get_read}

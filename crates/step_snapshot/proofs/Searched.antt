@@ -41,12 +41,12 @@ no-place names name at parts (k, within, is) =
     (λ more. let high = parts.1 k name more within in let bad = sym (names-alike name) ∙ sym (ap (λ a. slice_cmp nat_cmp a name) is) ∙ high in cc)
     (cases_lt k at)
 
-pub missing_name : (names : List (List ℕ)) (name : List ℕ) (at : ℕ) → AllPairs (λ a b. slice_cmp nat_cmp a b ≡ Less) names
+pub missing-name : (names : List (List ℕ)) (name : List ℕ) (at : ℕ) → AllPairs (λ a b. slice_cmp nat_cmp a b ≡ Less) names
     → (IsNonDecreasingBy (λ a. ordering_index (slice_cmp nat_cmp a name)) names → IsPartitionPoint (λ a. slice_cmp nat_cmp a name ≡ Less) (λ a. slice_cmp nat_cmp a name ≡ Greater) names at)
     → ¬ Contains names name
-missing_name names name at ordered place = no-place names name at (place (names-rise names name ordered))
+missing-name names name at ordered place = no-place names name at (place (names-rise names name ordered))
 
-pub found_name : (names : List (List ℕ)) (name : List ℕ) (at : ℕ) → at < length names → ((d : List ℕ) → slice_cmp nat_cmp (get_or names at d) name ≡ Equal) → slice_get names at ≡ Some name
-found_name names name at within equal =
+pub found-name : (names : List (List ℕ)) (name : List ℕ) (at : ℕ) → at < length names → ((d : List ℕ) → slice_cmp nat_cmp (get_or names at d) name ≡ Equal) → slice_get names at ≡ Some name
+found-name names name at within equal =
     slice_get-get_or names at name within
     ∙ ap Some ((bytes_eq-Decides (get_or names at name) name).0 (texts_ties (get_or names at name) name ∙ ap is_eq (equal name)))

@@ -16,10 +16,10 @@ or-false : (a : Bool) → (a || false) ≡ a
 or-false true = refl
 or-false false = refl
 
-or_swap : (a b c : Bool) → (a || (b || c)) ≡ (b || (a || c))
-or_swap true true c = refl
-or_swap true false c = refl
-or_swap false b c = refl
+or-swap : (a b c : Bool) → (a || (b || c)) ≡ (b || (a || c))
+or-swap true true c = refl
+or-swap true false c = refl
+or-swap false b c = refl
 
 -- a number at the end is a number more
 pub pushed : (numbers : List ℕ) (number : ℕ) → number_set (numbers ++ number ∷ []) ≡ insert (number_set numbers) number
@@ -39,15 +39,15 @@ again numbers number h = same _ _ (λ q.
     ∙ sym (contains-insert nat_cmp_total (number_set numbers) number q))
 
 -- nothing more
-pub union_none : (s : FinSet nat_cmp) → s ≡ union s (number_set [])
-union_none s = same _ _ (λ q. sym (contains-union nat_cmp_total s _ q ∙ ap (λ b. contains s q || b) (contains-empty nat_cmp q) ∙ or-false _))
+pub union-none : (s : FinSet nat_cmp) → s ≡ union s (number_set [])
+union-none s = same _ _ (λ q. sym (contains-union nat_cmp_total s _ q ∙ ap (λ b. contains s q || b) (contains-empty nat_cmp q) ∙ or-false _))
 
-union_insert : (s t : FinSet nat_cmp) (k : ℕ) → insert (union s t) k ≡ union s (insert t k)
-union_insert s t k = same _ _ (λ q.
+union-insert : (s t : FinSet nat_cmp) (k : ℕ) → insert (union s t) k ≡ union s (insert t k)
+union-insert s t k = same _ _ (λ q.
     contains-insert nat_cmp_total (union s t) k q ∙ ap (λ b. eq_by_cmp nat_cmp q k || b) (contains-union nat_cmp_total s t q)
-    ∙ or_swap (eq_by_cmp nat_cmp q k) (contains s q) (contains t q)
+    ∙ or-swap (eq_by_cmp nat_cmp q k) (contains s q) (contains t q)
     ∙ sym (contains-union nat_cmp_total s _ q ∙ ap (λ b. contains s q || b) (contains-insert nat_cmp_total t k q)))
 
 -- one number more of the list
-pub union_more : (s : FinSet nat_cmp) (numbers : List ℕ) (i d : ℕ) → i < length numbers → insert (union s (number_set (take i numbers))) (get_or numbers i d) ≡ union s (number_set (take (i + 1) numbers))
-union_more s numbers i d h = union_insert s _ _ ∙ ap (union s) (sym (ap number_set (take_more numbers i d h) ∙ pushed _ _))
+pub union-more : (s : FinSet nat_cmp) (numbers : List ℕ) (i d : ℕ) → i < length numbers → insert (union s (number_set (take i numbers))) (get_or numbers i d) ≡ union s (number_set (take (i + 1) numbers))
+union-more s numbers i d h = union-insert s _ _ ∙ ap (union s) (sym (ap number_set (take_more numbers i d h) ∙ pushed _ _))

@@ -32,9 +32,9 @@ use Rattle.ttcn_syntax.specs.declared.tree.statement.Constants.{Constants}
 use Rattle.ttcn_syntax.specs.declared.tree.statement.Event.{Event}
 use Rattle.ttcn_syntax.specs.declared.tree.statement.Event.TheVariants as event
 use Rattle.ttcn_syntax.specs.declared.tree.statement.ForStart.{ForStart}
-use Rattle.ttcn_syntax.specs.declared.tree.statement.ForStart.TheVariants as start
+use Rattle.ttcn_syntax.specs.declared.tree.statement.ForStart.TheVariants as for_start
 use Rattle.ttcn_syntax.specs.declared.tree.statement.LogItem.{LogItem}
-use Rattle.ttcn_syntax.specs.declared.tree.statement.LogItem.TheVariants as item
+use Rattle.ttcn_syntax.specs.declared.tree.statement.LogItem.TheVariants as log_item
 use Rattle.ttcn_syntax.specs.declared.tree.statement.MapOperation.{MapOperation}
 use Rattle.ttcn_syntax.specs.declared.tree.statement.Mapping.{Mapping}
 use Rattle.ttcn_syntax.specs.declared.tree.statement.PortRef.{PortRef}
@@ -69,8 +69,8 @@ pub assignment_one : (a : Assignment) → IsOne Assignment (assignments.ghosts).
 assignment_one a b h = let p = and_parts _ _ h in λ i. record { target = reference_one a.target b.target p.0 i; value = right_one a.value b.value p.1 i }
 
 start_at : (a : ForStart) → OneAt start_enum.parts (tests_of start_enum (starts.ghosts).eq) (start_enum.as_values a)
-start_at (start.Variables variables) = last (variables_one variables)
-start_at (start.Assign assignment) = last (assignment_one assignment)
+start_at (for_start.Variables variables) = last (variables_one variables)
+start_at (for_start.Assign assignment) = last (assignment_one assignment)
 
 pub start_one : (a : ForStart) → IsOne ForStart (starts.ghosts).eq a
 start_one a = variant_one start_enum (tests_of start_enum (starts.ghosts).eq) a (start_at a)
@@ -134,8 +134,8 @@ pub event_one : (a : Event) → IsOne Event (events.ghosts).eq a
 event_one a = variant_one event_enum (tests_of event_enum (events.ghosts).eq) a (event_at a)
 
 item_at : (a : LogItem) → OneAt item_enum.parts (tests_of item_enum (items.ghosts).eq) (item_enum.as_values a)
-item_at item.Text = none
-item_at (item.Expr e) = last (expression_one e)
+item_at log_item.Text = none
+item_at (log_item.Expr e) = last (expression_one e)
 
 pub item_one : (a : LogItem) → IsOne LogItem (items.ghosts).eq a
 item_one a = variant_one item_enum (tests_of item_enum (items.ghosts).eq) a (item_at a)

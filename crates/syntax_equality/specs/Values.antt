@@ -20,7 +20,7 @@ use Rattle.ttcn_syntax.specs.declared.tree.value.FieldValue.{FieldValue, out-Fie
 use Rattle.ttcn_syntax.specs.declared.tree.value.Rhs.{Rhs}
 use Rattle.ttcn_syntax.specs.declared.tree.value.Rhs.TheVariants as right
 use Rattle.ttcn_syntax.specs.declared.tree.value.TypeName.{TypeName}
-use Rattle.ttcn_syntax.specs.declared.tree.value.TypeName.TheVariants as type
+use Rattle.ttcn_syntax.specs.declared.tree.value.TypeName.TheVariants as type_name
 use Rattle.ttcn_syntax.specs.declared.tree.value.Value.{Value, out-roll-Value, roll-Value}
 use Rattle.ttcn_syntax.specs.declared.tree.value.Value.TheBlock.{split-Value, the_carrier, the_members, the_sigs}
 use Rattle.ttcn_syntax.specs.declared.tree.value.Value.TheFolds.{ind-FieldValue, ind-Value, map-FieldValue, map-Value}
@@ -32,10 +32,10 @@ use denote.Hole.Carrier.{Values}
 -- ---- types
 
 type_at : (a : TypeName) → OneAt type_enum.parts (tests_of type_enum (types.ghosts).eq) (type_enum.as_values a)
-type_at type.Integer = none
-type_at type.Boolean = none
-type_at type.Default = none
-type_at (type.Named name) = last (name_one name)
+type_at type_name.Integer = none
+type_at type_name.Boolean = none
+type_at type_name.Default = none
+type_at (type_name.Named name) = last (name_one name)
 
 pub type_one : (a : TypeName) → IsOne TypeName (types.ghosts).eq a
 type_one a = variant_one type_enum (tests_of type_enum (types.ghosts).eq) a (type_at a)

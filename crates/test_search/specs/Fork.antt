@@ -1,5 +1,5 @@
 -- A system whose start leads to two states that lead nowhere.
-use Rattle.std.specs.Prelude.{◌≡◌, ◌==◌, ℕ, ◌≤◌, List, [], ◌∷◌, None, if◌then◌else◌, AllPairs, get_or}
+use Rattle.std.specs.Prelude.{◌≡◌, ◌==◌, ℕ, ◌≤◌, [], ◌∷◌, None, if◌then◌else◌, AllPairs, get_or}
 use Rattle.std.proofs.Common.{zero, suc, refl, arith, true, false, Bool, cond}
 use Rattle.std.proofs.lemmas.Bool.Decides.{nat_tests}
 use Rattle.std.specs.Ordering.{nat_cmp}

@@ -36,10 +36,10 @@ site_in other (rules.Doing site s p) = site
 site_in other (rules.Mark site s) = site
 site_in other (rules.Waiting target) = other
 
-abbrev statement_in : Statement → rules.Item → Statement
-statement_in other (rules.Doing site s p) = s
-statement_in other (rules.Mark site s) = s
-statement_in other (rules.Waiting target) = other
+abbrev statement-in : Statement → rules.Item → Statement
+statement-in other (rules.Doing site s p) = s
+statement-in other (rules.Mark site s) = s
+statement-in other (rules.Waiting target) = other
 
 abbrev part_in : rules.Part → rules.Item → rules.Part
 part_in other (rules.Doing site s p) = p
@@ -56,11 +56,11 @@ kind_in (rules.Doing site s p) = 0
 kind_in (rules.Mark site s) = 1
 kind_in (rules.Waiting target) = 2
 
-head_is : {A : Type 0} {a b : A} {xs ys : List A} → a ∷ xs ≡ b ∷ ys → a ≡ b
-head_is {a = a} h = ap (λ l. elim l as (λ _. _) [ [] ↦ a | x ∷ xs ↦ x ]) h
+head-is : {A : Type 0} {a b : A} {xs ys : List A} → a ∷ xs ≡ b ∷ ys → a ≡ b
+head-is {a = a} h = ap (λ l. elim l as (λ _. _) [ [] ↦ a | x ∷ xs ↦ x ]) h
 
-tail_is : {A : Type 0} {a b : A} {xs ys : List A} → a ∷ xs ≡ b ∷ ys → xs ≡ ys
-tail_is {xs = xs} h = ap (λ l. elim l as (λ _. List _) [ [] ↦ xs | x ∷ rest ↦ rest ]) h
+tail-is : {A : Type 0} {a b : A} {xs ys : List A} → a ∷ xs ≡ b ∷ ys → xs ≡ ys
+tail-is {xs = xs} h = ap (λ l. elim l as (λ _. List _) [ [] ↦ xs | x ∷ rest ↦ rest ]) h
 
 module _ (lists : List (List Entry)) (differ : AreDifferent lists) where
   item-one : (i j : Item) → IsWithin (length lists) i → IsWithin (length lists) j → item_of lists i ≡ item_of lists j → i ≡ j
@@ -68,14 +68,14 @@ module _ (lists : List (List Entry)) (differ : AreDifferent lists) where
       let at = ap (site_in (sites.beginning 0)) is in
       let declared = differ site.declared site'.declared h k (ap (λ t. t.declared) at) in
       let behaviour = ap (λ t. t.behaviour) at in
-      let statement = ap (statement_in s) is in
+      let statement = ap (statement-in s) is in
       let parts = sym (back_part-of p) ∙ ap (λ i. back_part (part_in rules.Whole i)) is ∙ back_part-of p' in
       λ x. item.Doing (record { behaviour = behaviour x; declared = declared x }) (statement x) (parts x)
   item-one (item.Mark site s) (item.Mark site' s') h k is =
       let at = ap (site_in (sites.beginning 0)) is in
       let declared = differ site.declared site'.declared h k (ap (λ t. t.declared) at) in
       let behaviour = ap (λ t. t.behaviour) at in
-      let statement = ap (statement_in s) is in
+      let statement = ap (statement-in s) is in
       λ x. item.Mark (record { behaviour = behaviour x; declared = declared x }) (statement x)
   item-one (item.Waiting target) (item.Waiting target') h k is =
       let same = ap (target_in (target_of target)) is in
@@ -89,7 +89,7 @@ module _ (lists : List (List Entry)) (differ : AreDifferent lists) where
 
   items-one : (xs ys : List Item) → AreWithin (length lists) xs → AreWithin (length lists) ys → remaining_of lists xs ≡ remaining_of lists ys → xs ≡ ys
   items-one [] [] h k is = refl
-  items-one (x ∷ xs) (y ∷ ys) h k is = λ t. item-one x y h.0 k.0 (head_is is) t ∷ items-one xs ys h.1 k.1 (tail_is is) t
+  items-one (x ∷ xs) (y ∷ ys) h k is = λ t. item-one x y h.0 k.0 (head-is is) t ∷ items-one xs ys h.1 k.1 (tail-is is) t
   items-one [] (y ∷ ys) h k is = absurd (let e = ap length is in omega (arith, e))
   items-one (x ∷ xs) [] h k is = absurd (let e = ap length is in omega (arith, e))
 

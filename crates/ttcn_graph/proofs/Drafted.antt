@@ -11,8 +11,8 @@ use Rattle.ttcn_graph.specs.Drafts.{AllBut, AreAt, Draft, Grows, HasWays, IsBegu
 use Rattle.ttcn_graph.specs.Ways.{ways_of}
 use Rattle.ttcn_graph.proofs.ListsKept.{get-kept, longer}
 
-some_is : {X : Type 0} {a b : X} → ◌≡◌ {A = Option X} (Some a) (Some b) → a ≡ b
-some_is {a = a} h = ap (λ o. elim o as (λ _. _) [ None ↦ a | Some x ↦ x ]) h
+some-is : {X : Type 0} {a b : X} → ◌≡◌ {A = Option X} (Some a) (Some b) → a ≡ b
+some-is {a = a} h = ap (λ o. elim o as (λ _. _) [ None ↦ a | Some x ↦ x ]) h
 
 -- ---- lists at positions
 
@@ -30,8 +30,8 @@ extends-more a b c h k = (h.0 ++ k.0, k.1 ∙ ap (λ l. l ++ k.0) h.1 ∙ append
 
 -- ---- beginning and finishing
 
-not_open : (p q : ℕ) (is_open : ℕ → Bool) → and_open p is_open q ≡ false → (q ≡ p → ⊥) × (is_open q ≡ false)
-not_open p q is_open h = by (nat_eq p q) refl h
+not-open : (p q : ℕ) (is_open : ℕ → Bool) → and_open p is_open q ≡ false → (q ≡ p → ⊥) × (is_open q ≡ false)
+not-open p q is_open h = by (nat_eq p q) refl h
   where
     by : (b : Bool) → nat_eq p q ≡ b → (b || is_open q) ≡ false → (q ≡ p → ⊥) × (is_open q ≡ false)
     by true is h = absurd (true≢false h)
@@ -50,7 +50,7 @@ begun definitions site old new ways at rest i put = record {
   site = refl;
   lists = put.extended;
   keeps = λ is_open all p below closed.
-      let apart = not_open at p is_open closed in
+      let apart = not-open at p is_open closed in
       elim (cases_lt p (length old)) as (λ _. HasWays (record { definitions = definitions; site = site; lists = new; ways = ways }) p) [
         | inl before ↦ ways-more definitions old new ways put.extended p before (all p before apart.1)
         | inr from ↦ absurd (apart.0 (put.alone p from below))
@@ -117,7 +117,7 @@ pub way-found : (lists : List (List Item)) (positions : List ℕ) (ways : List (
 way-found lists [] ways h k p is = absurd (true≢false (sym (ap is_some is)))
 way-found lists (q ∷ positions) [] h k p is = absurd h
 way-found lists (q ∷ positions) (l ∷ ways) h zero p is =
-    let same = some_is is in
+    let same = some-is is in
     (subst (λ x. x < length lists) same h.0, ap Some (sym h.1 ∙ ap (λ x. get_or lists x []) same))
 way-found lists (q ∷ positions) (l ∷ ways) h (suc k) p is = way-found lists positions ways h.2 k p is
 

@@ -57,17 +57,17 @@ pub nothing_first : (xs : List Symbol) → length xs ≡ 0 → reverse xs ≡ []
 nothing_first [] h = refl
 nothing_first (x ∷ xs) h = absurd (omega (arith, h))
 
-pub balanced_step : (expected : List Symbol) (ts : List Spanned) (t : Token) → head_token ts ≡ Some t
+pub balanced-step : (expected : List Symbol) (ts : List Spanned) (t : Token) → head_token ts ≡ Some t
     → balanced_from expected ts ≡ go_on (λ cs. balanced_from cs (behind ts)) (over_token expected t) (behind ts)
 unfolding balanced_from
-balanced_step expected [] t h = cc
-balanced_step expected (k ∷ ts) t h =
+balanced-step expected [] t h = cc
+balanced-step expected (k ∷ ts) t h =
     let is : k.token ≡ t = cc in
     ap (λ t. go_on (λ cs. balanced_from cs ts) (over_token expected t) ts) is
 
-pub go_on_left : (others : List Symbol → Parsed (Unit {0})) (xs : List Symbol) (ts : List Spanned) → 0 < length xs
+pub go-on-left : (others : List Symbol → Parsed (Unit {0})) (xs : List Symbol) (ts : List Spanned) → 0 < length xs
     → go_on others (Some (reverse xs)) ts ≡ others (reverse xs)
-go_on_left others xs ts h = going (reverse xs) (simp (length-reverse xs) h)
+go-on-left others xs ts h = going (reverse xs) (simp (length-reverse xs) h)
   where
     going : (all : List Symbol) → 0 < length all → go_on others (Some all) ts ≡ others all
     going [] h = absurd (omega (arith, h))

@@ -1,5 +1,5 @@
 -- Whether a component stands at an `alt`.
-use Rattle.std.proofs.Common.{◌≡◌, ℕ, Bool, true, false, ◌&&◌, List, [], ◌∷◌, map, slice_get, Option, Some, None, refl, sym, ap, ◌∙◌}
+use Rattle.std.proofs.Common.{◌≡◌, ℕ, Bool, true, false, ◌&&◌, List, [], ◌∷◌, map, slice_get, Some, None, refl, sym, ap, ◌∙◌}
 use Rattle.std.proofs.lemmas.Option.{same_Some}
 use Rattle.laws_fine.specs.Fine.{begins_with_alt, is_at_alt, is_found, is_of_alt, stands_at_alt}
 use Rattle.semantics.specs.Configurations.{is_running_state}

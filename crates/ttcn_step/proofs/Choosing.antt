@@ -1,8 +1,8 @@
 -- Where a component takes no branch, whatever it sees.
-use Rattle.std.proofs.Common.{◌≡◌, ℕ, Bool, true, false, List, [], ◌∷◌, map, Option, Some, None, refl, sym, ap, ◌∙◌, if◌then◌else◌}
+use Rattle.std.proofs.Common.{◌≡◌, Bool, true, false, List, [], ◌∷◌, map, Option, Some, None, refl, sym, ap, ◌∙◌, if◌then◌else◌}
 use Rattle.std.specs.Option.{option_and_then}
 use Rattle.ttcn_syntax.specs.declared.place.Span.{Span}
-use Rattle.step_acts.proofs.Placing.{none_taken}
+use Rattle.step_acts.proofs.Placing.{none-taken}
 use Rattle.semantics.specs.Configurations as rules
 use Rattle.semantics.specs.Configurations.{is_running_state}
 use Rattle.semantics.specs.Places.{branch_in, branch_of_component, place_in_frames}
@@ -36,7 +36,7 @@ none-of-component legend test c x none =
     let component = component_by legend x in
     let asked = act test (snapshot_of c component) component.own in
     let place = place_in_frames test (snapshot_of c component) component.own component.own.calls in
-    none-if-running (is_running_state component.state) _ (sym (none_taken asked place (none-in-frames legend test (snapshot_of c component) component.own x.own.calls none)))
+    none-if-running (is_running_state component.state) _ (sym (none-taken asked place (none-in-frames legend test (snapshot_of c component) component.own x.own.calls none)))
 
 -- the component of a path takes no branch, if it is there at all
 abbrev pub TakesNoneAt : Legend → Option Component → Type 0

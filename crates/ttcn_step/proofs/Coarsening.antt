@@ -2,7 +2,7 @@
 use Rattle.std.proofs.Common.{◌≡◌, ◌≤◌, ℕ, List, length, Result, Ok, Err, IfOk, refl, sym, ap, subst, ◌∙◌}
 use Rattle.std.specs.declared.alloc.Global.{Global}
 use Rattle.std.specs.declared.vec.Vec.{Vec}
-use Rattle.laws_fine.proofs.Laws.{TellsRun, coarse_runs, held_runs}
+use Rattle.laws_fine.proofs.Laws.{TellsRun, coarse_runs, held-runs}
 use Rattle.laws_fine.proofs.Replays.{coarse_short, doubled_runs}
 use Rattle.laws_fine.proofs.Returning.{doubled_returns}
 use Rattle.laws_fine.specs.Doubling.{doubled}
@@ -17,7 +17,7 @@ use Rattle.semantics.specs.Steps.{Label}
 use Rattle.ttcn_step.specs.FineAnswers.{Coarsens, Doubles, HasEnded, HasLed, IsDoubling, LeadTo, StandsFor}
 use Rattle.ttcn_step.specs.Machines.{Machine}
 use Rattle.ttcn_step.specs.declared.error.CoarsenError.{CoarsenError}
-use Rattle.ttcn_step.specs.declared.error.CoarsenError.TheVariants as coarsen_error
+use Rattle.ttcn_step.specs.declared.error.CoarsenError.TheVariants as coarsening
 use Rattle.ttcn_step.specs.declared.error.ReplayError.{ReplayError}
 use Rattle.ttcn_step.specs.internal.Following.{Follows}
 use Rattle.check_rules.specs.Rules.{AreWellTyped}
@@ -58,7 +58,7 @@ refuse-by test labels number (Ok f) tells = absurd tells
 refuse-by test labels number (Err other) tells = ap Err (sym tells)
 
 told-run : (test : Test) (labels : List FineLabel) (made : Result (Holding × List Told) ℕ) → AreWellTyped test.definitions → hold_run test labels ≡ made → TellsRun test labels made (fine_replay test labels)
-told-run test labels made well is = subst (λ m. TellsRun test labels m (fine_replay test labels)) is (held_runs test labels well)
+told-run test labels made well is = subst (λ m. TellsRun test labels m (fine_replay test labels)) is (held-runs test labels well)
 
 pub coarsens-ended : (machine : Machine) (labels : List FineLabel) (run : Vec Label Global) (h : Holding) (tolds : List Told) → AreWellTyped machine.test.definitions → hold_run machine.test labels ≡ Ok (h, tolds) → HasEnded h.now
     → run.items ≡ gathered tolds → Coarsens machine labels (Ok run)
@@ -94,9 +94,9 @@ has-led o c is = subst HasLed is tt
 -- ---- results
 
 pub coarsens-err : (machine : Machine) (labels : List FineLabel) (e : CoarsenError) → AreWellTyped machine.test.definitions → Follows machine labels (Err e) → Coarsens machine labels (Err e)
-coarsens-err machine labels (coarsen_error.NotFine number) well held = coarsens-refused machine labels number well held
-coarsens-err machine labels coarsen_error.NotEnded well held = absurd held
-coarsens-err machine labels coarsen_error.Memory well held = tt
+coarsens-err machine labels (coarsening.NotFine number) well held = coarsens-refused machine labels number well held
+coarsens-err machine labels coarsening.NotEnded well held = absurd held
+coarsens-err machine labels coarsening.Memory well held = tt
 
 pub stands-if : (machine : Machine) (labels : List FineLabel) (r : Result (Vec Label Global) CoarsenError) → AreWellTyped machine.test.definitions → Coarsens machine labels r
     → IfOk r (λ run. StandsFor machine.test labels run.items)

@@ -15,7 +15,7 @@ use Rattle.config_parts.specs.declared.connection.End.{End}
 use Rattle.ttcn_step.proofs.Expiring.{first-other, other-name}
 use Rattle.ttcn_step.specs.internal.Steps.{IsBehind}
 use Rattle.value_types.specs.Frames.{entry}
-use Rattle.value_types.specs.Outcomes.{Outcome, Yields}
+use Rattle.value_types.specs.Outcomes.{Yields}
 use Rattle.value_types.specs.declared.value.Value.{Value}
 
 -- a message comes in, in a copy

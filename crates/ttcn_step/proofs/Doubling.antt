@@ -1,5 +1,5 @@
 -- The doubling of a run, label by label.
-use Rattle.std.proofs.Common.{◌≡◌, ℕ, ◌+◌, ◌<◌, ◌≤◌, Bool, true, false, List, [], ◌∷◌, ◌++◌, map, length, drop, get_or, Option, Some, None, Result, Ok, Err, refl, sym, ap, subst, ◌∙◌, append_assoc}
+use Rattle.std.proofs.Common.{◌≡◌, ℕ, ◌+◌, ◌<◌, ◌≤◌, Bool, true, false, List, [], ◌∷◌, ◌++◌, length, drop, get_or, Some, None, Result, Ok, Err, refl, sym, ap, subst, ◌∙◌, append_assoc}
 use Rattle.std.specs.Result.{IsErr, IsErrAnd}
 use Rattle.std.proofs.lemmas.List.{append-nil, drop_all, drop_more}
 use Rattle.laws_fine.specs.Doubling.{doubled_from, doubled_label, is_alt_in}
@@ -13,7 +13,7 @@ use Rattle.ttcn_step.proofs.Replaying.{Left, next-left}
 use Rattle.ttcn_step.specs.FineAnswers.{Doubles, HasLed}
 use Rattle.ttcn_step.specs.Machines.{Machine}
 use Rattle.ttcn_step.specs.declared.error.ReplayError.{ReplayError}
-use Rattle.ttcn_step.specs.declared.error.ReplayError.TheVariants as replay_error
+use Rattle.ttcn_step.specs.declared.error.ReplayError.TheVariants as replaying
 use Rattle.ttcn_step.specs.internal.Runs.{Follows}
 use Rattle.value_types.specs.declared.path.Path.{Path}
 
@@ -59,9 +59,9 @@ led-end test run place c done holds = has-led (replay test run) c (ap (λ xs. re
 -- the first label that is not enabled
 pub double-refused : (machine : Machine) (run : List Label) (place : ℕ) (label : Label) (c : Configuration) (e : ReplayError) → place < length run → label ≡ get_or run place label
     → Follows machine (place + 1) (next machine.test c label) (Err e) → Left machine.test run place c ≡ replay machine.test run → Doubles machine run (Err e)
-double-refused machine run place label c (replay_error.NotEnabled k) less read follows holds =
+double-refused machine run place label c (replaying.NotEnabled k) less read follows holds =
     sym holds ∙ next-left machine.test run place label c less read ∙ ap (option_elim (Err (place + 1)) (Left machine.test run (place + 1))) follows.0 ∙ ap Err (sym follows.1)
-double-refused machine run place label c replay_error.Memory less read follows holds = tt
+double-refused machine run place label c replaying.Memory less read follows holds = tt
 
 -- an error that was made of another one, as a result
 pub as-error : {A E : Type 0} (r : Result A E) (why : E) (P : Result A E → Type 0) → IsErr r → IsErrAnd r (λ x. x ≡ why) → P (Err why) → P r

@@ -5,7 +5,6 @@ use Rattle.laws_fine.specs.Fates.{Faults, Lapses, Takes, fate_of}
 use Rattle.laws_fine.specs.Holding.{act_of, act_then, follow}
 use Rattle.step_forms.specs.Asks.{IsFault, uncovered_act}
 use Rattle.semantics.specs.Configurations as rules
-use Rattle.semantics.specs.Configurations.{component_at}
 use Rattle.semantics.specs.Snapshots.{Test}
 use Rattle.semantics.specs.Statements.{Act, Errs, Requests, Waits}
 use Rattle.semantics.specs.Steps.{Label, apply, settled}

@@ -5,7 +5,7 @@ use Rattle.std.proofs.lemmas.List.Elements.{All-cons, All-filter, All-head, All-
 use Rattle.ttcn_syntax.specs.declared.tree.statement.Verdict.{Verdict}
 use Rattle.laws_fine.specs.Fine.{is_found}
 use Rattle.laws_fine.specs.Holding.{follow, held_at, still_held, without_held}
-use Rattle.laws_order.proofs.Runs.{applied_ordered}
+use Rattle.laws_order.proofs.Runs.{applied-stands-in-order}
 use Rattle.laws_order.specs.Order.{StandsInOrder}
 use Rattle.semantics.specs.Configurations as rules
 use Rattle.semantics.specs.Configurations.{component_at, is_running_state, same_path}
@@ -110,7 +110,7 @@ fits-done machine going taken itself p x snapshot after fits also there leads wi
     let old = going_by (legend machine) taken in
     record {
       within = within;
-      ordered = subst (λ o. IfSome o StandsInOrder) leads (applied_ordered machine.test c old itself p x snapshot fits.ordered also.ordered there);
+      ordered = subst (λ o. IfSome o StandsInOrder) leads (applied-stands-in-order machine.test c old itself p x snapshot fits.ordered also.ordered there);
       frames = subst (λ o. IfSome o AllKeepFrameLimit) leads (applied-kept machine.test c old itself p x snapshot fits.frames also.frames there);
     }
 

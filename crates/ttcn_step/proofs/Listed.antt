@@ -3,7 +3,6 @@ use Rattle.std.proofs.Common.{◌≡◌, ℕ, ◌+◌, ◌-◌, ◌<◌, List, [
 use Rattle.std.specs.List.{filter, flat_map}
 use Rattle.std.proofs.lemmas.List.{at_drop_more, length-drop, length-map}
 use Rattle.semantics.specs.Configurations as rules
-use Rattle.semantics.specs.Configurations.{is_running_state, path_of}
 use Rattle.semantics.specs.Labels.{call_expiries, frame_expiries}
 use Rattle.semantics.specs.Steps.{Expiry, Label}
 use Rattle.config_parts.specs.Legend.{Legend, component_by, entries_by, frame_by, frame_with}
@@ -25,8 +24,8 @@ grown F xs i x before after part all less read made grows holds =
 -- ---- timers
 
 -- the labels of those among timers that run
-abbrev pub timers_by : Legend → Path → ℕ → List (ℕ × TimerState) → List Label
-timers_by legend path number timers = map (λ e. Expiry path number e.0) (filter (λ e. is_running e.1) (entries_by legend timers))
+abbrev pub timers-by : Legend → Path → ℕ → List (ℕ × TimerState) → List Label
+timers-by legend path number timers = map (λ e. Expiry path number e.0) (filter (λ e. is_running e.1) (entries_by legend timers))
 
 -- ---- frames
 

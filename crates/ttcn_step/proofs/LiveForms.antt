@@ -25,13 +25,13 @@ components-frames (x ∷ xs) all =
     All-cons (λ y. KeepsFrameLimit y.own) (live_component x) (map live_component xs)
     (component-frames x (is_terminated_state x.state) (All-head (λ y. KeepsFrameLimit y.own) x xs all)) (components-frames xs (All-tail (λ y. KeepsFrameLimit y.own) x xs all))
 
-pub limit_in_live_parts : (c : Configuration) → AllKeepFrameLimit c → AllKeepFrameLimit (live_part c)
-limit_in_live_parts (Ended v) keeps = keeps
-limit_in_live_parts (Goes c) keeps = components-frames c.components keeps
+pub limit-in-live-parts : (c : Configuration) → AllKeepFrameLimit c → AllKeepFrameLimit (live_part c)
+limit-in-live-parts (Ended v) keeps = keeps
+limit-in-live-parts (Goes c) keeps = components-frames c.components keeps
 
 pub live_forms_fit : (machine : Machine) (config form : Config) → Fits machine config → IsConfigWithin (extent machine) form → said machine form ≡ live_part (said machine config) → Fits machine form
 live_forms_fit machine config form fits within is = record {
   within = within;
   ordered = subst StandsInOrder (sym is) (live_ordered (said machine config) fits.ordered);
-  frames = subst AllKeepFrameLimit (sym is) (limit_in_live_parts (said machine config) fits.frames);
+  frames = subst AllKeepFrameLimit (sym is) (limit-in-live-parts (said machine config) fits.frames);
 }

@@ -4,7 +4,7 @@ use Rattle.std.proofs.lemmas.Option.{same_Some}
 use Rattle.ttcn_syntax.specs.declared.tree.statement.Action.TheOpen.{Action-F}
 use Rattle.ttcn_syntax.specs.declared.tree.statement.Statement.{Statement, out-Statement}
 use Rattle.semantics.specs.Configurations as rules
-use Rattle.semantics.specs.Configurations.{Data, Frame, is_running_state}
+use Rattle.semantics.specs.Configurations.{Data, Frame}
 use Rattle.check_scope.specs.Names.{kind_at}
 use Rattle.semantics.specs.Items.{Does, Part, Doing, Whole, action_of}
 use Rattle.semantics.specs.Sites.{Site}

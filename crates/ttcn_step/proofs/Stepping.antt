@@ -1,5 +1,5 @@
 -- What single steps answer.
-use Rattle.std.proofs.Common.{◌≡◌, ℕ, Bool, true, false, List, Option, Some, None, Result, Ok, Err, IfOk, option_map, sym, ap, subst, ◌∙◌}
+use Rattle.std.proofs.Common.{◌≡◌, ℕ, Bool, true, false, Option, Some, None, Result, Ok, Err, IfOk, option_map, sym, ap, subst, ◌∙◌}
 use Rattle.ttcn_syntax.specs.declared.tree.statement.Verdict.TheVariants as verdict
 use Rattle.semantics.specs.Configurations as rules
 use Rattle.semantics.specs.Snapshots.{Test}

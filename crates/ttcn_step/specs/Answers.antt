@@ -5,7 +5,7 @@ use Rattle.semantics.specs.Steps as steps
 use Rattle.config_parts.specs.declared.config.Config.{Config}
 use Rattle.ttcn_step.specs.Machines.{Machine, said}
 use Rattle.ttcn_step.specs.declared.error.ReplayError.{ReplayError}
-use Rattle.ttcn_step.specs.declared.error.ReplayError.TheVariants as replay
+use Rattle.ttcn_step.specs.declared.error.ReplayError.TheVariants as replaying
 use Rattle.ttcn_step.specs.declared.error.StepError.{StepError}
 use Rattle.ttcn_step.specs.declared.error.StepError.TheVariants as step
 use Rattle.ttcn_step.specs.declared.successor.Successor.{Successor}
@@ -19,8 +19,8 @@ Leads machine next (Err step.Memory) = Unit {0}
 -- a call gives the configuration in which a run ends, or the number of its first label that is not enabled, unless memory was refused
 abbrev pub Ends : Machine → Result rules.Configuration ℕ → Result Config ReplayError → Type 0
 Ends machine run (Ok config) = run ≡ Ok (said machine config)
-Ends machine run (Err (replay.NotEnabled number)) = run ≡ Err number
-Ends machine run (Err replay.Memory) = Unit {0}
+Ends machine run (Err (replaying.NotEnabled number)) = run ≡ Err number
+Ends machine run (Err replaying.Memory) = Unit {0}
 
 -- a label leads from a configuration to another
 abbrev pub IsSuccessor : Machine → Config → Successor → Type 0

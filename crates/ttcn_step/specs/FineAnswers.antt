@@ -12,9 +12,9 @@ use Rattle.semantics.specs.Snapshots.{Test}
 use Rattle.semantics.specs.Steps.{Label}
 use Rattle.ttcn_step.specs.Machines.{Machine}
 use Rattle.ttcn_step.specs.declared.error.CoarsenError.{CoarsenError}
-use Rattle.ttcn_step.specs.declared.error.CoarsenError.TheVariants as coarsen
+use Rattle.ttcn_step.specs.declared.error.CoarsenError.TheVariants as coarsening
 use Rattle.ttcn_step.specs.declared.error.ReplayError.{ReplayError}
-use Rattle.ttcn_step.specs.declared.error.ReplayError.TheVariants as replay_error
+use Rattle.ttcn_step.specs.declared.error.ReplayError.TheVariants as replaying
 
 -- a test case has ended
 abbrev pub HasEnded : Configuration → Type 0
@@ -29,9 +29,9 @@ LeadTo P (Err number) = ⊥
 -- a call gives the run that fine labels stand for where they end the test case, or the number of the first that can't follow, or says that the test case hasn't ended, unless memory was refused
 abbrev pub Coarsens : Machine → List FineLabel → Result (Vec Label Global) CoarsenError → Type 0
 Coarsens machine labels (Ok run) = LeadTo HasEnded (fine_replay machine.test labels) × (run.items ≡ coarse machine.test labels)
-Coarsens machine labels (Err (coarsen.NotFine number)) = fine_replay machine.test labels ≡ Err number
-Coarsens machine labels (Err coarsen.NotEnded) = LeadTo (λ c. ¬ HasEnded c) (fine_replay machine.test labels)
-Coarsens machine labels (Err coarsen.Memory) = Unit {0}
+Coarsens machine labels (Err (coarsening.NotFine number)) = fine_replay machine.test labels ≡ Err number
+Coarsens machine labels (Err coarsening.NotEnded) = LeadTo (λ c. ¬ HasEnded c) (fine_replay machine.test labels)
+Coarsens machine labels (Err coarsening.Memory) = Unit {0}
 
 -- a run ends as fine labels do, and is no longer
 pub record StandsFor (test : Test) (labels : List FineLabel) (run : List Label) : Type 0 where
@@ -50,8 +50,8 @@ HasLed (Err number) = ⊥
 -- a call gives the doubling of a run, or the number of its first label that is not enabled, unless memory was refused
 abbrev pub Doubles : Machine → List Label → Result (Vec FineLabel Global) ReplayError → Type 0
 Doubles machine run (Ok labels) = HasLed (replay machine.test run) × (labels.items ≡ doubled machine.test run)
-Doubles machine run (Err (replay_error.NotEnabled number)) = replay machine.test run ≡ Err number
-Doubles machine run (Err replay_error.Memory) = Unit {0}
+Doubles machine run (Err (replaying.NotEnabled number)) = replay machine.test run ≡ Err number
+Doubles machine run (Err replaying.Memory) = Unit {0}
 
 -- fine labels follow each other to where a run leads, leave no snapshot, and stand for this run
 pub record IsDoubling (test : Test) (run : List Label) (labels : List FineLabel) : Type 0 where

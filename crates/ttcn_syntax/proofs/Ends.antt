@@ -21,9 +21,9 @@ record TextStays (xs : List ℕ) (n : ℕ) (found : Piece × ℕ) : Type 0 where
   piece : found.0 ≡ Piece.OpenText
   count : found.1 ≡ n + length xs
 
-byte_more : (b : ℕ) (xs : List ℕ) (n : ℕ) (found : Piece × ℕ) → b ≢ 34
+byte-more : (b : ℕ) (xs : List ℕ) (n : ℕ) (found : Piece × ℕ) → b ≢ 34
     → TextEnds xs (n + 1) found ⊎ TextStays xs (n + 1) found → TextEnds (b ∷ xs) n found ⊎ TextStays (b ∷ xs) n found
-byte_more b xs n found ne (inl e) = inl (record {
+byte-more b xs n found ne (inl e) = inl (record {
   inside = b ∷ e.inside;
   after = e.after;
   is = ap (λ ys. b ∷ ys) e.is;
@@ -31,11 +31,11 @@ byte_more b xs n found ne (inl e) = inl (record {
   piece = e.piece;
   count = omega (arith, e.count);
 })
-byte_more b xs n found ne (inr s) = inr (record { quoted = one_byte ne s.quoted; piece = s.piece; count = omega (arith, s.count) })
+byte-more b xs n found ne (inr s) = inr (record { quoted = one_byte ne s.quoted; piece = s.piece; count = omega (arith, s.count) })
 
-quotes_more : (xs : List ℕ) (n : ℕ) (found : Piece × ℕ)
+quotes-more : (xs : List ℕ) (n : ℕ) (found : Piece × ℕ)
     → TextEnds xs (n + 2) found ⊎ TextStays xs (n + 2) found → TextEnds (34 ∷ (34 ∷ xs)) n found ⊎ TextStays (34 ∷ (34 ∷ xs)) n found
-quotes_more xs n found (inl e) = inl (record {
+quotes-more xs n found (inl e) = inl (record {
   inside = 34 ∷ (34 ∷ e.inside);
   after = e.after;
   is = ap (λ ys. 34 ∷ (34 ∷ ys)) e.is;
@@ -43,11 +43,11 @@ quotes_more xs n found (inl e) = inl (record {
   piece = e.piece;
   count = omega (arith, e.count);
 })
-quotes_more xs n found (inr s) = inr (record { quoted = two_quotes s.quoted; piece = s.piece; count = omega (arith, s.count) })
+quotes-more xs n found (inr s) = inr (record { quoted = two_quotes s.quoted; piece = s.piece; count = omega (arith, s.count) })
 
-text_end : (xs : List ℕ) (n : ℕ) → TextEnds xs n (inside_text xs n) ⊎ TextStays xs n (inside_text xs n)
-text_end [] n = inr (record { quoted = nothing; piece = refl; count = omega arith })
-text_end (b ∷ []) n = elim (eqb_tells b 34) [
+text-end : (xs : List ℕ) (n : ℕ) → TextEnds xs n (inside_text xs n) ⊎ TextStays xs n (inside_text xs n)
+text-end [] n = inr (record { quoted = nothing; piece = refl; count = omega arith })
+text-end (b ∷ []) n = elim (eqb_tells b 34) [
   | inl quote ↦ inl (record {
     inside = [];
     after = [];
@@ -58,13 +58,13 @@ text_end (b ∷ []) n = elim (eqb_tells b 34) [
   })
   | inr other ↦ inr (record { quoted = one_byte other.1 nothing; piece = rw other.0 refl; count = rw other.0 refl })
 ]
-text_end (b ∷ (c ∷ bs)) n =
-    let two = text_end bs (n + 2) in
-    let one = text_end (c ∷ bs) (n + 1) in
+text-end (b ∷ (c ∷ bs)) n =
+    let two = text-end bs (n + 2) in
+    let one = text-end (c ∷ bs) (n + 1) in
     elim (eqb_tells b 34) [
-      | inr other ↦ rw other.0 (byte_more b (c ∷ bs) n (inside_text (c ∷ bs) (n + 1)) other.1 one)
+      | inr other ↦ rw other.0 (byte-more b (c ∷ bs) n (inside_text (c ∷ bs) (n + 1)) other.1 one)
       | inl quote ↦ elim (eqb_tells c 34) [
-        | inl again ↦ rw (quote.1, again.1) (quotes_more bs n (inside_text bs (n + 2)) two)
+        | inl again ↦ rw (quote.1, again.1) (quotes-more bs n (inside_text bs (n + 2)) two)
         | inr other ↦ inl (record {
           inside = [];
           after = c ∷ bs;
@@ -76,8 +76,8 @@ text_end (b ∷ (c ∷ bs)) n =
       ]
     ]
 
-pub text_found : (xs : List ℕ) → Found (34 ∷ xs) (inside_text xs 1)
-text_found xs = elim (text_end xs 1) [
+pub text-found : (xs : List ℕ) → Found (34 ∷ xs) (inside_text xs 1)
+text-found xs = elim (text-end xs 1) [
   | inl e ↦ record {
     bytes = 34 ∷ (e.inside ++ 34 ∷ []);
     after = e.after;
@@ -128,14 +128,14 @@ HasNoEnd-cons b bs off h [] after e =
 HasNoEnd-cons b bs off h (c ∷ before) after e = let on : bs ≡ before ++ 42 ∷ (47 ∷ after) = cc in h before after on
 
 -- what a list with a `*` at its end begins with
-same_first : (xs after : List ℕ) → slice_index (xs ++ 42 ∷ []) 0 ≡ slice_index (xs ++ 42 ∷ (47 ∷ after)) 0
-same_first [] after = refl
-same_first (b ∷ xs) after = refl
+same-first : (xs after : List ℕ) → slice_index (xs ++ 42 ∷ []) 0 ≡ slice_index (xs ++ 42 ∷ (47 ∷ after)) 0
+same-first [] after = refl
+same-first (b ∷ xs) after = refl
 
-comment_more : (b : ℕ) (xs : List ℕ) (n : ℕ) (found : Piece × ℕ) → ((b == 42) && (slice_index xs 0 == 47)) ≡ false
+comment-more : (b : ℕ) (xs : List ℕ) (n : ℕ) (found : Piece × ℕ) → ((b == 42) && (slice_index xs 0 == 47)) ≡ false
     → CommentEnds xs (n + 1) found ⊎ CommentStays xs (n + 1) found → CommentEnds (b ∷ xs) n found ⊎ CommentStays (b ∷ xs) n found
-comment_more b xs n found off (inl e) =
-    let begins : slice_index (e.inside ++ 42 ∷ []) 0 ≡ slice_index xs 0 = same_first e.inside e.after ∙ ap (λ ys. slice_index ys 0) e.is in
+comment-more b xs n found off (inl e) =
+    let begins : slice_index (e.inside ++ 42 ∷ []) 0 ≡ slice_index xs 0 = same-first e.inside e.after ∙ ap (λ ys. slice_index ys 0) e.is in
     inl (record {
       inside = b ∷ e.inside;
       after = e.after;
@@ -144,20 +144,20 @@ comment_more b xs n found off (inl e) =
       piece = e.piece;
       count = omega (arith, e.count);
     })
-comment_more b xs n found off (inr s) = inr (record { no_end = HasNoEnd-cons b xs off s.no_end; piece = s.piece; count = omega (arith, s.count) })
+comment-more b xs n found off (inr s) = inr (record { no_end = HasNoEnd-cons b xs off s.no_end; piece = s.piece; count = omega (arith, s.count) })
 
-comment_end : (xs : List ℕ) (n : ℕ) → CommentEnds xs n (inside_comment xs n) ⊎ CommentStays xs n (inside_comment xs n)
-comment_end [] n = inr (record { no_end = HasNoEnd-nil; piece = refl; count = omega arith })
-comment_end (b ∷ []) n =
-    let one = comment_end [] (n + 1) in
+comment-end : (xs : List ℕ) (n : ℕ) → CommentEnds xs n (inside_comment xs n) ⊎ CommentStays xs n (inside_comment xs n)
+comment-end [] n = inr (record { no_end = HasNoEnd-nil; piece = refl; count = omega arith })
+comment-end (b ∷ []) n =
+    let one = comment-end [] (n + 1) in
     let off : ((b == 42) && false) ≡ false = elim (b == 42) as (λ t. (t && false) ≡ false) [ true ↦ refl | false ↦ refl ] in
-    rw off (comment_more b [] n (inside_comment [] (n + 1)) off one)
-comment_end (b ∷ (c ∷ bs)) n =
-    let one = comment_end (c ∷ bs) (n + 1) in
+    rw off (comment-more b [] n (inside_comment [] (n + 1)) off one)
+comment-end (b ∷ (c ∷ bs)) n =
+    let one = comment-end (c ∷ bs) (n + 1) in
     elim (eqb_tells b 42) [
-      | inr other ↦ rw other.0 (comment_more b (c ∷ bs) n (inside_comment (c ∷ bs) (n + 1)) (rw other.0 refl) one)
+      | inr other ↦ rw other.0 (comment-more b (c ∷ bs) n (inside_comment (c ∷ bs) (n + 1)) (rw other.0 refl) one)
       | inl star ↦ elim (eqb_tells c 47) [
-        | inr other ↦ rw (star.0, other.0) (comment_more b (c ∷ bs) n (inside_comment (c ∷ bs) (n + 1)) (rw (star.0, other.0) refl) one)
+        | inr other ↦ rw (star.0, other.0) (comment-more b (c ∷ bs) n (inside_comment (c ∷ bs) (n + 1)) (rw (star.0, other.0) refl) one)
         | inl slash ↦ inl (record {
           inside = [];
           after = bs;
@@ -169,8 +169,8 @@ comment_end (b ∷ (c ∷ bs)) n =
       ]
     ]
 
-pub comment_found : (xs : List ℕ) → Found (47 ∷ (42 ∷ xs)) (inside_comment xs 2)
-comment_found xs = elim (comment_end xs 2) [
+pub comment-found : (xs : List ℕ) → Found (47 ∷ (42 ∷ xs)) (inside_comment xs 2)
+comment-found xs = elim (comment-end xs 2) [
   | inl e ↦ record {
     bytes = 47 ∷ (42 ∷ (e.inside ++ 42 ∷ (47 ∷ [])));
     after = e.after;
@@ -190,15 +190,15 @@ comment_found xs = elim (comment_end xs 2) [
 -- ---- which end a text or a comment has
 
 -- the comment that ends
-pub closed_comment_is : (bs after : List ℕ) (n : ℕ) → Piece.Comment ≡ (inside_comment (bs ++ 42 ∷ (47 ∷ after)) n).0
-closed_comment_is bs after n = elim (comment_end (bs ++ 42 ∷ (47 ∷ after)) n) [
+pub closed-comment-is : (bs after : List ℕ) (n : ℕ) → Piece.Comment ≡ (inside_comment (bs ++ 42 ∷ (47 ∷ after)) n).0
+closed-comment-is bs after n = elim (comment-end (bs ++ 42 ∷ (47 ∷ after)) n) [
   | inl e ↦ sym e.piece
   | inr s ↦ absurd (s.no_end bs after refl)
 ]
 
 -- the comment that goes on to the end
-pub open_comment_is : (bs : List ℕ) (n : ℕ) → HasNoEnd bs → Piece.OpenComment ≡ (inside_comment bs n).0
-open_comment_is bs n h = elim (comment_end bs n) [
+pub open-comment-is : (bs : List ℕ) (n : ℕ) → HasNoEnd bs → Piece.OpenComment ≡ (inside_comment bs n).0
+open-comment-is bs n h = elim (comment-end bs n) [
   | inl e ↦ absurd (h e.inside e.after (sym e.is))
   | inr s ↦ sym s.piece
 ]
@@ -215,25 +215,25 @@ Quoted-lone : Quoted (34 ∷ []) → ⊥
 Quoted-lone (one_byte other q) = other refl
 
 -- behind what is quoted no lone quote is
-no_lone_quote : {bs : List ℕ} → Quoted bs → Quoted (bs ++ 34 ∷ []) → ⊥
-no_lone_quote nothing q = Quoted-lone q
-no_lone_quote (one_byte {b = b} {bs = bs} ne r) q = no_lone_quote r (Quoted-tail b (bs ++ 34 ∷ []) ne q)
-no_lone_quote (two_quotes {bs = bs} r) q = no_lone_quote r (Quoted-pair (bs ++ 34 ∷ []) q)
+no-lone-quote : {bs : List ℕ} → Quoted bs → Quoted (bs ++ 34 ∷ []) → ⊥
+no-lone-quote nothing q = Quoted-lone q
+no-lone-quote (one_byte {b = b} {bs = bs} ne r) q = no-lone-quote r (Quoted-tail b (bs ++ 34 ∷ []) ne q)
+no-lone-quote (two_quotes {bs = bs} r) q = no-lone-quote r (Quoted-pair (bs ++ 34 ∷ []) q)
 
-no_lone_behind : {bs : List ℕ} (after : List ℕ) → Quoted bs → length after ≡ 0 → Quoted (bs ++ 34 ∷ after) → ⊥
-no_lone_behind [] r h q = no_lone_quote r q
-no_lone_behind (b ∷ after) r h q = cc
+no-lone-behind : {bs : List ℕ} (after : List ℕ) → Quoted bs → length after ≡ 0 → Quoted (bs ++ 34 ∷ after) → ⊥
+no-lone-behind [] r h q = no-lone-quote r q
+no-lone-behind (b ∷ after) r h q = cc
 
 -- the text that ends
-pub closed_text_is : (bs after : List ℕ) (n : ℕ) → Quoted bs → n + length bs + 1 ≡ (inside_text (bs ++ 34 ∷ after) n).1 → Piece.Text ≡ (inside_text (bs ++ 34 ∷ after) n).0
-closed_text_is bs after n q count = elim (text_end (bs ++ 34 ∷ after) n) [
+pub closed-text-is : (bs after : List ℕ) (n : ℕ) → Quoted bs → n + length bs + 1 ≡ (inside_text (bs ++ 34 ∷ after) n).1 → Piece.Text ≡ (inside_text (bs ++ 34 ∷ after) n).0
+closed-text-is bs after n q count = elim (text-end (bs ++ 34 ∷ after) n) [
   | inl e ↦ sym e.piece
-  | inr s ↦ absurd (no_lone_behind after q (omega (arith, s.count, count, length-append bs (34 ∷ after))) s.quoted)
+  | inr s ↦ absurd (no-lone-behind after q (omega (arith, s.count, count, length-append bs (34 ∷ after))) s.quoted)
 ]
 
 -- the text that goes on to the end
-pub open_text_is : (bs : List ℕ) (n : ℕ) → Quoted bs → n + length bs ≡ (inside_text bs n).1 → Piece.OpenText ≡ (inside_text bs n).0
-open_text_is bs n q count = elim (text_end bs n) [
-  | inl e ↦ absurd (no_lone_behind e.after e.quoted (omega (arith, e.count, count, length-append e.inside (34 ∷ e.after), ap length e.is)) (subst Quoted (sym e.is) q))
+pub open-text-is : (bs : List ℕ) (n : ℕ) → Quoted bs → n + length bs ≡ (inside_text bs n).1 → Piece.OpenText ≡ (inside_text bs n).0
+open-text-is bs n q count = elim (text-end bs n) [
+  | inl e ↦ absurd (no-lone-behind e.after e.quoted (omega (arith, e.count, count, length-append e.inside (34 ∷ e.after), ap length e.is)) (subst Quoted (sym e.is) q))
   | inr s ↦ sym s.piece
 ]

@@ -18,19 +18,19 @@ pub passes-cons : (p : ℕ → Bool) (x : ℕ) (xs : List ℕ) → p x ≡ true 
 passes-cons p x xs h t = All-cons (λ x. p x ≡ true) x xs h t
 
 -- bytes that pass lie within the run
-pub run_reaches : (p : ℕ → Bool) (bytes after : List ℕ) → AllPass p bytes → length bytes ≤ prefix_len p (bytes ++ after)
-run_reaches p [] after h = omega arith
-run_reaches p (b ∷ bs) after h =
+pub run-reaches : (p : ℕ → Bool) (bytes after : List ℕ) → AllPass p bytes → length bytes ≤ prefix_len p (bytes ++ after)
+run-reaches p [] after h = omega arith
+run-reaches p (b ∷ bs) after h =
     let yes = passes-head p b bs h in
-    let more = run_reaches p bs after (passes-tail p b bs h) in
+    let more = run-reaches p bs after (passes-tail p b bs h) in
     rw yes (omega (arith, more))
 
 -- the run ends at the first byte that does not pass
-pub run_ends : (p : ℕ → Bool) (bytes : List ℕ) (c : ℕ) (after : List ℕ) → AllPass p bytes → p c ≡ false → prefix_len p (bytes ++ c ∷ after) ≡ length bytes
-run_ends p [] c after h stops = rw stops refl
-run_ends p (b ∷ bs) c after h stops =
+pub run-ends : (p : ℕ → Bool) (bytes : List ℕ) (c : ℕ) (after : List ℕ) → AllPass p bytes → p c ≡ false → prefix_len p (bytes ++ c ∷ after) ≡ length bytes
+run-ends p [] c after h stops = rw stops refl
+run-ends p (b ∷ bs) c after h stops =
     let yes = passes-head p b bs h in
-    let more = run_ends p bs c after (passes-tail p b bs h) stops in
+    let more = run-ends p bs c after (passes-tail p b bs h) stops in
     rw yes (omega (arith, more))
 
 -- a list is its run and what follows

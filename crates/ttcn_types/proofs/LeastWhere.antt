@@ -28,9 +28,9 @@ one-of-two P r other here there = go (nat_lt (number_of other) (number_of r))
     go false = here
 
 -- what is known where the same holds of the same rules
-pub where_same : (P Q : Rule → Type 0) (found : Option Rule) → ((r : Rule) → P r → Q r) → ((r : Rule) → Q r → P r) → IsLeastWhere P found → IsLeastWhere Q found
-where_same P Q None there back least = λ r q. least r (back r q)
-where_same P Q (Some r) there back least = (there r least.0, λ other q. least.1 other (back other q))
+pub where-same : (P Q : Rule → Type 0) (found : Option Rule) → ((r : Rule) → P r → Q r) → ((r : Rule) → Q r → P r) → IsLeastWhere P found → IsLeastWhere Q found
+where-same P Q None there back least = λ r q. least r (back r q)
+where-same P Q (Some r) there back least = (there r least.0, λ other q. least.1 other (back other q))
 
 -- the least of two kinds of rules
 pub where_either : (P Q : Rule → Type 0) (one other : Option Rule) → IsLeastWhere P one → IsLeastWhere Q other → IsLeastWhere (λ r. P r ⊎ Q r) (lesser_of one other)
@@ -55,12 +55,12 @@ first-or-more r other rules (zero, within, is) = inl is
 first-or-more r other rules (suc k, within, is) = inr (k, omega arith, is)
 
 -- the least of a list
-pub where_listed : (rules : List Rule) → IsLeastWhere (Contains rules) (least rules).least
-where_listed [] = λ r contains. absurd (let within = contains.1 in omega (arith, within))
-where_listed (r ∷ rules) =
-    where_same (λ other. (r ≡ other) ⊎ Contains rules other) (Contains (r ∷ rules)) (lesser_of (Some r) (least rules).least) (λ other. contains-first r other rules)
+pub where-listed : (rules : List Rule) → IsLeastWhere (Contains rules) (least rules).least
+where-listed [] = λ r contains. absurd (let within = contains.1 in omega (arith, within))
+where-listed (r ∷ rules) =
+    where-same (λ other. (r ≡ other) ⊎ Contains rules other) (Contains (r ∷ rules)) (lesser_of (Some r) (least rules).least) (λ other. contains-first r other rules)
     (λ other. first-or-more r other rules)
-    (where_either (λ other. r ≡ other) (Contains rules) (Some r) (least rules).least (refl, λ other is. subst (λ s. number_of r ≤ number_of s) is (omega arith)) (where_listed rules))
+    (where_either (λ other. r ≡ other) (Contains rules) (Some r) (least rules).least (refl, λ other is. subst (λ s. number_of r ≤ number_of s) is (omega arith)) (where-listed rules))
 
 -- ---- a module
 
@@ -106,18 +106,18 @@ module _ (definitions : List Definition) where
   least_broken surveyed found =
       let names = least (check_module_names definitions) in
       let inner = least (check_definitions definitions 0 definitions) in
-      where_same Judgement (Breaks definitions) (both (both names surveyed) inner).least breaks-judged judged-breaks
+      where-same Judgement (Breaks definitions) (both (both names surveyed) inner).least breaks-judged judged-breaks
       (where_either (λ r. Contains (check_module_names definitions) r ⊎ BreaksBySurvey definitions r) (Contains (check_definitions definitions 0 definitions)) (both names surveyed).least inner.least
-      (where_either (Contains (check_module_names definitions)) (BreaksBySurvey definitions) names.least surveyed.least (where_listed (check_module_names definitions)) found) (where_listed (check_definitions definitions 0 definitions)))
+      (where_either (Contains (check_module_names definitions)) (BreaksBySurvey definitions) names.least surveyed.least (where-listed (check_module_names definitions)) found) (where-listed (check_definitions definitions 0 definitions)))
 
   -- the same, as it is found step by step
-  pub found_broken : (scope : Scope) (surveyed first next last : Broken) → scope ≡ module_scope definitions → first ≡ both (least []) (least (check_module_names definitions))
+  pub found-broken : (scope : Scope) (surveyed first next last : Broken) → scope ≡ module_scope definitions → first ≡ both (least []) (least (check_module_names definitions))
       → IsLeastWhere (BreaksBySurvey scope.definitions) surveyed.least → next ≡ both first surveyed
       → last ≡ both next (least (check_definitions scope.definitions 0 definitions)) → IsLeastWhere (Breaks definitions) last.least
-  found_broken scope surveyed first next last scope_is first_is found next_is last_is =
+  found-broken scope surveyed first next last scope_is first_is found next_is last-is =
       let same : scope.definitions ≡ definitions = ap (λ (s : Scope). s.definitions) scope_is in
       let last_now : last ≡ both (both (least (check_module_names definitions)) surveyed) (least (check_definitions definitions 0 definitions)) =
-      last_is ∙ ap (λ ds. both next (least (check_definitions ds 0 definitions))) same
+      last-is ∙ ap (λ ds. both next (least (check_definitions ds 0 definitions))) same
       ∙ ap (λ b. both b (least (check_definitions definitions 0 definitions))) (next_is ∙ ap (λ b. both b surveyed) first_is) in
       subst (λ (b : Broken). IsLeastWhere (Breaks definitions) b.least) (sym last_now)
       (least_broken surveyed (subst (λ ds. IsLeastWhere (BreaksBySurvey ds) surveyed.least) same found))

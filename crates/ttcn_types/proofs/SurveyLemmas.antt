@@ -6,7 +6,7 @@ use Rattle.check_survey.specs.Graphs.{AllChainsWithin, AllWeighWithin, BeginsLon
 use Rattle.check_survey.specs.declared.findings.Findings.{Findings}
 use Rattle.check_survey.specs.declared.findings.Findings.TheVariants.{Circle, Sizes}
 use Rattle.check_survey.specs.declared.thing.Thing.{Thing}
-use Rattle.check_survey.proofs.Chains.{chain_head, weigh_within}
+use Rattle.check_survey.proofs.Chains.{chain-head, weigh-within}
 use Rattle.check_scope.specs.Numbers.{number_of}
 use Rattle.check_rules.specs.Limits.{longest_chain}
 use Rattle.check_rules.specs.Rules.{AreTooLarge}
@@ -16,29 +16,29 @@ use Rattle.check_scope.specs.declared.rule.Rule.{Rule}
 use Rattle.check_scope.specs.declared.rule.Rule.TheVariants as rule
 
 module _ (things : List Thing) (heaviest : ℕ) (circle : Rule) where
-  circle_below : number_of circle ≤ 5 → (other : Rule) → BreaksAmong things heaviest circle other → number_of circle ≤ number_of other
-  circle_below small _ (in_circle has) = omega arith
-  circle_below small _ (too_large large) = small
+  circle-below : number_of circle ≤ 5 → (other : Rule) → BreaksAmong things heaviest circle other → number_of circle ≤ number_of other
+  circle-below small _ (in_circle has) = omega arith
+  circle-below small _ (too_large large) = small
 
   -- a circle was found
-  pub circle_least : (findings : Findings) (i : ℕ) → number_of circle ≤ 5 → findings ≡ Circle i → IfCircle findings (IsOnCircle things)
+  pub circle-least : (findings : Findings) (i : ℕ) → number_of circle ≤ 5 → findings ≡ Circle i → IfCircle findings (IsOnCircle things)
       → IsLeastWhere (BreaksAmong things heaviest circle) (Some circle)
-  circle_least findings i small is found =
+  circle-least findings i small is found =
       let on : IsOnCircle things i = subst (λ f. IfCircle f (IsOnCircle things)) is found in
-      (in_circle (i, on), circle_below small)
+      (in_circle (i, on), circle-below small)
 
-  pub circle_within : (findings : Findings) (i : ℕ) → findings ≡ Circle i → IfCircle findings (IsOnCircle things) → i < length things
-  circle_within findings i is found =
+  pub circle-within : (findings : Findings) (i : ℕ) → findings ≡ Circle i → IfCircle findings (IsOnCircle things) → i < length things
+  circle-within findings i is found =
       let on : IsOnCircle things i = subst (λ f. IfCircle f (IsOnCircle things)) is found in
-      chain_head things i (on.0 ++ i ∷ []) on.1
+      chain-head things i (on.0 ++ i ∷ []) on.1
 
   -- no circle was found
   abbrev NoCircle : Type 0
   NoCircle = (i : ℕ) → IsOnCircle things i → ⊥
 
-  size_below : NoCircle → (other : Rule) → BreaksAmong things heaviest circle other → 5 ≤ number_of other
-  size_below none _ (in_circle has) = absurd (none has.0 has.1)
-  size_below none _ (too_large large) = omega arith
+  size-below : NoCircle → (other : Rule) → BreaksAmong things heaviest circle other → 5 ≤ number_of other
+  size-below none _ (in_circle has) = absurd (none has.0 has.1)
+  size-below none _ (too_large large) = omega arith
 
   abbrev LongAt : Option ℕ → Type 0
   LongAt too_long = MatchOption too_long (AllChainsWithin things longest_chain) (IsFirst (BeginsLongerChain things longest_chain))
@@ -46,41 +46,41 @@ module _ (things : List Thing) (heaviest : ℕ) (circle : Rule) where
   abbrev HeavyAt : Option ℕ → Type 0
   HeavyAt too_heavy = MatchOption too_heavy (AllWeighWithin things heaviest) (IsFirst (WeighsMore things heaviest))
 
-  too_large_at : (too_long too_heavy : Option ℕ) (i : ℕ) → option_or too_long too_heavy ≡ Some i → LongAt too_long → HeavyAt too_heavy → AreTooLarge things longest_chain heaviest × (i < length things)
-  too_large_at (Some k) too_heavy i is long heavy =
+  too-large-at : (too_long too_heavy : Option ℕ) (i : ℕ) → option_or too_long too_heavy ≡ Some i → LongAt too_long → HeavyAt too_heavy → AreTooLarge things longest_chain heaviest × (i < length things)
+  too-large-at (Some k) too_heavy i is long heavy =
       let same : k ≡ i = cc in
-      (inl (k, long.0), subst (λ m. m < length things) same (chain_head things k long.0.0 long.0.1))
-  too_large_at None (Some k) i is long heavy =
+      (inl (k, long.0), subst (λ m. m < length things) same (chain-head things k long.0.0 long.0.1))
+  too-large-at None (Some k) i is long heavy =
       let same : k ≡ i = cc in
-      (inr (k, heavy.0), subst (λ m. m < length things) same (weigh_within things k heavy.0.0 heavy.0.1))
-  too_large_at None None i is long heavy = absurd (cc)
+      (inr (k, heavy.0), subst (λ m. m < length things) same (weigh-within things k heavy.0.0 heavy.0.1))
+  too-large-at None None i is long heavy = absurd (cc)
 
-  not_too_large : (too_long too_heavy : Option ℕ) → option_or too_long too_heavy ≡ None → LongAt too_long → HeavyAt too_heavy → AreTooLarge things longest_chain heaviest → ⊥
-  not_too_large (Some k) too_heavy is long heavy large = cc
-  not_too_large None (Some k) is long heavy large = cc
-  not_too_large None None is long heavy (inl (i, (rest, chain, more))) = (let bound = long (i ∷ rest) chain in absurd (omega (arith, bound, more)))
-  not_too_large None None is long heavy (inr (i, (n, weighs, more))) = (let bound = heavy i n weighs in absurd (omega (arith, bound, more)))
+  not-too-large : (too_long too_heavy : Option ℕ) → option_or too_long too_heavy ≡ None → LongAt too_long → HeavyAt too_heavy → AreTooLarge things longest_chain heaviest → ⊥
+  not-too-large (Some k) too_heavy is long heavy large = cc
+  not-too-large None (Some k) is long heavy large = cc
+  not-too-large None None is long heavy (inl (i, (rest, chain, more))) = (let bound = long (i ∷ rest) chain in absurd (omega (arith, bound, more)))
+  not-too-large None None is long heavy (inr (i, (n, weighs, more))) = (let bound = heavy i n weighs in absurd (omega (arith, bound, more)))
 
   module _ (findings : Findings) (too_long too_heavy : Option ℕ) (is : findings ≡ Sizes too_long too_heavy) (none : IfSizes findings (λ _ _. NoCircle))
       (long : IfSizes findings (λ found _. LongAt found)) (heavy : IfSizes findings (λ _ found. HeavyAt found)) where
     no_circle : NoCircle
     no_circle = subst (λ f. IfSizes f (λ _ _. NoCircle)) is none
 
-    long_is : LongAt too_long
-    long_is = subst (λ f. IfSizes f (λ found _. LongAt found)) is long
+    long-is : LongAt too_long
+    long-is = subst (λ f. IfSizes f (λ found _. LongAt found)) is long
 
-    heavy_is : HeavyAt too_heavy
-    heavy_is = subst (λ f. IfSizes f (λ _ found. HeavyAt found)) is heavy
+    heavy-is : HeavyAt too_heavy
+    heavy-is = subst (λ f. IfSizes f (λ _ found. HeavyAt found)) is heavy
 
-    pub size_least : (found : Option ℕ) (i : ℕ) → found ≡ Some i → found ≡ option_or too_long too_heavy → IsLeastWhere (BreaksAmong things heaviest circle) (Some rule.Size)
-    size_least found i some or = (too_large (too_large_at too_long too_heavy i (sym or ∙ some) long_is heavy_is).0, size_below no_circle)
+    pub size-least : (found : Option ℕ) (i : ℕ) → found ≡ Some i → found ≡ option_or too_long too_heavy → IsLeastWhere (BreaksAmong things heaviest circle) (Some rule.Size)
+    size-least found i some or = (too_large (too-large-at too_long too_heavy i (sym or ∙ some) long-is heavy-is).0, size-below no_circle)
 
-    pub size_within : (found : Option ℕ) (i : ℕ) → found ≡ Some i → found ≡ option_or too_long too_heavy → i < length things
-    size_within found i some or = (too_large_at too_long too_heavy i (sym or ∙ some) long_is heavy_is).1
+    pub size-within : (found : Option ℕ) (i : ℕ) → found ≡ Some i → found ≡ option_or too_long too_heavy → i < length things
+    size-within found i some or = (too-large-at too_long too_heavy i (sym or ∙ some) long-is heavy-is).1
 
-    pub nothing_breaks : (found : Option ℕ) → found ≡ None → found ≡ option_or too_long too_heavy → IsLeastWhere (BreaksAmong things heaviest circle) None
-    nothing_breaks found empty or = λ r breaks. go r breaks
+    pub nothing-breaks : (found : Option ℕ) → found ≡ None → found ≡ option_or too_long too_heavy → IsLeastWhere (BreaksAmong things heaviest circle) None
+    nothing-breaks found empty or = λ r breaks. go r breaks
       where
         go : (r : Rule) → BreaksAmong things heaviest circle r → ⊥
         go _ (in_circle has) = no_circle has.0 has.1
-        go _ (too_large large) = not_too_large too_long too_heavy (sym or ∙ empty) long_is heavy_is large
+        go _ (too_large large) = not-too-large too_long too_heavy (sym or ∙ empty) long-is heavy-is large

@@ -246,8 +246,8 @@ module _ (definitions : List Definition) where
       ∙ ap (λ m. m + length (things_from definitions rest)) (length-things_at definition.kind)
       ∙ ap (λ m. how_many definition.kind + m) (length-things_from rest)
 
-pub length_written : (definitions : List Definition) → length (constants_and_templates definitions) ≡ how_many_in definitions
-length_written definitions = length-things_from definitions definitions
+pub length-written : (definitions : List Definition) → length (constants_and_templates definitions) ≡ how_many_in definitions
+length-written definitions = length-things_from definitions definitions
 
 pub written_complete : (definitions : List Definition) → AreComplete (constants_and_templates definitions)
 written_complete definitions = subst (λ m. All (Below m) (constants_and_templates definitions)) (sym (length-things_from definitions definitions)) (from-below definitions definitions)

@@ -7,15 +7,15 @@ use Rattle.ttcn_syntax.specs.declared.tree.template.FieldTemplate.{FieldTemplate
 use denote.Param.Weighed.{most}
 
 module _ {A : Type 0} (size : A → ℕ) (test : A → Bool) where
-  one_within : (b : Bool) (a x : A) (l : List A) → (find test l ≡ Some x → size x ≤ most size l) → (if b then Some a else find test l) ≡ Some x → size x ≤ max (size a) (most size l)
-  one_within true a x l behind is = let same : a ≡ x = cc is in let sizes = ap size same in omega arith
-  one_within false a x l behind is = let within = behind is in omega arith
+  one-within : (b : Bool) (a x : A) (l : List A) → (find test l ≡ Some x → size x ≤ most size l) → (if b then Some a else find test l) ≡ Some x → size x ≤ max (size a) (most size l)
+  one-within true a x l behind is = let same : a ≡ x = cc is in let sizes = ap size same in omega arith
+  one-within false a x l behind is = let within = behind is in omega arith
 
   -- what is found is no larger than the largest
   pub found_within : (l : List A) (x : A) → find test l ≡ Some x → size x ≤ most size l
   found_within [] x is = absurd (let none = is in cc)
-  found_within (a ∷ l) x is = one_within (test a) a x l (found_within l x) is
+  found_within (a ∷ l) x is = one-within (test a) a x l (found_within l x) is
 
 -- an element is larger than its template
-pub element_larger : (e : FieldTemplate) → the_size (out-FieldTemplate e).template < element.the_size e
-element_larger e = omega (arith, size_is-FieldTemplate e)
+pub element-larger : (e : FieldTemplate) → the_size (out-FieldTemplate e).template < element.the_size e
+element-larger e = omega (arith, size_is-FieldTemplate e)

@@ -17,28 +17,28 @@ use Rattle.value_types.specs.declared.template.Template.{Template}
 take-one : {A : Type 0} (l : List A) (i : ℕ) (d : A) → i < length l → take (i + 1) l ≡ take i l ++ get_or l i d ∷ []
 take-one l i d within = (take_at_read l i d within).1
 
-and_then_yields : (o : Outcome (List Template)) → outcome_and_then (λ t. Yields t) o ≡ o
-and_then_yields (Yields t) = refl
-and_then_yields (Fails why) = refl
+and-then-yields : (o : Outcome (List Template)) → outcome_and_then (λ t. Yields t) o ≡ o
+and-then-yields (Yields t) = refl
+and-then-yields (Fails why) = refl
 
-pub and_then_assoc : (f g : Build) (o : Outcome (List Template)) → outcome_and_then g (outcome_and_then f o) ≡ outcome_and_then (one_after f g) o
-and_then_assoc f g (Yields t) = refl
-and_then_assoc f g (Fails why) = refl
+pub and-then-assoc : (f g : Build) (o : Outcome (List Template)) → outcome_and_then g (outcome_and_then f o) ≡ outcome_and_then (one_after f g) o
+and-then-assoc f g (Yields t) = refl
+and-then-assoc f g (Fails why) = refl
 
-pub one_after_assoc : (f g h : Build) → one_after (one_after f g) h ≡ one_after f (one_after g h)
-one_after_assoc f g h = fun_ext (λ t. and_then_assoc g h (f t))
+pub one-after-assoc : (f g h : Build) → one_after (one_after f g) h ≡ one_after f (one_after g h)
+one-after-assoc f g h = fun_ext (λ t. and-then-assoc g h (f t))
 
 -- both, one behind the other
 abbrev pub both : Outcome (List Template) → Outcome (List Template) → Outcome (List Template)
 both a b = outcome_and_then (λ xs. outcome_map (λ ys. xs ++ ys) b) a
 
-with_both_at : (a b : Outcome (List Template)) (t : List Template) → one_after (with_more a) (with_more b) t ≡ with_more (both a b) t
-with_both_at (Yields xs) (Yields ys) t = ap Yields (append_assoc t xs ys)
-with_both_at (Yields xs) (Fails why) t = refl
-with_both_at (Fails why) b t = refl
+with-both-at : (a b : Outcome (List Template)) (t : List Template) → one_after (with_more a) (with_more b) t ≡ with_more (both a b) t
+with-both-at (Yields xs) (Yields ys) t = ap Yields (append_assoc t xs ys)
+with-both-at (Yields xs) (Fails why) t = refl
+with-both-at (Fails why) b t = refl
 
-pub with_both : (a b : Outcome (List Template)) → one_after (with_more a) (with_more b) ≡ with_more (both a b)
-with_both a b = fun_ext (with_both_at a b)
+pub with-both : (a b : Outcome (List Template)) → one_after (with_more a) (with_more b) ≡ with_more (both a b)
+with-both a b = fun_ext (with-both-at a b)
 
 -- what each gives, and one more
 pub each-more : (os : List (Outcome Template)) (o : Outcome Template) → each (os ++ o ∷ []) ≡ both (each os) (outcome_map alone o)
@@ -77,8 +77,8 @@ each-none (Yields t ∷ os) (suc i) o within is none = go (each os) (each-none o
     go (Fails why) none = refl
 
 -- the last so many of those that were put there
-last_at : (make : List Template → List Template) (t xs : List Template) (n : ℕ) → length xs ≡ n → last_as make n (t ++ xs) ≡ Yields (t ++ make xs)
-last_at make t xs n many =
+last-at : (make : List Template → List Template) (t xs : List Template) (n : ℕ) → length xs ≡ n → last_as make n (t ++ xs) ≡ Yields (t ++ make xs)
+last-at make t xs n many =
     let long : length (t ++ xs) ≡ length t + n = length-append t xs ∙ ap (λ m. length t + m) many in
     let enough : nat_le n (length (t ++ xs)) ≡ true = le-leb n (length (t ++ xs)) (omega (arith, long)) in
     let start : length (t ++ xs) - n ≡ length t = omega (arith, long) in
@@ -87,9 +87,9 @@ last_at make t xs n many =
     ∙ ap (λ us. Yields (us ++ make (drop (length t) (t ++ xs)))) (take-append_seam t xs)
     ∙ ap (λ us. Yields (t ++ make us)) (drop-append_seam t xs)
 
-pub last_behind : (make : List Template → List Template) (n : ℕ) (o : Outcome (List Template)) → AreSoMany n o → one_after (with_more o) (last_as make n) ≡ with_more (outcome_map make o)
-last_behind make n (Yields xs) many = fun_ext (λ t. last_at make t xs n many)
-last_behind make n (Fails why) many = refl
+pub last-behind : (make : List Template → List Template) (n : ℕ) (o : Outcome (List Template)) → AreSoMany n o → one_after (with_more o) (last_as make n) ≡ with_more (outcome_map make o)
+last-behind make n (Yields xs) many = fun_ext (λ t. last-at make t xs n many)
+last-behind make n (Fails why) many = refl
 
 module _ (reading : Reading) where
   pub steps-append_at : (xs ys : List Step) (t : List Template) → after_steps reading (xs ++ ys) t ≡ outcome_and_then (after_steps reading ys) (after_steps reading xs t)
@@ -102,7 +102,7 @@ module _ (reading : Reading) where
       go rest (Fails why) = refl
 
   alone-step : (s : Step) → after_steps reading (s ∷ []) ≡ after_step reading s
-  alone-step s = fun_ext (λ t. and_then_yields (after_step reading s t))
+  alone-step s = fun_ext (λ t. and-then-yields (after_step reading s t))
 
   -- one more step
   pub steps-more : (steps : List Step) (s : Step) → after_steps reading (steps ++ s ∷ []) ≡ one_after (after_steps reading steps) (after_step reading s)
@@ -123,8 +123,8 @@ module _ (os : List (Outcome Template)) (f g : Build) (i : ℕ) (before : g ≡ 
   pub loop-next : (h : Build) (o : Outcome Template) → i < length os → get_or os i o ≡ o → h ≡ one_after g (with_more (outcome_map alone o)) → h ≡ one_after f (with_more (each (take (i + 1) os)))
   loop-next h o within is next =
       next ∙ ap (λ g. one_after g (with_more (outcome_map alone o))) before
-      ∙ one_after_assoc f (with_more (each (take i os))) (with_more (outcome_map alone o))
-      ∙ ap (one_after f) (with_both (each (take i os)) (outcome_map alone o))
+      ∙ one-after-assoc f (with_more (each (take i os))) (with_more (outcome_map alone o))
+      ∙ ap (one_after f) (with-both (each (take i os)) (outcome_map alone o))
       ∙ ap (λ m. one_after f (with_more m)) (sym (each-more (take i os) o))
       ∙ ap (λ l. one_after f (with_more (each (take i os ++ l ∷ [])))) (sym is)
       ∙ ap (λ l. one_after f (with_more (each l))) (sym (take-one os i o within))
@@ -138,13 +138,13 @@ pub mapped_at : {A B : Type 0} (f : A → B) (l : List A) (i : ℕ) (x : A) (b :
 mapped_at f l i x b within is gives = get_or-map f l i x b within ∙ ap f (sym is) ∙ gives
 
 -- what the things at a position of two lists give together
-pub paired_at : {A B C D : Type 0} (f : A × D → C) (g : B → D) (l : List A) (m : List B) (i : ℕ) (x : A) (y : B) (c : C) → i < length l → i < length m
+pub paired-at : {A B C D : Type 0} (f : A × D → C) (g : B → D) (l : List A) (m : List B) (i : ℕ) (x : A) (y : B) (c : C) → i < length l → i < length m
     → x ≡ get_or l i x → y ≡ get_or m i y → f (x, g y) ≡ c → get_or (map f (zip l (map g m))) i c ≡ c
-paired_at f g l m i x y c within_l within_m is_l is_m gives =
+paired-at f g l m i x y c within_l within_m is_l is_m gives =
     let within : i < length (map g m) = omega (arith, within_m, length-map m g) in
     get_or-map f (zip l (map g m)) i (x, g y) c (omega (arith, within_l, within, length-zip l (map g m)))
     ∙ ap f (get_or-zip l (map g m) i (x, g y) within_l within ∙ ap (λ a. (a, get_or (map g m) i (g y))) (sym is_l) ∙ ap (λ d. (x, d)) (mapped_at g m i y (g y) within_m is_m refl))
     ∙ gives
 
-pub paired_length : {A B C D : Type 0} (f : A × D → C) (g : B → D) (l : List A) (m : List B) → length m ≡ length l → length (map f (zip l (map g m))) ≡ length l
-paired_length f g l m as_long = omega (arith, length-map (zip l (map g m)) f, length-zip l (map g m), length-map m g, as_long)
+pub paired-length : {A B C D : Type 0} (f : A × D → C) (g : B → D) (l : List A) (m : List B) → length m ≡ length l → length (map f (zip l (map g m))) ≡ length l
+paired-length f g l m as_long = omega (arith, length-map (zip l (map g m)) f, length-zip l (map g m), length-map m g, as_long)

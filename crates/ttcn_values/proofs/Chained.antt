@@ -32,8 +32,8 @@ module _ (reading : Reading) where
   chain-end links i v past = ap (λ ls. after reading (Yields v) (map link ls)) (drop_all i links past)
 
   -- a chain fails as its first operand does
-  pub chain_of_fault : (why : Failure) (first : Expr) (links : List Link) → value_of first reading ≡ Fails why → value_of (expr.Chain first links) reading ≡ Fails why
-  chain_of_fault why first links fails = chain_is first links ∙ ap (λ o. after reading o (map link links)) fails ∙ after-failure why (map link links)
+  pub chain-of-fault : (why : Failure) (first : Expr) (links : List Link) → value_of first reading ≡ Fails why → value_of (expr.Chain first links) reading ≡ Fails why
+  chain-of-fault why first links fails = chain-is first links ∙ ap (λ o. after reading o (map link links)) fails ∙ after-failure why (map link links)
     where
-      chain_is : (first : Expr) (links : List Link) → value_of (expr.Chain first links) reading ≡ after reading (value_of first reading) (map link links)
-      chain_is first links = ap (λ (f : Evaluation). f reading) (ap value_of (sym (expr.rolls-Chain first links)) ∙ fold-roll-Expr Evaluation (Operator × Evaluation) expression_step link_step (Expr-F.Chain first links))
+      chain-is : (first : Expr) (links : List Link) → value_of (expr.Chain first links) reading ≡ after reading (value_of first reading) (map link links)
+      chain-is first links = ap (λ (f : Evaluation). f reading) (ap value_of (sym (expr.rolls-Chain first links)) ∙ fold-roll-Expr Evaluation (Operator × Evaluation) expression_step link_step (Expr-F.Chain first links))

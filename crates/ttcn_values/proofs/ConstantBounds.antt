@@ -140,18 +140,18 @@ definition_weight definition = kind_weight definition.kind
 abbrev pub constants_weight : List Definition → ℕ
 constants_weight definitions = sum (map definition_weight definitions)
 
-in_kind : (k : Option DefinitionKind) (bound : ℕ) → ((j : DefinitionKind) → k ≡ Some j → kind_weight j ≤ bound) → (item : ℕ) (c : Constant) → constant_of k item ≡ Some c → value_weight c.value ≤ bound
-in_kind (Some (kind.Constants cs)) bound below item c is =
+in-kind : (k : Option DefinitionKind) (bound : ℕ) → ((j : DefinitionKind) → k ≡ Some j → kind_weight j ≤ bound) → (item : ℕ) (c : Constant) → constant_of k item ≡ Some c → value_weight c.value ≤ bound
+in-kind (Some (kind.Constants cs)) bound below item c is =
     omega (arith, element-below constant_weight cs.constants item c is, below (kind.Constants cs) refl)
-in_kind (Some (kind.Record r)) bound below item c is = absurd (let e = is in cc)
-in_kind (Some (kind.Enumerated r)) bound below item c is = absurd (let e = is in cc)
-in_kind (Some (kind.Port r)) bound below item c is = absurd (let e = is in cc)
-in_kind (Some (kind.Component r)) bound below item c is = absurd (let e = is in cc)
-in_kind (Some (kind.Template r)) bound below item c is = absurd (let e = is in cc)
-in_kind (Some (kind.Function r)) bound below item c is = absurd (let e = is in cc)
-in_kind (Some (kind.Altstep r)) bound below item c is = absurd (let e = is in cc)
-in_kind (Some (kind.Testcase r)) bound below item c is = absurd (let e = is in cc)
-in_kind None bound below item c is = absurd (let e = is in cc)
+in-kind (Some (kind.Record r)) bound below item c is = absurd (let e = is in cc)
+in-kind (Some (kind.Enumerated r)) bound below item c is = absurd (let e = is in cc)
+in-kind (Some (kind.Port r)) bound below item c is = absurd (let e = is in cc)
+in-kind (Some (kind.Component r)) bound below item c is = absurd (let e = is in cc)
+in-kind (Some (kind.Template r)) bound below item c is = absurd (let e = is in cc)
+in-kind (Some (kind.Function r)) bound below item c is = absurd (let e = is in cc)
+in-kind (Some (kind.Altstep r)) bound below item c is = absurd (let e = is in cc)
+in-kind (Some (kind.Testcase r)) bound below item c is = absurd (let e = is in cc)
+in-kind None bound below item c is = absurd (let e = is in cc)
 
 of-definition : (found : Option Definition) (k : DefinitionKind) → option_map (λ (d : Definition). d.kind) found ≡ Some k → (d : Definition) × ((found ≡ Some d) × (d.kind ≡ k))
 of-definition (Some d) k is = let same : d.kind ≡ k = cc in (d, (refl, same))
@@ -164,7 +164,7 @@ kind-below definitions at k is =
 
 -- a constant weighs no more than all
 pub constant-below : (definitions : List Definition) (at item : ℕ) (c : Constant) → constant_at definitions at item ≡ Some c → value_weight c.value ≤ constants_weight definitions
-constant-below definitions at item c is = in_kind (kind_at definitions at) (constants_weight definitions) (λ j found. kind-below definitions at j found) item c is
+constant-below definitions at item c is = in-kind (kind_at definitions at) (constants_weight definitions) (λ j found. kind-below definitions at j found) item c is
 
 -- ---- chains
 

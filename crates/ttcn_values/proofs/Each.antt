@@ -33,12 +33,12 @@ behind-fault done outcome outcomes is = ap (λ o. behind done (o ∷ outcomes)) 
 pub behind-none : {A : Type 0} (done : List A) → behind done [] ≡ Yields done
 behind-none done = ap Yields (append-nil done)
 
-map_both : {A B C : Type 0} (f : B → C) (g : A → B) (l : List A) → map f (map g l) ≡ map (λ x. f (g x)) l
-map_both f g [] = refl
-map_both f g (x ∷ l) = ap (λ ys. f (g x) ∷ ys) (map_both f g l)
+map-both : {A B C : Type 0} (f : B → C) (g : A → B) (l : List A) → map f (map g l) ≡ map (λ x. f (g x)) l
+map-both f g [] = refl
+map-both f g (x ∷ l) = ap (λ ys. f (g x) ∷ ys) (map-both f g l)
 
 pub each-first : {A B C : Type 0} (f : B → Outcome C) (g : A → B) (l : List A) → behind [] (map (λ x. f (g x)) (drop 0 l)) ≡ each (map f (map g l))
-each-first f g l = behind-first (map (λ x. f (g x)) l) ∙ ap each (sym (map_both f g l))
+each-first f g l = behind-first (map (λ x. f (g x)) l) ∙ ap each (sym (map-both f g l))
 
 module _ {A B : Type 0} (f : B → Outcome A) (l : List B) (done : List A) (i : ℕ) where
   -- what each thing of a list gives
@@ -85,5 +85,5 @@ module _ {A B C D : Type 0} (f : B × D → Outcome A) (g : C → D) (l : List B
 
 -- ---- lists of one length
 
-pub if_as_long : {A B C : Type 0} (l : List A) (m : List B) (o : Outcome C) → length l ≡ length m → (if nat_eq (length l) (length m) then o else unmet) ≡ o
-if_as_long l m o as_long = ap (λ b. if b then o else unmet) (eq-eqb (length l) (length m) as_long)
+pub if-as-long : {A B C : Type 0} (l : List A) (m : List B) (o : Outcome C) → length l ≡ length m → (if nat_eq (length l) (length m) then o else unmet) ≡ o
+if-as-long l m o as_long = ap (λ b. if b then o else unmet) (eq-eqb (length l) (length m) as_long)

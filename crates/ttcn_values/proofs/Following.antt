@@ -3,7 +3,7 @@ use Rattle.std.proofs.Common.{◌≡◌, ◌≤◌, ℕ, ◌+◌, ◌<◌, List,
 use Rattle.std.proofs.lemmas.List.{drop_all}
 use Rattle.ttcn_syntax.specs.declared.tree.definition.Definition.{Definition}
 use Rattle.value_types.proofs.Lists.{drop-next}
-use Rattle.value_types.proofs.Outcomes.{yields_from}
+use Rattle.value_types.proofs.Outcomes.{yields-from}
 use Rattle.value_types.specs.Outcomes.{Failure, Fails, Outcome, Yields, outcome_and_then, value_in}
 use Rattle.value_types.specs.Readings.{along, field, last_presence}
 use Rattle.value_types.specs.Values.{record_in, record_of}
@@ -11,8 +11,8 @@ use Rattle.value_types.specs.declared.value.Value.{Value}
 use Rattle.value_types.specs.declared.value.Value.TheVariants as value
 
 -- what a record is
-pub record_of_record : (at : ℕ) (fields : List (Option Value)) → record_of (value.Record at fields) ≡ Some (at, fields)
-record_of_record at fields = ap record_in (value.outs-Record at fields)
+pub record-of-record : (at : ℕ) (fields : List (Option Value)) → record_of (value.Record at fields) ≡ Some (at, fields)
+record-of-record at fields = ap record_in (value.outs-Record at fields)
 
 module _ (definitions : List Definition) (names : List (List ℕ)) (i : ℕ) where
   -- nothing follows a failure
@@ -27,7 +27,7 @@ module _ (definitions : List Definition) (names : List (List ℕ)) (i : ℕ) whe
   pub along-next : (name : List ℕ) (v w : Value) → i < length names → name ≡ get_or names i name → value_in (field definitions name v) ≡ Some w
       → along definitions (drop (i + 1) names) (Yields w) ≡ along definitions (drop i names) (Yields v)
   along-next name v w within is found =
-      ap (along definitions (drop (i + 1) names)) (sym (yields_from (field definitions name v) w found)) ∙ along-step name v within is
+      ap (along definitions (drop (i + 1) names)) (sym (yields-from (field definitions name v) w found)) ∙ along-step name v within is
 
   pub along-fault : (name : List ℕ) (v : Value) → i < length names → name ≡ get_or names i name → value_in (field definitions name v) ≡ None
       → value_in (along definitions (drop i names) (Yields v)) ≡ None
@@ -48,7 +48,7 @@ module _ (definitions : List Definition) (names : List (List ℕ)) (i : ℕ) whe
   pub last-next : (last name : List ℕ) (v w : Value) → i < length names → name ≡ get_or names i name → value_in (field definitions last v) ≡ Some w
       → last_presence definitions name (drop (i + 1) names) w ≡ last_presence definitions last (drop i names) v
   last-next last name v w within is found =
-      ap (outcome_and_then (last_presence definitions name (drop (i + 1) names))) (sym (yields_from (field definitions last v) w found)) ∙ last-step last name v within is
+      ap (outcome_and_then (last_presence definitions name (drop (i + 1) names))) (sym (yields-from (field definitions last v) w found)) ∙ last-step last name v within is
 
   pub last-fault : (last name : List ℕ) (v : Value) → i < length names → name ≡ get_or names i name → value_in (field definitions last v) ≡ None
       → value_in (last_presence definitions last (drop i names) v) ≡ None

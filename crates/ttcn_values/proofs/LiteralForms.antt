@@ -21,64 +21,64 @@ use Rattle.value_types.specs.declared.value.Value as values
 use Rattle.value_types.specs.declared.value.Value.TheVariants as value
 
 module _ (reading : Reading) (wanted : Option DataType) where
-  pub wanted_expr : (e : Expr) → value_wanted (form.Expr e) reading wanted ≡ value_of e reading
-  wanted_expr e = ap (λ (f : Wanted). f reading wanted) (ap value_wanted (sym (form.rolls-Expr e)) ∙ fold-roll-Value Wanted (List ℕ × Wanted) value_step field_value_step (Value-F.Expr e))
+  pub wanted-expr : (e : Expr) → value_wanted (form.Expr e) reading wanted ≡ value_of e reading
+  wanted-expr e = ap (λ (f : Wanted). f reading wanted) (ap value_wanted (sym (form.rolls-Expr e)) ∙ fold-roll-Value Wanted (List ℕ × Wanted) value_step field_value_step (Value-F.Expr e))
 
-  pub wanted_omit : value_wanted form.Omit reading wanted ≡ Yields value.Omit
-  wanted_omit = ap (λ (f : Wanted). f reading wanted) (ap value_wanted (sym form.rolls-Omit) ∙ fold-roll-Value Wanted (List ℕ × Wanted) value_step field_value_step Value-F.Omit)
+  pub wanted-omit : value_wanted form.Omit reading wanted ≡ Yields value.Omit
+  wanted-omit = ap (λ (f : Wanted). f reading wanted) (ap value_wanted (sym form.rolls-Omit) ∙ fold-roll-Value Wanted (List ℕ × Wanted) value_step field_value_step Value-F.Omit)
 
-  pub wanted_listed : (elements : List Value) → value_wanted (form.Listed elements) reading wanted ≡ record_at (wanted_record wanted) (λ at. in_order reading (fields_at reading.definitions at) (map value_wanted elements))
-  wanted_listed elements = ap (λ (f : Wanted). f reading wanted) (ap value_wanted (sym (form.rolls-Listed elements)) ∙ fold-roll-Value Wanted (List ℕ × Wanted) value_step field_value_step (Value-F.Listed elements))
+  pub wanted-listed : (elements : List Value) → value_wanted (form.Listed elements) reading wanted ≡ record_at (wanted_record wanted) (λ at. in_order reading (fields_at reading.definitions at) (map value_wanted elements))
+  wanted-listed elements = ap (λ (f : Wanted). f reading wanted) (ap value_wanted (sym (form.rolls-Listed elements)) ∙ fold-roll-Value Wanted (List ℕ × Wanted) value_step field_value_step (Value-F.Listed elements))
 
-  pub wanted_assigned : (elements : List FieldValue) → value_wanted (form.Assigned elements) reading wanted ≡ record_at (wanted_record wanted) (λ at. by_name reading (fields_at reading.definitions at) (map field_value elements))
-  wanted_assigned elements = ap (λ (f : Wanted). f reading wanted) (ap value_wanted (sym (form.rolls-Assigned elements)) ∙ fold-roll-Value Wanted (List ℕ × Wanted) value_step field_value_step (Value-F.Assigned elements))
+  pub wanted-assigned : (elements : List FieldValue) → value_wanted (form.Assigned elements) reading wanted ≡ record_at (wanted_record wanted) (λ at. by_name reading (fields_at reading.definitions at) (map field_value elements))
+  wanted-assigned elements = ap (λ (f : Wanted). f reading wanted) (ap value_wanted (sym (form.rolls-Assigned elements)) ∙ fold-roll-Value Wanted (List ℕ × Wanted) value_step field_value_step (Value-F.Assigned elements))
 
-pub ruleset literal_forms = (wanted_expr, wanted_omit, wanted_listed, wanted_assigned)
+pub ruleset literal_forms = (wanted-expr, wanted-omit, wanted-listed, wanted-assigned)
 
 -- a literal fails as its elements do
-pub assigned_fault : (why : Failure) (reading : Reading) (wanted : Option DataType) (v : Value) (elements es : List FieldValue) (at : ℕ) (fs : List Field) → v ≡ form.Assigned elements → es ≡ elements
+pub assigned-fault : (why : Failure) (reading : Reading) (wanted : Option DataType) (v : Value) (elements es : List FieldValue) (at : ℕ) (fs : List Field) → v ≡ form.Assigned elements → es ≡ elements
     → wanted_record wanted ≡ Yields at → fs ≡ fields_at reading.definitions at → by_name reading fs (map field_value es) ≡ Fails why → value_wanted v reading wanted ≡ Fails why
-assigned_fault why reading wanted v elements es at fs is same record_is fields_are none =
-    ap (λ x. value_wanted x reading wanted) is ∙ wanted_assigned reading wanted elements
-    ∙ ap (λ r. record_at r (λ a. by_name reading (fields_at reading.definitions a) (map field_value elements))) record_is
+assigned-fault why reading wanted v elements es at fs is same record-is fields_are none =
+    ap (λ x. value_wanted x reading wanted) is ∙ wanted-assigned reading wanted elements
+    ∙ ap (λ r. record_at r (λ a. by_name reading (fields_at reading.definitions a) (map field_value elements))) record-is
     ∙ ap (outcome_map (value.Record at)) (ap (λ l. by_name reading l (map field_value elements)) (sym fields_are) ∙ ap (λ l. by_name reading fs (map field_value l)) (sym same) ∙ none)
 
-pub listed_fault : (why : Failure) (reading : Reading) (wanted : Option DataType) (v : Value) (elements es : List Value) (at : ℕ) (fs : List Field) → v ≡ form.Listed elements → es ≡ elements
+pub listed-fault : (why : Failure) (reading : Reading) (wanted : Option DataType) (v : Value) (elements es : List Value) (at : ℕ) (fs : List Field) → v ≡ form.Listed elements → es ≡ elements
     → wanted_record wanted ≡ Yields at → fs ≡ fields_at reading.definitions at → in_order reading fs (map value_wanted es) ≡ Fails why → value_wanted v reading wanted ≡ Fails why
-listed_fault why reading wanted v elements es at fs is same record_is fields_are none =
-    ap (λ x. value_wanted x reading wanted) is ∙ wanted_listed reading wanted elements
-    ∙ ap (λ r. record_at r (λ a. in_order reading (fields_at reading.definitions a) (map value_wanted elements))) record_is
+listed-fault why reading wanted v elements es at fs is same record-is fields_are none =
+    ap (λ x. value_wanted x reading wanted) is ∙ wanted-listed reading wanted elements
+    ∙ ap (λ r. record_at r (λ a. in_order reading (fields_at reading.definitions a) (map value_wanted elements))) record-is
     ∙ ap (outcome_map (value.Record at)) (ap (λ l. in_order reading l (map value_wanted elements)) (sym fields_are) ∙ ap (λ l. in_order reading fs (map value_wanted l)) (sym same) ∙ none)
 
 -- what an element gives for its field
-pub element_gives : (reading : Reading) (field : Field) (e : Value) (w : Option DataType) (o : Outcome values.Value) → w ≡ type_of_field reading field → value_wanted e reading w ≡ o
+pub element-gives : (reading : Reading) (field : Field) (e : Value) (w : Option DataType) (o : Outcome values.Value) → w ≡ type_of_field reading field → value_wanted e reading w ≡ o
     → element reading (field, value_wanted e) ≡ outcome_map Some o
-element_gives reading field e w o is gives = ap (outcome_map Some) (sym (ap (value_wanted e reading) is) ∙ gives)
+element-gives reading field e w o is gives = ap (outcome_map Some) (sym (ap (value_wanted e reading) is) ∙ gives)
 
-pub at_field : (reading : Reading) (field : Field) (e : Value) (w : Option DataType) (o : Outcome values.Value) → w ≡ type_of_field reading field → value_wanted e reading w ≡ o
+pub at-field : (reading : Reading) (field : Field) (e : Value) (w : Option DataType) (o : Outcome values.Value) → w ≡ type_of_field reading field → value_wanted e reading w ≡ o
     → value_wanted e reading (type_of_field reading field) ≡ o
-at_field reading field e w o is gives = sym (ap (value_wanted e reading) is) ∙ gives
+at-field reading field e w o is gives = sym (ap (value_wanted e reading) is) ∙ gives
 
 -- ---- elements by their order
 
-pub order_is : (reading : Reading) (fields : List Field) (elements : List Value) → length elements ≡ length fields
+pub order-is : (reading : Reading) (fields : List Field) (elements : List Value) → length elements ≡ length fields
     → in_order reading fields (map value_wanted elements) ≡ each (map (element reading) (zip fields (map value_wanted elements)))
-order_is reading fields elements same =
+order-is reading fields elements same =
     let itself : nat_eq (length fields) (length fields) ≡ true = grind (arith, nat_tests) in
     ap (λ n. if nat_eq n (length fields) then each (map (element reading) (zip fields (map value_wanted elements))) else unmet) (length-map elements value_wanted ∙ same)
     ∙ ap (λ b. if b then each (map (element reading) (zip fields (map value_wanted elements))) else unmet) itself
 
 -- ---- elements by names
 
-pub field_value_out : (e : FieldValue) → field_value e ≡ ((out-FieldValue e).name, value_wanted (out-FieldValue e).value)
-field_value_out e = fold_out-FieldValue Wanted (List ℕ × Wanted) value_step field_value_step e
+pub field-value-out : (e : FieldValue) → field_value e ≡ ((out-FieldValue e).name, value_wanted (out-FieldValue e).value)
+field-value-out e = fold_out-FieldValue Wanted (List ℕ × Wanted) value_step field_value_step e
 
 -- what is found of the meanings of elements is the meaning of what is found
-found_named : (name : List ℕ) (elements : List FieldValue) → find (λ e. bytes_eq e.0 name) (map field_value elements) ≡ option_map field_value (find (λ e. bytes_eq (out-FieldValue e).name name) elements)
-found_named name [] = refl
-found_named name (e ∷ elements) =
-    ap (λ (p : List ℕ × Wanted). if bytes_eq p.0 name then Some (field_value e) else find (λ e. bytes_eq e.0 name) (map field_value elements)) (field_value_out e)
-    ∙ go (bytes_eq (out-FieldValue e).name name) (found_named name elements)
+found-named : (name : List ℕ) (elements : List FieldValue) → find (λ e. bytes_eq e.0 name) (map field_value elements) ≡ option_map field_value (find (λ e. bytes_eq (out-FieldValue e).name name) elements)
+found-named name [] = refl
+found-named name (e ∷ elements) =
+    ap (λ (p : List ℕ × Wanted). if bytes_eq p.0 name then Some (field_value e) else find (λ e. bytes_eq e.0 name) (map field_value elements)) (field-value-out e)
+    ∙ go (bytes_eq (out-FieldValue e).name name) (found-named name elements)
   where
     go : (b : Bool) → find (λ e. bytes_eq e.0 name) (map field_value elements) ≡ option_map field_value (find (λ e. bytes_eq (out-FieldValue e).name name) elements)
         → (if b then Some (field_value e) else find (λ e. bytes_eq e.0 name) (map field_value elements))
@@ -87,15 +87,15 @@ found_named name (e ∷ elements) =
     go false rest = rest
 
 module _ (reading : Reading) (elements : List FieldValue) (field : Field) where
-  given_is : (o : Option FieldValue) → find (λ e. bytes_eq (out-FieldValue e).name field.name) elements ≡ o → given_by_name reading (map field_value elements) field ≡ element_named reading field (option_map field_value o)
-  given_is o is = ap (element_named reading field) (found_named field.name elements ∙ ap (option_map field_value) is)
+  given-is : (o : Option FieldValue) → find (λ e. bytes_eq (out-FieldValue e).name field.name) elements ≡ o → given_by_name reading (map field_value elements) field ≡ element_named reading field (option_map field_value o)
+  given-is o is = ap (element_named reading field) (found-named field.name elements ∙ ap (option_map field_value) is)
 
   -- no element has the name
   pub given-none : option_map (λ e. (out-FieldValue e).value) (find (λ e. bytes_eq (out-FieldValue e).name field.name) elements) ≡ None → given_by_name reading (map field_value elements) field ≡ Yields None
   given-none none = go (find (λ e. bytes_eq (out-FieldValue e).name field.name) elements) refl none
     where
       go : (o : Option FieldValue) → find (λ e. bytes_eq (out-FieldValue e).name field.name) elements ≡ o → option_map (λ e. (out-FieldValue e).value) o ≡ None → given_by_name reading (map field_value elements) field ≡ Yields None
-      go None is h = given_is None is
+      go None is h = given-is None is
       go (Some e) is h = absurd (let x = h in cc)
 
   -- an element has it
@@ -108,7 +108,7 @@ module _ (reading : Reading) (elements : List FieldValue) (field : Field) where
       go None is h = absurd (let x = h in cc)
       go (Some e) is h =
           let same : (out-FieldValue e).value ≡ v = cc in
-          given_is (Some e) is
-          ∙ ap (λ (p : List ℕ × Wanted). element reading (field, p.1)) (field_value_out e)
+          given-is (Some e) is
+          ∙ ap (λ (p : List ℕ × Wanted). element reading (field, p.1)) (field-value-out e)
           ∙ ap (λ w. outcome_map Some (value_wanted w reading (type_of_field reading field))) same
           ∙ ap (outcome_map Some) gives

@@ -22,19 +22,19 @@ other_length (part ∷ parts) (field ∷ fields) other =
 -- ---- lists of templates
 
 -- whether one of the templates matches
-any_of_all : (parts : List Template) (v : Value) → list_any (λ m. m v) (map is_match parts) ≡ list_any (λ part. is_match part v) parts
-any_of_all [] v = refl
-any_of_all (part ∷ parts) v = ap (λ b. is_match part v || b) (any_of_all parts v)
+any-of-all : (parts : List Template) (v : Value) → list_any (λ m. m v) (map is_match parts) ≡ list_any (λ part. is_match part v) parts
+any-of-all [] v = refl
+any-of-all (part ∷ parts) v = ap (λ b. is_match part v || b) (any-of-all parts v)
 
-pub match_of_complement : (parts : List Template) (v : Value) → is_match_of_pattern (form.Complement parts) v ≡ (not (is_omit v) && not (list_any (λ part. is_match part v) parts))
-match_of_complement parts v =
+pub match-of-complement : (parts : List Template) (v : Value) → is_match_of_pattern (form.Complement parts) v ≡ (not (is_omit v) && not (list_any (λ part. is_match part v) parts))
+match-of-complement parts v =
     ap (λ (m : Matcher). m v) (ap is_match_of_pattern (sym (form.rolls-Complement parts)) ∙ fold-roll-Pattern Matcher Matcher pattern_step template_step (Pattern-F.Complement parts))
-    ∙ ap (λ b. not (is_omit v) && not b) (any_of_all parts v)
+    ∙ ap (λ b. not (is_omit v) && not b) (any-of-all parts v)
 
-pub match_of_list : (parts : List Template) (v : Value) → is_match_of_pattern (form.List parts) v ≡ list_any (λ part. is_match part v) parts
-match_of_list parts v =
+pub match-of-list : (parts : List Template) (v : Value) → is_match_of_pattern (form.List parts) v ≡ list_any (λ part. is_match part v) parts
+match-of-list parts v =
     ap (λ (m : Matcher). m v) (ap is_match_of_pattern (sym (form.rolls-List parts)) ∙ fold-roll-Pattern Matcher Matcher pattern_step template_step (Pattern-F.List parts))
-    ∙ any_of_all parts v
+    ∙ any-of-all parts v
 
 -- what a template that names several matches
-pub ruleset list_forms = (match_of_complement, match_of_list)
+pub ruleset list_forms = (match-of-complement, match-of-list)

@@ -6,7 +6,7 @@ use Rattle.std.proofs.lemmas.Slice.Zip.{length-zip}
 use Rattle.std.specs.List.{zip}
 use Rattle.std.specs.Result.{IsErrAnd}
 use Rattle.ttcn_syntax.specs.declared.tree.definition.Field.{Field}
-use Rattle.ttcn_values.proofs.BuildingLemmas.{AreSoMany, each-many, last_behind, mapped_at, one_after_assoc, steps-more}
+use Rattle.ttcn_values.proofs.BuildingLemmas.{AreSoMany, each-many, last-behind, mapped_at, one-after-assoc, steps-more}
 use Rattle.ttcn_values.specs.internal.Building.{Build, Builds, Plans, after_step, after_steps, alone, last_as, one_after, with_more}
 use Rattle.value_types.specs.Outcomes.{Fails, Gives, GivesBy, Outcome, Yields, each, outcome_and_then, outcome_map, unmet, value_in}
 use Rattle.value_types.specs.Readings.{Reading}
@@ -22,114 +22,114 @@ use Rattle.value_types.specs.declared.value.Value.{Value}
 
 -- ---- faults
 
-pub and_then_fault : {A B : Type 0} (f : A → Outcome B) (o : Outcome A) → value_in o ≡ None → value_in (outcome_and_then f o) ≡ None
-and_then_fault f (Yields a) none = absurd (let e = none in cc)
-and_then_fault f (Fails why) none = refl
+pub and-then-fault : {A B : Type 0} (f : A → Outcome B) (o : Outcome A) → value_in o ≡ None → value_in (outcome_and_then f o) ≡ None
+and-then-fault f (Yields a) none = absurd (let e = none in cc)
+and-then-fault f (Fails why) none = refl
 
-pub map_none : {A B : Type 0} (f : A → B) (o : Outcome A) → value_in o ≡ None → value_in (outcome_map f o) ≡ None
-map_none f (Yields a) none = absurd (let e = none in cc)
-map_none f (Fails why) none = refl
+pub map-none : {A B : Type 0} (f : A → B) (o : Outcome A) → value_in o ≡ None → value_in (outcome_map f o) ≡ None
+map-none f (Yields a) none = absurd (let e = none in cc)
+map-none f (Fails why) none = refl
 
-pub none_of_map : {A B : Type 0} (f : A → B) (o : Outcome A) → value_in (outcome_map f o) ≡ None → value_in o ≡ None
-none_of_map f (Yields a) none = absurd (let e = none in cc)
-none_of_map f (Fails why) none = refl
+pub none-of-map : {A B : Type 0} (f : A → B) (o : Outcome A) → value_in (outcome_map f o) ≡ None → value_in o ≡ None
+none-of-map f (Yields a) none = absurd (let e = none in cc)
+none-of-map f (Fails why) none = refl
 
 module _ (reading : Reading) (old new : List Step) where
   -- what fails where a part fails has a plan that fails as the part's does
-  pub plans_fault : (o : Outcome (List Template)) (fault : Fault) (r : Result (Unit {0}) Fault) → IsErrAnd r (λ e. e ≡ fault) → (fault ≡ Dynamic → value_in o ≡ None) → Plans reading o old new r
-  plans_fault o fault (Ok done) is so = absurd is
-  plans_fault o fault (Err Dynamic) is so = so (sym is)
-  plans_fault o fault (Err Memory) is so = tt
+  pub plans-fault : (o : Outcome (List Template)) (fault : Fault) (r : Result (Unit {0}) Fault) → IsErrAnd r (λ e. e ≡ fault) → (fault ≡ Dynamic → value_in o ≡ None) → Plans reading o old new r
+  plans-fault o fault (Ok done) is so = absurd is
+  plans-fault o fault (Err Dynamic) is so = so (sym is)
+  plans-fault o fault (Err Memory) is so = tt
 
-  pub none_planned : (o : Outcome (List Template)) (fault : Fault) → Plans reading o old new (Err fault) → fault ≡ Dynamic → value_in o ≡ None
-  none_planned o Dynamic planned is = planned
-  none_planned o Memory planned is = absurd (let e = is in cc)
+  pub none-planned : (o : Outcome (List Template)) (fault : Fault) → Plans reading o old new (Err fault) → fault ≡ Dynamic → value_in o ≡ None
+  none-planned o Dynamic planned is = planned
+  none-planned o Memory planned is = absurd (let e = is in cc)
 
-  pub plans_same : (o p : Outcome (List Template)) (r : Result (Unit {0}) Fault) → o ≡ p → Plans reading p old new r → Plans reading o old new r
-  plans_same o p r same planned = subst (λ o. Plans reading o old new r) (sym same) planned
+  pub plans-same : (o p : Outcome (List Template)) (r : Result (Unit {0}) Fault) → o ≡ p → Plans reading p old new r → Plans reading o old new r
+  plans-same o p r same planned = subst (λ o. Plans reading o old new r) (sym same) planned
 
   -- ---- one more step
 
-  one_step : (s : Step) → new ≡ old ++ s ∷ [] → after_steps reading new ≡ one_after (after_steps reading old) (after_step reading s)
-  one_step s is = ap (after_steps reading) is ∙ steps-more reading old s
+  one-step : (s : Step) → new ≡ old ++ s ∷ [] → after_steps reading new ≡ one_after (after_steps reading old) (after_step reading s)
+  one-step s is = ap (after_steps reading) is ∙ steps-more reading old s
 
-  pub plain_step : (p : Pattern) (o : Outcome Template) → new ≡ old ++ step.Plain p ∷ [] → o ≡ Yields (plain p)
+  pub plain-step : (p : Pattern) (o : Outcome Template) → new ≡ old ++ step.Plain p ∷ [] → o ≡ Yields (plain p)
       → after_steps reading new ≡ one_after (after_steps reading old) (with_more (outcome_map alone o))
-  plain_step p o is gives = one_step (step.Plain p) is ∙ ap (λ o. one_after (after_steps reading old) (with_more (outcome_map alone o))) (sym gives)
+  plain-step p o is gives = one-step (step.Plain p) is ∙ ap (λ o. one_after (after_steps reading old) (with_more (outcome_map alone o))) (sym gives)
 
-  pub call_step : (at : ℕ) (values : List Value) (o : Outcome Template) → new ≡ old ++ step.Call at values ∷ [] → o ≡ reading.templates at values
+  pub call-step : (at : ℕ) (values : List Value) (o : Outcome Template) → new ≡ old ++ step.Call at values ∷ [] → o ≡ reading.templates at values
       → after_steps reading new ≡ one_after (after_steps reading old) (with_more (outcome_map alone o))
-  call_step at values o is gives = one_step (step.Call at values) is ∙ ap (λ o. one_after (after_steps reading old) (with_more (outcome_map alone o))) (sym gives)
+  call-step at values o is gives = one-step (step.Call at values) is ∙ ap (λ o. one_after (after_steps reading old) (with_more (outcome_map alone o))) (sym gives)
 
   -- parts that become one
-  pub gather_step : (mid : List Step) (s : Step) (make : List Template → List Template) (n : ℕ) (ts o : Outcome (List Template))
+  pub gather-step : (mid : List Step) (s : Step) (make : List Template → List Template) (n : ℕ) (ts o : Outcome (List Template))
       → after_steps reading mid ≡ one_after (after_steps reading old) (with_more ts) → new ≡ mid ++ s ∷ [] → after_step reading s ≡ last_as make n → AreSoMany n ts → outcome_map make ts ≡ o
       → after_steps reading new ≡ one_after (after_steps reading old) (with_more o)
-  gather_step mid s make n ts o before is last many made =
+  gather-step mid s make n ts o before is last many made =
       ap (after_steps reading) is ∙ steps-more reading mid s ∙ ap (one_after (after_steps reading mid)) last
       ∙ ap (λ f. one_after f (last_as make n)) before
-      ∙ one_after_assoc (after_steps reading old) (with_more ts) (last_as make n)
-      ∙ ap (one_after (after_steps reading old)) (last_behind make n ts many)
+      ∙ one-after-assoc (after_steps reading old) (with_more ts) (last_as make n)
+      ∙ ap (one_after (after_steps reading old)) (last-behind make n ts many)
       ∙ ap (λ o. one_after (after_steps reading old) (with_more o)) made
 
-pub none_given : {A : Type 0} (o : Outcome A) (fault : Fault) → Gives o (Err fault) → fault ≡ Dynamic → value_in o ≡ None
-none_given o Dynamic given is = given
-none_given o Memory given is = absurd (let e = is in cc)
+pub none-given : {A : Type 0} (o : Outcome A) (fault : Fault) → Gives o (Err fault) → fault ≡ Dynamic → value_in o ≡ None
+none-given o Dynamic given is = given
+none-given o Memory given is = absurd (let e = is in cc)
 
-pub none_given_by : {A B : Type 0} (f : B → A) (o : Outcome A) (fault : Fault) → GivesBy f o (Err fault) → fault ≡ Dynamic → value_in o ≡ None
-none_given_by f o Dynamic given is = given
-none_given_by f o Memory given is = absurd (let e = is in cc)
+pub none-given-by : {A B : Type 0} (f : B → A) (o : Outcome A) (fault : Fault) → GivesBy f o (Err fault) → fault ≡ Dynamic → value_in o ≡ None
+none-given-by f o Dynamic given is = given
+none-given-by f o Memory given is = absurd (let e = is in cc)
 
 -- what fails as a part does fails with that one's fault
-pub gives_fault : {A : Type 0} (o : Outcome A) (fault : Fault) (r : Result A Fault) → IsErrAnd r (λ e. e ≡ fault) → (fault ≡ Dynamic → value_in o ≡ None) → Gives o r
-gives_fault o fault (Ok a) is so = absurd is
-gives_fault o fault (Err Dynamic) is so = so (sym is)
-gives_fault o fault (Err Memory) is so = tt
+pub gives-fault : {A : Type 0} (o : Outcome A) (fault : Fault) (r : Result A Fault) → IsErrAnd r (λ e. e ≡ fault) → (fault ≡ Dynamic → value_in o ≡ None) → Gives o r
+gives-fault o fault (Ok a) is so = absurd is
+gives-fault o fault (Err Dynamic) is so = so (sym is)
+gives-fault o fault (Err Memory) is so = tt
 
-pub gives_by_fault : {A B : Type 0} (f : B → A) (o : Outcome A) (fault : Fault) (r : Result B Fault) → IsErrAnd r (λ e. e ≡ fault) → (fault ≡ Dynamic → value_in o ≡ None) → GivesBy f o r
-gives_by_fault f o fault (Ok a) is so = absurd is
-gives_by_fault f o fault (Err Dynamic) is so = so (sym is)
-gives_by_fault f o fault (Err Memory) is so = tt
+pub gives-by-fault : {A B : Type 0} (f : B → A) (o : Outcome A) (fault : Fault) (r : Result B Fault) → IsErrAnd r (λ e. e ≡ fault) → (fault ≡ Dynamic → value_in o ≡ None) → GivesBy f o r
+gives-by-fault f o fault (Ok a) is so = absurd is
+gives-by-fault f o fault (Err Dynamic) is so = so (sym is)
+gives-by-fault f o fault (Err Memory) is so = tt
 
-pub none_built : (o : Outcome (List Template)) (new : List Template) (fault : Fault) → Builds o new (Err fault) → fault ≡ Dynamic → value_in o ≡ None
-none_built o new Dynamic built is = built
-none_built o new Memory built is = absurd (let e = is in cc)
+pub none-built : (o : Outcome (List Template)) (new : List Template) (fault : Fault) → Builds o new (Err fault) → fault ≡ Dynamic → value_in o ≡ None
+none-built o new Dynamic built is = built
+none-built o new Memory built is = absurd (let e = is in cc)
 
 -- ---- one template
 
-alone_behind : (o : Outcome Template) → with_more (outcome_map alone o) [] ≡ outcome_map alone o
-alone_behind (Yields t) = refl
-alone_behind (Fails why) = refl
+alone-behind : (o : Outcome Template) → with_more (outcome_map alone o) [] ≡ outcome_map alone o
+alone-behind (Yields t) = refl
+alone-behind (Fails why) = refl
 
 -- what steps leave that were planned for one template
-pub planned_alone : (reading : Reading) (old new : List Step) (o : Outcome Template) → old ≡ [] → after_steps reading new ≡ one_after (after_steps reading old) (with_more (outcome_map alone o))
+pub planned-alone : (reading : Reading) (old new : List Step) (o : Outcome Template) → old ≡ [] → after_steps reading new ≡ one_after (after_steps reading old) (with_more (outcome_map alone o))
     → after_steps reading new [] ≡ outcome_map alone o
-planned_alone reading old new o none planned =
-    ap (λ (f : Build). f []) planned ∙ ap (λ steps. one_after (after_steps reading steps) (with_more (outcome_map alone o)) []) none ∙ alone_behind o
+planned-alone reading old new o none planned =
+    ap (λ (f : Build). f []) planned ∙ ap (λ steps. one_after (after_steps reading steps) (with_more (outcome_map alone o)) []) none ∙ alone-behind o
 
 last_one : (u t : Template) (rest : List Template) → u ∷ [] ≡ rest ++ t ∷ [] → u ≡ t
 last_one u t [] is = cc
 last_one u t (r ∷ []) is = absurd (let e = is in cc)
 last_one u t (r ∷ s ∷ rest) is = absurd (let e = is in cc)
 
-pub alone_last : (o : Outcome Template) (ts rest : List Template) (t : Template) → outcome_map alone o ≡ Yields ts → ts ≡ rest ++ t ∷ [] → o ≡ Yields t
-alone_last (Yields u) ts rest t is last = let same : u ∷ [] ≡ ts = cc in ap Yields (last_one u t rest (same ∙ last))
-alone_last (Fails why) ts rest t is last = absurd (let e = is in cc)
+pub alone-last : (o : Outcome Template) (ts rest : List Template) (t : Template) → outcome_map alone o ≡ Yields ts → ts ≡ rest ++ t ∷ [] → o ≡ Yields t
+alone-last (Yields u) ts rest t is last = let same : u ∷ [] ≡ ts = cc in ap Yields (last_one u t rest (same ∙ last))
+alone-last (Fails why) ts rest t is last = absurd (let e = is in cc)
 
-pub alone_none : (o : Outcome Template) (ts : List Template) → outcome_map alone o ≡ Yields ts → length ts ≡ 0 → value_in o ≡ None
-alone_none (Yields u) ts is none = let same : u ∷ [] ≡ ts = cc in absurd (omega (arith, ap length same, none))
-alone_none (Fails why) ts is none = refl
+pub alone-none : (o : Outcome Template) (ts : List Template) → outcome_map alone o ≡ Yields ts → length ts ≡ 0 → value_in o ≡ None
+alone-none (Yields u) ts is none = let same : u ∷ [] ≡ ts = cc in absurd (omega (arith, ap length same, none))
+alone-none (Fails why) ts is none = refl
 
 -- what is made twice of the thing at a position
-pub mapped_twice_at : {A B C : Type 0} (f : B → C) (g : A → B) (l : List A) (i : ℕ) (x : A) → i < length l → x ≡ get_or l i x → get_or (map f (map g l)) i (f (g x)) ≡ f (g x)
-mapped_twice_at f g l i x within is =
+pub mapped-twice-at : {A B C : Type 0} (f : B → C) (g : A → B) (l : List A) (i : ℕ) (x : A) → i < length l → x ≡ get_or l i x → get_or (map f (map g l)) i (f (g x)) ≡ f (g x)
+mapped-twice-at f g l i x within is =
     mapped_at f (map g l) i (g x) (f (g x)) (omega (arith, within, length-map l g)) (sym (mapped_at g l i x (g x) within is refl)) refl
 
 -- ---- what parts give
 
-pub map_map : {A B C : Type 0} (f : B → C) (g : A → B) (o : Outcome A) → outcome_map f (outcome_map g o) ≡ outcome_map (λ a. f (g a)) o
-map_map f g (Yields a) = refl
-map_map f g (Fails why) = refl
+pub map-map : {A B C : Type 0} (f : B → C) (g : A → B) (o : Outcome A) → outcome_map f (outcome_map g o) ≡ outcome_map (λ a. f (g a)) o
+map-map f g (Yields a) = refl
+map-map f g (Fails why) = refl
 
 -- one template is one
 pub alone-many : (o : Outcome Template) → AreSoMany 1 (outcome_map alone o)
@@ -154,34 +154,34 @@ in_order-many reading fields elements = go (nat_eq (length elements) (length fie
     go false other = tt
 
 -- with `ifpresent` behind it
-pub present_made : (o p : Outcome Template) → outcome_map (with_ifpresent true) o ≡ p → outcome_map (map (with_ifpresent true)) (outcome_map alone o) ≡ outcome_map alone p
-present_made o p is = go o ∙ ap (outcome_map alone) is
+pub present-made : (o p : Outcome Template) → outcome_map (with_ifpresent true) o ≡ p → outcome_map (map (with_ifpresent true)) (outcome_map alone o) ≡ outcome_map alone p
+present-made o p is = go o ∙ ap (outcome_map alone) is
   where
     go : (o : Outcome Template) → outcome_map (map (with_ifpresent true)) (outcome_map alone o) ≡ outcome_map alone (outcome_map (with_ifpresent true) o)
     go (Yields t) = refl
     go (Fails why) = refl
 
-or_false : (b : Bool) → (b || false) ≡ b
-or_false true = refl
-or_false false = refl
+or-false : (b : Bool) → (b || false) ≡ b
+or-false true = refl
+or-false false = refl
 
 -- without it
-pub without_ifpresent : (o : Outcome Template) → outcome_map (with_ifpresent false) o ≡ o
-without_ifpresent (Yields t) = ap (λ b. Yields (record { pattern = t.pattern; ifpresent = b })) (or_false t.ifpresent)
-without_ifpresent (Fails why) = refl
+pub without-ifpresent : (o : Outcome Template) → outcome_map (with_ifpresent false) o ≡ o
+without-ifpresent (Yields t) = ap (λ b. Yields (record { pattern = t.pattern; ifpresent = b })) (or-false t.ifpresent)
+without-ifpresent (Fails why) = refl
 
 -- ---- records
 
 module _ (r : Outcome ℕ) (at : ℕ) (parts : ℕ → Outcome (List Template)) (ts : Outcome (List Template)) (is : r ≡ Yields at) (same : parts at ≡ ts) where
-  pub record_is : outcome_map (λ ps. alone (plain (pattern.Record at ps))) ts ≡ outcome_map alone (record_at r parts)
-  record_is =
+  pub record-is : outcome_map (λ ps. alone (plain (pattern.Record at ps))) ts ≡ outcome_map alone (record_at r parts)
+  record-is =
       ap (outcome_map (λ ps. alone (plain (pattern.Record at ps)))) (sym same)
-      ∙ sym (map_map alone (λ ps. plain (pattern.Record at ps)) (parts at))
+      ∙ sym (map-map alone (λ ps. plain (pattern.Record at ps)) (parts at))
       ∙ ap (λ r. outcome_map alone (record_at r parts)) (sym is)
 
-  pub record_none : value_in ts ≡ None → value_in (outcome_map alone (record_at r parts)) ≡ None
-  record_none none = ap value_in (sym record_is) ∙ map_none (λ ps. alone (plain (pattern.Record at ps))) ts none
+  pub record-none : value_in ts ≡ None → value_in (outcome_map alone (record_at r parts)) ≡ None
+  record-none none = ap value_in (sym record-is) ∙ map-none (λ ps. alone (plain (pattern.Record at ps))) ts none
 
-pub none_named : (o : Option ℕ) → is_some o ≡ false → o ≡ None
-none_named None is = refl
-none_named (Some at) is = absurd (let e = is in cc)
+pub none-named : (o : Option ℕ) → is_some o ≡ false → o ≡ None
+none-named None is = refl
+none-named (Some at) is = absurd (let e = is in cc)

@@ -9,7 +9,7 @@ use Rattle.ttcn_syntax.specs.declared.error.LexError.TheVariants as lexical
 use Rattle.ttcn_syntax.specs.declared.token.Spanned.{Spanned}
 use Rattle.ttcn_syntax.specs.declared.tree.definition.Definition.{Definition}
 use Rattle.ttcn_syntax.specs.declared.tree.definition.Module.{Module}
-use Rattle.ttcn_syntax.proofs.Once.{reads_once}
+use Rattle.ttcn_syntax.proofs.Once.{reads-once}
 use Rattle.ttcn_parse.proofs.Complete.{one_tree}
 use Rattle.ttcn_parse.specs.Refused.{IsRead, IsRefused}
 use Rattle.ttcn_parse.specs.ParseError.{ParseError}
@@ -26,7 +26,7 @@ use Rattle.ttcnx.specs.Fault.{SameFault, grammar_fault, lexical_fault, typing_fa
 use Rattle.ttcnx.specs.declared.fault.Fault.{Fault}
 use Rattle.ttcnx.specs.declared.fault.Fault.TheVariants as fault
 use Rattle.ttcnx.specs.declared.fault.Refusal.TheVariants as refusal
-use Rattle.ttcnx.proofs.Stages.{no_stop, short}
+use Rattle.ttcnx.proofs.Stages.{no-stop, short}
 
 -- the fault is that an allocation failed, or why the text is refused
 abbrev pub Refuses : List ℕ → Fault → Type 0
@@ -38,10 +38,10 @@ pub lexing : {A : Type 0} (text : List ℕ) (e : LexError) → (◌≡◌ {A = R
     → (e ≡ lexical.TextTooLong) ⊎ ((e ≡ lexical.Memory) ⊎ IsLeftmostFault text e) → Refuses text (lexical_fault e)
 lexing text e exactly (inl is) = rw is (inr (too_long (exactly.0 (ap Err is))))
 lexing text e exactly (inr (inl is)) = inl (ap lexical_fault is)
-lexing {A = A} text e exactly (inr (inr stops)) = inr (uncut (short {A = A} text (Err e) exactly (λ h. no_stop stops (error_is e h))) stops)
+lexing {A = A} text e exactly (inr (inr stops)) = inr (uncut (short {A = A} text (Err e) exactly (λ h. no-stop stops (error-is e h))) stops)
   where
-    error_is : (e : LexError) → ◌≡◌ {A = Result A LexError} (Err e) (Err lexical.TextTooLong) → e ≡ lexical.TextTooLong
-    error_is e h = let the : Result A LexError → LexError = λ r. elim r as (λ _. LexError) [ Ok a ↦ e | Err x ↦ x ] in ap the h
+    error-is : (e : LexError) → ◌≡◌ {A = Result A LexError} (Err e) (Err lexical.TextTooLong) → e ≡ lexical.TextTooLong
+    error-is e h = let the : Result A LexError → LexError = λ r. elim r as (λ _. LexError) [ Ok a ↦ e | Err x ↦ x ] in ap the h
 
 pub parsing : (text : List ℕ) (tokens : List Spanned) (e : ParseError) → length text ≤ longest_text → IsCut text tokens → IsRefused tokens e
     → Refuses text (grammar_fault e)
@@ -58,110 +58,110 @@ checking text tokens tree (typing.Memory error) fine is_cut is_read least = inl 
 -- ---- one judgement
 
 -- the rules by their numbers, which begin with 1
-the_rules : List Rule
-the_rules =
+the-rules : List Rule
+the-rules =
     rule.DuplicateName ∷ rule.DuplicateName ∷ rule.UnknownName ∷ rule.BadType ∷ rule.Cycle ∷ rule.Size ∷ rule.EnumNumbers ∷ rule.OperandType ∷ rule.ValueType ∷ rule.NotAssignable ∷ rule.Arguments ∷ rule.Fields ∷ rule.Condition ∷ rule.RunsOn ∷ rule.PortType ∷ rule.Redirect ∷ rule.CallKind ∷ rule.ReturnPlace ∷ rule.RepeatPlace ∷ rule.VerdictError ∷ rule.MtcPlace ∷ []
 
-stands_there : (r : Rule) → slice_get the_rules (number_of r) ≡ Some r
-unfolding the_rules
-stands_there rule.DuplicateName = refl
-stands_there rule.UnknownName = refl
-stands_there rule.BadType = refl
-stands_there rule.Cycle = refl
-stands_there rule.Size = refl
-stands_there rule.EnumNumbers = refl
-stands_there rule.OperandType = refl
-stands_there rule.ValueType = refl
-stands_there rule.NotAssignable = refl
-stands_there rule.Arguments = refl
-stands_there rule.Fields = refl
-stands_there rule.Condition = refl
-stands_there rule.RunsOn = refl
-stands_there rule.PortType = refl
-stands_there rule.Redirect = refl
-stands_there rule.CallKind = refl
-stands_there rule.ReturnPlace = refl
-stands_there rule.RepeatPlace = refl
-stands_there rule.VerdictError = refl
-stands_there rule.MtcPlace = refl
+stands-there : (r : Rule) → slice_get the-rules (number_of r) ≡ Some r
+unfolding the-rules
+stands-there rule.DuplicateName = refl
+stands-there rule.UnknownName = refl
+stands-there rule.BadType = refl
+stands-there rule.Cycle = refl
+stands-there rule.Size = refl
+stands-there rule.EnumNumbers = refl
+stands-there rule.OperandType = refl
+stands-there rule.ValueType = refl
+stands-there rule.NotAssignable = refl
+stands-there rule.Arguments = refl
+stands-there rule.Fields = refl
+stands-there rule.Condition = refl
+stands-there rule.RunsOn = refl
+stands-there rule.PortType = refl
+stands-there rule.Redirect = refl
+stands-there rule.CallKind = refl
+stands-there rule.ReturnPlace = refl
+stands-there rule.RepeatPlace = refl
+stands-there rule.VerdictError = refl
+stands-there rule.MtcPlace = refl
 
-pub some_is : {A : Type 0} {a b : A} → Some a ≡ Some b → a ≡ b
-some_is {A = A} {a = a} h =
+pub some-is : {A : Type 0} {a b : A} → Some a ≡ Some b → a ≡ b
+some-is {A = A} {a = a} h =
     let the : Option A → A = λ o. elim o as (λ _. A) [ Some r ↦ r | None ↦ a ] in ap the h
 
-one_least : (definitions : List Definition) (a b : Rule) → IsLeast definitions a → IsLeast definitions b → a ≡ b
-one_least definitions a b h k =
+one-least : (definitions : List Definition) (a b : Rule) → IsLeast definitions a → IsLeast definitions b → a ≡ b
+one-least definitions a b h k =
     let below = h.least b k.broken in
     let above = k.least a h.broken in
     let same : number_of a ≡ number_of b = omega (arith, below, above) in
-    some_is (sym (stands_there a) ∙ ap (slice_get the_rules) same ∙ stands_there b)
+    some-is (sym (stands-there a) ∙ ap (slice_get the-rules) same ∙ stands-there b)
 
-one_of_tokens : (tokens : List Spanned) (a b : Fault) → AreRefused tokens a → AreRefused tokens b → SameFault a b
-one_of_tokens tokens a b (too_deep deep) (too_deep also) = refl
-one_of_tokens tokens a b (too_deep deep) (left_out shallow out) = absurd (shallow deep)
-one_of_tokens tokens a b (too_deep deep) (unexpected unread) = absurd (unread.not_deep deep)
-one_of_tokens tokens a b (too_deep deep) (broken is least) = absurd (is.not_deep deep)
-one_of_tokens tokens a b (left_out shallow out) (too_deep deep) = absurd (shallow deep)
-one_of_tokens tokens a b (left_out shallow out) (left_out also too) = refl
-one_of_tokens tokens a b (left_out shallow out) (unexpected unread) = absurd (unread.not_left_out out)
-one_of_tokens tokens a b (left_out shallow out) (broken is least) = absurd (is.not_left_out out)
-one_of_tokens tokens a b (unexpected unread) (too_deep deep) = absurd (unread.not_deep deep)
-one_of_tokens tokens a b (unexpected unread) (left_out shallow out) = absurd (unread.not_left_out out)
-one_of_tokens tokens a b (unexpected unread) (unexpected also) = refl
-one_of_tokens tokens a b (unexpected unread) (broken {tree = tree} is least) = absurd (unread.no_module tree is.is_module)
-one_of_tokens tokens a b (broken is least) (too_deep deep) = absurd (is.not_deep deep)
-one_of_tokens tokens a b (broken is least) (left_out shallow out) = absurd (is.not_left_out out)
-one_of_tokens tokens a b (broken {tree = tree} is least) (unexpected unread) = absurd (unread.no_module tree is.is_module)
-one_of_tokens tokens a b (broken {tree = tree} {rule = r} is least) (broken {tree = other} {rule = s} also too) =
+one-of-tokens : (tokens : List Spanned) (a b : Fault) → AreRefused tokens a → AreRefused tokens b → SameFault a b
+one-of-tokens tokens a b (too_deep deep) (too_deep also) = refl
+one-of-tokens tokens a b (too_deep deep) (left_out shallow out) = absurd (shallow deep)
+one-of-tokens tokens a b (too_deep deep) (unexpected unread) = absurd (unread.not_deep deep)
+one-of-tokens tokens a b (too_deep deep) (broken is least) = absurd (is.not_deep deep)
+one-of-tokens tokens a b (left_out shallow out) (too_deep deep) = absurd (shallow deep)
+one-of-tokens tokens a b (left_out shallow out) (left_out also too) = refl
+one-of-tokens tokens a b (left_out shallow out) (unexpected unread) = absurd (unread.not_left_out out)
+one-of-tokens tokens a b (left_out shallow out) (broken is least) = absurd (is.not_left_out out)
+one-of-tokens tokens a b (unexpected unread) (too_deep deep) = absurd (unread.not_deep deep)
+one-of-tokens tokens a b (unexpected unread) (left_out shallow out) = absurd (unread.not_left_out out)
+one-of-tokens tokens a b (unexpected unread) (unexpected also) = refl
+one-of-tokens tokens a b (unexpected unread) (broken {tree = tree} is least) = absurd (unread.no_module tree is.is_module)
+one-of-tokens tokens a b (broken is least) (too_deep deep) = absurd (is.not_deep deep)
+one-of-tokens tokens a b (broken is least) (left_out shallow out) = absurd (is.not_left_out out)
+one-of-tokens tokens a b (broken {tree = tree} is least) (unexpected unread) = absurd (unread.no_module tree is.is_module)
+one-of-tokens tokens a b (broken {tree = tree} {rule = r} is least) (broken {tree = other} {rule = s} also too) =
     let same = one_tree tokens tree other is.is_module also.is_module in
-    ap refusal.Broken (one_least other.definitions r s (subst (λ tree. IsLeast tree.definitions r) same least) too)
+    ap refusal.Broken (one-least other.definitions r s (subst (λ tree. IsLeast tree.definitions r) same least) too)
 
-same_fault : (f : Fault) → SameFault f f
-same_fault (fault.Refused why place) = refl
-same_fault fault.NoSuchTestCase = refl
-same_fault (fault.BadScript why) = refl
-same_fault (fault.BadLabel line) = refl
-same_fault (fault.NotEnabled label) = refl
-same_fault (fault.NotFine label) = refl
-same_fault fault.NotEnded = refl
-same_fault fault.TooMany = refl
-same_fault fault.BadPlan = refl
-same_fault fault.Memory = refl
-same_fault (fault.CannotRead file) = refl
-same_fault fault.CannotWrite = refl
+same-fault : (f : Fault) → SameFault f f
+same-fault (fault.Refused why place) = refl
+same-fault fault.NoSuchTestCase = refl
+same-fault (fault.BadScript why) = refl
+same-fault (fault.BadLabel line) = refl
+same-fault (fault.NotEnabled label) = refl
+same-fault (fault.NotFine label) = refl
+same-fault fault.NotEnded = refl
+same-fault fault.TooMany = refl
+same-fault fault.BadPlan = refl
+same-fault fault.Memory = refl
+same-fault (fault.CannotRead file) = refl
+same-fault fault.CannotWrite = refl
 
-one_of_text : (text : List ℕ) (a b : Fault) → IsRefusedWith text a → IsRefusedWith text b → SameFault a b
-one_of_text text a b (too_long long) (too_long also) = refl
-one_of_text text a b (too_long long) (uncut fine stops) = absurd (omega (arith, long, fine))
-one_of_text text a b (too_long long) (cut fine is more) = absurd (omega (arith, long, fine))
-one_of_text text a b (uncut fine stops) (too_long long) = absurd (omega (arith, long, fine))
-one_of_text text a b (uncut {error = e} fine stops) (uncut {error = f} also too) =
-    let same = (reads_once text).one_fault e f stops too in
-    subst (λ x. SameFault (lexical_fault e) (lexical_fault x)) same (same_fault (lexical_fault e))
-one_of_text text a b (uncut {error = e} fine stops) (cut {tokens = tokens} also is more) = absurd ((reads_once text).not_both tokens e is stops)
-one_of_text text a b (cut fine is more) (too_long long) = absurd (omega (arith, long, fine))
-one_of_text text a b (cut {tokens = tokens} fine is more) (uncut {error = e} also stops) = absurd ((reads_once text).not_both tokens e is stops)
-one_of_text text a b (cut {tokens = tokens} fine is more) (cut {tokens = others} also too more_too) =
-    let same = (reads_once text).one_cut tokens others is too in
-    one_of_tokens others a b (subst (λ tokens. AreRefused tokens a) same more) more_too
+one-of-text : (text : List ℕ) (a b : Fault) → IsRefusedWith text a → IsRefusedWith text b → SameFault a b
+one-of-text text a b (too_long long) (too_long also) = refl
+one-of-text text a b (too_long long) (uncut fine stops) = absurd (omega (arith, long, fine))
+one-of-text text a b (too_long long) (cut fine is more) = absurd (omega (arith, long, fine))
+one-of-text text a b (uncut fine stops) (too_long long) = absurd (omega (arith, long, fine))
+one-of-text text a b (uncut {error = e} fine stops) (uncut {error = f} also too) =
+    let same = (reads-once text).one_fault e f stops too in
+    subst (λ x. SameFault (lexical_fault e) (lexical_fault x)) same (same-fault (lexical_fault e))
+one-of-text text a b (uncut {error = e} fine stops) (cut {tokens = tokens} also is more) = absurd ((reads-once text).not_both tokens e is stops)
+one-of-text text a b (cut fine is more) (too_long long) = absurd (omega (arith, long, fine))
+one-of-text text a b (cut {tokens = tokens} fine is more) (uncut {error = e} also stops) = absurd ((reads-once text).not_both tokens e is stops)
+one-of-text text a b (cut {tokens = tokens} fine is more) (cut {tokens = others} also too more_too) =
+    let same = (reads-once text).one_cut tokens others is too in
+    one-of-tokens others a b (subst (λ tokens. AreRefused tokens a) same more) more_too
 
-never_of_tokens : (tokens : List Spanned) (tree : Module) (why : Fault) → IsRead tokens tree → AreWellTyped tree.definitions → AreRefused tokens why → ⊥
-never_of_tokens tokens tree why is well (too_deep deep) = is.not_deep deep
-never_of_tokens tokens tree why is well (left_out shallow out) = is.not_left_out out
-never_of_tokens tokens tree why is well (unexpected unread) = unread.no_module tree is.is_module
-never_of_tokens tokens tree why is well (broken {tree = other} {rule = r} also least) =
+never-of-tokens : (tokens : List Spanned) (tree : Module) (why : Fault) → IsRead tokens tree → AreWellTyped tree.definitions → AreRefused tokens why → ⊥
+never-of-tokens tokens tree why is well (too_deep deep) = is.not_deep deep
+never-of-tokens tokens tree why is well (left_out shallow out) = is.not_left_out out
+never-of-tokens tokens tree why is well (unexpected unread) = unread.no_module tree is.is_module
+never-of-tokens tokens tree why is well (broken {tree = other} {rule = r} also least) =
     let same = one_tree tokens tree other is.is_module also.is_module in
     subst (λ tree. AreWellTyped tree.definitions) same well r least.broken
 
-never_both : (text : List ℕ) (why : Fault) → IsAccepted text → IsRefusedWith text why → ⊥
-never_both text why (tree, fine) (too_long long) = let short = fine.short in omega (arith, long, short)
-never_both text why (tree, fine) (uncut {error = e} short stops) = (reads_once text).not_both fine.tokens e fine.is_cut stops
-never_both text why (tree, fine) (cut {tokens = others} short is more) =
-    let same = (reads_once text).one_cut others fine.tokens is fine.is_cut in
-    never_of_tokens fine.tokens tree why fine.is_read fine.well_typed (subst (λ tokens. AreRefused tokens why) same more)
+never-both : (text : List ℕ) (why : Fault) → IsAccepted text → IsRefusedWith text why → ⊥
+never-both text why (tree, fine) (too_long long) = let short = fine.short in omega (arith, long, short)
+never-both text why (tree, fine) (uncut {error = e} short stops) = (reads-once text).not_both fine.tokens e fine.is_cut stops
+never-both text why (tree, fine) (cut {tokens = others} short is more) =
+    let same = (reads-once text).one_cut others fine.tokens is fine.is_cut in
+    never-of-tokens fine.tokens tree why fine.is_read fine.well_typed (subst (λ tokens. AreRefused tokens why) same more)
 
 pub one_judgement : (text : List ℕ) → HasOneJudgement text
 one_judgement text = record {
-  not_both = λ {why = why} fine refused. never_both text why fine refused;
-  one_refusal = λ {why = why} {other = other} one two. one_of_text text why other one two;
+  not_both = λ {why = why} fine refused. never-both text why fine refused;
+  one_refusal = λ {why = why} {other = other} one two. one-of-text text why other one two;
 }

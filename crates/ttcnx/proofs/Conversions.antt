@@ -31,38 +31,38 @@ Answers Is answer = (◌≡◌ {A = Answer} answer (Err fault.Memory)) ⊎ Is an
 
 -- ---- names
 
-pub name_converts : (Of : Test → Answer → Type 0) (given : Source) (name : List ℕ) (why : Fault) → (why ≡ fault.Memory) ⊎ HasNoTest given name why → Answers (IsConverted Of given name) (Err why)
-name_converts Of given name why (inl is) = inl (ap Err is)
-name_converts Of given name why (inr is) = inr (without_test is)
+pub name-converts : (Of : Test → Answer → Type 0) (given : Source) (name : List ℕ) (why : Fault) → (why ≡ fault.Memory) ⊎ HasNoTest given name why → Answers (IsConverted Of given name) (Err why)
+name-converts Of given name why (inl is) = inl (ap Err is)
+name-converts Of given name why (inr is) = inr (without_test is)
 
 -- ---- fine runs
 
-pub fine_listing : (given : Source) (name run : List ℕ) (test : Test) (e : RunError) → IsTestOf given name test → TellsFineError (lines_of run) e → Answers (IsCoarsened given name run) (Err (listing_fault e))
-fine_listing given name run test (listing.BadLabel number) is bad = inr (with_test is (bad_fine_label bad))
-fine_listing given name run test listing.Memory is bad = inl refl
+pub fine-listing : (given : Source) (name run : List ℕ) (test : Test) (e : RunError) → IsTestOf given name test → TellsFineError (lines_of run) e → Answers (IsCoarsened given name run) (Err (listing_fault e))
+fine-listing given name run test (listing.BadLabel number) is bad = inr (with_test is (bad_fine_label bad))
+fine-listing given name run test listing.Memory is bad = inl refl
 
-pub coarsen_answers : (given : Source) (name run : List ℕ) (machine : Machine) (labels : List FineLabel) (e : CoarsenError) → IsTestOf given name machine.test → ReadsFineRun (lines_of run) labels
+pub coarsen-answers : (given : Source) (name run : List ℕ) (machine : Machine) (labels : List FineLabel) (e : CoarsenError) → IsTestOf given name machine.test → ReadsFineRun (lines_of run) labels
     → Coarsens machine labels (Err e) → Answers (IsCoarsened given name run) (Err (coarsen_fault e))
-coarsen_answers given name run machine labels (coarsening.NotFine number) is reads ends = inr (with_test is (not_fine labels reads ends))
-coarsen_answers given name run machine labels coarsening.NotEnded is reads goes = inr (with_test is (not_ended labels reads goes))
-coarsen_answers given name run machine labels coarsening.Memory is reads any = inl refl
+coarsen-answers given name run machine labels (coarsening.NotFine number) is reads ends = inr (with_test is (not_fine labels reads ends))
+coarsen-answers given name run machine labels coarsening.NotEnded is reads goes = inr (with_test is (not_ended labels reads goes))
+coarsen-answers given name run machine labels coarsening.Memory is reads any = inl refl
 
-pub coarse_answers : (given : Source) (name run : List ℕ) (machine : Machine) (labels : List FineLabel) (made : Vec Label Global) (bytes : Vec ℕ Global) → IsTestOf given name machine.test → ReadsFineRun (lines_of run) labels
+pub coarse-answers : (given : Source) (name run : List ℕ) (machine : Machine) (labels : List FineLabel) (made : Vec Label Global) (bytes : Vec ℕ Global) → IsTestOf given name machine.test → ReadsFineRun (lines_of run) labels
     → Coarsens machine labels (Ok made) → bytes.items ≡ flat_map (λ label. line (label_text label)) made.items → Answers (IsCoarsened given name run) (Ok bytes)
-coarse_answers given name run machine labels made bytes is reads ends told = inr (with_test is (coarsened labels reads ends.0 (told ∙ ap label_lines ends.1)))
+coarse-answers given name run machine labels made bytes is reads ends told = inr (with_test is (coarsened labels reads ends.0 (told ∙ ap label_lines ends.1)))
 
 -- ---- runs
 
-pub plain_listing : (given : Source) (name run : List ℕ) (test : Test) (e : RunError) → IsTestOf given name test → TellsError (lines_of run) e → Answers (IsDoubled given name run) (Err (listing_fault e))
-plain_listing given name run test (listing.BadLabel number) is bad = inr (with_test is (bad_plain_label bad))
-plain_listing given name run test listing.Memory is bad = inl refl
+pub plain-listing : (given : Source) (name run : List ℕ) (test : Test) (e : RunError) → IsTestOf given name test → TellsError (lines_of run) e → Answers (IsDoubled given name run) (Err (listing_fault e))
+plain-listing given name run test (listing.BadLabel number) is bad = inr (with_test is (bad_plain_label bad))
+plain-listing given name run test listing.Memory is bad = inl refl
 
-pub double_answers : (given : Source) (name run : List ℕ) (machine : Machine) (labels : List Label) (e : ReplayError) → IsTestOf given name machine.test → ReadsRun (lines_of run) labels
+pub double-answers : (given : Source) (name run : List ℕ) (machine : Machine) (labels : List Label) (e : ReplayError) → IsTestOf given name machine.test → ReadsRun (lines_of run) labels
     → Doubles machine labels (Err e) → Answers (IsDoubled given name run) (Err (replay_fault e))
-double_answers given name run machine labels (replaying.NotEnabled number) is reads ends = inr (with_test is (stopped labels reads ends))
-double_answers given name run machine labels replaying.Memory is reads any = inl refl
+double-answers given name run machine labels (replaying.NotEnabled number) is reads ends = inr (with_test is (stopped labels reads ends))
+double-answers given name run machine labels replaying.Memory is reads any = inl refl
 
-pub doubled_answers : (given : Source) (name run : List ℕ) (machine : Machine) (labels : List Label) (made : Vec FineLabel Global) (bytes : Vec ℕ Global) → IsTestOf given name machine.test → ReadsRun (lines_of run) labels
+pub doubled-answers : (given : Source) (name run : List ℕ) (machine : Machine) (labels : List Label) (made : Vec FineLabel Global) (bytes : Vec ℕ Global) → IsTestOf given name machine.test → ReadsRun (lines_of run) labels
     → Doubles machine labels (Ok made) → IsDoubling machine.test labels made.items → bytes.items ≡ flat_map (λ label. line (fine_text label)) made.items
     → Answers (IsDoubled given name run) (Ok bytes)
-doubled_answers given name run machine labels made bytes is reads ends fine told = inr (with_test is (doubling labels reads fine.replays (told ∙ ap fine_lines ends.1)))
+doubled-answers given name run machine labels made bytes is reads ends fine told = inr (with_test is (doubling labels reads fine.replays (told ∙ ap fine_lines ends.1)))

@@ -1,21 +1,19 @@
 -- The verdicts that a complete report lists are those of runs of any length, and of fine runs.
-use Rattle.std.proofs.Common.{◌≡◌, ℕ, ◌+◌, ◌≤◌, suc, true, List, [], ◌∷◌, map, Contains, Option, Some, None, is_some, option_map, ◌↔◌, refl, sym, ap, subst, arith}
+use Rattle.std.proofs.Common.{◌≡◌, ℕ, ◌+◌, ◌≤◌, suc, true, List, [], ◌∷◌, map, Contains, Option, Some, None, is_some, ◌↔◌, refl, sym, ap, subst, arith}
 use Rattle.std.specs.List.{All, cons_option, filter_map}
 use Rattle.std.specs.declared.alloc.Global.{Global}
 use Rattle.std.specs.declared.vec.Vec.{Vec}
 use Rattle.std.proofs.lemmas.List.Elements.{All-cons, All-contains, All-nil}
 use Rattle.ttcnx_runs.specs.Found.{IsBestRun}
-use Rattle.laws_fine.proofs.Ends.{ends_as_runs}
-use Rattle.laws_fine.proofs.Laws.{same_verdicts}
+use Rattle.laws_fine.proofs.Ends.{ends-as-runs}
+use Rattle.laws_fine.proofs.Laws.{same-verdicts}
 use Rattle.laws_fine.specs.Verdicts.{EndsFinelyWith, EndsWith, HasRun}
 use Rattle.report.specs.declared.report.Outcome.{Outcome}
 use Rattle.report.specs.declared.report.Report.{Report}
 use Rattle.step_labels.specs.declared.label.Label.{Label}
 use Rattle.semantics.specs.Snapshots.{Test}
-use Rattle.ttcn_syntax.specs.declared.tree.definition.Module.{Module}
 use Rattle.ttcn_syntax.specs.declared.tree.statement.Verdict.{Verdict}
 use Rattle.ttcn_syntax.specs.declared.tree.statement.Verdict.TheVariants as verdict
-use Rattle.check_rules.specs.Programs.{test_case_named}
 use Rattle.check_rules.specs.Rules.{AreWellTyped}
 use Rattle.ttcnx.specs.Named.{IsTestOf, Source}
 use Rattle.ttcnx.specs.Tells.{Lists, TellsOfRuns, all_verdicts, labels_in, outcome_of, outcomes_of}
@@ -98,8 +96,8 @@ has-listed test n report v tells run less =
     (some-listed tells.run_of v (run-kept test n v (tells.run_of v) run less (tells.best v)))
 
 -- a report that is true of the runs of every greater bound lists the verdicts of all runs
-lists_all : (test : Test) (n : ℕ) (report : Report) → ((bound : ℕ) → n ≤ bound → TellsOfRuns test bound report) → (v : Verdict) → Lists report v ↔ HasRun test v
-lists_all test n report every v = (
+lists-all : (test : Test) (n : ℕ) (report : Report) → ((bound : ℕ) → n ≤ bound → TellsOfRuns test bound report) → (v : Verdict) → Lists report v ↔ HasRun test v
+lists-all test n report every v = (
   listed-has test n report v (every n (omega arith)),
   λ run. has-listed test (n + run.steps) report v (every (n + run.steps) (omega arith)) run (omega arith),
 )
@@ -111,10 +109,10 @@ pub well-typed : (given : Source) (name : List ℕ) (test : Test) → IsTestOf g
 well-typed given name test is = subst AreWellTyped (sym is.is_case.of_tree) is.is_case.is_text.well_typed
 
 -- a report that is true of the runs of every greater bound lists the verdicts of runs and of fine runs
-pub lists_verdicts : (given : Source) (name : List ℕ) (test : Test) (n : ℕ) (report : Report) → IsTestOf given name test → ((bound : ℕ) → n ≤ bound → TellsOfRuns test bound report) → (v : Verdict)
+pub lists-verdicts : (given : Source) (name : List ℕ) (test : Test) (n : ℕ) (report : Report) → IsTestOf given name test → ((bound : ℕ) → n ≤ bound → TellsOfRuns test bound report) → (v : Verdict)
     → (Lists report v ↔ EndsWith test v) × (Lists report v ↔ EndsFinelyWith test v)
-lists_verdicts given name test n report is every v =
-    let listed = lists_all test n report every v in
-    let runs = ends_as_runs test v in
-    let fine = same_verdicts test v (well-typed given name test is) in
+lists-verdicts given name test n report is every v =
+    let listed = lists-all test n report every v in
+    let runs = ends-as-runs test v in
+    let fine = same-verdicts test v (well-typed given name test is) in
     ((λ lists. runs.1 (listed.0 lists), λ ends. listed.1 (runs.0 ends)), (λ lists. fine.1 (runs.1 (listed.0 lists)), λ ends. listed.1 (runs.0 (fine.0 ends))))

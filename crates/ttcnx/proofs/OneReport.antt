@@ -13,11 +13,11 @@ use Rattle.std.proofs.lemmas.Cmp.{lists_total, tied_itself}
 use Rattle.summary.specs.Graph.{Graph}
 use Rattle.summary.specs.Run.{Run, Before, NoLater, labels_of}
 use Rattle.summary.specs.Exploration.{IsBest}
-use Rattle.explore.proofs.RunOrder.{before_trans}
+use Rattle.explore.proofs.RunOrder.{before-trans}
 use Rattle.search_layer.specs.declared.plan.Plan.{Plan}
 use Rattle.ttcnx_runs.specs.Found.{AreBlocked, AreBranches, IsBestRun}
-use Rattle.laws_live.proofs.PartCounts.{counts_once}
-use Rattle.summary.proofs.OneAscent.{one_ascent}
+use Rattle.laws_live.proofs.PartCounts.{counts-once}
+use Rattle.summary.proofs.OneAscent.{one-ascent}
 use Rattle.summary.specs.Ascent.{Ascends}
 use Rattle.summary.specs.KeyCode.{same_keys}
 use Rattle.summary.specs.KeySet.{from_list}
@@ -43,142 +43,142 @@ use Rattle.ttcnx.specs.Tells.{Tells, all_verdicts, labels_in, outcome_of}
 -- ---- a mark has one best run
 
 module _ {C L : Type 0} (g : Graph C L) (cmp : L → L → Ordering) (total : IsTotalOrder cmp) where
-  never_before : (r : Run L) → Before cmp r r → ⊥
-  never_before r (inl h) = omega (arith, h)
-  never_before r (inr h) = let tied = tied_itself (lists_total total) (labels_of r) in let less = h.1 in cc
+  never-before : (r : Run L) → Before cmp r r → ⊥
+  never-before r (inl h) = omega (arith, h)
+  never-before r (inr h) = let tied = tied_itself (lists_total total) (labels_of r) in let less = h.1 in cc
 
-  same_run : (r s : Run L) → NoLater cmp r s → NoLater cmp s r → r ≡ s
-  same_run r s (inr e) other = e
-  same_run r s (inl h) (inr e) = sym e
-  same_run r s (inl h) (inl k) = absurd (never_before r (before_trans cmp total r s r h k))
+  same-run : (r s : Run L) → NoLater cmp r s → NoLater cmp s r → r ≡ s
+  same-run r s (inr e) other = e
+  same-run r s (inl h) (inr e) = sym e
+  same-run r s (inl h) (inl k) = absurd (never-before r (before-trans cmp total r s r h k))
 
-  one_best : (n mark : ℕ) (r s : Run L) → IsBest g cmp n mark r → IsBest g cmp n mark s → r ≡ s
-  one_best n mark r s a b = same_run r s (a.least s b.has) (b.least r a.has)
+  one-best : (n mark : ℕ) (r s : Run L) → IsBest g cmp n mark r → IsBest g cmp n mark s → r ≡ s
+  one-best n mark r s a b = same-run r s (a.least s b.has) (b.least r a.has)
 
 -- ---- a set has one ascending list
 
-place_coded : Coded Span
-place_coded = code_by (ℕ × ℕ) (coded× coded_ℕ coded_ℕ) (λ p. (p.line, p.column)) (λ q. record { line = q.0; column = q.1 }) (λ p. refl)
+place-coded : Coded Span
+place-coded = code_by (ℕ × ℕ) (coded× coded_ℕ coded_ℕ) (λ p. (p.line, p.column)) (λ q. record { line = q.0; column = q.1 }) (λ p. refl)
 
-standing_coded : Coded Standing
-standing_coded = code_by (List ℕ × Span) (coded× (coded_list coded_ℕ) place_coded) (λ s. (s.component.numbers, s.place)) (λ q. record { component = record { numbers = q.0 }; place = q.1 }) (λ s. refl)
+standing-coded : Coded Standing
+standing-coded = code_by (List ℕ × Span) (coded× (coded_list coded_ℕ) place-coded) (λ s. (s.component.numbers, s.place)) (λ q. record { component = record { numbers = q.0 }; place = q.1 }) (λ s. refl)
 
 module _ {K : Type 0} (coded : Coded K) {cmp : K → K → Ordering} (total : IsTotalOrder cmp) where
-  one_list : (keys others : List K) → from_list keys ≡ from_list others → Ascends cmp keys → Ascends cmp others → keys ≡ others
-  one_list keys others same up also = one_ascent total keys others up also (same_keys coded keys others same)
+  one-list : (keys others : List K) → from_list keys ≡ from_list others → Ascends cmp keys → Ascends cmp others → keys ≡ others
+  one-list keys others same up also = one-ascent total keys others up also (same_keys coded keys others same)
 
 module _ (test : Test) (n : ℕ) where
-  branches_alike : (places others : List Span) → AreBranches test n places → AreBranches test n others → places ≡ others
-  branches_alike places others h k = one_list place_coded place_total places others (h.summed ∙ sym k.summed) h.ascend k.ascend
+  branches-alike : (places others : List Span) → AreBranches test n places → AreBranches test n others → places ≡ others
+  branches-alike places others h k = one-list place-coded place_total places others (h.summed ∙ sym k.summed) h.ascend k.ascend
 
-  blocked_alike : (standings others : List Standing) → AreBlocked test n standings → AreBlocked test n others → standings ≡ others
-  blocked_alike standings others h k =
-      one_list standing_coded standing_total standings others (h.summed ∙ sym k.summed) h.ascend k.ascend
+  blocked-alike : (standings others : List Standing) → AreBlocked test n standings → AreBlocked test n others → standings ≡ others
+  blocked-alike standings others h k =
+      one-list standing-coded standing_total standings others (h.summed ∙ sym k.summed) h.ascend k.ascend
 
 -- ---- a report has one text
 
-same_answer : {P : Type 0} (a b : Bool) → (IsTrue a ↔ P) → (IsTrue b ↔ P) → a ≡ b
-same_answer true true h k = refl
-same_answer false false h k = refl
-same_answer true false h k = sym (k.1 (h.0 refl))
-same_answer false true h k = h.1 (k.0 refl)
+same-answer : {P : Type 0} (a b : Bool) → (IsTrue a ↔ P) → (IsTrue b ↔ P) → a ≡ b
+same-answer true true h k = refl
+same-answer false false h k = refl
+same-answer true false h k = sym (k.1 (h.0 refl))
+same-answer false true h k = h.1 (k.0 refl)
 
 -- what a report tells of a verdict
 abbrev told_of : Verdict → Option (Vec Label Global) → List ℕ
 told_of verdict None = []
 told_of verdict (Some run) = outcome_text (record { verdict = verdict; run = run })
 
-told_step : (verdict : Verdict) (run : Option (Vec Label Global)) (rest : List Outcome)
+told-step : (verdict : Verdict) (run : Option (Vec Label Global)) (rest : List Outcome)
     → flat_map outcome_text (cons_option (outcome_of verdict run) rest) ≡ told_of verdict run ++ flat_map outcome_text rest
-told_step verdict None rest = refl
-told_step verdict (Some run) rest = refl
+told-step verdict None rest = refl
+told-step verdict (Some run) rest = refl
 
-told_each : (run_of : Verdict → Option (Vec Label Global)) (verdicts : List Verdict)
+told-each : (run_of : Verdict → Option (Vec Label Global)) (verdicts : List Verdict)
     → flat_map outcome_text (filter_map (λ verdict. outcome_of verdict (run_of verdict)) verdicts) ≡ flat_map (λ verdict. told_of verdict (run_of verdict)) verdicts
-told_each run_of [] = refl
-told_each run_of (verdict ∷ verdicts) =
-    told_step verdict (run_of verdict) (filter_map (λ verdict. outcome_of verdict (run_of verdict)) verdicts)
-    ∙ ap (λ rest. told_of verdict (run_of verdict) ++ rest) (told_each run_of verdicts)
+told-each run_of [] = refl
+told-each run_of (verdict ∷ verdicts) =
+    told-step verdict (run_of verdict) (filter_map (λ verdict. outcome_of verdict (run_of verdict)) verdicts)
+    ∙ ap (λ rest. told_of verdict (run_of verdict) ++ rest) (told-each run_of verdicts)
 
-each_alike : (f g : Verdict → List ℕ) → ((verdict : Verdict) → f verdict ≡ g verdict) → (verdicts : List Verdict) → flat_map f verdicts ≡ flat_map g verdicts
-each_alike f g same [] = refl
-each_alike f g same (verdict ∷ verdicts) =
-    ap (λ first. first ++ flat_map f verdicts) (same verdict) ∙ ap (λ rest. g verdict ++ rest) (each_alike f g same verdicts)
+each-alike : (f g : Verdict → List ℕ) → ((verdict : Verdict) → f verdict ≡ g verdict) → (verdicts : List Verdict) → flat_map f verdicts ≡ flat_map g verdicts
+each-alike f g same [] = refl
+each-alike f g same (verdict ∷ verdicts) =
+    ap (λ first. first ++ flat_map f verdicts) (same verdict) ∙ ap (λ rest. g verdict ++ rest) (each-alike f g same verdicts)
 
-text_of_run : Verdict → List Label → List ℕ
-text_of_run verdict labels = line (codes "verdict " ++ word_of verdict ++ codes " " ++ decimal (length labels)) ++ flat_map step_line labels
+text-of-run : Verdict → List Label → List ℕ
+text-of-run verdict labels = line (codes "verdict " ++ word_of verdict ++ codes " " ++ decimal (length labels)) ++ flat_map step_line labels
 
 module _ (test : Test) (n : ℕ) where
   best_alike : (verdict : Verdict) (a b : Option (Vec Label Global)) → IsBestRun test n verdict (labels_in a) → IsBestRun test n verdict (labels_in b)
       → told_of verdict a ≡ told_of verdict b
-  unfolding text_of_run
+  unfolding text-of-run
   best_alike verdict None None h k = refl
   best_alike verdict None (Some b) h k = absurd (h k.0 k.1.has)
   best_alike verdict (Some a) None h k = absurd (k h.0 h.1.has)
   best_alike verdict (Some a) (Some b) h k =
-      let same = one_best (graph_of test) label_cmp label_total n (badness verdict) h.0 k.0 h.1 k.1 in
+      let same = one-best (graph_of test) label_cmp label_total n (badness verdict) h.0 k.0 h.1 k.1 in
       let labels : a.items ≡ b.items = h.2 ∙ ap labels_of same ∙ sym k.2 in
-      ap (text_of_run verdict) labels
+      ap (text-of-run verdict) labels
 
-header_of : List ℕ → ℕ → ℕ → Bool → List ℕ
-header_of name steps configurations complete =
+header-of : List ℕ → ℕ → ℕ → Bool → List ℕ
+header-of name steps configurations complete =
     line (codes "testcase " ++ name) ++ line (codes "steps " ++ decimal steps) ++ line (codes "configurations " ++ decimal configurations)
     ++ line (codes "complete " ++ yes_or_no complete)
 
-headers_alike : (a b : Report) → string_bytes a.testcase ≡ string_bytes b.testcase → a.steps ≡ b.steps → a.configurations ≡ b.configurations
+headers-alike : (a b : Report) → string_bytes a.testcase ≡ string_bytes b.testcase → a.steps ≡ b.steps → a.configurations ≡ b.configurations
     → a.complete ≡ b.complete → header_text a ≡ header_text b
-unfolding header_of
-headers_alike a b name steps configurations complete =
-    ap (λ x. header_of x a.steps a.configurations a.complete) name
-    ∙ ap (λ x. header_of (string_bytes b.testcase) x a.configurations a.complete) steps
-    ∙ ap (λ x. header_of (string_bytes b.testcase) b.steps x a.complete) configurations
-    ∙ ap (λ x. header_of (string_bytes b.testcase) b.steps b.configurations x) complete
+unfolding header-of
+headers-alike a b name steps configurations complete =
+    ap (λ x. header-of x a.steps a.configurations a.complete) name
+    ∙ ap (λ x. header-of (string_bytes b.testcase) x a.configurations a.complete) steps
+    ∙ ap (λ x. header-of (string_bytes b.testcase) b.steps x a.complete) configurations
+    ∙ ap (λ x. header-of (string_bytes b.testcase) b.steps b.configurations x) complete
 
-whole_text : List ℕ → List ℕ → List Span → List Standing → List ℕ
-whole_text header outcomes branches blocked = header ++ outcomes ++ flat_map branch_line branches ++ flat_map blocked_line blocked
+whole-text : List ℕ → List ℕ → List Span → List Standing → List ℕ
+whole-text header outcomes branches blocked = header ++ outcomes ++ flat_map branch_line branches ++ flat_map blocked_line blocked
 
-wholes_alike : (a b : Report) → header_text a ≡ header_text b → flat_map outcome_text a.outcomes.items ≡ flat_map outcome_text b.outcomes.items
+wholes-alike : (a b : Report) → header_text a ≡ header_text b → flat_map outcome_text a.outcomes.items ≡ flat_map outcome_text b.outcomes.items
     → a.branches.items ≡ b.branches.items → a.blocked.items ≡ b.blocked.items → report_text a ≡ report_text b
-unfolding whole_text
-wholes_alike a b header outcomes branches blocked =
-    ap (λ x. whole_text x (flat_map outcome_text a.outcomes.items) a.branches.items a.blocked.items) header
-    ∙ ap (λ x. whole_text (header_text b) x a.branches.items a.blocked.items) outcomes
-    ∙ ap (λ x. whole_text (header_text b) (flat_map outcome_text b.outcomes.items) x a.blocked.items) branches
-    ∙ ap (λ x. whole_text (header_text b) (flat_map outcome_text b.outcomes.items) b.branches.items x) blocked
+unfolding whole-text
+wholes-alike a b header outcomes branches blocked =
+    ap (λ x. whole-text x (flat_map outcome_text a.outcomes.items) a.branches.items a.blocked.items) header
+    ∙ ap (λ x. whole-text (header_text b) x a.branches.items a.blocked.items) outcomes
+    ∙ ap (λ x. whole-text (header_text b) (flat_map outcome_text b.outcomes.items) x a.blocked.items) branches
+    ∙ ap (λ x. whole-text (header_text b) (flat_map outcome_text b.outcomes.items) b.branches.items x) blocked
 
 -- ---- as JSON
 
-json_of_run : Verdict → List Label → Data
-json_of_run verdict labels =
+json-of-run : Verdict → List Label → Data
+json-of-run verdict labels =
     object (member (codes "run") (list_of label_json labels)
     (member (codes "verdict") (string (word_of verdict))
     no_members))
 
 module _ (test : Test) (n : ℕ) where
-  best_alike_as_json : (verdict : Verdict) (a b : Option (Vec Label Global)) → IsBestRun test n verdict (labels_in a) → IsBestRun test n verdict (labels_in b)
+  best-alike-as-json : (verdict : Verdict) (a b : Option (Vec Label Global)) → IsBestRun test n verdict (labels_in a) → IsBestRun test n verdict (labels_in b)
       → option_map outcome_json (outcome_of verdict a) ≡ option_map outcome_json (outcome_of verdict b)
-  unfolding json_of_run
-  best_alike_as_json verdict None None h k = refl
-  best_alike_as_json verdict None (Some b) h k = absurd (h k.0 k.1.has)
-  best_alike_as_json verdict (Some a) None h k = absurd (k h.0 h.1.has)
-  best_alike_as_json verdict (Some a) (Some b) h k =
-      let same = one_best (graph_of test) label_cmp label_total n (badness verdict) h.0 k.0 h.1 k.1 in
+  unfolding json-of-run
+  best-alike-as-json verdict None None h k = refl
+  best-alike-as-json verdict None (Some b) h k = absurd (h k.0 k.1.has)
+  best-alike-as-json verdict (Some a) None h k = absurd (k h.0 h.1.has)
+  best-alike-as-json verdict (Some a) (Some b) h k =
+      let same = one-best (graph_of test) label_cmp label_total n (badness verdict) h.0 k.0 h.1 k.1 in
       let labels : a.items ≡ b.items = h.2 ∙ ap labels_of same ∙ sym k.2 in
-      ap (λ items. Some (json_of_run verdict items)) labels
+      ap (λ items. Some (json-of-run verdict items)) labels
 
 mapped-cons : (f : Outcome → Data) (o : Option Outcome) (rest : List Outcome) → map f (cons_option o rest) ≡ cons_option (option_map f o) (map f rest)
 mapped-cons f None rest = refl
 mapped-cons f (Some outcome) rest = refl
 
-outcomes_alike : (f : Outcome → Data) (g h : Verdict → Option Outcome) → ((verdict : Verdict) → option_map f (g verdict) ≡ option_map f (h verdict))
+outcomes-alike : (f : Outcome → Data) (g h : Verdict → Option Outcome) → ((verdict : Verdict) → option_map f (g verdict) ≡ option_map f (h verdict))
     → (verdicts : List Verdict) → map f (filter_map g verdicts) ≡ map f (filter_map h verdicts)
-outcomes_alike f g h same [] = refl
-outcomes_alike f g h same (verdict ∷ verdicts) =
+outcomes-alike f g h same [] = refl
+outcomes-alike f g h same (verdict ∷ verdicts) =
     mapped-cons f (g verdict) (filter_map g verdicts) ∙ ap (λ o. cons_option o (map f (filter_map g verdicts))) (same verdict)
-    ∙ ap (cons_option (option_map f (h verdict))) (outcomes_alike f g h same verdicts) ∙ sym (mapped-cons f (h verdict) (filter_map h verdicts))
+    ∙ ap (cons_option (option_map f (h verdict))) (outcomes-alike f g h same verdicts) ∙ sym (mapped-cons f (h verdict) (filter_map h verdicts))
 
-whole_json : List Standing → List Span → Bool → ℕ → ℕ → List ℕ → List Data → List ℕ
-whole_json blocked branches complete configurations steps testcase outcomes = line (compact_text (
+whole-json : List Standing → List Span → Bool → ℕ → ℕ → List ℕ → List Data → List ℕ
+whole-json blocked branches complete configurations steps testcase outcomes = line (compact_text (
     object (member (codes "blocked") (list_of standing_json blocked)
     (member (codes "branches") (list_of place_json branches)
     (member (codes "complete") (boolean complete)
@@ -188,32 +188,32 @@ whole_json blocked branches complete configurations steps testcase outcomes = li
     (member (codes "verdicts") (array (items_of outcomes))
     no_members)))))))))
 
-json_alike : (a b : Report) → a.blocked.items ≡ b.blocked.items → a.branches.items ≡ b.branches.items → a.complete ≡ b.complete → a.configurations ≡ b.configurations
+json-alike : (a b : Report) → a.blocked.items ≡ b.blocked.items → a.branches.items ≡ b.branches.items → a.complete ≡ b.complete → a.configurations ≡ b.configurations
     → a.steps ≡ b.steps → string_bytes a.testcase ≡ string_bytes b.testcase → map outcome_json a.outcomes.items ≡ map outcome_json b.outcomes.items → json_text a ≡ json_text b
-unfolding whole_json
-json_alike a b blocked branches complete configurations steps name outcomes = λ i.
-    whole_json (blocked i) (branches i) (complete i) (configurations i) (steps i) (name i) (outcomes i)
+unfolding whole-json
+json-alike a b blocked branches complete configurations steps name outcomes = λ i.
+    whole-json (blocked i) (branches i) (complete i) (configurations i) (steps i) (name i) (outcomes i)
 
 -- ---- the report
 
-pub one_report : (test : Test) (name : List ℕ) (plan : Plan) (a b : Report) → Tells test name plan a → Tells test name plan b
+pub one-report : (test : Test) (name : List ℕ) (plan : Plan) (a b : Report) → Tells test name plan a → Tells test name plan b
     → (report_text a ≡ report_text b) × (json_text a ≡ json_text b)
-one_report test name plan a b h k =
+one-report test name plan a b h k =
     let testcase = h.testcase ∙ sym k.testcase in
     let steps = h.steps ∙ sym k.steps in
-    let configurations = counts_once test plan.steps a.configurations b.configurations (h.runs).configurations (k.runs).configurations in
-    let complete = same_answer a.complete b.complete h.complete k.complete in
-    let header = headers_alike a b testcase steps configurations complete in
+    let configurations = counts-once test plan.steps a.configurations b.configurations (h.runs).configurations (k.runs).configurations in
+    let complete = same-answer a.complete b.complete h.complete k.complete in
+    let header = headers-alike a b testcase steps configurations complete in
     let outcomes : flat_map outcome_text a.outcomes.items ≡ flat_map outcome_text b.outcomes.items =
-    ap (λ items. flat_map outcome_text items) (h.runs).outcomes ∙ told_each (h.runs).run_of all_verdicts
-    ∙ each_alike (λ verdict. told_of verdict ((h.runs).run_of verdict)) (λ verdict. told_of verdict ((k.runs).run_of verdict))
+    ap (λ items. flat_map outcome_text items) (h.runs).outcomes ∙ told-each (h.runs).run_of all_verdicts
+    ∙ each-alike (λ verdict. told_of verdict ((h.runs).run_of verdict)) (λ verdict. told_of verdict ((k.runs).run_of verdict))
     (λ verdict. best_alike test plan.steps verdict ((h.runs).run_of verdict) ((k.runs).run_of verdict) ((h.runs).best verdict) ((k.runs).best verdict)) all_verdicts
-    ∙ sym (told_each (k.runs).run_of all_verdicts) ∙ ap (λ items. flat_map outcome_text items) (sym (k.runs).outcomes) in
-    let branches = branches_alike test plan.steps a.branches.items b.branches.items (h.runs).branches (k.runs).branches in
-    let blocked = blocked_alike test plan.steps a.blocked.items b.blocked.items (h.runs).blocked (k.runs).blocked in
+    ∙ sym (told-each (k.runs).run_of all_verdicts) ∙ ap (λ items. flat_map outcome_text items) (sym (k.runs).outcomes) in
+    let branches = branches-alike test plan.steps a.branches.items b.branches.items (h.runs).branches (k.runs).branches in
+    let blocked = blocked-alike test plan.steps a.blocked.items b.blocked.items (h.runs).blocked (k.runs).blocked in
     let as_json : map outcome_json a.outcomes.items ≡ map outcome_json b.outcomes.items =
     ap (map outcome_json) (h.runs).outcomes
-    ∙ outcomes_alike outcome_json (λ verdict. outcome_of verdict ((h.runs).run_of verdict)) (λ verdict. outcome_of verdict ((k.runs).run_of verdict))
-    (λ verdict. best_alike_as_json test plan.steps verdict ((h.runs).run_of verdict) ((k.runs).run_of verdict) ((h.runs).best verdict) ((k.runs).best verdict)) all_verdicts
+    ∙ outcomes-alike outcome_json (λ verdict. outcome_of verdict ((h.runs).run_of verdict)) (λ verdict. outcome_of verdict ((k.runs).run_of verdict))
+    (λ verdict. best-alike-as-json test plan.steps verdict ((h.runs).run_of verdict) ((k.runs).run_of verdict) ((h.runs).best verdict) ((k.runs).best verdict)) all_verdicts
     ∙ ap (map outcome_json) (sym (k.runs).outcomes) in
-    (wholes_alike a b header outcomes branches blocked, json_alike a b blocked branches complete configurations steps testcase as_json)
+    (wholes-alike a b header outcomes branches blocked, json-alike a b blocked branches complete configurations steps testcase as_json)

@@ -16,30 +16,30 @@ use Rattle.ttcnx.specs.declared.fault.Fault.TheVariants as fault
 use Rattle.ttcnx.specs.declared.stream.StreamFault.TheVariants as stream
 
 -- a text that was not read
-pub read_answers : (script name : List ℕ) (plan : Plan) (json : Bool) (before after : Streams) (error : ReadError) → IsWithinLimits plan
+pub read-answers : (script name : List ℕ) (plan : Plan) (json : Bool) (before after : Streams) (error : ReadError) → IsWithinLimits plan
     → (error ≡ reading.Reader → BrokeOff enough before.reader after.reader) → (error ≡ reading.Memory → Stopped enough before.reader after.reader)
     → after.writer ≡ before.writer → IsStreamed script name plan json before after (Err (read_fault error))
-read_answers script name plan json before after reading.Reader within failed stopped same = unread within (failed refl) same
-read_answers script name plan json before after reading.Memory within failed stopped same = starved within (stopped refl) same
+read-answers script name plan json before after reading.Reader within failed stopped same = unread within (failed refl) same
+read-answers script name plan json before after reading.Memory within failed stopped same = starved within (stopped refl) same
 
-fault_in : Answer → Fault
-fault_in (Ok report) = fault.Memory
-fault_in (Err why) = why
+fault-in : Answer → Fault
+fault-in (Ok report) = fault.Memory
+fault-in (Err why) = why
 
 -- a text that has no report
-pub text_answers : {text : List ℕ} (script name : List ℕ) (plan : Plan) (json : Bool) (before after : Streams) (why : Fault) → IsWithinLimits plan
+pub text-answers : {text : List ℕ} (script name : List ℕ) (plan : Plan) (json : Bool) (before after : Streams) (why : Fault) → IsWithinLimits plan
     → WasRead enough before.reader after.reader text → after.writer ≡ before.writer
     → (◌≡◌ {A = Answer} (Err why) (Err fault.Memory)) ⊎ IsAnswer (source text script) name plan (Err why) → IsStreamed script name plan json before after (Err (stream.Refused why))
-unfolding fault_in
-text_answers script name plan json before after why within read same (inl is) =
-    subst (λ x. IsStreamed script name plan json before after (Err (stream.Refused x))) (sym (ap fault_in is)) (starved within (_, read.gave) same)
-text_answers script name plan json before after why within read same (inr is) = refused within read is same
+unfolding fault-in
+text-answers script name plan json before after why within read same (inl is) =
+    subst (λ x. IsStreamed script name plan json before after (Err (stream.Refused x))) (sym (ap fault-in is)) (starved within (_, read.gave) same)
+text-answers script name plan json before after why within read same (inr is) = refused within read is same
 
 pub one_text : (before after : Device) → HasOneText before after
 one_text before after = record { first_bytes = λ text read. known_text text read }
 
 -- a report is the answer
-pub report_answers : {text script name : List ℕ} {plan : Plan} (report : Report) → (◌≡◌ {A = Answer} (Ok report) (Err fault.Memory)) ⊎ IsAnswer (source text script) name plan (Ok report)
+pub report-answers : {text script name : List ℕ} {plan : Plan} (report : Report) → (◌≡◌ {A = Answer} (Ok report) (Err fault.Memory)) ⊎ IsAnswer (source text script) name plan (Ok report)
     → IsAnswer (source text script) name plan (Ok report)
-report_answers report (inl is) = cc
-report_answers report (inr is) = is
+report-answers report (inl is) = cc
+report-answers report (inr is) = is

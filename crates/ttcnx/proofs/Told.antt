@@ -21,8 +21,8 @@ pub record IsMadeOf (found : Exploration) (report : Report) : Type 0 where
   pub branches : report.branches.items ≡ found.branches.items
   pub blocked : report.blocked.items ≡ found.blocked.items
 
-pub tells_of_runs : (test : Test) (n : ℕ) (found : Exploration) (report : Report) → IsMadeOf found report → AreFound test n found → TellsOfRuns test n report
-tells_of_runs test n found report made are = record {
+pub tells-of-runs : (test : Test) (n : ℕ) (found : Exploration) (report : Report) → IsMadeOf found report → AreFound test n found → TellsOfRuns test n report
+tells-of-runs test n found report made are = record {
   configurations = subst (λ (count : ℕ). CountsParts test n count) (sym made.configurations) are.configurations;
   run_of = kept found.best.items;
   best = are.best;
@@ -38,10 +38,10 @@ tells test name plan found report made testcase steps are within complete = reco
   testcase = testcase;
   steps = steps;
   within = subst (λ (count : ℕ). count ≤ plan.limit) (sym made.configurations) within;
-  runs = tells_of_runs test plan.steps found report made are;
+  runs = tells-of-runs test plan.steps found report made are;
   complete = subst (λ (b : Bool). IsTrue b ↔ IsCompleteByParts test plan.steps) (sym made.complete) complete;
 }
 
 -- where a report is complete, so is what was found
-pub complete_found : (found : Exploration) (report : Report) → IsMadeOf found report → IsTrue report.complete → IsTrue found.complete
-complete_found found report made is = subst (λ (b : Bool). IsTrue b) made.complete is
+pub complete-found : (found : Exploration) (report : Report) → IsMadeOf found report → IsTrue report.complete → IsTrue found.complete
+complete-found found report made is = subst (λ (b : Bool). IsTrue b) made.complete is

@@ -18,13 +18,13 @@ use Rattle.clap.specs.declared.builder.value_parser.ValueParser.TheVariants as v
 use Rattle.clap.proofs.ValueTestLemmas.{accepts-Accepts}
 use Rattle.ttcnx_command_line.specs.App.{ttcnx_app}
 use Rattle.ttcnx_command_line.specs.internal.Given.{GivesCommand, GivesFlag, GivesNumber, GivesRun, GivesRunFile, GivesText}
-use Rattle.ttcnx_command_line.proofs.Walks.{IsNoHelp, none_of, walk_enters}
-use Rattle.ttcnx_command_line.proofs.Fills.{AllOf, Fills, FirstPasses, HasValue, IsWanted, level_values, no_check}
+use Rattle.ttcnx_command_line.proofs.Walks.{IsNoHelp, none-of, walk-enters}
+use Rattle.ttcnx_command_line.proofs.Fills.{AllOf, Fills, FirstPasses, HasValue, IsWanted, level-values, no-check}
 
 -- ---- from a first value to what is read
 
-text_from : (rows : List Row) (a : Rule) → HasValue rows a → GivesText rows a.id
-text_from rows a v = rw v.is (go v.row.values v.first)
+text-from : (rows : List Row) (a : Rule) → HasValue rows a → GivesText rows a.id
+text-from rows a v = rw v.is (go v.row.values v.first)
   where
     go : (values : List Text) → FirstPasses a values → (text : Text) × (slice_get values 0 ≡ Some text)
     go [] h = absurd h
@@ -39,13 +39,13 @@ passed rows a q is v = rw (v.is, v.reading, is) (go v.row.values v.first)
     go [] h = absurd h
     go (x ∷ xs) h = (x, refl, rw is at h)
 
-number_from : (rows : List Row) (a : Rule) (low high : ℕ) → a.parser ≡ Some (vp.Unsigned low high) → HasValue rows a → GivesNumber rows a.id low high
-number_from rows a low high is v =
+number-from : (rows : List Row) (a : Rule) (low high : ℕ) → a.parser ≡ Some (vp.Unsigned low high) → HasValue rows a → GivesNumber rows a.id low high
+number-from rows a low high is v =
     let p = passed rows a (vp.Unsigned low high) is v in
     (p.0, p.1, accepts-Accepts a.ignore_case (vp.Unsigned low high) p.0 p.2)
 
-flag_from : (rows : List Row) (a : Rule) → a.parser ≡ Some vp.Bool → HasValue rows a → GivesFlag rows a.id
-flag_from rows a is v = passed rows a vp.Bool is v
+flag-from : (rows : List Row) (a : Rule) → a.parser ≡ Some vp.Bool → HasValue rows a → GivesFlag rows a.id
+flag-from rows a is v = passed rows a vp.Bool is v
 
 -- ---- the command as clap builds it
 
@@ -81,8 +81,8 @@ double_built = at_nth app.subs 4
 abbrev rule_at : Shape → ℕ → Rule
 rule_at s n = nth_rule s.rules n
 
-check_fills : AllOf (Fills check_built.rules) check_built.rules
-check_fills = (set, (request, tt))
+check-fills : AllOf (Fills check_built.rules) check_built.rules
+check-fills = (set, (request, tt))
   where
     set : Fills check_built.rules (rule_at check_built 0)
     set = record { own = refl; action = refl; full = inr (inl (omega arith)); defaults = tt }
@@ -90,8 +90,8 @@ check_fills = (set, (request, tt))
     request : Fills check_built.rules (rule_at check_built 1)
     request = record { own = refl; action = refl; full = inl refl; defaults = tt }
 
-run_fills : AllOf (Fills run_built.rules) run_built.rules
-run_fills = (
+run-fills : AllOf (Fills run_built.rules) run_built.rules
+run-fills = (
   record { own = refl; action = refl; full = inr (inl (omega arith)); defaults = tt },
   (
     record { own = refl; action = refl; full = inr (inl (omega arith)); defaults = tt },
@@ -124,8 +124,8 @@ run_fills = (
 abbrev run_file_rules : List Rule
 run_file_rules = replay_built.rules
 
-run_file_fills : AllOf (Fills run_file_rules) run_file_rules
-run_file_fills = (
+run-file-fills : AllOf (Fills run_file_rules) run_file_rules
+run-file-fills = (
   record { own = refl; action = refl; full = inr (inl (omega arith)); defaults = tt },
   (
     record { own = refl; action = refl; full = inr (inl (omega arith)); defaults = tt },
@@ -144,35 +144,35 @@ run_file_fills = (
 
 -- ---- what one level gives
 
-check_given : (words : List Text) → level_fault check_built [] nothing_held words false [] ≡ [] → GivesText (rows_after check_built.rules [] words) (codes "FILE")
-check_given words e =
-    let v = level_values check_built words check_fills e in
-    text_from _ _ (v.0 (inl refl))
+check-given : (words : List Text) → level_fault check_built [] nothing_held words false [] ≡ [] → GivesText (rows_after check_built.rules [] words) (codes "FILE")
+check-given words e =
+    let v = level-values check_built words check-fills e in
+    text-from _ _ (v.0 (inl refl))
 
-run_given : (words : List Text) → level_fault run_built [] nothing_held words false [] ≡ [] → GivesRun (rows_after run_built.rules [] words)
-run_given words e =
-    let v = level_values run_built words run_fills e in
+run-given : (words : List Text) → level_fault run_built [] nothing_held words false [] ≡ [] → GivesRun (rows_after run_built.rules [] words)
+run-given words e =
+    let v = level-values run_built words run-fills e in
     record {
-      file = text_from _ _ (v.0 (inl refl));
-      testcase = text_from _ _ (v.1.0 (inl refl));
+      file = text-from _ _ (v.0 (inl refl));
+      testcase = text-from _ _ (v.1.0 (inl refl));
       plan = record {
-        steps = number_from _ _ 0 100000 refl (v.1.1.1.0 (inl refl));
-        limit = number_from _ _ 1 10000000 refl (v.1.1.1.1.0 (inr tt));
-        workers = number_from _ _ 1 64 refl (v.1.1.1.1.1.0 (inr tt));
-        piece = number_from _ _ 1 65536 refl (v.1.1.1.1.1.1.0 (inr tt));
+        steps = number-from _ _ 0 100000 refl (v.1.1.1.0 (inl refl));
+        limit = number-from _ _ 1 10000000 refl (v.1.1.1.1.0 (inr tt));
+        workers = number-from _ _ 1 64 refl (v.1.1.1.1.1.0 (inr tt));
+        piece = number-from _ _ 1 65536 refl (v.1.1.1.1.1.1.0 (inr tt));
       };
-      json = flag_from _ _ refl (v.1.1.1.1.1.1.1.0 (inr tt));
+      json = flag-from _ _ refl (v.1.1.1.1.1.1.1.0 (inr tt));
     }
 
-run_file_given : (s : Shape) → s.rules ≡ run_file_rules → (words : List Text) → level_fault s [] nothing_held words false [] ≡ [] → GivesRunFile (rows_after s.rules [] words)
-run_file_given s is words e =
+run-file-given : (s : Shape) → s.rules ≡ run_file_rules → (words : List Text) → level_fault s [] nothing_held words false [] ≡ [] → GivesRunFile (rows_after s.rules [] words)
+run-file-given s is words e =
     let rows = rows_after s.rules [] words in
-    let fills = subst (λ rules. AllOf (Fills rules) rules) (sym is) run_file_fills in
-    let v = subst (AllOf (λ a. IsWanted a → HasValue rows a)) is (level_values s words fills e) in
+    let fills = subst (λ rules. AllOf (Fills rules) rules) (sym is) run-file-fills in
+    let v = subst (AllOf (λ a. IsWanted a → HasValue rows a)) is (level-values s words fills e) in
     record {
-      file = text_from rows _ (v.0 (inl refl));
-      testcase = text_from rows _ (v.1.0 (inl refl));
-      run = text_from rows _ (v.1.1.1.0 (inl refl));
+      file = text-from rows _ (v.0 (inl refl));
+      testcase = text-from rows _ (v.1.0 (inl refl));
+      run = text-from rows _ (v.1.1.1.0 (inl refl));
     }
 
 -- ---- the subcommand at which the walk stops
@@ -191,8 +191,8 @@ abbrev Gives : List Text → Option Shape → Type 0
 Gives words o = option_map_or (λ s. level_fault s [] nothing_held words false []) o [] ≡ []
     → is_some (option_map (λ s. rows_at s words) o) ≡ true → GivesCommand (option_map (λ s. rows_at s words) o)
 
-not_help : (name : Text) → bytes_eq name (codes "help") ≡ false → (bytes_eq (codes "help") name || false) ≡ true → ⊥
-not_help name other hit = go (bytes_eq (codes "help") name) refl hit
+not-help : (name : Text) → bytes_eq name (codes "help") ≡ false → (bytes_eq (codes "help") name || false) ≡ true → ⊥
+not-help name other hit = go (bytes_eq (codes "help") name) refl hit
   where
     go : (b : Bool) → bytes_eq (codes "help") name ≡ b → (b || false) ≡ true → ⊥
     go true is e =
@@ -201,19 +201,19 @@ not_help name other hit = go (bytes_eq (codes "help") name) refl hit
         true≢false (sym back ∙ other)
     go false is e = true≢false (sym e)
 
-entered_given : (p : Text × List Text) → bytes_eq p.0 (codes "help") ≡ false → Gives p.1 (find (λ s. answers_to p.0 (label_of s)) app.subs)
-entered_given p other = chosen (Gives p.1) p.0 app.subs (
-  λ hit e some. inl (refl, check_given p.1 e),
+entered-given : (p : Text × List Text) → bytes_eq p.0 (codes "help") ≡ false → Gives p.1 (find (λ s. answers_to p.0 (label_of s)) app.subs)
+entered-given p other = chosen (Gives p.1) p.0 app.subs (
+  λ hit e some. inl (refl, check-given p.1 e),
   (
-    λ hit e some. inr (inl (refl, run_given p.1 e)),
+    λ hit e some. inr (inl (refl, run-given p.1 e)),
     (
-      λ hit e some. inr (inr (inl refl, run_file_given replay_built refl p.1 e)),
+      λ hit e some. inr (inr (inl refl, run-file-given replay_built refl p.1 e)),
       (
-        λ hit e some. inr (inr (inr (inl refl), run_file_given coarsen_built refl p.1 e)),
+        λ hit e some. inr (inr (inr (inl refl), run-file-given coarsen_built refl p.1 e)),
         (
-          λ hit e some. inr (inr (inr (inr refl), run_file_given double_built refl p.1 e)),
+          λ hit e some. inr (inr (inr (inr refl), run-file-given double_built refl p.1 e)),
           (
-            λ hit e some. absurd (not_help p.0 other hit),
+            λ hit e some. absurd (not-help p.0 other hit),
             tt,
           ),
         ),
@@ -222,34 +222,34 @@ entered_given p other = chosen (Gives p.1) p.0 app.subs (
   ),
 ) (λ e some. absurd (true≢false (sym some)))
 
-is_entered : (has : Bool) → (not has && true) ≡ false → has ≡ true
-is_entered true e = refl
-is_entered false e = absurd (true≢false e)
+is-entered : (has : Bool) → (not has && true) ≡ false → has ≡ true
+is-entered true e = refl
+is-entered false e = absurd (true≢false e)
 
 -- the walk, the level below and the last checks have no fault
-steps_parts : (a b c d : Kinds) (x y z : Bool) → or_else a (or_else b (or_else c (or_else d (check_kinds x y z)))) ≡ [] → (a ≡ []) × (b ≡ []) × (y ≡ false)
-steps_parts a b c d x y z e =
-    let first = none_of a (or_else b (or_else c (or_else d (check_kinds x y z)))) e in
-    let second = none_of b (or_else c (or_else d (check_kinds x y z))) first.1 in
-    let third = none_of c (or_else d (check_kinds x y z)) second.1 in
-    let fourth = none_of d (check_kinds x y z) third.1 in
-    (first.0, second.0, (no_check x y z fourth.1).0)
+steps-parts : (a b c d : Kinds) (x y z : Bool) → or_else a (or_else b (or_else c (or_else d (check_kinds x y z)))) ≡ [] → (a ≡ []) × (b ≡ []) × (y ≡ false)
+steps-parts a b c d x y z e =
+    let first = none-of a (or_else b (or_else c (or_else d (check_kinds x y z)))) e in
+    let second = none-of b (or_else c (or_else d (check_kinds x y z))) first.1 in
+    let third = none-of c (or_else d (check_kinds x y z)) second.1 in
+    let fourth = none-of d (check_kinds x y z) third.1 in
+    (first.0, second.0, (no-check x y z fourth.1).0)
 
-level_parts : (s : Shape) (above : Names) (h : Held) (words : List Text) (has : Bool) (below : Kinds) → level_fault s above h words has below ≡ []
+level-parts : (s : Shape) (above : Names) (h : Held) (words : List Text) (has : Bool) (below : Kinds) → level_fault s above h words has below ≡ []
     → (walk_fault s above (walk_from h) words ≡ []) × (below ≡ []) × ((not has && s.subcommand_required) ≡ false)
-level_parts s above h words has below e =
+level-parts s above h words has below e =
     let end = (walk s.rules above h words).held in
     let rows = finished s.rules end in
-    steps_parts (walk_fault s above (walk_from h) words) below (settle_fault s.rules s.args_override_self end) (defaults_fault (settled s.rules end).rows s.rules)
+    steps-parts (walk_fault s above (walk_from h) words) below (settle_fault s.rules s.args_override_self end) (defaults_fault (settled s.rules end).rows s.rules)
     (not has && (s.arg_required_else_help && not (list_any (λ r. explicit_source r.source) rows))) (not has && s.subcommand_required)
     (not (s.subcommand_negates_reqs && has) && list_any (λ a. a.required && not (is_given a.id rows)) s.rules) e
 
-pub all_given : (words : List Text) → fault_of ttcnx_app words ≡ [] → GivesCommand (subcommand_of ttcnx_app words)
-all_given words e =
+pub all-given : (words : List Text) → fault_of ttcnx_app words ≡ [] → GivesCommand (subcommand_of ttcnx_app words)
+all-given words e =
     let stop = stop_after app.top.rules names words in
-    let parts = level_parts app.top names nothing_held words (is_some (entered app stop)) (entered_fault app stop) e in
-    go stop (walk_enters app.top refl names (walk_from nothing_held) words tt parts.0) parts.1 (is_entered (is_some (entered app stop)) parts.2)
+    let parts = level-parts app.top names nothing_held words (is_some (entered app stop)) (entered_fault app stop) e in
+    go stop (walk-enters app.top refl names (walk_from nothing_held) words tt parts.0) parts.1 (is-entered (is_some (entered app stop)) parts.2)
   where
     go : (stop : Option (Text × List Text)) → IsNoHelp stop → entered_fault app stop ≡ [] → is_some (entered app stop) ≡ true → GivesCommand (entered app stop)
     go None other free some = absurd (true≢false (sym some))
-    go (Some p) other free some = entered_given p other free some
+    go (Some p) other free some = entered-given p other free some

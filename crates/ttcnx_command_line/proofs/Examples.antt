@@ -14,78 +14,78 @@ run_words more = codes "run" ∷ codes "x1.ttcn" ∷ codes "--testcase" ∷ code
 abbrev value_in : Text → Option (Text × List Row) → Option (Option Text)
 value_in id = option_map (λ p. one_of id p.1)
 
-check_is_taken : (takes ttcnx_app (codes "check" ∷ codes "x1.ttcn" ∷ []) ≡ true) × (fault_of ttcnx_app (codes "check" ∷ codes "x1.ttcn" ∷ []) ≡ [])
+check-is-taken : (takes ttcnx_app (codes "check" ∷ codes "x1.ttcn" ∷ []) ≡ true) × (fault_of ttcnx_app (codes "check" ∷ codes "x1.ttcn" ∷ []) ≡ [])
 unfolding clap_on_literals
-check_is_taken = (refl, refl)
+check-is-taken = (refl, refl)
 
-run_is_taken : (takes ttcnx_app (run_words (codes "--steps=8" ∷ codes "--json" ∷ [])) ≡ true) × (fault_of ttcnx_app (run_words (codes "--steps=8" ∷ codes "--json" ∷ [])) ≡ [])
+run-is-taken : (takes ttcnx_app (run_words (codes "--steps=8" ∷ codes "--json" ∷ [])) ≡ true) × (fault_of ttcnx_app (run_words (codes "--steps=8" ∷ codes "--json" ∷ [])) ≡ [])
 unfolding clap_on_literals
-run_is_taken = (refl, refl)
+run-is-taken = (refl, refl)
 
-options_and_defaults : (value_in (codes "steps") (subcommand_of ttcnx_app (run_words (codes "--steps=8" ∷ []))) ≡ Some (Some (codes "8")))
+options-and-defaults : (value_in (codes "steps") (subcommand_of ttcnx_app (run_words (codes "--steps=8" ∷ []))) ≡ Some (Some (codes "8")))
     × (value_in (codes "limit") (subcommand_of ttcnx_app (run_words (codes "--steps=8" ∷ []))) ≡ Some (Some (codes "1000000")))
     × (value_in (codes "workers") (subcommand_of ttcnx_app (run_words (codes "--steps=8" ∷ []))) ≡ Some (Some (codes "1")))
     × (value_in (codes "piece") (subcommand_of ttcnx_app (run_words (codes "--steps=8" ∷ []))) ≡ Some (Some (codes "256")))
     × (value_in (codes "json") (subcommand_of ttcnx_app (run_words (codes "--steps=8" ∷ []))) ≡ Some (Some (codes "false")))
 unfolding clap_on_literals
-options_and_defaults = (refl, refl, refl, refl, refl)
+options-and-defaults = (refl, refl, refl, refl, refl)
 
 abbrev script_in : Text → List Text → Option (Option Text)
 script_in name more = option_map (λ p. first_of (codes "script") p.1)
     (subcommand_of ttcnx_app (name ∷ codes "x1.ttcn" ∷ codes "--testcase" ∷ codes "TC" ∷ more))
 
-a_script_is_read : (script_in (codes "run") (codes "--steps=8" ∷ codes "--script=s.json" ∷ []) ≡ Some (Some (codes "s.json")))
+a-script-is-read : (script_in (codes "run") (codes "--steps=8" ∷ codes "--script=s.json" ∷ []) ≡ Some (Some (codes "s.json")))
     × (script_in (codes "replay") (codes "--script" ∷ codes "s.json" ∷ codes "--run=r.txt" ∷ []) ≡ Some (Some (codes "s.json")))
     × (script_in (codes "coarsen") (codes "--run=r.txt" ∷ codes "--script" ∷ codes "s.json" ∷ []) ≡ Some (Some (codes "s.json")))
     × (script_in (codes "double") (codes "--run=r.txt" ∷ codes "--script=s.json" ∷ []) ≡ Some (Some (codes "s.json")))
 unfolding clap_on_literals
-a_script_is_read = (refl, refl, refl, refl)
+a-script-is-read = (refl, refl, refl, refl)
 
-a_script_may_be_left_out : (script_in (codes "run") (codes "--steps=8" ∷ []) ≡ Some None) × (script_in (codes "double") (codes "--run=r.txt" ∷ []) ≡ Some None)
+a-script-may-be-left-out : (script_in (codes "run") (codes "--steps=8" ∷ []) ≡ Some None) × (script_in (codes "double") (codes "--run=r.txt" ∷ []) ≡ Some None)
 unfolding clap_on_literals
-a_script_may_be_left_out = (refl, refl)
+a-script-may-be-left-out = (refl, refl)
 
 abbrev run_file_in : Text → Option (Option Text)
 run_file_in name = option_map (λ p. first_of (codes "run") p.1)
     (subcommand_of ttcnx_app (name ∷ codes "x1.ttcn" ∷ codes "--run" ∷ codes "r.txt" ∷ codes "--testcase" ∷ codes "TC" ∷ []))
 
-a_run_file_is_read : (run_file_in (codes "replay") ≡ Some (Some (codes "r.txt"))) × (run_file_in (codes "coarsen") ≡ Some (Some (codes "r.txt")))
+a-run-file-is-read : (run_file_in (codes "replay") ≡ Some (Some (codes "r.txt"))) × (run_file_in (codes "coarsen") ≡ Some (Some (codes "r.txt")))
     × (run_file_in (codes "double") ≡ Some (Some (codes "r.txt")))
 unfolding clap_on_literals
-a_run_file_is_read = (refl, refl, refl)
+a-run-file-is-read = (refl, refl, refl)
 
-a_run_file_is_needed : fault_of ttcnx_app (codes "coarsen" ∷ codes "x1.ttcn" ∷ codes "--testcase" ∷ codes "TC" ∷ []) ≡ MissingRequiredArgument ∷ []
+a-run-file-is-needed : fault_of ttcnx_app (codes "coarsen" ∷ codes "x1.ttcn" ∷ codes "--testcase" ∷ codes "TC" ∷ []) ≡ MissingRequiredArgument ∷ []
 unfolding clap_on_literals
-a_run_file_is_needed = refl
+a-run-file-is-needed = refl
 
-steps_are_needed : fault_of ttcnx_app (run_words []) ≡ MissingRequiredArgument ∷ []
+steps-are-needed : fault_of ttcnx_app (run_words []) ≡ MissingRequiredArgument ∷ []
 unfolding clap_on_literals
-steps_are_needed = refl
+steps-are-needed = refl
 
-check_takes_no_script : fault_of ttcnx_app (codes "check" ∷ codes "x1.ttcn" ∷ codes "--script=s.json" ∷ []) ≡ UnknownArgument ∷ []
+check-takes-no-script : fault_of ttcnx_app (codes "check" ∷ codes "x1.ttcn" ∷ codes "--script=s.json" ∷ []) ≡ UnknownArgument ∷ []
 unfolding clap_on_literals
-check_takes_no_script = refl
+check-takes-no-script = refl
 
-steps_have_a_most : fault_of ttcnx_app (run_words (codes "--steps=100001" ∷ [])) ≡ ValueValidation ∷ []
+steps-have-a-most : fault_of ttcnx_app (run_words (codes "--steps=100001" ∷ [])) ≡ ValueValidation ∷ []
 unfolding clap_on_literals
-steps_have_a_most = refl
+steps-have-a-most = refl
 
-workers_have_a_least : fault_of ttcnx_app (run_words (codes "--steps=8" ∷ codes "--workers=0" ∷ [])) ≡ ValueValidation ∷ []
+workers-have-a-least : fault_of ttcnx_app (run_words (codes "--steps=8" ∷ codes "--workers=0" ∷ [])) ≡ ValueValidation ∷ []
 unfolding clap_on_literals
-workers_have_a_least = refl
+workers-have-a-least = refl
 
-no_words : fault_of ttcnx_app [] ≡ MissingSubcommand ∷ []
+no-words : fault_of ttcnx_app [] ≡ MissingSubcommand ∷ []
 unfolding clap_on_literals
-no_words = refl
+no-words = refl
 
-another_option : fault_of ttcnx_app (codes "check" ∷ codes "x1.ttcn" ∷ codes "--steps=8" ∷ []) ≡ UnknownArgument ∷ []
+another-option : fault_of ttcnx_app (codes "check" ∷ codes "x1.ttcn" ∷ codes "--steps=8" ∷ []) ≡ UnknownArgument ∷ []
 unfolding clap_on_literals
-another_option = refl
+another-option = refl
 
-help_flag : fault_of ttcnx_app (codes "run" ∷ codes "--help" ∷ []) ≡ DisplayHelp ∷ []
+help-flag : fault_of ttcnx_app (codes "run" ∷ codes "--help" ∷ []) ≡ DisplayHelp ∷ []
 unfolding clap_on_literals
-help_flag = refl
+help-flag = refl
 
-help_word : fault_of ttcnx_app (codes "help" ∷ []) ≡ DisplayHelp ∷ InvalidSubcommand ∷ []
+help-word : fault_of ttcnx_app (codes "help" ∷ []) ≡ DisplayHelp ∷ InvalidSubcommand ∷ []
 unfolding clap_on_literals
-help_word = refl
+help-word = refl

@@ -13,23 +13,23 @@ use Rattle.ttcnx_command_line.specs.Command.{IsFlag, IsNumber, IsText, IsTextIfG
 use Rattle.ttcnx_command_line.specs.internal.Given.{GivesFlag, GivesNumber, GivesText}
 
 -- `get_str` has a text where the argument has one
-pub text_there : (f : Found) (id : Text) (o : Option (Bor Text)) → option_map (λ s. s.now) o ≡ first_value f id → GivesText (rows_of f) id → IsSome o
-text_there f id (Some s) got given = refl
-text_there f id None got given =
+pub text-there : (f : Found) (id : Text) (o : Option (Bor Text)) → option_map (λ s. s.now) o ≡ first_value f id → GivesText (rows_of f) id → IsSome o
+text-there f id (Some s) got given = refl
+text-there f id None got given =
     let rows = first_value-rows f id in
     let is = given.1 in
     cc
 
 -- and a copy of that text is the argument's text
-pub text_copied : (f : Found) (id : Text) (o : Option (Bor Text)) (s : Bor Text) (copy : Text) → option_map (λ x. x.now) o ≡ first_value f id → o ≡ Some s
+pub text-copied : (f : Found) (id : Text) (o : Option (Bor Text)) (s : Bor Text) (copy : Text) → option_map (λ x. x.now) o ≡ first_value f id → o ≡ Some s
     → copy ≡ s.now → IsText (rows_of f) id copy
-text_copied f id o s copy got is same =
+text-copied f id o s copy got is same =
     let here : Some s.now ≡ first_value f id = ap (option_map (λ (x : Bor Text). x.now)) (sym is) ∙ got in
     sym (first_value-rows f id) ∙ sym here ∙ ap Some (sym same)
 
 -- `get_str` has no text only where the argument has none
-pub none_given : (f : Found) (id : Text) (o : Option (Bor Text)) → option_map (λ s. s.now) o ≡ first_value f id → o ≡ None → IsTextIfGiven (rows_of f) id None
-none_given f id o got is = sym (first_value-rows f id) ∙ sym got ∙ ap (option_map (λ (x : Bor Text). x.now)) is
+pub none-given : (f : Found) (id : Text) (o : Option (Bor Text)) → option_map (λ s. s.now) o ≡ first_value f id → o ≡ None → IsTextIfGiven (rows_of f) id None
+none-given f id o got is = sym (first_value-rows f id) ∙ sym got ∙ ap (option_map (λ (x : Bor Text). x.now)) is
 
 -- what a type of numbers reads of a numeral that fits
 reads : {E : Type 0} (G : List ℕ → Result ℕ E → Type 0) (low high : ℕ) (t : Text) (o : Option ℕ) → ReadsOne G t o
@@ -38,10 +38,10 @@ reads G low high t (Some v) read only within = ap Some (only (Ok v) read).1
 reads G low high t None read only within = absurd (only (Err read.0) read.1 (within.0, within.1))
 
 -- `get_one` has a number where the argument has one
-pub number_read : {E : Type 0} (G : List ℕ → Result ℕ E → Type 0) (f : Found) (id : Text) (low high : ℕ) (o : Option ℕ)
+pub number-read : {E : Type 0} (G : List ℕ → Result ℕ E → Type 0) (f : Found) (id : Text) (low high : ℕ) (o : Option ℕ)
     → ((t : Text) → one_text f id ≡ Some t → ReadsOne G t o) → ((t : Text) (r : Result ℕ E) → G t r → ParsesUnsigned 64 10 t r)
     → GivesNumber (rows_of f) id low high → (n : ℕ) × (o ≡ Some n) × IsNumber (rows_of f) id n
-number_read G f id low high o read only given =
+number-read G f id low high o read only given =
     let text = one_text-rows f id ∙ given.1 in (
       digits_value 10 (without_leading_plus given.0),
       reads G low high given.0 o (read given.0 text) (only given.0) given.2,
@@ -49,17 +49,17 @@ number_read G f id low high o read only given =
     )
 
 -- and it is in the range of the argument
-pub number_within : (matches : List Row) (id : Text) (low high n : ℕ) → GivesNumber matches id low high → IsNumber matches id n → (low ≤ n) × (n ≤ high)
-number_within matches id low high n given is =
+pub number-within : (matches : List Row) (id : Text) (low high n : ℕ) → GivesNumber matches id low high → IsNumber matches id n → (low ≤ n) × (n ≤ high)
+number-within matches id low high n given is =
     let here : Some (digits_value 10 (without_leading_plus given.0)) ≡ Some n =
     sym (ap (option_map (λ t. digits_value 10 (without_leading_plus t))) given.1) ∙ is in
     let same : digits_value 10 (without_leading_plus given.0) ≡ n = cc in
     (subst (λ k. low ≤ k) same given.2.2, subst (λ k. k ≤ high) same given.2.3)
 
 -- `get_flag` gives the flag's value
-pub flag_read : (f : Found) (id : Text) (b : Bool) → (one_text f id ≡ Some (codes "true") → b ≡ true) → (one_text f id ≡ Some (codes "false") → b ≡ false)
+pub flag-read : (f : Found) (id : Text) (b : Bool) → (one_text f id ≡ Some (codes "true") → b ≡ true) → (one_text f id ≡ Some (codes "false") → b ≡ false)
     → GivesFlag (rows_of f) id → IsFlag (rows_of f) id b
-flag_read f id b yes-true yes-false given = go (bytes_eq given.0 (codes "true")) refl given.2
+flag-read f id b yes-true yes-false given = go (bytes_eq given.0 (codes "true")) refl given.2
   where
     go : (hit : Bool) → bytes_eq given.0 (codes "true") ≡ hit → (hit || bytes_eq given.0 (codes "false")) ≡ true → IsFlag (rows_of f) id b
     go true hit any =

@@ -7,15 +7,15 @@ use Rattle.explore.specs.declared.answer.Answer.{Answer}
 use Rattle.search_layer.specs.declared.plan.ExploreError.{ExploreError}
 use Rattle.search_layer.specs.declared.plan.ExploreError.TheVariants as refused
 use Rattle.search_layer.specs.declared.plan.Plan.{Plan}
-use Rattle.ttcnx_runs.proofs.Best.{best_run}
-use Rattle.ttcnx_runs.proofs.Longer.{best_later}
+use Rattle.ttcnx_runs.proofs.Best.{best-run}
+use Rattle.ttcnx_runs.proofs.Longer.{best-later}
 use Rattle.ttcnx_runs.proofs.Parts.{Shown}
-use Rattle.ttcnx_runs.proofs.Sums.{blocked_found, branches_found}
+use Rattle.ttcnx_runs.proofs.Sums.{blocked-found, branches-found}
 use Rattle.ttcnx_runs.specs.Found.{AreFound, place_cmp, run_kept, standing_cmp}
 use Rattle.ttcnx_runs.specs.declared.exploration.Exploration.{Exploration}
 use Rattle.ttcnx_runs.specs.internal.Explored.{IsExplored}
 use Rattle.ttcnx_runs.specs.internal.Sums.{blocked_of, branches_of}
-use Rattle.laws_live.proofs.SameRuns.{same_complete, same_counts}
+use Rattle.laws_live.proofs.SameRuns.{same-complete, same-counts}
 use Rattle.laws_live.specs.Parts.{CountsParts, IsCompleteByParts}
 use Rattle.summary.specs.Ascent.{Ascends}
 use Rattle.summary.specs.KeySet.{from_list}
@@ -49,63 +49,63 @@ pub record AreSummed (test : Test) (n : ℕ) (answer : Searched) : Type 0 where
   pub blocked : answer.summary.second.second.components ≡ blocked_of (canonical_graph test) (blocked test) n
 
 module _ (test : Test) where
-  pub too_many_parts : (n limit : ℕ) → ((count : ℕ) × Counts (canonical_graph test) n count × (limit < count)) → (count : ℕ) × CountsParts test n count × (limit < count)
-  too_many_parts n limit more = (more.0, (same_counts test n more.0).0 more.1, more.2)
+  pub too-many-parts : (n limit : ℕ) → ((count : ℕ) × Counts (canonical_graph test) n count × (limit < count)) → (count : ℕ) × CountsParts test n count × (limit < count)
+  too-many-parts n limit more = (more.0, (same-counts test n more.0).0 more.1, more.2)
 
   module _ (found : Exploration) (answer : Searched) (made : IsMadeOf found answer) where
-    pub complete_parts : (n : ℕ) → (IsTrue answer.complete ↔ IsComplete (canonical_graph test) n) → IsTrue found.complete ↔ IsCompleteByParts test n
-    complete_parts n is = subst (λ b. IsTrue b ↔ IsCompleteByParts test n) (sym made.complete)
-        (λ h. (same_complete test n).0 (is.0 h), λ h. is.1 ((same_complete test n).1 h))
+    pub complete-parts : (n : ℕ) → (IsTrue answer.complete ↔ IsComplete (canonical_graph test) n) → IsTrue found.complete ↔ IsCompleteByParts test n
+    complete-parts n is = subst (λ b. IsTrue b ↔ IsCompleteByParts test n) (sym made.complete)
+        (λ h. (same-complete test n).0 (is.0 h), λ h. is.1 ((same-complete test n).1 h))
 
     counted : (n : ℕ) → Counts (canonical_graph test) n answer.count → CountsParts test n found.configurations
-    counted n counts = subst (CountsParts test n) (sym made.configurations) ((same_counts test n answer.count).0 counts)
+    counted n counts = subst (CountsParts test n) (sym made.configurations) ((same-counts test n answer.count).0 counts)
 
-    pub are_found : (n : ℕ) → AreSummed test n answer → AreBest (canonical_graph test) label_cmp n answer.best.items → AreFound test n found
-    are_found n summed best = record {
+    pub are-found : (n : ℕ) → AreSummed test n answer → AreBest (canonical_graph test) label_cmp n answer.best.items → AreFound test n found
+    are-found n summed best = record {
       configurations = counted n summed.counts;
       eight = ap length made.best ∙ best.eight;
-      best = λ v. best_run test n v found.best.items (subst (AreBest (canonical_graph test) label_cmp n) (sym made.best) best);
-      branches = branches_found test n answer.summary.second.first.places summed.branches found.branches.items made.branches made.ascending;
-      blocked = blocked_found test n answer.summary.second.second.components summed.blocked found.blocked.items made.blocked made.in_order;
+      best = λ v. best-run test n v found.best.items (subst (AreBest (canonical_graph test) label_cmp n) (sym made.best) best);
+      branches = branches-found test n answer.summary.second.first.places summed.branches found.branches.items made.branches made.ascending;
+      blocked = blocked-found test n answer.summary.second.second.components summed.blocked found.blocked.items made.blocked made.in_order;
     }
 
-    pub found_later : (n bound : ℕ) → n ≤ bound → AreFound test n found → AreSummed test bound answer → AreFound test bound found
-    found_later n bound le is summed = record {
+    pub found-later : (n bound : ℕ) → n ≤ bound → AreFound test n found → AreSummed test bound answer → AreFound test bound found
+    found-later n bound le is summed = record {
       configurations = counted bound summed.counts;
       eight = is.eight;
-      best = λ v. best_later test n bound le found.configurations is.configurations (counted bound summed.counts) v (run_kept found v) (is.best v);
-      branches = branches_found test bound answer.summary.second.first.places summed.branches found.branches.items made.branches made.ascending;
-      blocked = blocked_found test bound answer.summary.second.second.components summed.blocked found.blocked.items made.blocked made.in_order;
+      best = λ v. best-later test n bound le found.configurations is.configurations (counted bound summed.counts) v (run_kept found v) (is.best v);
+      branches = branches-found test bound answer.summary.second.first.places summed.branches found.branches.items made.branches made.ascending;
+      blocked = blocked-found test bound answer.summary.second.second.components summed.blocked found.blocked.items made.blocked made.in_order;
     }
 
     -- what was found, as the answer of an exploration
-    pub found_explored : (plan : Plan) → IsWithinLimits plan → Counts (canonical_graph test) plan.steps answer.count × (answer.count ≤ plan.limit)
+    pub found-explored : (plan : Plan) → IsWithinLimits plan → Counts (canonical_graph test) plan.steps answer.count × (answer.count ≤ plan.limit)
         → answer.summary.second.first.places ≡ branches_of (canonical_graph test) (branch_of test) plan.steps → answer.summary.second.second.components ≡ blocked_of (canonical_graph test) (blocked test) plan.steps
         → (IsTrue answer.complete ↔ IsComplete (canonical_graph test) plan.steps) → AreBest (canonical_graph test) label_cmp plan.steps answer.best.items
         → (IsTrue answer.complete → (bound : ℕ) → plan.steps ≤ bound → Counts (canonical_graph test) bound answer.count
         × (answer.summary.second.first.places ≡ branches_of (canonical_graph test) (branch_of test) bound) × (answer.summary.second.second.components ≡ blocked_of (canonical_graph test) (blocked test) bound))
         → IsExplored test plan (Ok found)
-    found_explored plan fine count taken stands complete best later =
-        let is = are_found plan.steps (record { counts = count.0; branches = taken; blocked = stands }) best in
+    found-explored plan fine count taken stands complete best later =
+        let is = are-found plan.steps (record { counts = count.0; branches = taken; blocked = stands }) best in
         record {
           bad_plan = (λ refused. let no = refused in cc, λ no. absurd (no fine));
           planned = fine;
           too_many = λ refused. let no = refused in cc;
           found = is;
           within = subst (λ (k : ℕ). k ≤ plan.limit) (sym made.configurations) count.1;
-          complete = complete_parts plan.steps complete;
+          complete = complete-parts plan.steps complete;
           every_bound = λ all bound above.
               let more = later (subst IsTrue made.complete all) bound above in
-              found_later plan.steps bound above is (record { counts = more.0; branches = more.1; blocked = more.2 });
+              found-later plan.steps bound above is (record { counts = more.0; branches = more.1; blocked = more.2 });
         }
 
   -- why nothing was found
-  pub refused_explored : (plan : Plan) (why : ExploreError) → ((why ≡ refused.BadPlan) → ¬ IsWithinLimits plan) → (¬ IsWithinLimits plan → why ≡ refused.BadPlan)
+  pub refused-explored : (plan : Plan) (why : ExploreError) → ((why ≡ refused.BadPlan) → ¬ IsWithinLimits plan) → (¬ IsWithinLimits plan → why ≡ refused.BadPlan)
       → (why ≡ refused.TooMany → (count : ℕ) × Counts (canonical_graph test) plan.steps count × (plan.limit < count)) → IsExplored test plan (Err why)
-  refused_explored plan why bad_plan beyond too_many = record {
+  refused-explored plan why bad_plan beyond too_many = record {
     bad_plan = (λ is. bad_plan (let same = is in cc), λ no. ap Err (beyond no));
     planned = tt;
-    too_many = λ is. too_many_parts plan.steps plan.limit (too_many (let same = is in cc));
+    too_many = λ is. too-many-parts plan.steps plan.limit (too_many (let same = is in cc));
     found = tt;
     within = tt;
     complete = tt;

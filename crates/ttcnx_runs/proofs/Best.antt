@@ -5,7 +5,7 @@ use Rattle.std.specs.declared.alloc.Global.{Global}
 use Rattle.std.specs.declared.vec.Vec.{Vec}
 use Rattle.explore.specs.Best.{AreBest, IsBestOf}
 use Rattle.ttcnx_runs.specs.Found.{IsBestRun}
-use Rattle.laws_live.proofs.SameRuns.{same_marked}
+use Rattle.laws_live.proofs.SameRuns.{same-marked}
 use Rattle.semantics.proofs.CanonicalRuns.{best_alike}
 use Rattle.semantics.specs.Canonical.{canonical_graph}
 use Rattle.semantics.specs.Configurations.{badness}
@@ -24,8 +24,8 @@ below-8 verdict.Error = omega arith
 
 module _ (test : Test) (n : ℕ) (v : Verdict) where
   best-of : (kept : Option (Vec Label Global)) → IsBestOf (canonical_graph test) label_cmp n (badness v) kept → IsBestRun test n v (option_map (λ run. run.items) kept)
-  best-of None best = λ run has. best run ((same_marked test n (badness v) run).1 has)
+  best-of None best = λ run has. best run ((same-marked test n (badness v) run).1 has)
   best-of (Some labels) best = (best.0, (best_alike test label_cmp n (badness v) best.0).0 best.1, best.2)
 
-  pub best_run : (kept : List (Option (Vec Label Global))) → AreBest (canonical_graph test) label_cmp n kept → IsBestRun test n v (option_map (λ run. run.items) (slice_index_or kept (badness v) None))
-  best_run kept best = best-of (slice_index_or kept (badness v) None) (best.each (badness v) (below-8 v))
+  pub best-run : (kept : List (Option (Vec Label Global))) → AreBest (canonical_graph test) label_cmp n kept → IsBestRun test n v (option_map (λ run. run.items) (slice_index_or kept (badness v) None))
+  best-run kept best = best-of (slice_index_or kept (badness v) None) (best.each (badness v) (below-8 v))

@@ -1,8 +1,7 @@
 -- What is known of the steps of a state without its configuration.
 use Rattle.std.specs.Prelude.{◌↔◌, IsTrue, not}
-use Rattle.std.proofs.Common.{◌≡◌, ℕ, Bool, true, false, true≢false, List, [], ◌∷◌, get_or, Option, Some, None, is_some, refl, sym, ap, subst, ◌∙◌}
+use Rattle.std.proofs.Common.{◌≡◌, ℕ, Bool, true, false, true≢false, List, [], ◌∷◌, get_or, Option, Some, None, refl, sym, ap, subst, ◌∙◌}
 use Rattle.std.specs.Option.{option_and_then}
-use Rattle.std.proofs.lemmas.Option.{none-some, same_Some}
 use Rattle.semantics.specs.Configurations.{Configuration, Ended, Goes}
 use Rattle.semantics.proofs.LiveTheorem.{labels_live}
 use Rattle.semantics.specs.Labels.{labels}

@@ -3,7 +3,7 @@ use Rattle.std.proofs.Common.{◌≡◌, ℕ, zero, suc, ◌<◌, ◌≤◌, Lis
 use Rattle.std.specs.Prelude.{◌≢◌, ◌⊎◌, AllPairs, Contains}
 use Rattle.std.proofs.lemmas.Bool.{cases_lt}
 use Rattle.ttcnx_runs.specs.Found.{IsBestRun}
-use Rattle.laws_live.proofs.Counting.{no_longer}
+use Rattle.laws_live.proofs.Counting.{no-longer}
 use Rattle.laws_live.specs.Parts.{CountsParts, IsPartReached}
 use Rattle.semantics.proofs.LiveTheorem.{mark_live}
 use Rattle.semantics.specs.Configurations.{Configuration, badness}
@@ -50,7 +50,7 @@ module _ (test : Test) (n m : ℕ) (le : n ≤ m) where
       none is.run (record { is_run = is.is_run; short = is.short; marked = sym (mark_live (end_of (graph_of test) is.run)) ∙ ap mark_of is.ends ∙ marked }) in
       let reached : IsPartReached test m part = record { run = run; is_run = has.is_run; short = has.short; ends = refl } in
       let fits : length (part ∷ counts.parts) ≤ length more.parts =
-      no_longer (part ∷ counts.parts) more.parts (apart-more part counts.parts lacks counts.different)
+      no-longer (part ∷ counts.parts) more.parts (apart-more part counts.parts lacks counts.different)
       (each-of part counts.parts (Contains more.parts) (more.all part reached) (λ other found. more.all other (later other (counts.reached other found)))) in
       absurd (omega (arith, fits, counts.number, more.number))
 
@@ -66,6 +66,6 @@ module _ (test : Test) (n m : ℕ) (le : n ≤ m) where
       least other has (inl longer) = inl (inl (let short = (best.has).short in omega (arith, short, longer)))
       least other has (inr short) = best.least other (record { is_run = has.is_run; short = short; marked = has.marked })
 
-  pub best_later : (count : ℕ) → CountsParts test n count → CountsParts test m count → (v : Verdict) (labels : Option (List Label)) → IsBestRun test n v labels → IsBestRun test m v labels
-  best_later count counts more v None none = marked-later count (badness v) counts more none
-  best_later count counts more v (Some labels) best = (best.0, least-later (badness v) best.0 best.1, best.2)
+  pub best-later : (count : ℕ) → CountsParts test n count → CountsParts test m count → (v : Verdict) (labels : Option (List Label)) → IsBestRun test n v labels → IsBestRun test m v labels
+  best-later count counts more v None none = marked-later count (badness v) counts more none
+  best-later count counts more v (Some labels) best = (best.0, least-later (badness v) best.0 best.1, best.2)

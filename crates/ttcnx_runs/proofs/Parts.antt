@@ -9,7 +9,7 @@ use Rattle.summary.specs.declared.branches.Branches.{Branches}
 use Rattle.summary.specs.declared.both.Both.{Both}
 use Rattle.summary.specs.declared.verdicts.Verdicts.{Verdicts}
 use Rattle.summary.specs.NumberSet.{numbers_of}
-use Rattle.std.specs.FinSet as set
+use Rattle.std.specs.FinSet as ordered
 use Rattle.summary.specs.Graph.{Graph}
 use Rattle.summary.specs.Sums.{Join, Observation, join_all, shown, sum_of}
 use Rattle.summary.specs.Run.{Run, Start, Then, all_runs, end_of}
@@ -31,13 +31,13 @@ module _ {C L S T : Type 0} (g : Graph C L) (j : Join S) (k : Join T) (r : Obser
       ∙ ap (λ x. k.join x (part (join_all j (map (shown g j r) runs)))) (shown-part run)
       ∙ ap (k.join (shown g k q run)) (joined-part runs)
 
-  pub sum_part : (n : ℕ) → part (sum_of g j r n) ≡ sum_of g k q n
-  sum_part n = joined-part (all_runs g n)
+  pub sum-part : (n : ℕ) → part (sum_of g j r n) ≡ sum_of g k q n
+  sum-part n = joined-part (all_runs g n)
 
 -- what is found, another way
-pub if_ok : {A E : Type 0} (r : Result A E) (P Q : A → Type 0) → IfOk r P → ((a : A) → P a → Q a) → IfOk r Q
-if_ok (Ok a) P Q holds so = so a holds
-if_ok (Err e) P Q holds so = tt
+pub if-ok : {A E : Type 0} (r : Result A E) (P Q : A → Type 0) → IfOk r P → ((a : A) → P a → Q a) → IfOk r Q
+if-ok (Ok a) P Q holds so = so a holds
+if-ok (Err e) P Q holds so = tt
 
 -- verdicts, branches and blocked components, as one summary
 abbrev pub Shown : Type 0 → Type 0 → Type 0
@@ -45,9 +45,9 @@ Shown B T = Both Verdicts (Both (Branches B) (Blocked T))
 
 abbrev pub shown_join : {B T : Type 0} → Join (Shown B T)
 shown_join = record {
-  none = record { first = record { marks = set.empty }; second = record { first = record { places = empty }; second = record { components = empty } } };
+  none = record { first = record { marks = ordered.empty }; second = record { first = record { places = empty }; second = record { components = empty } } };
   join = λ x y. record {
-    first = record { marks = set.union x.first.marks y.first.marks };
+    first = record { marks = ordered.union x.first.marks y.first.marks };
     second = record { first = record { places = union x.second.first.places y.second.first.places }; second = record { components = union x.second.second.components y.second.second.components } };
   };
 }
@@ -56,20 +56,20 @@ module _ {C L B T : Type 0} (g : Graph C L) (branch : C → L → Option B) (blo
   abbrev pub shown_reading : Observation C L (Shown B T)
   shown_reading = record {
     at = λ c. record { first = record { marks = numbers_of (g.mark c) }; second = record { first = record { places = empty }; second = record { components = from_list (blocked c) } } };
-    by = λ c label. record { first = record { marks = set.empty }; second = record { first = record { places = from_option (branch c label) }; second = record { components = empty } } };
+    by = λ c label. record { first = record { marks = ordered.empty }; second = record { first = record { places = from_option (branch c label) }; second = record { components = empty } } };
   }
 
-  pub branches_part : (n : ℕ) (sum : Shown B T) → sum ≡ sum_of g shown_join shown_reading n → sum.second.first.places ≡ branches_of g branch n
-  branches_part n sum is = ap (λ s. s.second.first.places) is ∙ sum_part g shown_join union_join shown_reading (record { at = λ c. empty; by = λ c label. from_option (branch c label) })
+  pub branches-part : (n : ℕ) (sum : Shown B T) → sum ≡ sum_of g shown_join shown_reading n → sum.second.first.places ≡ branches_of g branch n
+  branches-part n sum is = ap (λ s. s.second.first.places) is ∙ sum-part g shown_join union_join shown_reading (record { at = λ c. empty; by = λ c label. from_option (branch c label) })
       (λ s. s.second.first.places) refl (λ x y. refl) (λ c. refl) (λ c label. refl) n
 
-  pub blocked_part : (n : ℕ) (sum : Shown B T) → sum ≡ sum_of g shown_join shown_reading n → sum.second.second.components ≡ blocked_of g blocked n
-  blocked_part n sum is = ap (λ s. s.second.second.components) is ∙ sum_part g shown_join union_join shown_reading (record { at = λ c. from_list (blocked c); by = λ c label. empty })
+  pub blocked-part : (n : ℕ) (sum : Shown B T) → sum ≡ sum_of g shown_join shown_reading n → sum.second.second.components ≡ blocked_of g blocked n
+  blocked-part n sum is = ap (λ s. s.second.second.components) is ∙ sum-part g shown_join union_join shown_reading (record { at = λ c. from_list (blocked c); by = λ c label. empty })
       (λ s. s.second.second.components) refl (λ x y. refl) (λ c. refl) (λ c label. refl) n
 
-  pub later_parts : (complete : Bool) (n count : ℕ) (sum : Shown B T)
+  pub later-parts : (complete : Bool) (n count : ℕ) (sum : Shown B T)
       → (IsTrue complete → (bound : ℕ) → n ≤ bound → (sum ≡ sum_of g shown_join shown_reading bound) × Counts g bound count)
       → IsTrue complete → (bound : ℕ) → n ≤ bound → Counts g bound count × (sum.second.first.places ≡ branches_of g branch bound) × (sum.second.second.components ≡ blocked_of g blocked bound)
-  later_parts complete n count sum later is bound above =
+  later-parts complete n count sum later is bound above =
       let more = later is bound above in
-      (more.1, branches_part bound sum more.0, blocked_part bound sum more.0)
+      (more.1, branches-part bound sum more.0, blocked-part bound sum more.0)

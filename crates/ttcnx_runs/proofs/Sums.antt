@@ -14,16 +14,16 @@ use Rattle.semantics.specs.Snapshots.{Test}
 use Rattle.step_labels.specs.declared.standing.Standing.{Standing}
 
 module _ (test : Test) (n : ℕ) where
-  pub branches_found : (set : KeySet Span) → set ≡ branches_of (canonical_graph test) (branch_of test) n → (places : List Span) → from_list places ≡ set
+  pub branches-found : (set : KeySet Span) → set ≡ branches_of (canonical_graph test) (branch_of test) n → (places : List Span) → from_list places ≡ set
       → Ascends place_cmp places → AreBranches test n places
-  branches_found set is places same ascend = record {
+  branches-found set is places same ascend = record {
     summed = same ∙ is ∙ sums_alike test union_join (branch_reading test from_option empty) (branches_seen test from_option empty) n;
     ascend = ascend;
   }
 
-  pub blocked_found : (set : KeySet Standing) → set ≡ blocked_of (canonical_graph test) (blocked test) n → (standings : List Standing) → from_list standings ≡ set
+  pub blocked-found : (set : KeySet Standing) → set ≡ blocked_of (canonical_graph test) (blocked test) n → (standings : List Standing) → from_list standings ≡ set
       → Ascends standing_cmp standings → AreBlocked test n standings
-  blocked_found set is standings same ascend = record {
+  blocked-found set is standings same ascend = record {
     summed = same ∙ is ∙ sums_alike test union_join (blocked_reading test from_list empty) (blocked_seen test from_list empty) n;
     ascend = ascend;
   }

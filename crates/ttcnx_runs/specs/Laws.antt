@@ -12,16 +12,16 @@ use Rattle.semantics.specs.Canonical.{canonical_graph}
 use Rattle.semantics.specs.Configurations.{Configuration, Ended, Goes, badness}
 use Rattle.semantics.specs.Labels.{label_cmp, labels}
 use Rattle.semantics.specs.LiveParts.{live_part}
-use Rattle.semantics.specs.Runs.{graph_of, mark_of, option_elim, start}
+use Rattle.semantics.specs.Runs.{mark_of, option_elim, start}
 use Rattle.semantics.specs.Snapshots.{Test}
 use Rattle.semantics.specs.Steps.{Label, next}
 use Rattle.ttcn_step.proofs.FramesKept.{limit_at_start, limit_behind}
-use Rattle.ttcn_step.proofs.LiveForms.{limit_in_live_parts}
+use Rattle.ttcn_step.proofs.LiveForms.{limit-in-live-parts}
 
 -- ---- live parts fit runs, too
 
 live-fits : (c : Configuration) → FitsRuns c → FitsRuns (live_part c)
-live-fits c fits = record { ordered = live_ordered c fits.ordered; frames = limit_in_live_parts c fits.frames }
+live-fits c fits = record { ordered = live_ordered c fits.ordered; frames = limit-in-live-parts c fits.frames }
 
 -- ---- where runs start and lead
 

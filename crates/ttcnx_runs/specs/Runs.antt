@@ -1,5 +1,4 @@
 -- Configurations that runs over live parts may lead to.
-use Rattle.std.specs.Prelude.{◌≡◌}
 use Rattle.laws_order.specs.Order.{StandsInOrder}
 use Rattle.semantics.specs.Configurations.{Configuration}
 use Rattle.ttcn_step.specs.FrameLimit.{AllKeepFrameLimit}

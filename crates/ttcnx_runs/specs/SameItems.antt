@@ -8,7 +8,7 @@ use Rattle.std.specs.Option.{option_eq}
 use Rattle.ttcn_syntax.specs.contracts.tree.statement.StatementEq.TheImpl.Laws as statement_laws
 use Rattle.ttcn_syntax.specs.contracts.tree.statement.StatementPartialEq.TheImpl as statements
 use Rattle.check_scope.specs.contracts.types.DataTypeEq.TheImpl.Laws as type_laws
-use Rattle.check_scope.specs.contracts.types.DataTypePartialEq.TheImpl as types
+use Rattle.check_scope.specs.contracts.types.DataTypePartialEq.TheImpl as derived
 use Rattle.syntax_equality.specs.Equality.{boolean_one, list_one, number_one, option_one}
 use Rattle.syntax_equality.specs.Statements.{statement_one}
 use Rattle.graph_items.specs.Equality.{entry_one, reference_is, same_entry, same_entry_equiv, same_reference, same_reference_equiv, type_one}
@@ -31,7 +31,7 @@ same_site a b = nat_eq a.behaviour b.behaviour && pointwise same_entry a.declare
 
 -- targets that wait for a result are the same
 abbrev pub same_target : Target → Target → Bool
-same_target a b = beq a.own b.own && (same_reference a.reference b.reference && option_eq (types.ghosts).eq a.data_type b.data_type)
+same_target a b = beq a.own b.own && (same_reference a.reference b.reference && option_eq (derived.ghosts).eq a.data_type b.data_type)
 
 -- items are the same
 abbrev pub same_item : Item → Item → Bool
@@ -93,7 +93,7 @@ target_one a b h =
     λ i. record { own = boolean_one a.own b.own p.0 i; reference = reference_is a.reference b.reference q.0 i; data_type = option_one _ type_one a.data_type b.data_type q.1 i }
 
 target_itself : (a : Target) → same_target a a ≡ true
-target_itself a = λ i. boolean_itself a.own i && (same_reference_equiv.refl a.reference i && option_itself (types.ghosts).eq type_laws.laws-law.refl a.data_type i)
+target_itself a = λ i. boolean_itself a.own i && (same_reference_equiv.refl a.reference i && option_itself (derived.ghosts).eq type_laws.laws-law.refl a.data_type i)
 
 pub item_one : (a b : Item) → same_item a b ≡ true → a ≡ b
 item_one (Doing site s part) (Doing other t part') h =

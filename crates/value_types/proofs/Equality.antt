@@ -17,15 +17,15 @@ use Rattle.value_types.specs.declared.value.Value.TheShapes.{former-Value-Record
 
 -- ---- one level of two values
 
-abbrev same_component : ComponentId → ComponentId → Bool
-same_component c d = pointwise nat_eq c.path.numbers d.path.numbers && nat_eq c.component_type d.component_type
+abbrev same-component : ComponentId → ComponentId → Bool
+same-component c d = pointwise nat_eq c.path.numbers d.path.numbers && nat_eq c.component_type d.component_type
 
 abbrev same : Value-F Value → Value-F Value → Bool
 same (Value-F.Integer n) (Value-F.Integer m) = int_eq n m
 same (Value-F.Boolean b) (Value-F.Boolean c) = beq b c
 same (Value-F.Enumerated at name) (Value-F.Enumerated bt other) = nat_eq at bt && nat_eq name other
 same (Value-F.Record at fields) (Value-F.Record bt others) = nat_eq at bt && pointwise (option_eq equal) fields others
-same (Value-F.Component c) (Value-F.Component d) = same_component c d
+same (Value-F.Component c) (Value-F.Component d) = same-component c d
 same (Value-F.Default n) (Value-F.Default m) = nat_eq n m
 same Value-F.Null Value-F.Null = true
 same Value-F.Omit Value-F.Omit = true
@@ -69,7 +69,7 @@ fields-one (field ∷ fields) (other ∷ others) is =
 fields-one [] (other ∷ others) is = absurd (let e = is in cc)
 fields-one (field ∷ fields) [] is = absurd (let e = is in cc)
 
-component-one : (c d : ComponentId) → same_component c d ≡ true → c ≡ d
+component-one : (c d : ComponentId) → same-component c d ≡ true → c ≡ d
 component-one c d is =
     let p = and_parts (pointwise nat_eq c.path.numbers d.path.numbers) (nat_eq c.component_type d.component_type) is in
     let numbers = same_text c.path.numbers d.path.numbers (sym p.0) in

@@ -9,22 +9,22 @@ use Rattle.value_types.specs.Outcomes.{dynamic_error, unmet}
 use Rattle.value_types.specs.Readings.{read}
 
 -- `(0 .. infinity)`
-without_upper_bound : in_range (Some (pos 0)) None (Some (pos 5)) ≡ true
-without_upper_bound = refl
+without-upper-bound : in_range (Some (pos 0)) None (Some (pos 5)) ≡ true
+without-upper-bound = refl
 
-below_the_lower_bound : in_range (Some (pos 0)) None (Some (neg_ℤ (pos 1))) ≡ false
-below_the_lower_bound = refl
+below-the-lower-bound : in_range (Some (pos 0)) None (Some (neg_ℤ (pos 1))) ≡ false
+below-the-lower-bound = refl
 
 -- `(1 .. 3)`: both ends belong to it
-upper_end : in_range (Some (pos 1)) (Some (pos 3)) (Some (pos 3)) ≡ true
-upper_end = refl
+upper-end : in_range (Some (pos 1)) (Some (pos 3)) (Some (pos 3)) ≡ true
+upper-end = refl
 
-above_the_upper_bound : in_range (Some (pos 1)) (Some (pos 3)) (Some (pos 4)) ≡ false
-above_the_upper_bound = refl
+above-the-upper-bound : in_range (Some (pos 1)) (Some (pos 3)) (Some (pos 4)) ≡ false
+above-the-upper-bound = refl
 
 -- what is no integer is in no range
-no_integer : in_range None None None ≡ false
-no_integer = refl
+no-integer : in_range None None None ≡ false
+no-integer = refl
 
 -- ---- outcomes
 
@@ -33,13 +33,13 @@ less : ordered operator.Less (pos 1) (pos 2) ≡ truth true
 less = refl
 
 -- `1 / 0`
-divided_by_zero : fitting (calculated operator.Divide (pos 1) (pos 0)) ≡ dynamic_error
-divided_by_zero = refl
+divided-by-zero : fitting (calculated operator.Divide (pos 1) (pos 0)) ≡ dynamic_error
+divided-by-zero = refl
 
 -- what is read of a field without value
-no_value : read None ≡ dynamic_error
-no_value = refl
+no-value : read None ≡ dynamic_error
+no-value = refl
 
 -- no module has `true < false`: an order is none between booleans
-no_order : logical operator.Less true false ≡ unmet
-no_order = refl
+no-order : logical operator.Less true false ≡ unmet
+no-order = refl

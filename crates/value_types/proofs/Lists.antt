@@ -26,12 +26,12 @@ module _ {A : Type 0} (test : A → Bool) (l : List A) where
   position-end i past left = ap (position_from test i) (sym (drop_all i l past)) ∙ left ∙ sym (position_from-zero test l)
 
 module _ {A B : Type 0} (g : A → B) (test : B → Bool) (of : A → Bool) (same : (a : A) → test (g a) ≡ of a) where
-  one_found : (b : Bool) (a : A) (behind : Option B) (found : Option A) → behind ≡ option_map g found
+  one-found : (b : Bool) (a : A) (behind : Option B) (found : Option A) → behind ≡ option_map g found
       → (if b then Some (g a) else behind) ≡ option_map g (if b then Some a else found)
-  one_found true a behind found is = refl
-  one_found false a behind found is = is
+  one-found true a behind found is = refl
+  one-found false a behind found is = is
 
   -- the first one of a test, among what others give
-  pub find_among : (l : List A) → find test (map g l) ≡ option_map g (find of l)
-  find_among [] = refl
-  find_among (a ∷ l) = ap (λ b. if b then Some (g a) else find test (map g l)) (same a) ∙ one_found (of a) a (find test (map g l)) (find of l) (find_among l)
+  pub find-among : (l : List A) → find test (map g l) ≡ option_map g (find of l)
+  find-among [] = refl
+  find-among (a ∷ l) = ap (λ b. if b then Some (g a) else find test (map g l)) (same a) ∙ one-found (of a) a (find test (map g l)) (find of l) (find-among l)

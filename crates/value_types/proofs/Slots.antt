@@ -29,8 +29,8 @@ module _ {A : Type 0} (names : List (List ℕ)) where
   one-named slot a o others renamed is same = rw (is, same)
 
   -- where each slot has a name, the entries are those with names in place of slots
-  pub entries_by_names : (entries : List (ℕ × A)) → All (λ e. e.0 < length names) entries → named_entries names entries ≡ map (λ e. (get_or names e.0 [], e.1)) entries
-  entries_by_names [] all = refl
-  entries_by_names ((slot, a) ∷ entries) all =
+  pub entries-by-names : (entries : List (ℕ × A)) → All (λ e. e.0 < length names) entries → named_entries names entries ≡ map (λ e. (get_or names e.0 [], e.1)) entries
+  entries-by-names [] all = refl
+  entries-by-names ((slot, a) ∷ entries) all =
       one-named slot a (slice_get names slot) (named_entries names entries) (map (λ e. (get_or names e.0 [], e.1)) entries)
-      (slice_get-get_or names slot [] (all 0 (slot, a) (omega arith))) (entries_by_names entries (λ k d within. all (suc k) d (omega arith)))
+      (slice_get-get_or names slot [] (all 0 (slot, a) (omega arith))) (entries-by-names entries (λ k d within. all (suc k) d (omega arith)))

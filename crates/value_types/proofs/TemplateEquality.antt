@@ -119,11 +119,11 @@ template-step x y is-bare b is-equal =
     let e : same_template x z ≡ true = ap (template.unfolded (roll-Template x)) (roll-out-Template b) ∙ sym (template.is (roll-Template x) b) ∙ is-equal in
     ap roll-Template (subst (λ w. w ≡ z) is-bare (level-one-template y z (subst (λ w. same_template w z ≡ true) (sym is-bare) e))) ∙ roll-out-Template b
 
-pub equal_patterns : (a b : Pattern) → Decides (equal_pattern a b) (a ≡ b)
-equal_patterns a b = (ind-Pattern IsOnePattern IsOne pattern-step template-step a b, λ is. subst (λ c. equal_pattern a c ≡ true) is (of_patterns.laws-law.refl a))
+pub equal-patterns : (a b : Pattern) → Decides (equal_pattern a b) (a ≡ b)
+equal-patterns a b = (ind-Pattern IsOnePattern IsOne pattern-step template-step a b, λ is. subst (λ c. equal_pattern a c ≡ true) is (of_patterns.laws-law.refl a))
 
-pub equal_templates : (a b : Template) → Decides (equal_template a b) (a ≡ b)
-equal_templates a b = (ind-Template IsOnePattern IsOne pattern-step template-step a b, λ is. subst (λ c. equal_template a c ≡ true) is (of_templates.laws-law.refl a))
+pub equal-templates : (a b : Template) → Decides (equal_template a b) (a ≡ b)
+equal-templates a b = (ind-Template IsOnePattern IsOne pattern-step template-step a b, λ is. subst (λ c. equal_template a c ≡ true) is (of_templates.laws-law.refl a))
 
 -- templates, and patterns, that are equal are one
-pub ruleset are_one = (equal_templates, equal_patterns)
+pub ruleset are_one = (equal-templates, equal-patterns)

@@ -4,7 +4,7 @@ use Rattle.std.specs.List.{find, zip}
 use Rattle.ttcn_syntax.specs.declared.tree.definition.Field.{Field}
 use Rattle.ttcn_syntax.specs.declared.tree.value.FieldValue.{FieldValue, fold-FieldValue}
 use Rattle.ttcn_syntax.specs.declared.tree.value.Value.{fold-Value}
-use Rattle.ttcn_syntax.specs.declared.tree.value.Value as tree
+use Rattle.ttcn_syntax.specs.declared.tree.value.Value as written
 use Rattle.ttcn_syntax.specs.declared.tree.value.Value.TheOpen.{FieldValue-F, Value-F}
 use Rattle.check_scope.specs.Names.{fields_at, module_names, resolved}
 use Rattle.check_scope.specs.declared.types.DataType.{DataType}
@@ -77,7 +77,7 @@ abbrev pub field_value_step : FieldValue-F Wanted (List ℕ × Wanted) → List 
 field_value_step e = (e.name, e.value)
 
 -- what is given by what stands where a value of a type is wanted
-abbrev pub value_wanted : tree.Value → Wanted
+abbrev pub value_wanted : written.Value → Wanted
 value_wanted = fold-Value Wanted (List ℕ × Wanted) value_step field_value_step
 
 -- the name of an element, with what its value gives

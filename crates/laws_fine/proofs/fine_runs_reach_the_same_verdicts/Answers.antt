@@ -1,5 +1,5 @@
-use Rattle.laws_fine.proofs.Laws.{same_verdicts}
+use Rattle.laws_fine.proofs.Laws.{same-verdicts}
 use Rattle.laws_fine.proofs.fine_runs_reach_the_same_verdicts.Goals as goal
 
 pub returns : goal.returns
-returns c = λ test v well. same_verdicts test v well
+returns c = λ test v well. same-verdicts test v well

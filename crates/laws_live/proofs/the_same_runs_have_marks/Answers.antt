@@ -1,5 +1,5 @@
-use Rattle.laws_live.proofs.SameRuns.{same_marked}
+use Rattle.laws_live.proofs.SameRuns.{same-marked}
 use Rattle.laws_live.proofs.the_same_runs_have_marks.Goals as goal
 
 pub returns : goal.returns
-returns c = same_marked
+returns c = same-marked

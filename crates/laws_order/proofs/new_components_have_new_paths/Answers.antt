@@ -1,8 +1,8 @@
-use Rattle.laws_order.proofs.Families.{new_inserted, new_path}
+use Rattle.laws_order.proofs.Families.{new-inserted, new-path}
 use Rattle.laws_order.proofs.new_components_have_new_paths.Goals as goal
 
 pub returns-clause-path : goal.returns-clause-path
-returns-clause-path c = new_path
+returns-clause-path c = new-path
 
 pub returns-clause-inserted : goal.returns-clause-inserted
-returns-clause-inserted c = new_inserted
+returns-clause-inserted c = new-inserted

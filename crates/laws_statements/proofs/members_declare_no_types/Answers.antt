@@ -1,5 +1,5 @@
-use Rattle.laws_statements.proofs.Members.{types_of_module}
+use Rattle.laws_statements.proofs.Members.{types-of-module}
 use Rattle.laws_statements.proofs.members_declare_no_types.Goals as goal
 
 pub returns : goal.returns
-returns c = types_of_module
+returns c = types-of-module

@@ -12,7 +12,7 @@ use Rattle.ttcn_syntax.specs.declared.tree.template.MessageTemplate.{MessageTemp
 use Rattle.ttcn_syntax.specs.declared.tree.statement.Event.{Event}
 use Rattle.ttcn_syntax.specs.declared.tree.statement.Event.TheVariants as event
 use Rattle.ttcn_syntax.specs.declared.tree.statement.PortSelector.{PortSelector}
-use Rattle.ttcn_syntax.specs.declared.tree.statement.PortSelector.TheVariants as port_selector
+use Rattle.ttcn_syntax.specs.declared.tree.statement.PortSelector.TheVariants as selector
 use Rattle.parse_reader.specs.internal.Reading.{Parser, pure, refuse, head_token, behind, eat, eat_word, expect, expect_word, ◌>>=◌, ◌>>◌}
 use Rattle.parse_reader.specs.internal.Expressions.{reference, component}
 use Rattle.parse_reader.specs.internal.Templates.{message}
@@ -85,7 +85,7 @@ with_name p None = refuse
 
 -- what is waited for, behind its component, port or timer and the dot
 abbrev pub event_by : ComponentRef → Option Token → Parser Event
-event_by c (Some (token.Word word.Receive)) = with_name (λ bytes. receive (port_selector.Named bytes)) (bare c)
+event_by c (Some (token.Word word.Receive)) = with_name (λ bytes. receive (selector.Named bytes)) (bare c)
 event_by c (Some (token.Word word.Timeout)) = with_name (λ bytes ts. Some (event.Timeout bytes, behind ts)) (bare c)
 event_by c (Some (token.Word word.Done)) = λ ts. Some (event.Done c, behind ts)
 event_by c _ = refuse
@@ -100,7 +100,7 @@ any_port = do
   expect_word word.Any
   expect_word word.Port
   expect mark.Dot
-  receive port_selector.Any
+  receive selector.Any
 
 -- 'all' 'component' '.' 'done'
 unfoldable pub all_done : Parser Event

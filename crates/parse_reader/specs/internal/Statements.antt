@@ -9,7 +9,7 @@ use Rattle.ttcn_syntax.specs.declared.tree.expression.Expr.{Expr}
 use Rattle.ttcn_syntax.specs.declared.tree.statement.Action.{Action}
 use Rattle.ttcn_syntax.specs.declared.tree.statement.Action.TheVariants as action
 use Rattle.ttcn_syntax.specs.declared.tree.statement.Alternative.{Alternative}
-use Rattle.ttcn_syntax.specs.declared.tree.statement.Alternative.TheVariants as alternative
+use Rattle.ttcn_syntax.specs.declared.tree.statement.Alternative.TheVariants as alternative_form
 use Rattle.ttcn_syntax.specs.declared.tree.statement.Assignment.{Assignment}
 use Rattle.ttcn_syntax.specs.declared.tree.statement.Branch.{Branch}
 use Rattle.ttcn_syntax.specs.declared.tree.statement.Conditional.{Conditional}
@@ -147,11 +147,11 @@ guarded_by blocks g = λ ts. if calls ts
     then (do
       c ← call
       ss ← block_if_any blocks
-      pure (alternative.Call g c ss)) ts
+      pure (alternative_form.Call g c ss)) ts
     else (do
       e ← an_event
       ss ← block_if_any blocks
-      pure (alternative.Event g e ss)) ts
+      pure (alternative_form.Event g e ss)) ts
 
 -- a branch without its place
 unfoldable pub alternative_by : Parser (List Statement) → Parser Alternative
@@ -162,7 +162,7 @@ alternative_by blocks = do
       then (do
         expect mark.RightBracket
         ss ← blocks
-        pure (alternative.Else ss))
+        pure (alternative_form.Else ss))
       else (do
         g ← guard
         guarded_by blocks g)
@@ -344,9 +344,9 @@ branch_head = do
 -- the branch of this head and this block
 abbrev pub alternative_of : Wait → Option (List Statement) → Parser Alternative
 alternative_of wait.Else None = refuse
-alternative_of wait.Else (Some ss) = pure (alternative.Else ss)
-alternative_of (wait.Event g e) ss = pure (alternative.Event g e ss)
-alternative_of (wait.Call g c) ss = pure (alternative.Call g c ss)
+alternative_of wait.Else (Some ss) = pure (alternative_form.Else ss)
+alternative_of (wait.Event g e) ss = pure (alternative_form.Event g e ss)
+alternative_of (wait.Call g c) ss = pure (alternative_form.Call g c ss)
 
 -- a statement at its place
 unfoldable pub statement_by : Parser (List Statement) → Parser Statement

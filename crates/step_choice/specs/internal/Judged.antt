@@ -11,7 +11,6 @@ use Rattle.check_scope.specs.Typings.{same_type}
 use Rattle.check_scope.specs.declared.types.DataType.{DataType}
 use Rattle.semantics.specs.Branches.{Judge, Written, Writing}
 use Rattle.semantics.specs.Branches as branches
-use Rattle.semantics.specs.Configurations as rules
 use Rattle.semantics.specs.Events as events
 use Rattle.semantics.specs.Events.{Choice, Effect, Faulty, Happened, Passed, Redirect, Trial}
 use Rattle.semantics.specs.Items.{Item}

@@ -5,7 +5,7 @@ use Rattle.check_scope.specs.internal.Checking.{view}
 use Rattle.check_rules.specs.Templates as spec
 use Rattle.check_rules.specs.Values.{wanted_fields}
 use Rattle.check_expressions.proofs.Elements.{in_order-end, in_order-next, named-end, named-first, named-next, rest_in_order}
-use Rattle.check_rules.proofs.TemplateForms.{each-end, each-next, field_template_out, rest_of_each}
+use Rattle.check_rules.proofs.TemplateForms.{each-end, each-next, field-template-out, rest_of_each}
 use Rattle.check_expressions.proofs.template.+template.Goals as goal
 
 pub by_name-loop-element-init : goal.by_name-loop-element-init
@@ -18,7 +18,7 @@ by_name-loop-element-preserved t c =
     named-next spec.field_template (view c.args.scope.now) (wanted_fields c.args.scope.now.definitions.now c.args.wanted) c.loop-element.names c.insert.new.self c.args.elements.now
     c.loop-element.element-index c.element-item.result (out-FieldTemplate c.element-item.result).name (spec.template (out-FieldTemplate c.element-item.result).template)
     c.in_ok-is_new.is_new c.loop-element.broken c.check_field_name-named.result c.in_ok-part.part c.and-broken.result _
-    c.loop-element-test.true c.element-item.is (field_template_out c.element-item.result) (rw c.as_bytes.ensures at c.in_ok-is_new.ensures.is_new)
+    c.loop-element-test.true c.element-item.is (field-template-out c.element-item.result) (rw c.as_bytes.ensures at c.in_ok-is_new.ensures.is_new)
     (rw c.as_bytes.ensures at c.in_ok-is_new.ensures.behind) c.check_field_name-named.ensures (rw c.target_named-target.ensures at c.in_ok-part.ensures)
     (rw c.and.ensures at c.and-broken.ensures) c.loop-element.invariant
 

@@ -2,7 +2,7 @@ use Rattle.std.proofs.Common.{rules, false, sym}
 use Rattle.check_scope.specs.internal.Checking.{view}
 use Rattle.check_rules.specs.Declarations.{one_by_one}
 use Rattle.check_rules.specs.Targets.{check_type, check_constant, constant_entry}
-use Rattle.check_statements.proofs.Declared.{in_both}
+use Rattle.check_statements.proofs.Declared.{in-both}
 use Rattle.check_statements.proofs.declaration.constants.Goals as goal
 
 pub returns : goal.returns
@@ -13,7 +13,7 @@ returns c =
     let entry = constant_entry c.resolved-of.result in
     let declared = rw c.as_slice.ensures at (c.in_ok-declared.ensures check entry (λ before item done after said. search rules)) in
     rw (sym c.resolved-of.ensures) record {
-      broken = in_both c.check_type-typed.result c.in_ok-declared.declared c.and.result (check_type scope.names false given.type_name) (one_by_one check entry scope given.constants)
+      broken = in-both c.check_type-typed.result c.in_ok-declared.declared c.and.result (check_type scope.names false given.type_name) (one_by_one check entry scope given.constants)
           c.check_type-typed.ensures declared.0 c.and.ensures;
       view = declared.1;
       around = declared.2;

@@ -3,7 +3,7 @@ use Rattle.check_rules.specs.Calls.{component_named}
 use Rattle.check_rules.specs.Definitions.{check_component_name, check_result, check_parameters, place_in, returns_of}
 use Rattle.check_scope.specs.Scopes.{scope_on}
 use Rattle.check_rules.specs.Statements.{statements}
-use Rattle.check_statements.proofs.DefinitionForms.{function_noted}
+use Rattle.check_statements.proofs.DefinitionForms.{function-noted}
 use Rattle.check_statements.proofs.definition.check_function.Goals as goal
 
 pub returns-clause-found : goal.returns-clause-found
@@ -15,7 +15,7 @@ returns-clause-found c =
     let inside = rw (c.as_slice.ensures, c.as_ref-runs_on.ensures.value) at c.in_ok-head.ensures.view in
     let result = rw c.as_ref.ensures.value at c.check_result-result.ensures in
     let returns = rw c.as_ref-2.ensures.value at c.returns_of-returns.ensures in
-    rw (function_noted (least_in c.args.found.now) c.in_ok-head.head c.check_result-result.result c.and.result (least_in c.note.new.self)
+    rw (function-noted (least_in c.args.found.now) c.in_ok-head.head c.check_result-result.result c.and.result (least_in c.note.new.self)
     (check_component_name definitions function.runs_on) (check_parameters scope function.parameters) (check_result definitions function.returns)
     (statements function.body (place_in scope function.parameters (returns_of definitions function.returns)))
     head result c.and.ensures c.note.ensures)

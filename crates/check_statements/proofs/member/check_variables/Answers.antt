@@ -3,8 +3,8 @@ use Rattle.check_scope.specs.internal.Checking.{view}
 use Rattle.check_rules.specs.Declarations.{one_by_one}
 use Rattle.check_rules.specs.Targets.{check_type}
 use Rattle.check_rules.specs.Definitions.{check_member_variable, member_variable_entry}
-use Rattle.check_statements.proofs.Declared.{in_both}
-use Rattle.check_statements.proofs.MemberForms.{behind_member_variables}
+use Rattle.check_statements.proofs.Declared.{in-both}
+use Rattle.check_statements.proofs.MemberForms.{behind-member-variables}
 use Rattle.check_statements.proofs.member.check_variables.Goals as goal
 
 pub returns : goal.returns
@@ -15,8 +15,8 @@ returns c =
     let entry = member_variable_entry of in
     let named = c.in_ok-named.ensures check entry (λ before variable done after said. search rules) in
     rw (sym c.resolved-of.ensures) record {
-      broken = in_both c.check_type-typed.result c.in_ok-named.named c.and.result (check_type scope.names true c.args.type_name.now) (one_by_one check entry scope c.args.variables.now)
+      broken = in-both c.check_type-typed.result c.in_ok-named.named c.and.result (check_type scope.names true c.args.type_name.now) (one_by_one check entry scope c.args.variables.now)
           c.check_type-typed.ensures named.0 c.and.ensures;
-      view = named.1 ∙ behind_member_variables of scope c.args.variables.now;
+      view = named.1 ∙ behind-member-variables of scope c.args.variables.now;
       around = named.2;
     }

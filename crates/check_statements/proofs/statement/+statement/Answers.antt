@@ -2,7 +2,7 @@ use Rattle.std.proofs.Common.{refl, sym, ap, ◌∙◌}
 use Rattle.check_scope.specs.internal.Checking.{around, both, least, least_in, view}
 use Rattle.check_statements.specs.internal.Places.{place_with}
 use Rattle.check_rules.specs.Statements as spec
-use Rattle.check_statements.proofs.Blocks.{alt-whole, behind_is_for, block-end, block-next, call-rest, conditional-next, do_while-rest, else-whole, event-rest, for-rest, if-rest, if-whole, left-seen, rest_of_block, while-rest}
+use Rattle.check_statements.proofs.Blocks.{alt-whole, behind-is-for, block-end, block-next, call-rest, conditional-next, do_while-rest, else-whole, event-rest, for-rest, if-rest, if-whole, left-seen, rest_of_block, while-rest}
 use Rattle.check_statements.proofs.Insides.{parts-end, parts-next}
 use Rattle.check_statements.proofs.statement.+statement.Goals as goal
 
@@ -121,7 +121,7 @@ statement-returns-in_ok-block-in-For-clause-found t c =
 pub statement-returns-in_ok-block-in-For-clause-view : goal.statement-returns-in_ok-block-in-For-clause-view
 statement-returns-in_ok-block-in-For-clause-view t c =
     let around_is = c.in_ok-block-in-For.ensures.around ∙ c.in_ok-head-in-For.ensures.around ∙ c.in_ok-enter-in-For.ensures.around in
-    rw (behind_is_for c.args.statement.now c.in-For.start c.in-For.condition c.in-For.step c.in-For.body c.in-For.is)
+    rw (behind-is-for c.args.statement.now c.in-For.start c.in-For.condition c.in-For.step c.in-For.body c.in-For.is)
     (left-seen c.args.scope.now c.leave.new.self (c.leave.ensures.around (around c.args.scope.now) c.args.scope.now.locals around_is)
     (c.leave.ensures.locals (around c.args.scope.now) c.args.scope.now.locals around_is))
 

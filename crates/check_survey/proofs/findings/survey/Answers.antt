@@ -1,4 +1,4 @@
-use Rattle.check_survey.proofs.Ends.{all_weigh, no_circle, too_heavy, too_long}
+use Rattle.check_survey.proofs.Ends.{all-weigh, no_circle, too_heavy, too_long}
 use Rattle.check_survey.proofs.findings.survey.Goals as goal
 
 pub returns-clause-no_circle : goal.returns-clause-no_circle
@@ -12,7 +12,7 @@ returns-clause-too_long c =
 
 pub returns-clause-weigh : goal.returns-clause-weigh
 returns-clause-weigh c =
-    all_weigh c.args.things.now c.loop-start.search.states.items c.loop-start.invariant.searched c.loop-start.start c.loop-start.invariant.begun c.loop-start-test.false
+    all-weigh c.args.things.now c.loop-start.search.states.items c.loop-start.invariant.searched c.loop-start.start c.loop-start.invariant.begun c.loop-start-test.false
 
 pub returns-clause-too_heavy : goal.returns-clause-too_heavy
 returns-clause-too_heavy c =

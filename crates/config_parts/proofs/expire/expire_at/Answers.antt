@@ -1,9 +1,9 @@
-use Rattle.std.proofs.Common.{true, false, Some, None, ◌&&◌, sym, ap, ◌∙◌, get_or, slice_set, if◌then◌else◌}
+use Rattle.std.proofs.Common.{true, false, Some, None, ◌&&◌, sym, ap, ◌∙◌, slice_set, if◌then◌else◌}
 use Rattle.config_parts.proofs.Changed.{written}
 use Rattle.config_parts.proofs.Expired.{running-lives}
 use Rattle.config_parts.proofs.Places.{found-at, live-at, placed, unfound}
 use Rattle.config_parts.specs.internal.Changes.{is_of, is_terminated, place, touch, with_own}
-use Rattle.config_parts.specs.internal.Expiries.{expired_found, expired_of, is_running_state, may_expire, runs_of}
+use Rattle.config_parts.specs.internal.Expiries.{expired_found, expired_of, runs_of}
 use Rattle.config_parts.proofs.expire.expire_at.Goals as goal
 
 pub returns-in_default : goal.returns-in_default

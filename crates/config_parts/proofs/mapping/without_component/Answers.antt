@@ -1,4 +1,4 @@
-use Rattle.std.proofs.Common.{◌≡◌, List, ℕ, sym, ap, ◌∙◌}
+use Rattle.std.proofs.Common.{List, ℕ, sym, ap, ◌∙◌}
 use Rattle.std.specs.List.{list_any}
 use Rattle.config_parts.proofs.Unmapped.{links-stay}
 use Rattle.config_parts.specs.internal.Mappings.{is_of}

@@ -3,7 +3,7 @@ use Rattle.std.proofs.lemmas.Result.{err_from_is_err_and}
 use Rattle.summary.specs.Exploration.{Counts}
 use Rattle.summary.specs.Sums.{IsSemilattice}
 use Rattle.explore.proofs.Visits.{IsLawful}
-use Rattle.explore.proofs.Outcome.{too_many, go_back, as_many, count_is, complete_is, summary_is, every_bound, best_is}
+use Rattle.explore.proofs.Outcome.{too_many, go-back, as_many, count-is, complete-is, summary_is, every_bound, best-is}
 use Rattle.explore.proofs.answer.explore.Given.{Over}
 use Rattle.explore.proofs.answer.explore.Goals as goal
 
@@ -44,7 +44,7 @@ pub best_runs-requires-clause-back : goal.best_runs-requires-clause-back
 best_runs-requires-clause-back g c κs within =
     let system = c.args.system.now in
     let found = c.in_ok-explored.explored in
-    go_back (g.Y.System.graph system) g.Y.Label.Ord.cmp g.Y.State.PartialEq.eq (g.Y.System.fits system) (lawful g system)
+    go-back (g.Y.System.graph system) g.Y.Label.Ord.cmp g.Y.State.PartialEq.eq (g.Y.System.fits system) (lawful g system)
     g.U.Summary.joins (g.U.Summary.observation system) (semilattice g) c.args.plan.now.steps
     found.visited.states.keys found.visited.steps.items found.from found.summary c.in_ok-explored.ensures.found
 
@@ -55,7 +55,7 @@ returns-clause-count g c =
     let steps = c.args.plan.now.steps in
     let limit = c.args.plan.now.limit in
     let found = c.in_ok-explored.explored in
-    let counted = count_is graph g.Y.Label.Ord.cmp g.Y.State.PartialEq.eq (g.Y.System.fits system) (lawful g system)
+    let counted = count-is graph g.Y.Label.Ord.cmp g.Y.State.PartialEq.eq (g.Y.System.fits system) (lawful g system)
     g.U.Summary.joins (g.U.Summary.observation system) (semilattice g) steps
     found.visited.states.keys found.visited.steps.items found.from found.summary c.in_ok-explored.ensures.found in
     subst (λ n. Counts graph steps n × (n ≤ limit)) (sym c.len-count.ensures.len) (counted, c.in_ok-explored.ensures.within)
@@ -74,7 +74,7 @@ returns-clause-complete g c =
     let graph = g.Y.System.graph system in
     let found = c.in_ok-explored.explored in
     let quiet = c.in_ok-complete.ensures in
-    let exact = complete_is graph g.Y.Label.Ord.cmp g.Y.State.PartialEq.eq (g.Y.System.fits system) (lawful g system)
+    let exact = complete-is graph g.Y.Label.Ord.cmp g.Y.State.PartialEq.eq (g.Y.System.fits system) (lawful g system)
     g.U.Summary.joins (g.U.Summary.observation system) (semilattice g) c.args.plan.now.steps
     found.visited.states.keys found.visited.steps.items found.from found.summary c.in_ok-explored.ensures.found in (
       λ is. exact.0 (quiet.0 is),
@@ -87,7 +87,7 @@ returns-clause-best g c =
     let found = c.in_ok-explored.explored in
     record {
       eight = c.in_ok-best.ensures.eight;
-      each = λ mark below. best_is (g.Y.System.graph system) g.Y.Label.Ord.cmp g.Y.State.PartialEq.eq (g.Y.System.fits system) (lawful g system)
+      each = λ mark below. best-is (g.Y.System.graph system) g.Y.Label.Ord.cmp g.Y.State.PartialEq.eq (g.Y.System.fits system) (lawful g system)
           g.U.Summary.joins (g.U.Summary.observation system) (semilattice g) c.args.plan.now.steps
           found.visited.states.keys found.visited.steps.items found.from found.summary c.in_ok-explored.ensures.found
           mark _ (c.in_ok-best.ensures.each mark below);

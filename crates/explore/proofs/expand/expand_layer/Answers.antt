@@ -3,7 +3,7 @@ use Rattle.std.specs.List.{range_with_len}
 use Rattle.std.proofs.lemmas.List.{length-drop}
 use Rattle.rayon.specs.Numbers.{nat_range}
 use Rattle.rayon.proofs.ToStd.{nat_range-All}
-use Rattle.explore.proofs.Expanding.{all_expanded}
+use Rattle.explore.proofs.Expanding.{all-expanded}
 use Rattle.explore.proofs.expand.expand_layer.Goals as goal
 
 pub collect-requires-clause-ready : goal.collect-requires-clause-ready
@@ -23,4 +23,4 @@ returns g c =
     let count : c.len.result - from ≡ length (drop from states) = (let d = length-drop from states in omega arith) in
     let found = rw (c.map.ensures.base, c.map.ensures.f) at c.in_ok-collect.ensures in
     let places = found.1.1 ∙ (λ i. nat_range (ends.0 i) (ends.1 i)) ∙ ap (range_with_len from) count in
-    all_expanded (g.Y.System.graph c.args.system.now) states from found.1.0 found.0 c.in_ok-collect.field-0 c.in_ok-candidates.candidates places found.1.2 found.2 c.in_ok-candidates.was
+    all-expanded (g.Y.System.graph c.args.system.now) states from found.1.0 found.0 c.in_ok-collect.field-0 c.in_ok-candidates.candidates places found.1.2 found.2 c.in_ok-candidates.was

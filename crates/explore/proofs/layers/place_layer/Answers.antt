@@ -4,9 +4,9 @@ use Rattle.std.proofs.Math.Seq.{drop-append_seam}
 use Rattle.std.proofs.lemmas.Result.{err_from_is_err_and}
 use Rattle.summary.specs.Sums.{IsSemilattice, join_all}
 use Rattle.search_layer.specs.internal.Search.{Found, newly, state_of, with_steps, as_found}
-use Rattle.search_layer.proofs.StepSums.{steps_join}
-use Rattle.search_layer.proofs.SearchSteps.{place_all_fits}
-use Rattle.search_layer.proofs.Newly.{all_placed, entered}
+use Rattle.search_layer.proofs.StepSums.{steps-join}
+use Rattle.search_layer.proofs.SearchSteps.{place-all-fits}
+use Rattle.search_layer.proofs.Newly.{all-placed, entered}
 use Rattle.explore.proofs.layers.place_layer.Given.{Over}
 use Rattle.explore.proofs.layers.place_layer.Goals as goal
 
@@ -22,7 +22,7 @@ returns-in_err-visited-clause-too_many g c many from =
     let cs = c.args.candidates.items in
     let p = err_from_is_err_and c.from_residual-in_err-visited.result c.from_residual-in_err-visited.ensures.1 in
     let found : Found _ _ _ = as_found keys c.args.visited.steps.items from (with_steps joins observation (g.Y.System.graph c.args.system.now) keys c.args.summary cs) in
-    subst (λ (x : Found _ _ _). c.args.plan.now.limit < length x.states) (sym (all_placed joins observation eq found cs))
+    subst (λ (x : Found _ _ _). c.args.plan.now.limit < length x.states) (sym (all-placed joins observation eq found cs))
     (c.in_err-visited.ensures.too_many (cc (p.1, p.2, many)))
 
 pub show_states-requires-clause-fits : goal.show_states-requires-clause-fits
@@ -34,7 +34,7 @@ show_states-requires-clause-fits g c κs within =
     let cs = c.args.candidates.items in
     let found : Found _ _ _ = as_found c.args.visited.states.keys c.args.visited.steps.items 0 c.args.summary in
     subst (All fits) (sym c.in_ok-visited.ensures.states)
-    (subst (λ (x : Found _ _ _). All fits x.states) (all_placed joins observation eq found cs) (place_all_fits joins observation eq fits found cs c.requires.states c.requires.fits))
+    (subst (λ (x : Found _ _ _). All fits x.states) (all-placed joins observation eq found cs) (place-all-fits joins observation eq fits found cs c.requires.states c.requires.fits))
 
 pub returns-clause-placed : goal.returns-clause-placed
 returns-clause-placed g c from =
@@ -48,7 +48,7 @@ returns-clause-placed g c from =
     let stepped : c.in_ok-summary.summary ≡ with_steps joins observation graph keys c.args.summary cs =
     c.in_ok-summary.ensures
     ∙ ap (joins.join c.args.summary) (c.in_ok-firsts.ensures.summary ∙ ap (with_steps joins observation graph keys joins.none) c.as_slice.ensures.value)
-    ∙ sym (steps_join joins observation graph keys (semilattice g) c.args.summary cs) in
+    ∙ sym (steps-join joins observation graph keys (semilattice g) c.args.summary cs) in
     let behind : drop c.len-from.result c.in_ok-visited.visited.states.keys ≡ news =
     (λ i. drop (c.len-from.ensures.len i) (c.in_ok-visited.ensures.states i)) ∙ drop-append_seam keys news in
     entered joins observation eq keys c.in_ok-visited.visited.states.keys c.args.visited.steps.items c.in_ok-visited.visited.steps.items from

@@ -3,8 +3,8 @@ use Rattle.std.specs.Prelude.{All}
 use Rattle.std.proofs.lemmas.List.Elements.{All-nil, All-cons, All-drop}
 use Rattle.std.proofs.lemmas.Result.{err_from_is_err_and}
 use Rattle.search_layer.specs.internal.Search.{Found, found_after, with_steps, as_found}
-use Rattle.search_layer.proofs.SearchSteps.{layer_fits, place_all_fits, placed_grows, layer_done, layer_too_many}
-use Rattle.explore.proofs.LayerSteps.{are_steps, steps_shown}
+use Rattle.search_layer.proofs.SearchSteps.{layer-fits, place-all-fits, placed-grows, layer-done, layer-too-many}
+use Rattle.explore.proofs.LayerSteps.{are-steps, steps-shown}
 use Rattle.explore.proofs.layers.search.Goals as goal
 
 pub loop-layer-init : goal.loop-layer-init
@@ -25,7 +25,7 @@ pub place_layer-requires-clause-steps : goal.place_layer-requires-clause-steps
 place_layer-requires-clause-steps g c κs within =
     let graph = g.Y.System.graph c.args.system.now in
     let keys = c.loop-layer.visited.states.keys in
-    are_steps graph keys c.loop-layer.from c.in_ok-candidates.candidates.items c.loop-layer.invariant.from
+    are-steps graph keys c.loop-layer.from c.in_ok-candidates.candidates.items c.loop-layer.invariant.from
     c.in_ok-candidates.ensures
 
 pub place_layer-requires-clause-fits : goal.place_layer-requires-clause-fits
@@ -33,7 +33,7 @@ place_layer-requires-clause-fits g c κs within =
     let fits = g.Y.System.fits c.args.system.now in
     let graph = g.Y.System.graph c.args.system.now in
     subst (All (λ (k : _). fits k.state)) (sym c.in_ok-candidates.ensures)
-    (layer_fits graph fits ((g.met.Y.System g.world.𝓛 g.world.𝓜 g.world.𝓡 ((λ s x. x), (λ x. x), (λ x. x), λ x. x)).after_fits c.args.system.now) c.loop-layer.from (drop c.loop-layer.from c.loop-layer.visited.states.keys)
+    (layer-fits graph fits ((g.met.Y.System g.world.𝓛 g.world.𝓜 g.world.𝓡 ((λ s x. x), (λ x. x), (λ x. x), λ x. x)).after_fits c.args.system.now) c.loop-layer.from (drop c.loop-layer.from c.loop-layer.visited.states.keys)
     (All-drop fits c.loop-layer.from c.loop-layer.visited.states.keys c.loop-layer.invariant.fits))
 
 pub returns-in_err-placed-clause-too_many : goal.returns-in_err-placed-clause-too_many
@@ -45,9 +45,9 @@ returns-in_err-placed-clause-too_many g c many =
     let p = err_from_is_err_and c.from_residual-in_err-placed.result c.from_residual-in_err-placed.ensures.1 in
     let keys = c.loop-layer.visited.states.keys in
     let shown = with_steps joins observation graph keys c.loop-layer.summary c.in_ok-candidates.candidates.items in
-    let shown_is = steps_shown graph keys joins observation c.loop-layer.from c.loop-layer.summary c.in_ok-candidates.candidates.items
+    let shown_is = steps-shown graph keys joins observation c.loop-layer.from c.loop-layer.summary c.in_ok-candidates.candidates.items
     c.in_ok-candidates.ensures in
-    layer_too_many graph joins observation eq c.loop-layer.layer c.args.plan.now.steps c.args.plan.now.limit c.loop-layer.from
+    layer-too-many graph joins observation eq c.loop-layer.layer c.args.plan.now.steps c.args.plan.now.limit c.loop-layer.from
     c.loop-layer.visited.states.keys c.loop-layer.visited.steps.items c.loop-layer.summary shown c.in_ok-candidates.candidates.items
     c.loop-layer-test.true c.loop-layer.invariant.found
     c.in_ok-candidates.ensures
@@ -63,26 +63,26 @@ loop-layer-preserved g c =
     let eq = g.Y.State.PartialEq.eq in
     let keys = c.loop-layer.visited.states.keys in
     let shown = with_steps joins observation graph keys c.loop-layer.summary c.in_ok-candidates.candidates.items in
-    let shown_is = steps_shown graph keys joins observation c.loop-layer.from c.loop-layer.summary c.in_ok-candidates.candidates.items
+    let shown_is = steps-shown graph keys joins observation c.loop-layer.from c.loop-layer.summary c.in_ok-candidates.candidates.items
     c.in_ok-candidates.ensures in
     let cands = c.in_ok-candidates.ensures in
     let old = as_found c.loop-layer.visited.states.keys c.loop-layer.visited.steps.items 0 shown in
     let new_states = ap (λ (f : Found _ _ _). f.states) (c.in_ok-placed.ensures.placed 0) in
     record {
-      found = layer_done graph joins observation eq c.loop-layer.layer c.loop-layer.from c.len-from.result
+      found = layer-done graph joins observation eq c.loop-layer.layer c.loop-layer.from c.len-from.result
           c.loop-layer.visited.states.keys c.in_ok-placed.placed.visited.states.keys c.loop-layer.visited.steps.items c.in_ok-placed.placed.visited.steps.items
           c.loop-layer.summary shown c.in_ok-placed.placed.summary c.in_ok-candidates.candidates.items
           c.loop-layer.invariant.found cands
           shown_is
           c.len-from.ensures.len c.in_ok-placed.ensures.placed;
       fits = subst (All fits) (sym new_states)
-          (place_all_fits joins observation eq fits old c.in_ok-candidates.candidates.items c.loop-layer.invariant.fits
+          (place-all-fits joins observation eq fits old c.in_ok-candidates.candidates.items c.loop-layer.invariant.fits
           (subst (All (λ (k : _). fits k.state)) (sym cands)
-          (layer_fits graph fits ((g.met.Y.System g.world.𝓛 g.world.𝓜 g.world.𝓡 ((λ s x. x), (λ x. x), (λ x. x), λ x. x)).after_fits c.args.system.now) c.loop-layer.from (drop c.loop-layer.from c.loop-layer.visited.states.keys)
+          (layer-fits graph fits ((g.met.Y.System g.world.𝓛 g.world.𝓜 g.world.𝓡 ((λ s x. x), (λ x. x), (λ x. x), λ x. x)).after_fits c.args.system.now) c.loop-layer.from (drop c.loop-layer.from c.loop-layer.visited.states.keys)
           (All-drop fits c.loop-layer.from c.loop-layer.visited.states.keys c.loop-layer.invariant.fits))));
       within = c.in_ok-placed.ensures.within;
       from =
-          let grown = placed_grows joins observation eq c.loop-layer.visited.states.keys c.in_ok-placed.placed.visited.states.keys c.loop-layer.visited.steps.items
+          let grown = placed-grows joins observation eq c.loop-layer.visited.states.keys c.in_ok-placed.placed.visited.states.keys c.loop-layer.visited.steps.items
           c.in_ok-placed.placed.visited.steps.items 0 shown c.in_ok-placed.placed.summary c.in_ok-candidates.candidates.items (c.in_ok-placed.ensures.placed 0) in
           subst (λ (k : ℕ). k ≤ length c.in_ok-placed.placed.visited.states.keys) (sym c.len-from.ensures.len) grown;
     }

@@ -2,7 +2,7 @@ use Rattle.std.proofs.Common.{◌≡◌, ◌+◌, ◌<◌, ◌++◌, ◌∷◌, 
 use Rattle.std.specs.Prelude.{Some}
 use Rattle.std.proofs.lemmas.List.{take_more}
 use Rattle.std.proofs.lemmas.Option.{get_or_from_slice_get}
-use Rattle.explore.proofs.FirstPlaces.{unmarked_more, known_more, first_more}
+use Rattle.explore.proofs.FirstPlaces.{unmarked-more, known-more, first-more}
 use Rattle.explore.proofs.runs.first_marked.Goals as goal
 use Rattle.explore.proofs.runs.first_marked.Goals.{in-Some+then-is_none, in-Some+else-is_none, in_default}
 
@@ -21,10 +21,10 @@ loop-place-preserved g c =
     rw front (elim c.match-mark_of.branch [
       | in-Some+then-is_none w ↦
           let marked = sym c.mark_of.ensures.is ∙ w.in-Some.is ∙ ap Some (sym w.from-mark.ensures) in
-          rw w.places-is (first_more graph (take at states) state places w.from-mark.result at count marked (w.is_none.ensures ∙ ap not w.if-is_none.true) before)
+          rw w.places-is (first-more graph (take at states) state places w.from-mark.result at count marked (w.is_none.ensures ∙ ap not w.if-is_none.true) before)
       | in-Some+else-is_none w ↦
           let marked = sym c.mark_of.ensures.is ∙ w.in-Some.is ∙ ap Some (sym w.from-mark.ensures) in
-          rw w.places-is (known_more graph (take at states) state places w.from-mark.result marked (w.is_none.ensures ∙ ap not w.if-is_none.false) before)
+          rw w.places-is (known-more graph (take at states) state places w.from-mark.result marked (w.is_none.ensures ∙ ap not w.if-is_none.false) before)
       | in_default w ↦
-          rw w.places-is (unmarked_more graph (take at states) state places (λ mark e. w.in_default.not-Some mark (c.mark_of.ensures.is ∙ e)) before)
+          rw w.places-is (unmarked-more graph (take at states) state places (λ mark e. w.in_default.not-Some mark (c.mark_of.ensures.is ∙ e)) before)
     ])

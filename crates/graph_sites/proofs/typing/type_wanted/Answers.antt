@@ -3,7 +3,7 @@ use Rattle.check_rules.specs.Expressions.{along}
 use Rattle.check_rules.specs.Targets.{as_target}
 use Rattle.check_scope.specs.Typings.{type_known}
 use Rattle.semantics.specs.Sites.{scope_at}
-use Rattle.graph_sites.proofs.Sites.{definitions_at}
+use Rattle.graph_sites.proofs.Sites.{definitions-at}
 use Rattle.graph_sites.proofs.typing.type_wanted.Goals as goal
 
 pub returns : goal.returns
@@ -15,4 +15,4 @@ returns c =
     ∙ ap type_known (c.typing_along.ensures ∙ ap (λ names. (along here.0 c.typing_as_target-named.result names).typing) c.as_slice.ensures
     ∙ ap (λ t. (along here.0 t fields).typing)
     (c.typing_as_target-named.ensures ∙ ap (λ m. (as_target here.0 m).typing) (c.get.ensures ∙ ap scope.names c.as_bytes.ensures))
-    ∙ sym (ap (λ d. (along d (as_target d (scope.names c.args.reference.now.name)).typing fields).typing) (definitions_at here.0 here.1)))
+    ∙ sym (ap (λ d. (along d (as_target d (scope.names c.args.reference.now.name)).typing fields).typing) (definitions-at here.0 here.1)))

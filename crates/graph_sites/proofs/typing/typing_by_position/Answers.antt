@@ -4,11 +4,11 @@ use Rattle.check_rules.specs.Templates.{typing_by_position}
 use Rattle.check_scope.specs.Names.{kind_at}
 use Rattle.check_scope.specs.Typings.{typed}
 use Rattle.semantics.specs.Sites.{scope_at}
-use Rattle.graph_sites.proofs.Sites.{definitions_at}
+use Rattle.graph_sites.proofs.Sites.{definitions-at}
 use Rattle.graph_sites.proofs.typing.typing_by_position.Goals as goal
 
 pub returns-in-Some : goal.returns-in-Some
 returns-in-Some c =
     let here = c.args.here.now in
-    c.of.ensures ∙ ap typed c.type_of_template.ensures ∙ sym (ap (λ d. typed (template_type d (kind_at d c.in-Some.at))) (definitions_at here.0 here.1))
+    c.of.ensures ∙ ap typed c.type_of_template.ensures ∙ sym (ap (λ d. typed (template_type d (kind_at d c.in-Some.at))) (definitions-at here.0 here.1))
     ∙ sym (ap (typing_by_position (scope_at here.0 here.1)) c.in-Some.is)

@@ -2,11 +2,11 @@ use Rattle.std.proofs.Common.{◌∙◌, ap, reverse}
 use Rattle.std.proofs.lemmas.Iterator.Adapters.{YieldsList-from_rev_slice}
 use Rattle.std.proofs.lemmas.Iterator.Consumers.{YieldsList-end}
 use Rattle.std.proofs.lemmas.List.{map-append, reverse-append, reverse-reverse}
-use Rattle.parse_limits.proofs.Places.{finds_nothing, no_group_of_nothing, unopened_nothing}
+use Rattle.parse_limits.proofs.Places.{finds-nothing, no-group-of-nothing, unopened-nothing}
 use Rattle.parse_limits.proofs.limits.first_left_out.Goals as goal
 
 pub loop-spanned-init : goal.loop-spanned-init
-loop-spanned-init c = record { found = finds_nothing; unopened = rw c.new.ensures.items unopened_nothing; group = no_group_of_nothing }
+loop-spanned-init c = record { found = finds-nothing; unopened = rw c.new.ensures.items unopened-nothing; group = no-group-of-nothing }
 
 pub loop-spanned-preserved : goal.loop-spanned-preserved
 loop-spanned-preserved c = simp (map-append, reverse-append) (c.in_ok-step.ensures _ c.loop-spanned.invariant)

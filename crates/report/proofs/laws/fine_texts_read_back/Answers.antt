@@ -1,5 +1,5 @@
-use Rattle.report.proofs.Lines.{fine_text_reads}
+use Rattle.report.proofs.Lines.{fine-text-reads}
 use Rattle.report.proofs.laws.fine_texts_read_back.Goals as goal
 
 pub returns : goal.returns
-returns c = fine_text_reads
+returns c = fine-text-reads

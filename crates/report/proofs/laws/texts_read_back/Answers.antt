@@ -1,5 +1,5 @@
-use Rattle.report.proofs.Lines.{text_reads}
+use Rattle.report.proofs.Lines.{text-reads}
 use Rattle.report.proofs.laws.texts_read_back.Goals as goal
 
 pub returns : goal.returns
-returns c = text_reads
+returns c = text-reads

@@ -4,7 +4,7 @@ use Rattle.check_scope.specs.internal.Checking.{view}
 use Rattle.report_script.proofs.Fits.{script-fits}
 use Rattle.report_script.proofs.Texts.{said}
 use Rattle.report_script.specs.Scripts.{script_said, test_with}
-use Rattle.report_script.specs.declared.error.ScriptError.TheVariants as refusal
+use Rattle.report_script.specs.declared.error.ScriptError.TheVariants as scripting
 use Rattle.serde_json.specs.View.{view as data_of}
 use Rattle.step_script.specs.Fitting.{FitsScript}
 use Rattle.report_script.proofs.script.read_script.Goals as goal
@@ -17,7 +17,7 @@ returns c =
     let are_read = subst (λ answer. IfOk c.script_of.result (λ script. answer ≡ Ok script.ports)) same c.script_of.ensures.read in
     record {
       read = are_read;
-      refused = subst (λ answer. IfErr c.script_of.result (λ error. error ≢ refusal.Memory → answer ≡ Err error)) same c.script_of.ensures.refused;
+      refused = subst (λ answer. IfErr c.script_of.result (λ error. error ≢ scripting.Memory → answer ≡ Err error)) same c.script_of.ensures.refused;
       too_large = search rules;
       fits = IfOk-weaker c.script_of.result (λ script. script_said definitions c.args.testcase c.args.text.now ≡ Ok script.ports) (λ script. FitsScript (test_with definitions c.args.testcase script.ports))
           (λ script is. script-fits definitions c.module.ensures.well_typed c.args.testcase c.args.text.now script.ports is) are_read;

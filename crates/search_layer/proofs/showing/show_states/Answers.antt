@@ -5,7 +5,7 @@ use Rattle.std.proofs.lemmas.Grind.{div_ceil_times}
 use Rattle.std.proofs.lemmas.List.{length-drop}
 use Rattle.rayon.proofs.ListFacts.{IfOk-then}
 use Rattle.summary.specs.Sums.{IsSemilattice, join_all}
-use Rattle.search_layer.proofs.StatesShown.{all_parts_shown, ok_parts, as_many}
+use Rattle.search_layer.proofs.StatesShown.{all-parts-shown, ok-parts, as_many}
 use Rattle.search_layer.proofs.showing.show_states.Given.{Over}
 use Rattle.search_layer.proofs.showing.show_states.Goals as goal
 
@@ -25,5 +25,5 @@ returns g c =
     let whole = length-drop c.args.from c.args.states.now.keys in
     let number : length h.0 ≡ length layer / size + min 1 (length layer % size) = count ∙ c.in_ok-parts.ensures.count ∙ ap (λ n. n / size + min 1 (n % size)) (sym whole) in
     let enough : length layer ≤ length h.0 * size = subst (λ n. length layer ≤ n * size) (sym number) ((div_ceil_times (length layer) size some).0) in
-    h.2 ∙ all_parts_shown joins (semilattice g) observation size layer h.0 enough
-    (λ p d low. ok_parts (λ p. join_all joins (map observation.at (slice_chunk layer size p))) parts h.0 h.1 c.in_ok-parts.ensures.each p d low))
+    h.2 ∙ all-parts-shown joins (semilattice g) observation size layer h.0 enough
+    (λ p d low. ok-parts (λ p. join_all joins (map observation.at (slice_chunk layer size p))) parts h.0 h.1 c.in_ok-parts.ensures.each p d low))

@@ -1,7 +1,7 @@
 use Rattle.std.proofs.Common.{◌≡◌, [], ◌∷◌, ◌++◌, sym, ap, ◌∙◌, append-nil, arith}
 use Rattle.std.specs.List.{IsDistinct}
 use Rattle.std.specs.Vec.Iter.{into_iter_items}
-use Rattle.search_shards.proofs.Shards.{all_moved, one_moved, moved_has}
+use Rattle.search_shards.proofs.Shards.{all-moved, one-moved, moved-has}
 use Rattle.search_shards.proofs.set.settle_here.Goals as goal
 
 pub loop-shard-init : goal.loop-shard-init
@@ -11,7 +11,7 @@ loop-shard-init g c =
 
 pub settle-requires : goal.settle-requires
 settle-requires g c =
-    moved_has (IsDistinct g.T.PartialEq.eq) c.args.shards.items c.loop-shard.settled.items (into_iter_items c.loop-shard.shard-iterator) (into_iter_items c.next.new.self) c.in-Some.shard
+    moved-has (IsDistinct g.T.PartialEq.eq) c.args.shards.items c.loop-shard.settled.items (into_iter_items c.loop-shard.shard-iterator) (into_iter_items c.next.new.self) c.in-Some.shard
     c.requires c.loop-shard.invariant c.in-Some.ensures.steps.0
 
 pub loop-shard-preserved : goal.loop-shard-preserved
@@ -19,12 +19,12 @@ loop-shard-preserved g c =
     let settled = c.loop-shard.settled.items in
     let pushed : c.push.new.self.items ≡ settled ++ c.in_ok-settle.field-0 ∷ [] = c.in_ok-push.ensures.items in
     let same : c.in_ok-settle.field-0 ≡ c.in-Some.shard = c.in_ok-settle.ensures in
-    one_moved c.args.shards.items settled c.push.new.self.items (into_iter_items c.loop-shard.shard-iterator) (into_iter_items c.next.new.self) c.in-Some.shard
+    one-moved c.args.shards.items settled c.push.new.self.items (into_iter_items c.loop-shard.shard-iterator) (into_iter_items c.next.new.self) c.in-Some.shard
     c.loop-shard.invariant c.in-Some.ensures.steps.0
     (pushed ∙ ap (λ shard. settled ++ shard ∷ []) same)
 
 pub returns : goal.returns
 returns g c =
     sym (append-nil c.loop-shard.settled.items)
-    ∙ all_moved c.args.shards.items c.loop-shard.settled.items (into_iter_items c.loop-shard.shard-iterator) [] c.loop-shard.invariant
+    ∙ all-moved c.args.shards.items c.loop-shard.settled.items (into_iter_items c.loop-shard.shard-iterator) [] c.loop-shard.invariant
     (let none = c.in-None.ensures.steps.0 in let ok = c.loop-shard.shard-iterator.rest.ok in omega arith) (λ _. [])

@@ -1,5 +1,5 @@
 use Rattle.std.proofs.Common.{◌≡◌, Option, IfOk, sym, subst, ◌∙◌}
-use Rattle.step_acts.proofs.Placing.{none_taken}
+use Rattle.step_acts.proofs.Placing.{none-taken}
 use Rattle.step_acts.proofs.place.branch.Goals as goal
 use Rattle.semantics.specs.Places.{place_in_frames, unless_fault}
 use Rattle.semantics.specs.Statements as said
@@ -19,5 +19,5 @@ pub returns-in-None : goal.returns-in-None
 returns-in-None c =
     let s = c.args.snapshot.now in
     let t = s.test.now in
-    none_taken (said.act (test_by t) (seen_by s) (own_by s)) (place_in_frames (test_by t) (seen_by s) (own_by s) (own_by s).calls)
+    none-taken (said.act (test_by t) (seen_by s) (own_by s)) (place_in_frames (test_by t) (seen_by s) (own_by s) (own_by s).calls)
     (sym c.in_ok-place.ensures ∙ c.in-None.is)

@@ -1,4 +1,4 @@
-use Rattle.std.proofs.Common.{[], ◌∷◌, ap, arith, refl, sym, subst, ◌∙◌}
+use Rattle.std.proofs.Common.{[], ◌∷◌, ap, arith, subst, ◌∙◌}
 use Rattle.step_acts.proofs.Placing.{place-first}
 use Rattle.step_acts.proofs.place.place_at.Goals as goal
 use Rattle.step_forms.specs.internal.Places.{list_at, site_at}

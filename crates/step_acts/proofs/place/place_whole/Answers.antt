@@ -1,5 +1,3 @@
-use Rattle.std.proofs.Common.{subst, sym, Option}
-use Rattle.std.specs.Prelude.{IfOk}
 use Rattle.step_acts.proofs.Placing.{chosen-place}
 use Rattle.step_acts.proofs.place.place_whole.Goals as goal
 use Rattle.step_forms.specs.internal.Stands.{site_of}

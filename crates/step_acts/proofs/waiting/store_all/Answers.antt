@@ -9,7 +9,7 @@ use Rattle.step_snapshot.specs.Tests.{legend_by, test_by}
 use Rattle.std.proofs.Common.{map}
 use Rattle.config_parts.specs.Legend.{data_by}
 use Rattle.graph_items.specs.Standing.{target_of}
-use Rattle.value_types.proofs.Faults.{given_by, handed_on_by}
+use Rattle.value_types.proofs.Faults.{given-by, handed-on-by}
 
 pub store_at-requires-clause-known : goal.store_at-requires-clause-known
 store_at-requires-clause-known c =
@@ -23,8 +23,8 @@ returns-in_err-own-clause-stored c =
     let legend = legend_by t in
     let one = c.in-Some.one in
     let part = store test (target_of one.target.now) one.value (data_by legend c.loop-one.own) in
-    handed_on_by (data_by legend) part (stored_all test (map stored_by c.args.stored.items) (data_by legend c.args.own)) c.in_err-own.field-0.0 c.from_residual.result c.from_residual.ensures.1
-    (given_by (data_by legend) part c.in_err-own.field-0.0 c.in_err-own.ensures.stored)
+    handed-on-by (data_by legend) part (stored_all test (map stored_by c.args.stored.items) (data_by legend c.args.own)) c.in_err-own.field-0.0 c.from_residual.result c.from_residual.ensures.1
+    (given-by (data_by legend) part c.in_err-own.field-0.0 c.in_err-own.ensures.stored)
     (λ why fails. one-fails test stored_by c.loop-one.yielded one (data_by legend c.args.own) (data_by legend c.loop-one.own) c.loop-one.invariant.stored c.args.stored.items c.loop-one.one-iterator.rest.items c.next.new.self.rest.items why
     c.loop-one.invariant.split c.in-Some.ensures.steps.0 fails)
 

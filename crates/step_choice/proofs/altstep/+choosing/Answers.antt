@@ -1,15 +1,13 @@
-use Rattle.std.proofs.Common.{◌≡◌, ◌+◌, ◌-◌, suc, true, false, arith, drop, map, length, Option, Some, None, Ok, Err, List, [], ◌∷◌, refl, sym, ap, subst, ◌∙◌}
+use Rattle.std.proofs.Common.{◌+◌, ◌-◌, suc, true, false, arith, drop, map, Option, Some, None, Ok, Err, [], ◌∷◌, refl, sym, ap, subst, ◌∙◌}
 use Rattle.std.proofs.lemmas.List.{at_drop_all}
 use Rattle.std.specs.Option.{option_map}
-use Rattle.std.specs.List.{slice_get}
-use Rattle.ttcn_syntax.specs.declared.tree.definition.Altstep.{Altstep}
 use Rattle.ttcn_syntax.specs.declared.tree.statement.Branch.{out-Branch}
 use Rattle.check_rules.specs.Calls.{altstep_meant, parameters_of}
 use Rattle.check_scope.specs.Names.{kind_at, module_names}
 use Rattle.semantics.specs.Branches.{branches_of, guard_holds, open_branch, written_call}
 use Rattle.semantics.specs.Events as events
 use Rattle.semantics.specs.Items.{items, items_if_any}
-use Rattle.semantics.specs.Sites.{Site, beginning}
+use Rattle.semantics.specs.Sites.{beginning}
 use Rattle.step_choice.proofs.Alternatives.{facts-of-event, of-call, of-else, of-event}
 use Rattle.step_choice.proofs.Altsteps.{as-long, fault-through, first_from_call, found-in-altstep, from-call, memory-found, no-levels, none-from-call, parameters-known, there}
 use Rattle.step_choice.proofs.Choosing.{among, branch-next, first_of_branch, first_of_branches, known-at, none-chosen}
@@ -17,7 +15,7 @@ use Rattle.step_choice.proofs.Found.{fault-before, other-way, same-choice, taken
 use Rattle.step_choice.proofs.Guarded.{call-fault, call-given, else-taken, guard-false, guard-fault, guard-true, is-altstep}
 use Rattle.step_choice.specs.Choices.{Finds}
 use Rattle.step_choice.specs.declared.taken.Taken.{Taken}
-use Rattle.step_choice.specs.internal.Judged.{Is, IsAmong, altstep_of, below, first_of, judge_of, reads, test_of}
+use Rattle.step_choice.specs.internal.Judged.{Is, IsAmong, below, first_of, judge_of, reads, test_of}
 use Rattle.step_choice.specs.internal.Later.{chance_through, choice_through, or_later}
 use Rattle.step_choice.proofs.altstep.+choosing.Goals as goal
 use Rattle.step_snapshot.specs.Seen.{own_by, seen_by}

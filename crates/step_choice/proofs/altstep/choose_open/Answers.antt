@@ -1,4 +1,4 @@
-use Rattle.std.proofs.Common.{◌≡◌, Ok, Some, Option, [], ◌∷◌, subst, sym}
+use Rattle.std.proofs.Common.{Ok, Some, Option, [], ◌∷◌, subst, sym}
 use Rattle.semantics.specs.Branches.{open_branch}
 use Rattle.semantics.specs.Events.{try_event}
 use Rattle.step_choice.proofs.Guarded.{open-taken}

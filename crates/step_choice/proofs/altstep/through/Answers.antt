@@ -1,5 +1,4 @@
 use Rattle.std.proofs.Common.{refl}
-use Rattle.semantics.specs.Events as events
 use Rattle.step_choice.proofs.Through.{taken-through}
 use Rattle.step_choice.specs.internal.Judged.{test_of}
 use Rattle.step_choice.specs.internal.Later.{chance_through}

@@ -1,4 +1,4 @@
-use Rattle.std.proofs.Common.{◌≡◌, length, map, Option, Some, None, Ok, Err, [], ap, sym, subst, ◌∙◌}
+use Rattle.std.proofs.Common.{length, map, Option, Some, None, Ok, Err, [], subst}
 use Rattle.step_choice.proofs.Chosen.{alt-found, branch-way, default-way}
 use Rattle.step_choice.proofs.Choosing.{first_of_branches}
 use Rattle.step_choice.proofs.Found.{after-none, fault-before, other-way, taken-before}

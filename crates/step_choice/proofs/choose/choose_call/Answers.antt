@@ -1,4 +1,4 @@
-use Rattle.std.proofs.Common.{◌≡◌, Option, Some, None, Ok, Err, [], refl, ap, sym, subst, ◌∙◌}
+use Rattle.std.proofs.Common.{Option, Some, None, Ok, Err, [], refl, subst}
 use Rattle.semantics.specs.Branches.{written_call, written_defaults}
 use Rattle.semantics.specs.Sites.{beginning}
 use Rattle.step_choice.proofs.Chosen.{call-found, call-way}

@@ -1,4 +1,4 @@
-use Rattle.std.proofs.Common.{◌≡◌, ◌+◌, arith, drop, Option, Some, None, Ok, Err, [], ap, sym, subst, ◌∙◌}
+use Rattle.std.proofs.Common.{◌+◌, arith, drop, Option, Some, None, Ok, Err, [], ap, sym, subst, ◌∙◌}
 use Rattle.std.proofs.lemmas.List.{at_drop_all}
 use Rattle.semantics.specs.Branches.{written_defaults}
 use Rattle.step_choice.proofs.Choosing.{none-chosen}

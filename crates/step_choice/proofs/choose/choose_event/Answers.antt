@@ -1,4 +1,4 @@
-use Rattle.std.proofs.Common.{◌≡◌, Option, Some, None, Ok, Err, [], ◌∷◌, ap, sym, subst, ◌∙◌}
+use Rattle.std.proofs.Common.{Option, Some, None, Ok, Err, [], ◌∷◌, subst}
 use Rattle.ttcn_syntax.specs.declared.tree.statement.Statement.{out-Statement}
 use Rattle.semantics.specs.Branches.{open_branch, written_defaults}
 use Rattle.step_choice.proofs.Chosen.{event-found, event-way}

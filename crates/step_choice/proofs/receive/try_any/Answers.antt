@@ -1,6 +1,5 @@
-use Rattle.std.proofs.Common.{◌≡◌, ◌+◌, Ok, Err, Some, Option, List, drop, map, ap, sym, subst, ◌∙◌}
-use Rattle.std.proofs.lemmas.List.{at_drop_all}
-use Rattle.semantics.specs.Events.{Trial, or_next, try_front, try_fronts}
+use Rattle.std.proofs.Common.{◌+◌, Ok, Err, Some, Option, drop, map, ap, sym, subst, ◌∙◌}
+use Rattle.semantics.specs.Events.{or_next, try_front, try_fronts}
 use Rattle.semantics.specs.Snapshots.{front_of}
 use Rattle.step_choice.proofs.Ported.{queue-next, queues-tried}
 use Rattle.step_choice.proofs.Tried.{decided, faulty, next-tried, same-trial}
@@ -10,7 +9,6 @@ use Rattle.step_choice.proofs.receive.try_any.Goals as goal
 use Rattle.step_snapshot.specs.Seen.{seen_by}
 use Rattle.step_snapshot.specs.Tests.{legend_by}
 use Rattle.config_parts.specs.Legend.{message_by}
-use Rattle.config_parts.specs.declared.component.Queue.{Queue}
 use Rattle.value_types.specs.Frames.{reading}
 
 pub loop-queue-init : goal.loop-queue-init

@@ -1,5 +1,5 @@
 use Rattle.std.proofs.Common.{rules, ◌∙◌}
-use Rattle.summary.proofs.Adding.{union_nothing, union_more}
+use Rattle.summary.proofs.Adding.{union-nothing, union-more}
 use Rattle.summary.proofs.ordered_set.extended.Goals as goal
 
 pub loop-key-init : goal.loop-key-init
@@ -7,7 +7,7 @@ loop-key-init g c = record {
   can = search rules;
   ends = search rules;
   ascend = c.requires;
-  union = union_nothing c.args.keys.items;
+  union = union-nothing c.args.keys.items;
 }
 
 pub loop-key-preserved : goal.loop-key-preserved
@@ -15,5 +15,5 @@ loop-key-preserved g c = record {
   can = search rules;
   ends = search rules;
   ascend = c.in_ok-add.ensures.ascend;
-  union = c.in_ok-add.ensures.union ∙ union_more _ c.args.keys.items c.loop-key.yielded c.in-Some.key c.loop-key.invariant.union;
+  union = c.in_ok-add.ensures.union ∙ union-more _ c.args.keys.items c.loop-key.yielded c.in-Some.key c.loop-key.invariant.union;
 }

@@ -1,4 +1,4 @@
-use Rattle.std.proofs.Common.{arith, ap, ◌∙◌, length}
+use Rattle.std.proofs.Common.{arith, ◌∙◌}
 use Rattle.graph_names.specs.Known.{names_of}
 use Rattle.graph_names.proofs.Learned.{all-end, lists-next}
 use Rattle.ttcn_graph.proofs.known.add_lists.Goals as goal

@@ -1,4 +1,4 @@
-use Rattle.std.proofs.Common.{◌++◌, length, map, refl, ap, ◌∙◌}
+use Rattle.std.proofs.Common.{◌++◌, length, refl, ap, ◌∙◌}
 use Rattle.semantics.specs.Labels.{delivery}
 use Rattle.step_snapshot.specs.Tests.{legend_by, test_by}
 use Rattle.config_parts.specs.Legend.{going_by, mapping_by}

@@ -1,4 +1,3 @@
-use Rattle.std.proofs.Common.{map}
 use Rattle.laws_fine.specs.Doubling.{doubled}
 use Rattle.semantics.specs.Runs as runs
 use Rattle.step_snapshot.specs.Tests.{test_by}

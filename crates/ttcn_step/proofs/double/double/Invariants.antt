@@ -1,4 +1,4 @@
-use Rattle.std.proofs.Common.{◌≡◌, ◌+◌, ◌++◌, drop, map}
+use Rattle.std.proofs.Common.{◌≡◌, ◌+◌, ◌++◌, drop}
 use Rattle.laws_fine.specs.Doubling.{doubled, doubled_from}
 use Rattle.semantics.specs.Runs as runs
 use Rattle.step_snapshot.specs.Tests.{test_by}

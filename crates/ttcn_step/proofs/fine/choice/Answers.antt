@@ -17,7 +17,6 @@ use Rattle.ttcn_step.specs.Machines.{machine_of}
 use Rattle.ttcn_step.specs.internal.Fine.{held_by}
 use Rattle.ttcn_step.specs.internal.Steps as spec
 use Rattle.value_types.specs.declared.fault.Fault.{Fault}
-use Rattle.std.specs.Prelude.{map}
 
 pub returns-in_default-clause-after : goal.returns-in_default-clause-after
 returns-in_default-clause-after c =

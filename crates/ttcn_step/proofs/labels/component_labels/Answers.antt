@@ -1,4 +1,4 @@
-use Rattle.std.proofs.Common.{map, refl}
+use Rattle.std.proofs.Common.{refl}
 use Rattle.semantics.specs.Labels.{labels_of_component}
 use Rattle.step_snapshot.specs.Tests.{extent_of, legend_by, test_by}
 use Rattle.config_parts.specs.Legend.{component_by, going_by}

@@ -1,4 +1,4 @@
-use Rattle.std.proofs.Common.{◌≡◌, ◌++◌, drop, map}
+use Rattle.std.proofs.Common.{◌≡◌, ◌++◌, drop}
 use Rattle.semantics.specs.Labels.{labels_of_component}
 use Rattle.step_snapshot.specs.Tests.{legend_by, test_by}
 use Rattle.config_parts.specs.Legend.{going_by}

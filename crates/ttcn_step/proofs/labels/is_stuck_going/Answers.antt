@@ -1,4 +1,4 @@
-use Rattle.std.proofs.Common.{map, sym, true≢false, ◌∙◌}
+use Rattle.std.proofs.Common.{sym, true≢false, ◌∙◌}
 use Rattle.std.specs.List.{flat_map}
 use Rattle.semantics.specs.Labels.{deliveries, labels_of_component}
 use Rattle.step_snapshot.specs.Tests.{legend_by, test_by}

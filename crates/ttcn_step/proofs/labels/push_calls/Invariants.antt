@@ -1,4 +1,4 @@
-use Rattle.std.proofs.Common.{◌≡◌, ◌++◌, map}
+use Rattle.std.proofs.Common.{◌≡◌, ◌++◌}
 use Rattle.step_snapshot.specs.Tests.{legend_by}
 use Rattle.ttcn_step.proofs.Listed.{calls_below}
 use Rattle.ttcn_step.proofs.labels.push_calls.Given as goal

@@ -1,4 +1,4 @@
-use Rattle.std.proofs.Common.{◌≡◌, ◌+◌, drop, map}
+use Rattle.std.proofs.Common.{◌≡◌, ◌+◌, drop}
 use Rattle.semantics.specs.Runs as runs
 use Rattle.step_snapshot.specs.Tests.{test_by}
 use Rattle.ttcn_step.specs.Machines.{Fits, machine_of, said}

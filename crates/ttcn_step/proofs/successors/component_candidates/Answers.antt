@@ -1,4 +1,4 @@
-use Rattle.std.proofs.Common.{map, refl}
+use Rattle.std.proofs.Common.{refl}
 use Rattle.step_snapshot.specs.Tests.{extent_of, legend_by}
 use Rattle.config_parts.specs.Legend.{component_by}
 use Rattle.ttcn_step.proofs.Limits.{kept-at, within-at}

@@ -1,4 +1,4 @@
-use Rattle.std.proofs.Common.{◌≡◌, ◌++◌, drop, map}
+use Rattle.std.proofs.Common.{◌≡◌, ◌++◌, drop}
 use Rattle.step_snapshot.specs.Tests.{legend_by}
 use Rattle.ttcn_step.proofs.Listed.{parts_of}
 use Rattle.ttcn_step.specs.internal.Steps.{candidates_of}

@@ -1,4 +1,4 @@
-use Rattle.std.proofs.Common.{◌≡◌, map}
+use Rattle.std.proofs.Common.{◌≡◌}
 use Rattle.std.specs.List.{All}
 use Rattle.semantics.specs.Configurations as rules
 use Rattle.step_snapshot.specs.Tests.{legend_by, test_by}

@@ -1,16 +1,16 @@
 use Rattle.std.proofs.Common.{sym, ◌∙◌}
-use Rattle.ttcn_syntax.proofs.Readings.{word_read, left_out_read, name_read, no_word_found}
+use Rattle.ttcn_syntax.proofs.Readings.{word-read, left-out-read, name-read, no-word-found}
 use Rattle.ttcn_syntax.proofs.reading.word_token.Goals as goal
 
 pub returns-in-Some : goal.returns-in-Some
-returns-in-Some c = word_read c.args.bytes.now c.in-Some.word (sym c.used_word.ensures ∙ c.in-Some.is)
+returns-in-Some c = word-read c.args.bytes.now c.in-Some.word (sym c.used_word.ensures ∙ c.in-Some.is)
 
 pub returns-then-is_some : goal.returns-then-is_some
-returns-then-is_some c = left_out_read c.args.bytes.now (cc (c.left_out_word.ensures, c.is_some.ensures, c.if-is_some.true))
+returns-then-is_some c = left-out-read c.args.bytes.now (cc (c.left_out_word.ensures, c.is_some.ensures, c.if-is_some.true))
 
 pub returns : goal.returns
 returns c =
-    name_read c.args.bytes.now c.in_ok-name.name
-    (sym c.used_word.ensures ∙ no_word_found c.used_word.result c.in_default.not-Some)
+    name-read c.args.bytes.now c.in_ok-name.name
+    (sym c.used_word.ensures ∙ no-word-found c.used_word.result c.in_default.not-Some)
     (cc (c.left_out_word.ensures, c.is_some.ensures, c.if-is_some.false))
     c.in_ok-name.ensures

@@ -10,6 +10,6 @@ invariant-matches_any-loop-part l = list_any (λ part. is_match part l.value) l.
 -- the fields that are left decide
 abbrev pub invariant-matches_fields-loop-part : goal.invariant-matches_fields-loop-part
 invariant-matches_fields-loop-part l = record {
-  same_length : length l.parts ≡ length l.fields;
+  same-length : length l.parts ≡ length l.fields;
   left : match_fields (map is_match l.parts) l.fields ≡ match_fields (map is_match (drop (length l.yielded) l.parts)) (drop (length l.yielded) l.fields);
 }

@@ -5,8 +5,8 @@ use Rattle.report.specs.Labels.{label_text}
 use Rattle.report.specs.Runs.{ReadsFineRun, lines_of}
 use Rattle.report.specs.Texts.{line}
 use Rattle.semantics.specs.Snapshots.{Test}
-use Rattle.ttcnx.proofs.Conversions.{coarse_answers, coarsen_answers, fine_listing, name_converts}
-use Rattle.ttcnx.proofs.Stages.{as_error}
+use Rattle.ttcnx.proofs.Conversions.{coarse-answers, coarsen-answers, fine-listing, name-converts}
+use Rattle.ttcnx.proofs.Stages.{as-error}
 use Rattle.ttcnx.proofs.convert.coarsen_text.Goals as goal
 use Rattle.ttcnx.specs.Converted.{IsCoarsened, OfFineRun}
 use Rattle.ttcnx.specs.Fault.{coarsen_fault, listing_fault}
@@ -16,15 +16,15 @@ use Rattle.ttcnx.specs.declared.fault.Fault.TheVariants.{Memory}
 pub returns-in_err-program-clause-answer : goal.returns-in_err-program-clause-answer
 returns-in_err-program-clause-answer c =
     let why = c.in_err-program.field-0.0 in
-    as_error c.from_residual.result why (λ r. (r ≡ Err Memory) ⊎ IsCoarsened (source c.args.text.now c.args.script.now) c.args.name.now c.args.run.now r)
-    c.from_residual.ensures.0 c.from_residual.ensures.1 (name_converts (OfFineRun c.args.run.now) (source c.args.text.now c.args.script.now) c.args.name.now why c.in_err-program.ensures.lacking)
+    as-error c.from_residual.result why (λ r. (r ≡ Err Memory) ⊎ IsCoarsened (source c.args.text.now c.args.script.now) c.args.name.now c.args.run.now r)
+    c.from_residual.ensures.0 c.from_residual.ensures.1 (name-converts (OfFineRun c.args.run.now) (source c.args.text.now c.args.script.now) c.args.name.now why c.in_err-program.ensures.lacking)
 
 pub returns-in_err-labels-clause-answer : goal.returns-in_err-labels-clause-answer
 returns-in_err-labels-clause-answer c =
     let error = c.in_err-labels.field-0.0 in
-    as_error c.from_residual-in_err-labels.result (listing_fault error) (λ r. (r ≡ Err Memory) ⊎ IsCoarsened (source c.args.text.now c.args.script.now) c.args.name.now c.args.run.now r)
+    as-error c.from_residual-in_err-labels.result (listing_fault error) (λ r. (r ≡ Err Memory) ⊎ IsCoarsened (source c.args.text.now c.args.script.now) c.args.name.now c.args.run.now r)
     c.from_residual-in_err-labels.ensures.0 c.from_residual-in_err-labels.ensures.1
-    (fine_listing (source c.args.text.now c.args.script.now) c.args.name.now c.args.run.now _ error c.in_ok-program.ensures.named c.in_err-labels.ensures.err)
+    (fine-listing (source c.args.text.now c.args.script.now) c.args.name.now c.args.run.now _ error c.in_ok-program.ensures.named c.in_err-labels.ensures.err)
 
 pub returns-in_err-run-clause-answer : goal.returns-in_err-run-clause-answer
 returns-in_err-run-clause-answer c =
@@ -32,9 +32,9 @@ returns-in_err-run-clause-answer c =
     let machine = c.in_ok-machine.machine in
     let is = subst (λ (t : Test). IsTestOf (source c.args.text.now c.args.script.now) c.args.name.now t) (sym c.in_ok-machine.ensures) c.in_ok-program.ensures.named in
     let reads = subst (ReadsFineRun (lines_of c.args.run.now)) (sym c.as_slice.ensures.value) c.in_ok-labels.ensures.ok in
-    as_error c.from_residual-in_err-run.result (coarsen_fault error) (λ r. (r ≡ Err Memory) ⊎ IsCoarsened (source c.args.text.now c.args.script.now) c.args.name.now c.args.run.now r)
+    as-error c.from_residual-in_err-run.result (coarsen_fault error) (λ r. (r ≡ Err Memory) ⊎ IsCoarsened (source c.args.text.now c.args.script.now) c.args.name.now c.args.run.now r)
     c.from_residual-in_err-run.ensures.0 c.from_residual-in_err-run.ensures.1
-    (coarsen_answers (source c.args.text.now c.args.script.now) c.args.name.now c.args.run.now machine c.as_slice.result.now error is reads c.in_err-run.ensures.coarsens)
+    (coarsen-answers (source c.args.text.now c.args.script.now) c.args.name.now c.args.run.now machine c.as_slice.result.now error is reads c.in_err-run.ensures.coarsens)
 
 pub returns-clause-answer : goal.returns-clause-answer
 returns-clause-answer c =
@@ -42,5 +42,5 @@ returns-clause-answer c =
     let is = subst (λ (t : Test). IsTestOf (source c.args.text.now c.args.script.now) c.args.name.now t) (sym c.in_ok-machine.ensures) c.in_ok-program.ensures.named in
     let reads = subst (ReadsFineRun (lines_of c.args.run.now)) (sym c.as_slice.ensures.value) c.in_ok-labels.ensures.ok in
     let told : c.into_bytes.result.items ≡ flat_map (λ label. line (label_text label)) c.as_slice-2.result.now = search rules in
-    coarse_answers (source c.args.text.now c.args.script.now) c.args.name.now c.args.run.now machine c.as_slice.result.now c.in_ok-run.run' c.into_bytes.result is reads c.in_ok-run.ensures.coarsens
+    coarse-answers (source c.args.text.now c.args.script.now) c.args.name.now c.args.run.now machine c.as_slice.result.now c.in_ok-run.run' c.into_bytes.result is reads c.in_ok-run.ensures.coarsens
     (told ∙ ap (flat_map (λ label. line (label_text label))) c.as_slice-2.ensures.value)

@@ -1,6 +1,6 @@
 use Rattle.clap.specs.Words.{found_of, rows_of}
 use Rattle.std.proofs.Common.{codes}
-use Rattle.ttcnx_command_line.proofs.Getters.{number_within}
+use Rattle.ttcnx_command_line.proofs.Getters.{number-within}
 use Rattle.ttcnx_command_line.proofs.command.plan_of.Goals as goal
 
 pub number_of-requires : goal.number_of-requires
@@ -18,10 +18,10 @@ number_of-requires-4 c = (1, 65536, c.requires.piece)
 pub returns-clause-limits : goal.returns-clause-limits
 returns-clause-limits c =
     let rows = rows_of (found_of c.args.given.now) in
-    let steps = number_within rows (codes "steps") 0 100000 _ c.requires.steps c.number_of.ensures in
-    let limit = number_within rows (codes "limit") 1 10000000 _ c.requires.limit c.number_of-2.ensures in
-    let workers = number_within rows (codes "workers") 1 64 _ c.requires.workers c.number_of-3.ensures in
-    let piece = number_within rows (codes "piece") 1 65536 _ c.requires.piece c.number_of-4.ensures in
+    let steps = number-within rows (codes "steps") 0 100000 _ c.requires.steps c.number_of.ensures in
+    let limit = number-within rows (codes "limit") 1 10000000 _ c.requires.limit c.number_of-2.ensures in
+    let workers = number-within rows (codes "workers") 1 64 _ c.requires.workers c.number_of-3.ensures in
+    let piece = number-within rows (codes "piece") 1 65536 _ c.requires.piece c.number_of-4.ensures in
     record {
       steps = steps.1;
       limit_low = limit.0;

@@ -3,7 +3,7 @@ use Rattle.std.proofs.lemmas.Result.{IfOk-weaker}
 use Rattle.clap.specs.Words.{App, new_app}
 use Rattle.clap.specs.Simple.{on_top}
 use Rattle.ttcnx_command_line.specs.App.{bare_app, check_app, run_app, run_file_app}
-use Rattle.ttcnx_command_line.proofs.Builds.{fields_set, subcommand_added}
+use Rattle.ttcnx_command_line.proofs.Builds.{fields-set, subcommand-added}
 use Rattle.ttcnx_command_line.proofs.definition.command.Goals as goal
 
 abbrev fresh : App
@@ -14,13 +14,13 @@ whole = on_top (λ s. record s { no_binary_name = true }) fresh
 
 pub returns : goal.returns
 returns c =
-    let start = fields_set fresh fresh c.new.result c.about.result _ c.about.ensures (c.new.ensures.app, c.new.ensures.local) refl (λ e. e) in
-    let named = fields_set fresh fresh c.about.result _ _ c.in_ok-bin_name.ensures.0 start refl (λ e. e) in
-    let words = fields_set fresh whole _ c.no_binary_name.result _ c.no_binary_name.ensures named refl (ap (on_top (λ s. record s { no_binary_name = true }))) in
-    let bare = fields_set whole bare_app c.no_binary_name.result c.subcommand_required.result _ c.subcommand_required.ensures words refl (ap (on_top (λ s. record s { subcommand_required = true }))) in
-    let one = subcommand_added bare_app check_app _ _ _ c.in_ok-subcommand.ensures bare (c.in_ok-check_command.ensures.app, c.in_ok-check_command.ensures.local) in
-    let two = subcommand_added _ run_app _ _ _ c.in_ok-subcommand-2.ensures one (c.in_ok-run_command.ensures.app, c.in_ok-run_command.ensures.local) in
-    let three = subcommand_added _ (run_file_app (codes "replay")) _ _ _ c.in_ok-subcommand-3.ensures two (c.in_ok-run_file_command.ensures.app, c.in_ok-run_file_command.ensures.local) in
-    let four = subcommand_added _ (run_file_app (codes "coarsen")) _ _ _ c.in_ok-subcommand-4.ensures three (c.in_ok-run_file_command-2.ensures.app, c.in_ok-run_file_command-2.ensures.local) in
+    let start = fields-set fresh fresh c.new.result c.about.result _ c.about.ensures (c.new.ensures.app, c.new.ensures.local) refl (λ e. e) in
+    let named = fields-set fresh fresh c.about.result _ _ c.in_ok-bin_name.ensures.0 start refl (λ e. e) in
+    let words = fields-set fresh whole _ c.no_binary_name.result _ c.no_binary_name.ensures named refl (ap (on_top (λ s. record s { no_binary_name = true }))) in
+    let bare = fields-set whole bare_app c.no_binary_name.result c.subcommand_required.result _ c.subcommand_required.ensures words refl (ap (on_top (λ s. record s { subcommand_required = true }))) in
+    let one = subcommand-added bare_app check_app _ _ _ c.in_ok-subcommand.ensures bare (c.in_ok-check_command.ensures.app, c.in_ok-check_command.ensures.local) in
+    let two = subcommand-added _ run_app _ _ _ c.in_ok-subcommand-2.ensures one (c.in_ok-run_command.ensures.app, c.in_ok-run_command.ensures.local) in
+    let three = subcommand-added _ (run_file_app (codes "replay")) _ _ _ c.in_ok-subcommand-3.ensures two (c.in_ok-run_file_command.ensures.app, c.in_ok-run_file_command.ensures.local) in
+    let four = subcommand-added _ (run_file_app (codes "coarsen")) _ _ _ c.in_ok-subcommand-4.ensures three (c.in_ok-run_file_command-2.ensures.app, c.in_ok-run_file_command-2.ensures.local) in
     IfOk-weaker c.subcommand-5.result _ _
-    (λ m h. (subcommand_added _ (run_file_app (codes "double")) _ _ m h four (c.in_ok-run_file_command-3.ensures.app, c.in_ok-run_file_command-3.ensures.local)).0) c.subcommand-5.ensures
+    (λ m h. (subcommand-added _ (run_file_app (codes "double")) _ _ m h four (c.in_ok-run_file_command-3.ensures.app, c.in_ok-run_file_command-3.ensures.local)).0) c.subcommand-5.ensures

@@ -2,7 +2,7 @@ use Rattle.std.proofs.Common.{rules, ◌≡◌, refl, codes, false}
 use Rattle.std.proofs.lemmas.Result.{IfOk-weaker}
 use Rattle.clap.specs.Words.{new_app, rule_of}
 use Rattle.ttcnx_command_line.specs.App.{needed_option}
-use Rattle.ttcnx_command_line.proofs.Builds.{arg_added, fields_set}
+use Rattle.ttcnx_command_line.proofs.Builds.{arg-added, fields-set}
 use Rattle.ttcnx_command_line.proofs.definition.run_file_command.Goals as goal
 
 pub returns : goal.returns
@@ -10,11 +10,11 @@ returns c =
     let run_is : rule_of c.help-run.result ≡ needed_option (codes "run") = search rules in
     let run_local : c.help-run.result.global ≡ false = search rules in
     let fresh = new_app c.args.name.now in
-    let start = fields_set fresh fresh c.new-2.result c.about.result _ c.about.ensures (c.new-2.ensures.app, c.new-2.ensures.local) refl (λ e. e) in
-    let one = arg_added _ _ _ _ _ c.in_ok-arg.ensures start c.file.ensures.rule c.file.ensures.local in
-    let two = arg_added _ _ _ _ _ c.in_ok-arg-2.ensures one c.testcase.ensures.rule c.testcase.ensures.local in
-    let three = arg_added _ _ _ _ _ c.in_ok-arg-3.ensures two c.script.ensures.rule c.script.ensures.local in
+    let start = fields-set fresh fresh c.new-2.result c.about.result _ c.about.ensures (c.new-2.ensures.app, c.new-2.ensures.local) refl (λ e. e) in
+    let one = arg-added _ _ _ _ _ c.in_ok-arg.ensures start c.file.ensures.rule c.file.ensures.local in
+    let two = arg-added _ _ _ _ _ c.in_ok-arg-2.ensures one c.testcase.ensures.rule c.testcase.ensures.local in
+    let three = arg-added _ _ _ _ _ c.in_ok-arg-3.ensures two c.script.ensures.rule c.script.ensures.local in
     record {
-      app = IfOk-weaker c.arg-4.result _ _ (λ m h. (arg_added _ _ _ _ m h three run_is run_local).0) c.arg-4.ensures;
-      local = IfOk-weaker c.arg-4.result _ _ (λ m h. (arg_added _ _ _ _ m h three run_is run_local).1) c.arg-4.ensures;
+      app = IfOk-weaker c.arg-4.result _ _ (λ m h. (arg-added _ _ _ _ m h three run_is run_local).0) c.arg-4.ensures;
+      local = IfOk-weaker c.arg-4.result _ _ (λ m h. (arg-added _ _ _ _ m h three run_is run_local).1) c.arg-4.ensures;
     }

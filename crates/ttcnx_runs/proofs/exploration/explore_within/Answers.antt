@@ -3,7 +3,7 @@ use Rattle.std.specs.Prelude.{Err}
 use denote.Exit
 use denote.Param.{param}
 use denote.Param.Send.{arg_send, arg_sync, param_send, param_sync, sendable}
-use Rattle.ttcnx_runs.proofs.Assembly.{found_explored, refused_explored}
+use Rattle.ttcnx_runs.proofs.Assembly.{found-explored, refused-explored}
 use Rattle.ttcnx_runs.proofs.crossing.States.{state-send, state-sync}
 use Rattle.ttcnx_runs.proofs.crossing.Systems.{runs-sync}
 use Rattle.ttcnx_runs.proofs.exploration.explore_within.Goals as goal
@@ -19,7 +19,7 @@ search-requires-sync-Y g c κs within = search (runs-sync, sendable) depth 20
 
 pub returns-in-Ok-found_by : goal.returns-in-Ok-found_by
 returns-in-Ok-found_by g c =
-    found_explored g.K.Scheme.machine.test c.in-Ok-found_by.found c.in-Ok.answer (record {
+    found-explored g.K.Scheme.machine.test c.in-Ok-found_by.found c.in-Ok.answer (record {
       configurations = c.in-Ok-found_by.ensures.configurations;
       complete = c.in-Ok-found_by.ensures.complete;
       best = c.in-Ok-found_by.ensures.best;
@@ -31,5 +31,5 @@ returns-in-Ok-found_by g c =
     c.in-Ok.ensures.every_bound
 
 pub returns-in-Err : goal.returns-in-Err
-returns-in-Err g c = refused_explored g.K.Scheme.machine.test c.args.plan.now c.in-Err.refused
+returns-in-Err g c = refused-explored g.K.Scheme.machine.test c.args.plan.now c.in-Err.refused
     (λ is. c.in-Err.ensures.bad_plan.0 (ap Err is)) (λ no. let same = c.in-Err.ensures.bad_plan.1 no in cc) (λ is. c.in-Err.ensures.too_many (ap Err is))

@@ -1,4 +1,4 @@
-use Rattle.std.proofs.Common.{◌≡◌, Ok, Some, sym, ap, subst, ◌∙◌}
+use Rattle.std.proofs.Common.{Ok, Some, sym, ap, subst, ◌∙◌}
 use Rattle.config_parts.proofs.Expired.{expired-by}
 use Rattle.config_parts.proofs.Within.{expire-within}
 use Rattle.std.specs.declared.alloc.AllocError.{AllocError}

@@ -1,6 +1,6 @@
 use Rattle.std.proofs.Common.{sym, ap, ◌∙◌}
 use Rattle.config_parts.proofs.Expired.{runs-at, runs-nowhere, runs-other}
-use Rattle.config_parts.specs.internal.Expiries.{place_above, runs_above, runs_in}
+use Rattle.config_parts.specs.internal.Expiries.{runs_above, runs_in}
 use Rattle.config_parts.proofs.frame.Data.runs.Goals as goal
 
 pub returns-in-Some : goal.returns-in-Some

@@ -1,8 +1,7 @@
-use Rattle.std.proofs.Common.{Bool, List, Option, Some, None, ap, sym, ◌∙◌}
+use Rattle.std.proofs.Common.{Bool, List, Option, Some, None, ap, ◌∙◌}
 use Rattle.check_scope.specs.Names.{kind_at, module_names}
 use Rattle.check_scope.specs.PortTypes.{only_type, types_of_port}
 use Rattle.check_scope.specs.declared.types.DataType.{DataType}
-use Rattle.check_scope.specs.internal.Traffic.{types_through}
 use Rattle.graph_sites.proofs.here.Here.type_passing.Goals as goal
 
 pub returns-in-Some : goal.returns-in-Some

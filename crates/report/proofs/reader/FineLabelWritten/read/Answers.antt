@@ -1,5 +1,5 @@
-use Rattle.report.proofs.Fine.{fine_ends}
+use Rattle.report.proofs.Fine.{fine-ends}
 use Rattle.report.proofs.reader.FineLabelWritten.read.Goals as goal
 
 pub returns-clause-bare : goal.returns-clause-bare
-returns-clause-bare c = fine_ends
+returns-clause-bare c = fine-ends

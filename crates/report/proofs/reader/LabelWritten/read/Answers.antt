@@ -1,5 +1,5 @@
-use Rattle.report.proofs.Wholes.{label_ends}
+use Rattle.report.proofs.Wholes.{label-ends}
 use Rattle.report.proofs.reader.LabelWritten.read.Goals as goal
 
 pub returns-clause-bare : goal.returns-clause-bare
-returns-clause-bare c = label_ends
+returns-clause-bare c = label-ends

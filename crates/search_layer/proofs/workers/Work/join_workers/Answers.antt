@@ -11,8 +11,8 @@ use Rattle.shared.specs.declared.seen.view.SeenView.{SeenView}
 use Rattle.search_layer.specs.declared.workers.Worked.{Worked}
 use Rattle.search_layer.specs.internal.Search.{with_steps}
 use Rattle.search_layer.specs.internal.Work.{in_pieces, HasPlaced, IsDone}
-use Rattle.search_layer.proofs.Joining.{neither, joined_placed, joined_shown}
-use Rattle.search_layer.proofs.Taken.{front_taken}
+use Rattle.search_layer.proofs.Joining.{neither, joined-placed, joined-shown}
+use Rattle.search_layer.proofs.Taken.{front-taken}
 use Rattle.search_layer.proofs.workers.Work.join_workers.Given.{Over}
 use Rattle.search_layer.proofs.workers.Work.join_workers.Goals as goal
 use Rattle.search_layer.proofs.workers.Work.join_workers.Goals.{In-Some}
@@ -20,14 +20,14 @@ use Rattle.search_layer.proofs.workers.Work.join_workers.Goals.{In-Some}
 semilattice : (g : Over) → IsSemilattice g.U.Summary.joins
 semilattice g = (g.met.U.Summary g.world.𝓛 g.world.𝓜 g.world.𝓡 ((λ s x. x), (λ x. x), (λ x. x), λ x. x)).semilattice
 
-worked_done : (g : Over) (c : In-Some g) → IsDone g.Y.State.PartialEq.eq c.args.self.now.seen.now c.args.self.now.board.now g.U.Summary.joins (g.U.Summary.observation c.args.self.now.system.now) (g.Y.System.graph c.args.self.now.system.now)
+worked-done : (g : Over) (c : In-Some g) → IsDone g.Y.State.PartialEq.eq c.args.self.now.seen.now c.args.self.now.board.now g.U.Summary.joins (g.U.Summary.observation c.args.self.now.system.now) (g.Y.System.graph c.args.self.now.system.now)
     c.args.self.now.visited.now.keys c.args.self.now.candidates.now c.args.self.now.size c.in-Some.worked
-worked_done g c =
+worked-done g c =
     let P : Worked g.row.U.Denot → Type 0 = λ w. IsDone g.Y.State.PartialEq.eq c.args.self.now.seen.now c.args.self.now.board.now g.U.Summary.joins (g.U.Summary.observation c.args.self.now.system.now) (g.Y.System.graph c.args.self.now.system.now)
     c.args.self.now.visited.now.keys c.args.self.now.candidates.now c.args.self.now.size w in
     let start = c.into_iter-worked-iterator.result in
     let more = Yields-more into_iter_steps start c.loop-worked.yielded c.loop-worked.worked-iterator c.in-Some.worked c.next.new.self c.loop-worked.yielded_by c.in-Some.ensures.steps in
-    let items = sym c.into_iter-worked-iterator.ensures.into_iter_gives.0 ∙ front_taken start (c.loop-worked.yielded ++ c.in-Some.worked ∷ []) c.next.new.self more in
+    let items = sym c.into_iter-worked-iterator.ensures.into_iter_gives.0 ∙ front-taken start (c.loop-worked.yielded ++ c.in-Some.worked ∷ []) c.next.new.self more in
     let there = Contains-append_left (c.loop-worked.yielded ++ c.in-Some.worked ∷ []) (into_iter_items c.next.new.self) c.in-Some.worked (Contains-push c.loop-worked.yielded c.in-Some.worked) in
     All-contains P ((c.loop-worked.yielded ++ c.in-Some.worked ∷ []) ++ into_iter_items c.next.new.self) c.in-Some.worked (subst (All P) items c.requires.done) there
 
@@ -41,7 +41,7 @@ loop-worked-preserved g c =
     let joins = g.U.Summary.joins in
     let observation = g.U.Summary.observation system in
     let graph = g.Y.System.graph system in
-    let done = worked_done g (goal.at.loop-worked-preserved g c).In-Some in
+    let done = worked-done g (goal.at.loop-worked-preserved g c).In-Some in
     let v = view c.loop-worked.seat in
     let w = board_view c.loop-worked.draws in
     let v' = view c.in-Some.worked.worker.seen in
@@ -51,7 +51,7 @@ loop-worked-preserved g c =
     let inv = c.loop-worked.invariant in
     let count = length-append c.loop-worked.yielded (c.in-Some.worked ∷ []) in
     let unseen = λ (saw : (board_view c.join-in-loop-worked.new.seat).saw ≡ false). neither w.saw w'.saw (sym (ap (λ (x : BoardView). x.saw) f) ∙ saw) in
-    let placed_is = ap (λ (x : SeenView). x.placed) e in
+    let placed-is = ap (λ (x : SeenView). x.placed) e in
     let drawn_is = ap (λ (x : BoardView). x.drawn) f in
     record {
       own = (c.join.ensures.own, c.join-in-loop-worked.ensures.own);
@@ -65,11 +65,11 @@ loop-worked-preserved g c =
       };
       ends = λ saw some. (let d = (done.placed (unseen saw).1).0 in let p = ap (λ (x : BoardView). x.ends) f in omega arith);
       placed = λ saw.
-          (let h = joined_placed eq known cs size w.drawn w'.drawn v.placed v'.placed (inv.placed (unseen saw).0) ((done.placed (unseen saw).1).1) in
+          (let h = joined-placed eq known cs size w.drawn w'.drawn v.placed v'.placed (inv.placed (unseen saw).0) ((done.placed (unseen saw).1).1) in
           subst (λ ds. HasPlaced eq known cs size ds (view c.join.new.seat).placed) (sym drawn_is)
-          (subst (λ xs. HasPlaced eq known cs size (w.drawn ++ w'.drawn) xs) (sym placed_is) h));
+          (subst (λ xs. HasPlaced eq known cs size (w.drawn ++ w'.drawn) xs) (sym placed-is) h));
       summary =
-          joined_shown joins observation graph known (semilattice g) size cs w.drawn w'.drawn c.loop-worked.summary c.in_ok-shown.field-0 c.in_ok-summary-2.summary
+          joined-shown joins observation graph known (semilattice g) size cs w.drawn w'.drawn c.loop-worked.summary c.in_ok-shown.field-0 c.in_ok-summary-2.summary
           inv.summary (subst (λ o. IfOk o (λ s. s ≡ with_steps joins observation graph known joins.none (in_pieces size cs w'.drawn))) c.in_ok-shown.was done.summary) c.in_ok-summary-2.ensures
           ∙ ap (λ ds. with_steps joins observation graph known joins.none (in_pieces size cs ds)) (sym drawn_is);
     }

@@ -3,9 +3,9 @@ use mathlib.Core.Logic.{dite}
 use native.Mathlib.Decide.{dec_le}
 use Rattle.shared.specs.SeenSeats.{view}
 use Rattle.search_layer.specs.internal.Work.{AddsNew}
-use Rattle.search_layer.proofs.Drawing.{same_seat_then}
-use Rattle.search_layer.proofs.Placing.{then_placed, placed_further}
-use Rattle.search_layer.proofs.StepSums.{step_more}
+use Rattle.search_layer.proofs.Drawing.{same-seat-then}
+use Rattle.search_layer.proofs.Placing.{then-placed, placed-further}
+use Rattle.search_layer.proofs.StepSums.{step-more}
 use Rattle.search_layer.proofs.workers.Work.take_piece.Goals as goal
 
 pub loop-at-preserved : goal.loop-at-preserved
@@ -17,9 +17,9 @@ loop-at-preserved g c =
     let system = c.args.self.now.system.now in
     record {
       own = c.place.ensures.own;
-      kept = same_seat_then (view c.args.seat.now) (view c.loop-at.seat) (view c.place.new.seat) c.loop-at.invariant.kept c.place.ensures.kept;
-      placed = then_placed eq known cs from c.loop-at.at (c.loop-at.at + 1) _ _ _ (omega arith) (omega arith) c.loop-at.invariant.placed c.place.ensures.placed;
-      summary = step_more g.U.Summary.joins (g.U.Summary.observation system) (g.Y.System.graph system) known c.args.summary c.loop-at.summary c.in_ok-summary.summary cs from c.loop-at.at
+      kept = same-seat-then (view c.args.seat.now) (view c.loop-at.seat) (view c.place.new.seat) c.loop-at.invariant.kept c.place.ensures.kept;
+      placed = then-placed eq known cs from c.loop-at.at (c.loop-at.at + 1) _ _ _ (omega arith) (omega arith) c.loop-at.invariant.placed c.place.ensures.placed;
+      summary = step-more g.U.Summary.joins (g.U.Summary.observation system) (g.Y.System.graph system) known c.args.summary c.loop-at.summary c.in_ok-summary.summary cs from c.loop-at.at
           (omega arith) (omega arith) c.loop-at.invariant.summary c.in_ok-summary.ensures;
     }
 
@@ -35,4 +35,4 @@ returns-clause-placed g c =
     (λ whole.
     let end : c.loop-at.at ≡ to = omega (arith, c.min.ensures) in
     subst (λ n. AddsNew eq known cs from n (view c.args.seat.now).placed (view c.loop-at.seat).placed) end c.loop-at.invariant.placed)
-    (λ last. placed_further eq known cs from c.loop-at.at to (view c.args.seat.now).placed (view c.loop-at.seat).placed (omega (arith, c.min.ensures)) (omega (arith, c.min.ensures)) c.loop-at.invariant.placed)
+    (λ last. placed-further eq known cs from c.loop-at.at to (view c.args.seat.now).placed (view c.loop-at.seat).placed (omega (arith, c.min.ensures)) (omega (arith, c.min.ensures)) c.loop-at.invariant.placed)

@@ -6,9 +6,9 @@ use Rattle.shared.specs.Totals.{Stands}
 use Rattle.shared.specs.declared.board.view.BoardView.{BoardView}
 use Rattle.search_layer.specs.internal.Work.{in_pieces, HasPlaced}
 use Rattle.search_layer.specs.internal.Search.{with_steps}
-use Rattle.search_layer.proofs.Drawing.{few, low_more, same_seat_then}
-use Rattle.search_layer.proofs.Placing.{piece_placed}
-use Rattle.search_layer.proofs.StepSums.{piece_more}
+use Rattle.search_layer.proofs.Drawing.{few, low-more, same-seat-then}
+use Rattle.search_layer.proofs.Placing.{piece-placed}
+use Rattle.search_layer.proofs.StepSums.{piece-more}
 use Rattle.search_layer.proofs.workers.Work.take_pieces.Given.{Over}
 use Rattle.search_layer.proofs.workers.Work.take_pieces.Goals as goal
 use Rattle.search_layer.proofs.workers.Work.take_pieces.Goals.{In-Some}
@@ -17,21 +17,21 @@ use Rattle.search_layer.proofs.workers.Work.take_pieces.Goals.{In-Some}
 looked : (g : Over) (c : In-Some g) → board_view c.draw.new.seat ≡ with_drawn (with_look (board_view c.loop-alloc.draws) c.raised.result) c.in-Some.piece
 looked g c = c.in-Some.ensures.drawn ∙ ap (λ v. with_drawn v c.in-Some.piece) c.raised.ensures.seen
 
-drawn_low : (g : Over) (c : In-Some g) → (x : ℕ) → Stands x (board_view c.draw.new.seat).drawn → x < c.args.self.now.pieces
-drawn_low g c x has =
+drawn-low : (g : Over) (c : In-Some g) → (x : ℕ) → Stands x (board_view c.draw.new.seat).drawn → x < c.args.self.now.pieces
+drawn-low g c x has =
     let drawn = ap (λ (v : BoardView). v.drawn) (looked g c) in
     let below = subst (λ n. c.in-Some.piece < n) c.args.self.now.numbers c.in-Some.ensures.below in
-    low_more c.args.self.now.pieces c.in-Some.piece (board_view c.loop-alloc.draws).drawn below c.loop-alloc.invariant.low x (subst (λ ds. Stands x ds) drawn has)
+    low-more c.args.self.now.pieces c.in-Some.piece (board_view c.loop-alloc.draws).drawn below c.loop-alloc.invariant.low x (subst (λ ds. Stands x ds) drawn has)
 
-fewer_left : (g : Over) (c : In-Some g) → c.args.self.now.pieces - length (board_view c.draw.new.seat).drawn < c.args.self.now.pieces - length (board_view c.loop-alloc.draws).drawn
-fewer_left g c =
+fewer-left : (g : Over) (c : In-Some g) → c.args.self.now.pieces - length (board_view c.draw.new.seat).drawn < c.args.self.now.pieces - length (board_view c.loop-alloc.draws).drawn
+fewer-left g c =
     let drawn = ap (λ (v : BoardView). length v.drawn) (looked g c) in
     let more = length-append (board_view c.loop-alloc.draws).drawn (c.in-Some.piece ∷ []) in
-    let most = few c.args.self.now.pieces (board_view c.draw.new.seat).drawn c.in-Some.ensures.once (drawn_low g c) in
+    let most = few c.args.self.now.pieces (board_view c.draw.new.seat).drawn c.in-Some.ensures.once (drawn-low g c) in
     omega arith
 
 pub loop-alloc-smaller : goal.loop-alloc-smaller
-loop-alloc-smaller g c = fewer_left g (goal.at.loop-alloc-smaller g c).In-Some
+loop-alloc-smaller g c = fewer-left g (goal.at.loop-alloc-smaller g c).In-Some
 
 pub loop-alloc-preserved : goal.loop-alloc-preserved
 loop-alloc-preserved g c =
@@ -47,21 +47,21 @@ loop-alloc-preserved g c =
     let kept = c.loop-alloc.invariant.kept_board in
     record {
       own = c.take_piece.ensures.own;
-      own_board = c.draw.ensures.own;
-      kept = same_seat_then (view c.args.seat.now) (view c.loop-alloc.seat) (view c.take_piece.new.seat) c.loop-alloc.invariant.kept c.take_piece.ensures.kept;
+      own-board = c.draw.ensures.own;
+      kept = same-seat-then (view c.args.seat.now) (view c.loop-alloc.seat) (view c.take_piece.new.seat) c.loop-alloc.invariant.kept c.take_piece.ensures.kept;
       kept_board = record {
         first = ap (λ (v : BoardView). v.first) e ∙ kept.first;
         left = ap (λ (v : BoardView). v.left) e ∙ kept.left;
         parts = ap (λ (v : BoardView). v.parts) e ∙ kept.parts;
       };
       going = ap (λ (v : BoardView). v.ended) e ∙ c.loop-alloc.invariant.going;
-      low = drawn_low g at;
+      low = drawn-low g at;
       once = c.in-Some.ensures.once;
       placed = subst (λ ds. HasPlaced eq known cs size ds (view c.take_piece.new.seat).placed) (sym drawn)
-          (piece_placed eq known cs size c.in-Some.piece before (view c.loop-alloc.seat).placed (view c.take_piece.new.seat).placed c.args.self.now.some
+          (piece-placed eq known cs size c.in-Some.piece before (view c.loop-alloc.seat).placed (view c.take_piece.new.seat).placed c.args.self.now.some
           c.loop-alloc.invariant.placed c.in_ok-summary-in-Some.ensures.placed);
       summary =
-          piece_more g.U.Summary.joins (g.U.Summary.observation system) (g.Y.System.graph system) known size cs before c.in-Some.piece c.loop-alloc.summary c.in_ok-summary-in-Some.summary
+          piece-more g.U.Summary.joins (g.U.Summary.observation system) (g.Y.System.graph system) known size cs before c.in-Some.piece c.loop-alloc.summary c.in_ok-summary-in-Some.summary
           c.loop-alloc.invariant.summary c.in_ok-summary-in-Some.ensures.summary
           ∙ ap (λ ds. with_steps g.U.Summary.joins (g.U.Summary.observation system) (g.Y.System.graph system) known g.U.Summary.joins.none (in_pieces size cs ds)) (sym drawn);
     }

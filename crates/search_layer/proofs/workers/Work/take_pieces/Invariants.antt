@@ -10,7 +10,7 @@ use Rattle.search_layer.proofs.workers.Work.take_pieces.Given as goal
 abbrev pub invariant-loop-alloc : goal.invariant-loop-alloc
 invariant-loop-alloc g l = record {
   own : IsSeatOf (have_same_state g.Y.State.PartialEq.eq) l.self.seen.now l.seat;
-  own_board : IsBoardSeatOf l.self.board.now l.draws;
+  own-board : IsBoardSeatOf l.self.board.now l.draws;
   kept : IsSameSeat (view l.fn.seat) (view l.seat);
   kept_board : IsSameBoardSeat (board_view l.fn.draws) (board_view l.draws);
   going : (board_view l.draws).ended ≡ false;

@@ -4,17 +4,17 @@ use Rattle.shared.specs.Classes.{IsFirsts}
 use Rattle.shared.specs.SeenSeats.{view}
 use Rattle.shared.specs.Totals.{Stands}
 use Rattle.search_layer.specs.internal.Work.{have_same_state}
-use Rattle.search_layer.proofs.AllWorked.{are_first, all_shown, false_unless, piece_begins, piece_within}
+use Rattle.search_layer.proofs.AllWorked.{are-first, all-shown, false-unless, piece-begins, piece-within}
 use Rattle.search_layer.proofs.workers.layer.find_first.Given.{Over}
 use Rattle.search_layer.proofs.workers.layer.find_first.Goals as goal
 use Rattle.search_layer.proofs.workers.layer.find_first.Goals.{Else-has_stopped}
 
 pub invariant_of-share_work-clause-cut : goal.invariant_of-share_work-clause-cut
 invariant_of-share_work-clause-cut g c =
-    piece_begins (length c.args.candidates.now) c.args.plan.now.piece c.div_ceil-pieces.result c.requires.plan.piece_low c.div_ceil-pieces.ensures
+    piece-begins (length c.args.candidates.now) c.args.plan.now.piece c.div_ceil-pieces.result c.requires.plan.piece_low c.div_ceil-pieces.ensures
 
 unseen : (g : Over) (c : Else-has_stopped g) → (board_view c.share_work.new.draws).saw ≡ false
-unseen g c = false_unless (board_view c.share_work.new.draws).saw (λ saw. let e = c.finish-has_stopped.ensures.saw saw in let f = c.if-has_stopped.false in absurd (cc))
+unseen g c = false-unless (board_view c.share_work.new.draws).saw (λ saw. let e = c.finish-has_stopped.ensures.saw saw in let f = c.if-has_stopped.false in absurd (cc))
 
 drawn : (g : Over) (c : Else-has_stopped g) → (k : ℕ) → k < c.div_ceil-pieces.result → Stands k (board_view c.share_work.new.draws).drawn
 drawn g c k low =
@@ -32,8 +32,8 @@ returns-clause-first g c =
     let cs = c.args.candidates.now in
     let at = (goal.at.returns-clause-first g c).Else-has_stopped in
     let laws = (g.met.Y.State.Eq g.world.𝓛 g.world.𝓜 g.world.𝓡 ((λ s x. x), (λ x. x), (λ x. x), λ x. x)).laws in
-    are_first eq laws c.args.visited.now.keys cs c.args.plan.now.piece c.div_ceil-pieces.result (board_view c.share_work.new.draws).drawn
-    c.requires.plan.piece_low (drawn g at) (piece_within (length cs) c.args.plan.now.piece c.div_ceil-pieces.result c.requires.plan.piece_low c.div_ceil-pieces.ensures)
+    are-first eq laws c.args.visited.now.keys cs c.args.plan.now.piece c.div_ceil-pieces.result (board_view c.share_work.new.draws).drawn
+    c.requires.plan.piece_low (drawn g at) (piece-within (length cs) c.args.plan.now.piece c.div_ceil-pieces.result c.requires.plan.piece_low c.div_ceil-pieces.ensures)
     (view c.share_work.new.seat).placed c.in_ok-positions.positions.items
     (c.in_ok-shown.ensures.placed (unseen g at)).1
     (subst (λ items. IsFirsts (have_same_state eq) items (view c.share_work.new.seat).placed c.in_ok-positions.positions.items) c.in_ok-seen.ensures.items c.in_ok-positions.ensures.firsts)
@@ -46,6 +46,6 @@ returns-clause-summary g c =
     let laws = (g.met.Y.State.Eq g.world.𝓛 g.world.𝓜 g.world.𝓡 ((λ s x. x), (λ x. x), (λ x. x), λ x. x)).laws in
     let semilattice = (g.met.U.Summary g.world.𝓛 g.world.𝓜 g.world.𝓡 ((λ s x. x), (λ x. x), (λ x. x), λ x. x)).semilattice in
     c.in_ok-shown.ensures.summary
-    ∙ all_shown g.Y.State.PartialEq.eq laws c.args.visited.now.keys cs c.args.plan.now.piece c.div_ceil-pieces.result (board_view c.share_work.new.draws).drawn
-    c.requires.plan.piece_low (drawn g at) (piece_within (length cs) c.args.plan.now.piece c.div_ceil-pieces.result c.requires.plan.piece_low c.div_ceil-pieces.ensures)
+    ∙ all-shown g.Y.State.PartialEq.eq laws c.args.visited.now.keys cs c.args.plan.now.piece c.div_ceil-pieces.result (board_view c.share_work.new.draws).drawn
+    c.requires.plan.piece_low (drawn g at) (piece-within (length cs) c.args.plan.now.piece c.div_ceil-pieces.result c.requires.plan.piece_low c.div_ceil-pieces.ensures)
     g.U.Summary.joins (g.U.Summary.observation system) (g.Y.System.graph system) semilattice

@@ -1,6 +1,6 @@
 use Rattle.std.proofs.Common.{◌≡◌, List, [], ◌∷◌, ◌++◌, length, get_or, sym, ap, subst, length-append, arith}
 use Rattle.search_shards.specs.internal.Places.{values_in, IsSharded}
-use Rattle.search_shards.proofs.Shards.{none_more, IsSharded-new}
+use Rattle.search_shards.proofs.Shards.{none-more, IsSharded-new}
 use Rattle.search_shards.proofs.set.ShardedSet.new.Goals as goal
 
 pub loop-init : goal.loop-init
@@ -17,7 +17,7 @@ loop-preserved g c =
     let long : length c.push_reserved.new.self.items ≡ length (made ++ c.new.result ∷ []) = ap length new in
     let both = length-append made (c.new.result ∷ []) in
     let inv = c.loop.invariant in record {
-      none = λ s. subst (λ (shards : List (List _)). get_or shards s [] ≡ []) (sym new) (none_more made c.new.result inv.none c.new.ensures s);
+      none = λ s. subst (λ (shards : List (List _)). get_or shards s [] ≡ []) (sym new) (none-more made c.new.result inv.none c.new.ensures s);
       count = (let count = inv.count in omega arith);
       room = (let room = inv.room in let same = c.push_reserved.ensures.capacity in omega arith);
     }

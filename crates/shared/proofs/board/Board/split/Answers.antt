@@ -1,6 +1,6 @@
 use Rattle.std.proofs.Common.{rules, arith}
-use Rattle.shared.proofs.BoardKeeps.{splits_as}
+use Rattle.shared.proofs.BoardKeeps.{splits-as}
 use Rattle.shared.proofs.board.Board.split.Goals as goal
 
 pub split_seat-other-requires : goal.split_seat-other-requires
-split_seat-other-requires c = (search rules, search rules, splits_as _ _ c.args.seat.now.lives c.requires.first (omega arith))
+split_seat-other-requires c = (search rules, search rules, splits-as _ _ c.args.seat.now.lives c.requires.first (omega arith))

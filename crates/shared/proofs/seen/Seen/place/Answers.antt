@@ -5,7 +5,7 @@ use Rattle.shared.specs.Totals.{times}
 use Rattle.shared.specs.Classes.{classes_of}
 use Rattle.shared.specs.SeenRule.{AreAlike, Met}
 use Rattle.shared.specs.SeenSeats.{view, items_of}
-use Rattle.shared.proofs.ClassLemmas.{are_alike, hold_equal}
+use Rattle.shared.proofs.ClassLemmas.{are_alike, hold-equal}
 use Rattle.shared.proofs.seen.Seen.place.Goals as goal
 
 pub returns-in-None-clause-least : goal.returns-in-None-clause-least
@@ -19,7 +19,7 @@ returns-in-Some-clause-equal g c = let t = c.lower.ensures.lowered in let classe
     let answer : AreAlike classes c.lower.result c.args.index = dite (dec_le t.0 c.args.index)
     (λ le. let e : c.lower.result ≡ t.0 = omega (arith, t.3, le) in ap (slice_index classes) e ∙ alike)
     (λ more. let e : c.lower.result ≡ c.args.index = omega (arith, t.3, lt_of_not-le more) in ap (slice_index classes) e) in
-    hold_equal g.S.PartialEq.eq g.met.S.Eq.laws (items_of c.args.self.now) c.lower.result c.args.index answer
+    hold-equal g.S.PartialEq.eq g.met.S.Eq.laws (items_of c.args.self.now) c.lower.result c.args.index answer
 
 pub returns-in-Some-clause-least : goal.returns-in-Some-clause-least
 returns-in-Some-clause-least g c = let t = c.lower.ensures.lowered in λ k met hold. dite (dec_le (length (items_of c.args.self.now)) k) (λ far. omega (arith, far, c.requires.index, t.3))

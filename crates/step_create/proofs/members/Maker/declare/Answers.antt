@@ -8,7 +8,7 @@ use Rattle.config_parts.proofs.Naming.{make_legend}
 use Rattle.config_parts.proofs.Within.{declare-keeps}
 use Rattle.config_parts.specs.Views.{HasSlotsWithin}
 use Rattle.config_parts.specs.declared.frame.Cells.{Cells}
-use Rattle.value_types.proofs.Faults.{handed_on_by}
+use Rattle.value_types.proofs.Faults.{handed-on-by}
 use Rattle.value_types.specs.Frames.{reading}
 use Rattle.value_types.specs.Literals.{value_wanted}
 
@@ -16,7 +16,7 @@ pub returns-in_err-found-clause-declared : goal.returns-in_err-found-clause-decl
 returns-in_err-found-clause-declared c snapshot runs =
     let self = c.args.self.now in
     let t = test_by self.test.now in
-    handed_on_by (frame_for self) (value_wanted c.args.value.now (reading c.reads.result) c.args.of)
+    handed-on-by (frame_for self) (value_wanted c.args.value.now (reading c.reads.result) c.args.of)
     (rules.declared_with t self.itself.now snapshot c.args.of (frame_for self c.args.cells) c.args.name.now c.args.value.now) c.in_err-found.field-0.0 c.from_residual.result c.from_residual.ensures.1 c.in_err-found.ensures
     (λ why fails. declared-fails t self.itself.now snapshot c.args.of (frame_for self c.args.cells) c.args.name.now c.args.value.now (reading c.reads.result) why (c.reads.ensures snapshot runs) fails)
 

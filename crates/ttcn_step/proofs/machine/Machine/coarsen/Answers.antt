@@ -1,4 +1,4 @@
-use Rattle.std.proofs.Common.{IfOk, map, subst}
+use Rattle.std.proofs.Common.{IfOk, subst}
 use Rattle.ttcn_step.proofs.Coarsening.{stands-if}
 use Rattle.ttcn_step.proofs.machine.Machine.coarsen.Goals as goal
 use Rattle.ttcn_step.specs.FineAnswers.{StandsFor}

@@ -1,8 +1,8 @@
 use Rattle.std.proofs.Common.{[], ap, sym, arith, ◌∙◌}
 use Rattle.std.proofs.Common.{Global, Vec}
-use Rattle.value_types.proofs.Faults.{gives_same}
-use Rattle.ttcn_values.proofs.Plans.{alone_last, alone_none, and_then_fault, gives_by_fault, gives_fault, none_built, none_given_by, none_of_map, planned_alone}
-use Rattle.ttcn_values.proofs.TemplateCalls.{template_gives}
+use Rattle.value_types.proofs.Faults.{gives-same}
+use Rattle.ttcn_values.proofs.Plans.{alone-last, alone-none, and-then-fault, gives-by-fault, gives-fault, none-built, none-given-by, none-of-map, planned-alone}
+use Rattle.ttcn_values.proofs.TemplateCalls.{template-gives}
 use Rattle.ttcn_values.specs.internal.Building.{after_step, after_steps, alone}
 use Rattle.ttcn_values.specs.internal.Readers.{read_by}
 use Rattle.value_types.specs.Outcomes.{outcome_and_then, value_in}
@@ -17,29 +17,29 @@ build-loop-step-preserved t c =
 
 pub build-returns-in_err-advance : goal.build-returns-in_err-advance
 build-returns-in_err-advance t c =
-    gives_by_fault (λ (templates : Vec Template Global). templates.items) (after_steps (read_by c.args.self.now) c.args.steps.items []) c.in_err-advance.field-0.0 c.from_residual.result c.from_residual.ensures.1
+    gives-by-fault (λ (templates : Vec Template Global). templates.items) (after_steps (read_by c.args.self.now) c.args.steps.items []) c.in_err-advance.field-0.0 c.from_residual.result c.from_residual.ensures.1
     (λ dynamic. ap value_in (c.loop-step.invariant ∙ ap (λ steps. after_steps (read_by c.args.self.now) steps c.loop-step.templates.items) c.in-Some.ensures.steps.0)
-    ∙ and_then_fault (after_steps (read_by c.args.self.now) c.next.new.self.rest.items) (after_step (read_by c.args.self.now) c.in-Some.step c.loop-step.templates.items)
-    (none_built (after_step (read_by c.args.self.now) c.in-Some.step c.loop-step.templates.items) c.advance.new.templates.items c.in_err-advance.field-0.0 c.in_err-advance.ensures dynamic))
+    ∙ and-then-fault (after_steps (read_by c.args.self.now) c.next.new.self.rest.items) (after_step (read_by c.args.self.now) c.in-Some.step c.loop-step.templates.items)
+    (none-built (after_step (read_by c.args.self.now) c.in-Some.step c.loop-step.templates.items) c.advance.new.templates.items c.in_err-advance.field-0.0 c.in_err-advance.ensures dynamic))
 
 pub called-returns : goal.called-returns
 called-returns t c =
-    gives_same ((read_by c.args.self.now).templates c.args.at c.args.values.now) _ c.template-2.result
-    (template_gives c.args.self.now c.args.at c.args.values.now c.in-Some-template.template.now (sym c.in-Some-template.ensures) c.get.result.now c.as_slice.result.now c.in-Some.depth c.resolved-wanted.result
+    gives-same ((read_by c.args.self.now).templates c.args.at c.args.values.now) _ c.template-2.result
+    (template-gives c.args.self.now c.args.at c.args.values.now c.in-Some-template.template.now (sym c.in-Some-template.ensures) c.get.result.now c.as_slice.result.now c.in-Some.depth c.resolved-wanted.result
     c.get.ensures c.as_slice.ensures (omega (arith, c.in-Some.ensures)) c.resolved-wanted.ensures)
     c.template-2.ensures
 
 pub template-returns-in_err-templates : goal.template-returns-in_err-templates
 template-returns-in_err-templates t c =
-    gives_fault (spec.template_wanted c.args.template.now (read_by c.args.self.now) c.args.wanted) c.in_err-templates.field-0.0 c.from_residual-in_err-templates.result c.from_residual-in_err-templates.ensures.1
-    (λ dynamic. none_of_map alone (spec.template_wanted c.args.template.now (read_by c.args.self.now) c.args.wanted) (ap value_in (sym (planned_alone (read_by c.args.self.now) c.new-steps.result.items c.plan.new.steps.items (spec.template_wanted c.args.template.now (read_by c.args.self.now) c.args.wanted) c.new-steps.ensures.items c.in_ok-plan.ensures))
-    ∙ none_given_by (λ (templates : Vec Template Global). templates.items) (after_steps (read_by c.args.self.now) c.plan.new.steps.items []) c.in_err-templates.field-0.0 c.in_err-templates.ensures dynamic))
+    gives-fault (spec.template_wanted c.args.template.now (read_by c.args.self.now) c.args.wanted) c.in_err-templates.field-0.0 c.from_residual-in_err-templates.result c.from_residual-in_err-templates.ensures.1
+    (λ dynamic. none-of-map alone (spec.template_wanted c.args.template.now (read_by c.args.self.now) c.args.wanted) (ap value_in (sym (planned-alone (read_by c.args.self.now) c.new-steps.result.items c.plan.new.steps.items (spec.template_wanted c.args.template.now (read_by c.args.self.now) c.args.wanted) c.new-steps.ensures.items c.in_ok-plan.ensures))
+    ∙ none-given-by (λ (templates : Vec Template Global). templates.items) (after_steps (read_by c.args.self.now) c.plan.new.steps.items []) c.in_err-templates.field-0.0 c.in_err-templates.ensures dynamic))
 
 pub template-returns-in-Some : goal.template-returns-in-Some
 template-returns-in-Some t c =
-    alone_last (spec.template_wanted c.args.template.now (read_by c.args.self.now) c.args.wanted) c.in_ok-templates.templates.items c.pop.new.self.items c.in-Some.template
-    (sym (planned_alone (read_by c.args.self.now) c.new-steps.result.items c.plan.new.steps.items (spec.template_wanted c.args.template.now (read_by c.args.self.now) c.args.wanted) c.new-steps.ensures.items c.in_ok-plan.ensures) ∙ c.in_ok-templates.ensures) c.in-Some.ensures.items
+    alone-last (spec.template_wanted c.args.template.now (read_by c.args.self.now) c.args.wanted) c.in_ok-templates.templates.items c.pop.new.self.items c.in-Some.template
+    (sym (planned-alone (read_by c.args.self.now) c.new-steps.result.items c.plan.new.steps.items (spec.template_wanted c.args.template.now (read_by c.args.self.now) c.args.wanted) c.new-steps.ensures.items c.in_ok-plan.ensures) ∙ c.in_ok-templates.ensures) c.in-Some.ensures.items
 
 pub template-returns : goal.template-returns
 template-returns t c =
-    alone_none (spec.template_wanted c.args.template.now (read_by c.args.self.now) c.args.wanted) c.in_ok-templates.templates.items (sym (planned_alone (read_by c.args.self.now) c.new-steps.result.items c.plan.new.steps.items (spec.template_wanted c.args.template.now (read_by c.args.self.now) c.args.wanted) c.new-steps.ensures.items c.in_ok-plan.ensures) ∙ c.in_ok-templates.ensures) (omega (arith, c.in_ok-templates.templates.ok, c.in-None.ensures.cases.0))
+    alone-none (spec.template_wanted c.args.template.now (read_by c.args.self.now) c.args.wanted) c.in_ok-templates.templates.items (sym (planned-alone (read_by c.args.self.now) c.new-steps.result.items c.plan.new.steps.items (spec.template_wanted c.args.template.now (read_by c.args.self.now) c.args.wanted) c.new-steps.ensures.items c.in_ok-plan.ensures) ∙ c.in_ok-templates.ensures) (omega (arith, c.in_ok-templates.templates.ok, c.in-None.ensures.cases.0))

@@ -1,7 +1,7 @@
 use Rattle.std.proofs.Common.{map, ap, sym, ◌∙◌}
 use Rattle.std.specs.List.{zip}
-use Rattle.ttcn_values.proofs.Each.{beside-alone, beside-end, beside-fault, beside-next, if_as_long}
-use Rattle.value_types.proofs.Faults.{handed_on_by}
+use Rattle.ttcn_values.proofs.Each.{beside-alone, beside-end, beside-fault, beside-next, if-as-long}
+use Rattle.value_types.proofs.Faults.{handed-on-by}
 use Rattle.ttcn_values.specs.internal.Readers.{read_by}
 use Rattle.value_types.specs.Literals.{value_wanted}
 use Rattle.value_types.specs.Outcomes.{each}
@@ -22,10 +22,10 @@ loop-at-preserved c =
 
 pub returns-in_err-value : goal.returns-in_err-value
 returns-in_err-value c =
-    handed_on_by (λ values. values.items) (value_wanted c.index-given-at.result (read_by c.args.self.now) c.resolved-wanted.result)
+    handed-on-by (λ values. values.items) (value_wanted c.index-given-at.result (read_by c.args.self.now) c.resolved-wanted.result)
     (arguments (read_by c.args.self.now) c.args.parameters.now c.args.given.now) c.in_err-value.field-0.0
     c.from_residual-in_err-value.result c.from_residual-in_err-value.ensures.1 c.in_err-value.ensures
-    (λ why none. if_as_long c.args.given.now c.args.parameters.now (each (map (argument (read_by c.args.self.now)) (zip c.args.parameters.now c.args.given.now))) c.if-given-parameters.false
+    (λ why none. if-as-long c.args.given.now c.args.parameters.now (each (map (argument (read_by c.args.self.now)) (zip c.args.parameters.now c.args.given.now))) c.if-given-parameters.false
     ∙ sym c.loop-at.invariant
     ∙ beside-fault (argument (read_by c.args.self.now)) (λ value. value) c.args.parameters.now c.args.given.now c.loop-at.values.items c.loop-at.at
     c.if-given-parameters.false c.index-parameters-at.result c.index-given-at.result c.loop-at-test.true c.index-parameters-at.is c.index-given-at.is
@@ -34,7 +34,7 @@ returns-in_err-value c =
 
 pub returns : goal.returns
 returns c =
-    if_as_long c.args.given.now c.args.parameters.now (each (map (argument (read_by c.args.self.now)) (zip c.args.parameters.now c.args.given.now))) c.if-given-parameters.false
+    if-as-long c.args.given.now c.args.parameters.now (each (map (argument (read_by c.args.self.now)) (zip c.args.parameters.now c.args.given.now))) c.if-given-parameters.false
     ∙ sym c.loop-at.invariant
     ∙ beside-end (argument (read_by c.args.self.now)) (λ value. value) c.args.parameters.now c.args.given.now c.loop-at.values.items c.loop-at.at
     c.if-given-parameters.false c.loop-at-test.false

@@ -1,5 +1,5 @@
 use Rattle.std.proofs.Common.{Global, Vec, refl, ap, sym, ◌∙◌}
-use Rattle.ttcn_values.proofs.Plans.{and_then_fault, call_step, map_none, none_given_by, plans_fault}
+use Rattle.ttcn_values.proofs.Plans.{and-then-fault, call-step, map-none, none-given-by, plans-fault}
 use Rattle.ttcn_values.proofs.TemplateCalls.{with_arguments}
 use Rattle.ttcn_values.specs.internal.Building.{alone}
 use Rattle.ttcn_values.specs.internal.Readers.{read_by}
@@ -10,18 +10,18 @@ use Rattle.ttcn_values.proofs.reader.Reader.plan_call.Goals as goal
 
 pub returns-in_err-values : goal.returns-in_err-values
 returns-in_err-values c =
-    plans_fault (read_by c.args.self.now) c.args.steps.now.items c.args.steps.now.items (outcome_map alone (spec.template_called (read_by c.args.self.now) c.args.at c.args.given.now))
+    plans-fault (read_by c.args.self.now) c.args.steps.now.items c.args.steps.now.items (outcome_map alone (spec.template_called (read_by c.args.self.now) c.args.at c.args.given.now))
     c.in_err-values.field-0.0 c.from_residual.result c.from_residual.ensures.1
-    (λ dynamic. map_none alone (spec.template_called (read_by c.args.self.now) c.args.at c.args.given.now)
+    (λ dynamic. map-none alone (spec.template_called (read_by c.args.self.now) c.args.at c.args.given.now)
     (ap value_in (ap (λ at. spec.template_called (read_by c.args.self.now) at c.args.given.now) c.in-Some.is
     ∙ with_arguments c.args.self.now c.in-Some.at c.args.given.now c.in-Some-template.template.now (sym c.in-Some-template.ensures) (spec.arguments (read_by c.args.self.now) c.in-Some-template.template.now.parameters c.args.given.now) refl)
-    ∙ and_then_fault ((read_by c.args.self.now).templates c.in-Some.at) (spec.arguments (read_by c.args.self.now) c.in-Some-template.template.now.parameters c.args.given.now)
+    ∙ and-then-fault ((read_by c.args.self.now).templates c.in-Some.at) (spec.arguments (read_by c.args.self.now) c.in-Some-template.template.now.parameters c.args.given.now)
     (ap (λ ps. value_in (spec.arguments (read_by c.args.self.now) ps c.args.given.now)) (sym c.as_slice.ensures)
-    ∙ none_given_by (λ (values : Vec Value Global). values.items) (spec.arguments (read_by c.args.self.now) c.as_slice.result.now c.args.given.now) c.in_err-values.field-0.0 c.in_err-values.ensures dynamic)))
+    ∙ none-given-by (λ (values : Vec Value Global). values.items) (spec.arguments (read_by c.args.self.now) c.as_slice.result.now c.args.given.now) c.in_err-values.field-0.0 c.in_err-values.ensures dynamic)))
 
 pub returns : goal.returns
 returns c =
-    call_step (read_by c.args.self.now) c.args.steps.now.items c.push.new.self.items c.in-Some.at c.from_vec.result (spec.template_called (read_by c.args.self.now) c.args.at c.args.given.now) c.in_ok-push.ensures.items
+    call-step (read_by c.args.self.now) c.args.steps.now.items c.push.new.self.items c.in-Some.at c.from_vec.result (spec.template_called (read_by c.args.self.now) c.args.at c.args.given.now) c.in_ok-push.ensures.items
     (ap (λ at. spec.template_called (read_by c.args.self.now) at c.args.given.now) c.in-Some.is
     ∙ with_arguments c.args.self.now c.in-Some.at c.args.given.now c.in-Some-template.template.now (sym c.in-Some-template.ensures) (Yields c.in_ok-values.values.items)
     (ap (λ ps. spec.arguments (read_by c.args.self.now) ps c.args.given.now) (sym c.as_slice.ensures) ∙ c.in_ok-values.ensures)
