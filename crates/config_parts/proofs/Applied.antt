@@ -285,7 +285,7 @@ dead-found : (legend : Legend) (o : Option Component) → steps.is_terminated_co
 dead-found legend None = refl
 dead-found legend (Some c) = dead-in legend c.state
 
-dead-by : (legend : Legend) (going : Going) (p : Path) → steps.is_terminated_at (going_by legend going) p ≡ kept.is_terminated_at going.components p
+pub dead-by : (legend : Legend) (going : Going) (p : Path) → steps.is_terminated_at (going_by legend going) p ≡ kept.is_terminated_at going.components p
 dead-by legend going p = ap steps.is_terminated_component (find-by legend p going.components) ∙ dead-found legend (find (kept.is_of p) going.components)
 
 abbrev is_second : Legend → End → rules.End → Bool

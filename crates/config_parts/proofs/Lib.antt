@@ -6,6 +6,7 @@ pub mod Inserted
 pub mod Named
 pub mod Naming
 pub mod Places
+pub mod Routed
 pub mod Stored
 pub mod Touching
 pub mod Unmapped

@@ -20,6 +20,7 @@ mod mapping;
 mod shared;
 mod verdict;
 mod view;
+mod way;
 
 pub use act::{Act, Request};
 pub use component::{Component, Message, Queue, State};
@@ -30,3 +31,4 @@ pub use frame::{ActiveDefault, Cells, Data, Frame};
 pub use legend::names_make_legends;
 pub use shared::Shared;
 pub use view::frame_of;
+pub use way::Way;

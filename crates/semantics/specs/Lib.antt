@@ -14,6 +14,7 @@ pub mod Labels
 pub mod Order
 pub mod Runs
 pub mod Places
+pub mod Telling
 pub mod LiveParts
 pub mod Canonical
 pub mod Examples
