@@ -14,6 +14,15 @@ TOOLS = os.path.dirname(os.path.realpath(__file__))
 EXAMPLES = os.path.join(os.path.dirname(TOOLS), "examples")
 X1, X2, Y1 = f"{EXAMPLES}/x1.ttcn", f"{EXAMPLES}/x2.ttcn", f"{EXAMPLES}/y1.ttcn"
 
+# the runs of examples whose explanations are stored beside them, and their test cases
+EXPLAINED = {
+    "x2.fail": "T",
+    "ecu.fail": "write_in_session",
+    "lock.blocked": "two_clients",
+    "register.fail": "store_and_load",
+    "unit.fail": "read_data",
+}
+
 # the longest text that is a module or a script
 LONGEST = 1 << 20
 
@@ -38,6 +47,34 @@ def stored(name):
         return file.read()
 
 
+def explained(name, script=None):
+    """Returns the command line that explains the run of an example, and the explanation that is stored beside it."""
+    module, testcase = name.split(".")[0], EXPLAINED[name]
+    words = ["explain", f"{EXAMPLES}/{module}.ttcn", "--testcase", testcase, "--run", f"{EXAMPLES}/{name}.run"]
+    if script:
+        words += ["--script", f"{EXAMPLES}/{script}"]
+    with open(f"{EXAMPLES}/{name}.explained", "rb") as file:
+        return words, 0, file.read()
+
+
+def explained_rows(folder):
+    """Returns command lines that explain runs, each with its status, and what its text is or begins with."""
+    test = ["--testcase", "T", "--run", f"{EXAMPLES}/x2.fail.run"]
+    wrong = file_in(folder, "wrong.run", b"mtc\nmtc.1\n")
+    return [
+        *(explained(name) for name in EXPLAINED if not name.startswith("unit")),
+        explained("unit.fail", "unit.json"),
+        (["explain", X2, *test, "--format", "json"], 0, stored("explained_json")),
+        (["explain", X2, *test, "--format=mermaid"], 0, stored("explained_mermaid")),
+        (["explain", X2, *test, "--format", "svg"], 0, stored("explained_svg")),
+        (["run", X2, "--testcase", "T", "--steps", "13", "--explain"], 0, stored("explained_report")),
+        (["run", X2, "--testcase", "T", "--steps", "13", "--explain", "--json"], 0, stored("explained_report_json")),
+        (["explain", X1, *test], 1, b"refused N2 NotEnabled at label 3\n"),
+        (["explain", X2, "--testcase", "T", "--run", wrong], 1, b"refused N2 NotEnabled at label 2\n"),
+        (["run", X1, "--testcase", "T", "--steps", "2", "--limit", "2", "--explain"], 3, b"refused E1 TooMany\n"),
+    ]
+
+
 def help_rows():
     """Returns the command lines that ask for help, each with its status and the whole text that is wanted."""
     return [
@@ -50,6 +87,9 @@ def help_rows():
         (["replay", "--help"], 0, stored("help_replay")),
         (["coarsen", "--help"], 0, stored("help_coarsen")),
         (["double", "--help"], 0, stored("help_double")),
+        (["explain", "--help"], 0, stored("help_explain")),
+        (["--version"], 0, b"ttcnx 0.1\n"),
+        (["-V"], 0, b"ttcnx 0.1\n"),
     ]
 
 
@@ -74,6 +114,7 @@ def refused_rows():
         ([*run, "--steps", "1", "--json=yes"], 2, stored("value_of_flag")),
         ([*run, "--testcase", "U", "--steps", "1"], 2, stored("option_twice")),
         (["check", b"\xff"], 2, stored("not_utf8")),
+        (["explain", "f", "--testcase", "T", "--run", "g", "--format", "png"], 2, stored("unknown_format")),
     ]
 
 
@@ -196,6 +237,7 @@ def rows(folder):
         (["replay", module, *test, "--run", missing], 5, f"cannot read {missing}\n".encode()),
         *long_rows(folder),
         *script_rows(folder),
+        *explained_rows(folder),
         *help_rows(),
         *refused_rows(),
     ]

@@ -42,7 +42,7 @@ mapped-within size items mappings i m same less read all =
 
 -- nothing comes in at a name that has no slot
 module _ (legend : Legend) (names : List (List ℕ)) (name : List ℕ) (are : AreNames legend names) (missing : ¬ Contains names name) where
-  none-mapped : (mappings : List (ℕ × End)) → AreWithin (length names) mappings → find (λ m. bytes_eq m.0 name) (map (mapping_by legend) mappings) ≡ None
+  pub none-mapped : (mappings : List (ℕ × End)) → AreWithin (length names) mappings → find (λ m. bytes_eq m.0 name) (map (mapping_by legend) mappings) ≡ None
   none-mapped [] within = refl
   none-mapped (m ∷ mappings) within =
       first-other legend names name are missing (mapping_by legend m) (find (λ m. bytes_eq m.0 name) (map (mapping_by legend) mappings)) (bytes_eq (legend.names m.0) name)

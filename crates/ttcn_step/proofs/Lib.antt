@@ -25,3 +25,4 @@ pub mod Stepping
 pub mod Steps
 pub mod Stuck
 pub mod Succeeding
+pub mod Told

@@ -4,4 +4,5 @@ pub mod FineAnswers
 pub mod FrameLimit
 pub mod Machines
 pub mod Standing
+pub mod Telling
 pub mod internal

@@ -32,7 +32,11 @@ fn messages_at<'b>(script: &'b [(Name, Seq<Value>)], system_port: &Name) -> &'b 
 }
 
 /// The message that comes in next at the system port of a slot, where one is left.
-fn next_message<'b>(test: &'b TestCase<'_>, going: &Going, system_port: Slot) -> Option<&'b Value>
+pub(crate) fn next_message<'b>(
+    test: &'b TestCase<'_>,
+    going: &Going,
+    system_port: Slot,
+) -> Option<&'b Value>
     requires { system_port < length test.now.names }
     ensures { option_map (λ message. message.now) result ≡ steps.next_message (test_by test.now) (going_by (legend_by test.now) going.now) ((legend_by test.now).names system_port) }
 {

@@ -19,6 +19,7 @@ mod start;
 mod step;
 mod successor;
 mod successors;
+mod telling;
 mod testcases;
 
 pub use error::{CoarsenError, ReplayError, StepError};
@@ -28,4 +29,5 @@ pub use machine::Machine;
 pub use step_labels::{FineLabel, Label, Standing};
 pub use step_script::Script;
 pub use successor::Successor;
+pub use telling::Sent;
 pub use value_types::Path;

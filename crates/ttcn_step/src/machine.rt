@@ -6,27 +6,33 @@ ghost use Rattle.semantics.specs.Labels as rules;
 ghost use Rattle.semantics.specs.Places.{blocked, branch_of};
 ghost use Rattle.semantics.specs.Runs as runs;
 ghost use Rattle.semantics.specs.Steps as steps;
+ghost use Rattle.semantics.specs.Telling.{place_of_step, request_of, sent_of};
+ghost use Rattle.std.specs.Option.{option_map};
+ghost use Rattle.config_parts.specs.Acts.{request_by};
 ghost use Rattle.config_parts.specs.Names.{AreInOrder};
 ghost use Rattle.ttcn_step.specs.Answers.{Ends, IsSuccessor, Leads};
 ghost use Rattle.ttcn_step.specs.Choosing.{TakesNone};
 ghost use Rattle.ttcn_step.specs.FineAnswers.{Coarsens, Doubles, IsDoubling, StandsFor};
-ghost use Rattle.ttcn_step.specs.Machines.{Fits, said};
+ghost use Rattle.ttcn_step.specs.Machines.{Fits, legend, said};
 ghost use Rattle.ttcn_step.specs.Standing.{standing_of};
+ghost use Rattle.ttcn_step.specs.Telling.{sent_by};
 ghost use Rattle.check_rules.specs.Rules.{AreWellTyped};
 
 use crate::error::{CoarsenError, ReplayError, StepError};
 use crate::successor::Successor;
+use crate::telling::Sent;
 use crate::{
-    branches, coarsen, double, labels, places, plain, replay, start, step, successors, testcases,
+    branches, coarsen, double, labels, places, plain, replay, start, step, successors, telling,
+    testcases,
 };
 use check_rules::{Program, TestId};
-use config_parts::Config;
+use config_parts::{Config, Request};
 use std::alloc::{AllocError, Global};
 use std::marker::Model;
 use step_labels::{FineLabel, Label, Standing};
 use step_script::Script;
 use step_snapshot::TestCase;
-use ttcn_syntax::Span;
+use ttcn_syntax::{Name, Span};
 
 /// What runs a test case of a module that breaks no rule. A contract sees the test case, the lists that positions stand for,
 /// and the names that have slots.
@@ -177,6 +183,46 @@ impl<'a> Machine<'a> {
         ensures { IfOk result (λ place. place ≡ branch_of self.now.test (said self.now config.now) label.now) }
     {
         branches::branch(alloc, &self.test, config, label)
+    }
+
+    /// The place of the statement that the step of a label begins with, where it is that of a statement.
+    pub fn place(&self, config: &Config, label: &Label) -> Option<Span>
+        ensures { result ≡ place_of_step (said self.now config.now) label.now }
+    {
+        telling::place(&self.test, config, label)
+    }
+
+    /// What the step of a label asks for, where it is that of a statement and does not fail.
+    pub fn request(
+        &self,
+        alloc: Global,
+        config: &Config,
+        label: &Label,
+    ) -> Result<Option<Request>, AllocError>
+        requires { Fits self.now config.now }
+        ensures { IfOk result (λ request. option_map (request_by (legend self.now)) request ≡ request_of self.now.test (said self.now config.now) label.now) }
+    {
+        telling::request(alloc, &self.test, config, label)
+    }
+
+    /// The message that the step of a label sends, or that comes in with it.
+    pub fn sent(
+        &self,
+        alloc: Global,
+        config: &Config,
+        label: &Label,
+    ) -> Result<Option<Sent>, AllocError>
+        requires { Fits self.now config.now }
+        ensures { IfOk result (λ sent. option_map (sent_by (legend self.now)) sent ≡ sent_of self.now.test (said self.now config.now) label.now) }
+    {
+        telling::message(alloc, &self.test, config, label)
+    }
+
+    /// The names of slots.
+    pub fn names(&self) -> &[Name]
+        ensures { result.now ≡ self.now.names }
+    {
+        self.test.names.as_slice()
     }
 
     /// Whether a component whose last frame is at a position may take a branch in its step: whether an `alt`, or what stands

@@ -53,7 +53,7 @@ fn place_in(test: &TestCase<'_>, calls: &[Frame]) -> Option<Span>
 }
 
 /// The place of the first remaining statement of a component that runs.
-fn place_of(test: &TestCase<'_>, component: &Component) -> Option<Span>
+pub(crate) fn place_of(test: &TestCase<'_>, component: &Component) -> Option<Span>
     ensures { result ≡ rules.place_of (component_by (legend_by test.now) component.now) }
 {
     if is_running(component.state) {

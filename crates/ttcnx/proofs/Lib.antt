@@ -1,5 +1,6 @@
 pub mod Checks
 pub mod Conversions
+pub mod Explaining
 pub mod Following
 pub mod Listed
 pub mod OneAnswer

@@ -1,6 +1,7 @@
 pub mod Answer
 pub mod Checked
 pub mod Converted
+pub mod Explained
 pub mod Fault
 pub mod Named
 pub mod Replayed

@@ -3,6 +3,8 @@
 
 mod check;
 mod convert;
+mod explain;
+mod explain_run;
 mod fault;
 mod replay;
 mod run;
@@ -12,10 +14,12 @@ mod testcase;
 pub use check::{check_answer, check_text};
 pub use check_rules::Rule;
 pub use convert::{coarsen_text, double_text};
+pub use explain::explain_text;
+pub use explain_run::run_explained;
 pub use fault::{Fault, Refusal, ScriptRefusal, fault_line, status};
 pub use replay::replay_text;
 pub use report::{Outcome, Report, Standing, to_json, to_text};
 pub use run::{run_script, run_text};
 pub use stream::{StreamFault, run_stream};
-pub use ttcnx_command_line::{Line, LineError, read_line};
+pub use ttcnx_command_line::{Format, Line, LineError, read_line};
 pub use ttcnx_streams::Counted;

@@ -117,7 +117,7 @@ pub fn run_stream<R: Read, W: Write, G: Gate, T: Threads + Sync>(
 }
 
 /// What tells a report, as JSON or as text.
-fn told_as(alloc: Global, report: &Report, json: bool) -> Result<String, AllocError>
+pub(crate) fn told_as(alloc: Global, report: &Report, json: bool) -> Result<String, AllocError>
     ensures { IfOk result (λ told. string_bytes told ≡ told_as json report.now) }
 {
     if json {

@@ -1,7 +1,7 @@
 //! Command lines that are read, and such that are refused.
 use explore::Plan;
 use std::test::Fail;
-use ttcnx::{Line, LineError, read_line};
+use ttcnx::{Format, Line, LineError, read_line};
 
 const RUN: [&str; 6] = ["run", "a b.ttcn", "--testcase", "T", "--steps", "100000"];
 
@@ -15,7 +15,7 @@ fn commands(rt: HostRuntime) -> Result<(), Fail> {
     };
     let line = read_line(rt.alloc(), &RUN)?;
     let is_read =
-        matches!(&line, Line::Run { file, testcase, script: None, plan: found, json: false }
+        matches!(&line, Line::Run { file, testcase, script: None, plan: found, json: false, explain: false }
         if file.as_str() == "a b.ttcn" && testcase.as_str() == "T" && *found == plan);
     assert!(rt; is_read, "{line:?}");
     let words = [
@@ -29,6 +29,7 @@ fn commands(rt: HostRuntime) -> Result<(), Fail> {
         "10000000",
         "--testcase=",
         "--json",
+        "--explain",
         "f",
     ];
     let plan = Plan {
@@ -39,7 +40,7 @@ fn commands(rt: HostRuntime) -> Result<(), Fail> {
     };
     let line = read_line(rt.alloc(), &words)?;
     let is_read =
-        matches!(&line, Line::Run { file, testcase, script: None, plan: found, json: true }
+        matches!(&line, Line::Run { file, testcase, script: None, plan: found, json: true, explain: true }
         if file.as_str() == "f" && testcase.as_str() == "" && *found == plan);
     assert!(rt; is_read, "{line:?}");
     let words = ["replay", "f", "--run", "a run", "--testcase", "T"];
@@ -108,6 +109,67 @@ fn scripts(rt: HostRuntime) -> Result<(), Fail> {
     Ok(())
 }
 
+/// The formats of `explain`, and the one where none is named.
+#[test]
+fn formats(rt: HostRuntime) -> Result<(), Fail> {
+    let alloc = rt.alloc();
+    let words = ["explain", "--testcase", "T", "f", "--run", "a run"];
+    let line = read_line(alloc, &words)?;
+    let is_read =
+        matches!(&line, Line::Explain { file, testcase, script: None, run, format: Format::Text }
+        if file.as_str() == "f" && testcase.as_str() == "T" && run.as_str() == "a run");
+    assert!(rt; is_read, "{line:?}");
+    let named = [
+        ("text", Format::Text),
+        ("json", Format::Json),
+        ("mermaid", Format::Mermaid),
+        ("svg", Format::Svg),
+    ];
+    for (word, wanted) in named {
+        let words = [
+            "explain",
+            "f",
+            "--testcase",
+            "T",
+            "--run",
+            "g",
+            "--script=s",
+            "--format",
+            word,
+        ];
+        let line = read_line(alloc, &words)?;
+        let is_read = matches!(&line, Line::Explain { script: Some(script), format, .. }
+            if script.as_str() == "s" && *format == wanted);
+        assert!(rt; is_read, "{line:?}");
+    }
+    for word in ["png", "SVG", ""] {
+        let words = [
+            "explain",
+            "f",
+            "--testcase",
+            "T",
+            "--run",
+            "g",
+            "--format",
+            word,
+        ];
+        let refused = matches!(read_line(alloc, &words), Err(LineError::Bad(_)));
+        assert!(rt; refused, "{word}");
+    }
+    Ok(())
+}
+
+/// The version of the program.
+#[test]
+fn version(rt: HostRuntime) -> Result<(), Fail> {
+    for word in ["--version", "-V"] {
+        let line = read_line(rt.alloc(), &[word]);
+        let shown = matches!(&line, Err(LineError::Help(text)) if text.as_str() == "ttcnx 0.1\n");
+        assert!(rt; shown, "{word}");
+    }
+    Ok(())
+}
+
 #[test]
 fn faulty_lines(rt: HostRuntime) -> Result<(), Fail> {
     let alloc = rt.alloc();
@@ -129,7 +191,7 @@ fn faulty_lines(rt: HostRuntime) -> Result<(), Fail> {
         let refused = matches!(read_line(alloc, &words), Err(LineError::Bad(_)));
         assert!(rt; refused, "{name} {value}");
     }
-    let lines: [&[&str]; 17] = [
+    let lines: [&[&str]; 20] = [
         &[],
         &["walk"],
         &["check"],
@@ -165,6 +227,18 @@ fn faulty_lines(rt: HostRuntime) -> Result<(), Fail> {
             "s",
         ],
         &["coarsen", "f", "--testcase", "T"],
+        &["explain", "f", "--testcase", "T"],
+        &[
+            "replay",
+            "f",
+            "--testcase",
+            "T",
+            "--run",
+            "g",
+            "--format",
+            "svg",
+        ],
+        &["run", "--version"],
         &["double", "f", "--run", "g"],
         &[
             "replay",
@@ -190,6 +264,7 @@ fn faulty_lines(rt: HostRuntime) -> Result<(), Fail> {
         ["replay", "--help"],
         ["coarsen", "--help"],
         ["double", "--help"],
+        ["explain", "--help"],
     ] {
         assert!(rt;
             matches!(read_line(alloc, &words), Err(LineError::Help(_))),

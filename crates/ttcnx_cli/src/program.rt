@@ -8,7 +8,7 @@ use std::{env, fs};
 use ttcn_syntax::LONGEST_TEXT;
 use ttcnx::{
     Counted, Fault, Line, LineError, StreamFault, check_answer, coarsen_text, double_text,
-    fault_line, read_line, replay_text, run_stream, status,
+    explain_text, fault_line, read_line, replay_text, run_explained, run_stream, status,
 };
 
 /// How many bytes of a module or a script are read: a text that has them all is refused as too long.
@@ -99,9 +99,26 @@ where
             script,
             plan,
             json,
+            explain: false,
         } => {
             let script = read_script(rt, script)?;
             explore(rt, &script, file, testcase.as_str(), &plan, json)
+        }
+        Line::Run {
+            file,
+            testcase,
+            script,
+            plan,
+            json,
+            explain: true,
+        } => {
+            let script = read_script(rt, script)?;
+            let text = read_bytes(rt, file, ENOUGH)?;
+            let name = testcase.as_str();
+            print(
+                rt,
+                &run_explained(rt, rt.alloc(), &text, &script, name, &plan, &NoGate, json)?,
+            )
         }
         Line::Replay {
             file,
@@ -127,6 +144,21 @@ where
             print(
                 rt,
                 &coarsen_text(rt.alloc(), &given.module, name, &given.run, &given.script)?,
+            )
+        }
+        Line::Explain {
+            file,
+            testcase,
+            script,
+            run,
+            format,
+        } => {
+            let given = read_all(rt, script, file, run)?;
+            let name = testcase.as_str();
+            let (module, run, script) = (&given.module, &given.run, &given.script);
+            print(
+                rt,
+                &explain_text(rt.alloc(), module, name, run, script, format)?,
             )
         }
         Line::Double {

@@ -1,5 +1,5 @@
--- Words that have no fault give one of the five subcommands, with all that it takes.
-use Rattle.std.proofs.Common.{◌≡◌, ◌∙◌, ◌==◌, ◌-◌, ◌&&◌, ◌||◌, ℕ, Bool, cond, inl, inr, true, false, not, refl, sym, subst, arith, List, [], ◌∷◌, Option, Some, None, is_some, option_map, codes, true≢false}
+-- Words that have no fault give one of the six subcommands, with all that it takes.
+use Rattle.std.proofs.Common.{◌≡◌, ◌∙◌, ◌==◌, ◌-◌, ◌&&◌, ◌||◌, ℕ, Bool, cond, inl, inr, true, false, not, refl, sym, ap, subst, arith, List, [], ◌∷◌, Option, Some, None, is_some, option_map, codes, true≢false}
 use Rattle.std.specs.List.{find, list_any}
 use Rattle.std.specs.Prelude.{slice_get}
 use Rattle.std.specs.Option.{option_map_or}
@@ -8,7 +8,7 @@ use Rattle.std.proofs.lemmas.Slice.Eq.{bytes_eq-Decides}
 use Rattle.clap.specs.Facts.{explicit_source}
 use Rattle.clap.specs.Values.{read_as, reading_of}
 use Rattle.clap.specs.ValueTests.{accepts}
-use Rattle.clap.specs.Walk.{Held, Names, finished, settled, walk, Row, Rule, Text, answers_to, nothing_held, one_of, rows_after, stop_after, walk_from}
+use Rattle.clap.specs.Walk.{Held, Names, finished, settled, walk, Row, Rule, Text, answers_to, first_of, nothing_held, one_of, rows_after, stop_after, walk_from}
 use Rattle.clap.specs.Simple.{App, Shape, built, entered, label_of, names_of, new_rule, rows_at, subcommand_of}
 use Rattle.clap.specs.Faults.{defaults_fault, entered_fault, fault_of, level_fault, settle_fault, walk_fault}
 use Rattle.clap.specs.Kinds.{Kinds, check_kinds, or_else}
@@ -16,8 +16,11 @@ use Rattle.clap.specs.Takes.{is_given}
 use Rattle.clap.specs.declared.builder.value_parser.ValueParser.{ValueParser}
 use Rattle.clap.specs.declared.builder.value_parser.ValueParser.TheVariants as vp
 use Rattle.clap.proofs.ValueTestLemmas.{accepts-Accepts}
-use Rattle.ttcnx_command_line.specs.App.{ttcnx_app}
-use Rattle.ttcnx_command_line.specs.internal.Given.{GivesCommand, GivesFlag, GivesNumber, GivesRun, GivesRunFile, GivesText}
+use Rattle.ttcnx_command_line.specs.App.{format_words, names_of_words, ttcnx_app}
+use Rattle.ttcnx_command_line.specs.Command.{format_word}
+use Rattle.ttcnx_command_line.specs.declared.command.Format.{Format}
+use Rattle.ttcnx_command_line.specs.declared.command.Format.TheVariants as format
+use Rattle.ttcnx_command_line.specs.internal.Given.{GivesCommand, GivesFlag, GivesFormat, GivesNumber, GivesRun, GivesRunFile, GivesText}
 use Rattle.ttcnx_command_line.proofs.Walks.{IsNoHelp, none-of, walk-enters}
 use Rattle.ttcnx_command_line.proofs.Fills.{AllOf, Fills, FirstPasses, HasValue, IsWanted, level-values, no-check}
 
@@ -29,6 +32,14 @@ text-from rows a v = rw v.is (go v.row.values v.first)
     go : (values : List Text) → FirstPasses a values → (text : Text) × (slice_get values 0 ≡ Some text)
     go [] h = absurd h
     go (x ∷ xs) h = (x, refl)
+
+first-passed : (rows : List Row) (a : Rule) (q : ValueParser) → a.parser ≡ Some q → HasValue rows a
+    → (text : Text) × (first_of a.id rows ≡ Some text) × (accepts a.ignore_case q text ≡ true)
+first-passed rows a q is v = rw v.is (go v.row.values v.first)
+  where
+    go : (values : List Text) → FirstPasses a values → (text : Text) × (slice_get values 0 ≡ Some text) × (accepts a.ignore_case q text ≡ true)
+    go [] h = absurd h
+    go (x ∷ xs) h = (x, refl, rw is at h)
 
 passed : (rows : List Row) (a : Rule) (q : ValueParser) → a.parser ≡ Some q → HasValue rows a
     → (text : Text) × (one_of a.id rows ≡ Some (read_as (reading_of q) text)) × (accepts a.ignore_case q text ≡ true)
@@ -46,6 +57,28 @@ number-from rows a low high is v =
 
 flag-from : (rows : List Row) (a : Rule) → a.parser ≡ Some vp.Bool → HasValue rows a → GivesFlag rows a.id
 flag-from rows a is v = passed rows a vp.Bool is v
+
+-- a text that is one of the words names a format
+named : (text : Text) → accepts false (vp.Names (names_of_words format_words)) text ≡ true → (f : Format) × (text ≡ format_word f)
+named text = go (bytes_eq (codes "text") text) (bytes_eq (codes "json") text) (bytes_eq (codes "mermaid") text) (bytes_eq (codes "svg") text) refl refl refl refl
+  where
+    is : (f : Format) → bytes_eq (format_word f) text ≡ true → (g : Format) × (text ≡ format_word g)
+    is f hit = (f, sym ((bytes_eq-Decides (format_word f) text).0 hit))
+
+    go : (a b c d : Bool) → bytes_eq (codes "text") text ≡ a → bytes_eq (codes "json") text ≡ b → bytes_eq (codes "mermaid") text ≡ c → bytes_eq (codes "svg") text ≡ d
+        → (a || (b || (c || (d || false)))) ≡ true → (f : Format) × (text ≡ format_word f)
+    go true b c d at_a at_b at_c at_d any = is format.Text at_a
+    go false true c d at_a at_b at_c at_d any = is format.Json at_b
+    go false false true d at_a at_b at_c at_d any = is format.Mermaid at_c
+    go false false false true at_a at_b at_c at_d any = is format.Svg at_d
+    go false false false false at_a at_b at_c at_d any = absurd (true≢false (sym any))
+
+format-from : (rows : List Row) (a : Rule) → a.id ≡ codes "format" → a.ignore_case ≡ false → a.parser ≡ Some (vp.Names (names_of_words format_words)) → HasValue rows a
+    → GivesFormat rows
+format-from rows a own as_written is v =
+    let text = first-passed rows a (vp.Names (names_of_words format_words)) is v in
+    let f = named text.0 (subst (λ b. accepts b (vp.Names (names_of_words format_words)) text.0 ≡ true) as_written text.2) in
+    (f.0, subst (λ id. first_of id rows ≡ Some (format_word f.0)) own (text.1 ∙ ap Some f.1))
 
 -- ---- the command as clap builds it
 
@@ -78,6 +111,9 @@ coarsen_built = at_nth app.subs 3
 abbrev double_built : Shape
 double_built = at_nth app.subs 4
 
+abbrev explain_built : Shape
+explain_built = at_nth app.subs 5
+
 abbrev rule_at : Shape → ℕ → Rule
 rule_at s n = nth_rule s.rules n
 
@@ -108,8 +144,11 @@ run-fills = (
               (
                 record { own = refl; action = refl; full = inr (inr tt); defaults = refl },
                 (
-                  record { own = refl; action = refl; full = inl refl; defaults = tt },
-                  tt,
+                  record { own = refl; action = refl; full = inr (inr tt); defaults = refl },
+                  (
+                    record { own = refl; action = refl; full = inl refl; defaults = tt },
+                    tt,
+                  ),
                 ),
               ),
             ),
@@ -142,6 +181,27 @@ run-file-fills = (
   ),
 )
 
+explain-fills : AllOf (Fills explain_built.rules) explain_built.rules
+explain-fills = (
+  record { own = refl; action = refl; full = inr (inl (omega arith)); defaults = tt },
+  (
+    record { own = refl; action = refl; full = inr (inl (omega arith)); defaults = tt },
+    (
+      record { own = refl; action = refl; full = inr (inl (omega arith)); defaults = tt },
+      (
+        record { own = refl; action = refl; full = inr (inl (omega arith)); defaults = tt },
+        (
+          record { own = refl; action = refl; full = inr (inl (omega arith)); defaults = refl },
+          (
+            record { own = refl; action = refl; full = inl refl; defaults = tt },
+            tt,
+          ),
+        ),
+      ),
+    ),
+  ),
+)
+
 -- ---- what one level gives
 
 check-given : (words : List Text) → level_fault check_built [] nothing_held words false [] ≡ [] → GivesText (rows_after check_built.rules [] words) (codes "FILE")
@@ -162,6 +222,7 @@ run-given words e =
         piece = number-from _ _ 1 65536 refl (v.1.1.1.1.1.1.0 (inr tt));
       };
       json = flag-from _ _ refl (v.1.1.1.1.1.1.1.0 (inr tt));
+      explain = flag-from _ _ refl (v.1.1.1.1.1.1.1.1.0 (inr tt));
     }
 
 run-file-given : (s : Shape) → s.rules ≡ run_file_rules → (words : List Text) → level_fault s [] nothing_held words false [] ≡ [] → GivesRunFile (rows_after s.rules [] words)
@@ -174,6 +235,18 @@ run-file-given s is words e =
       testcase = text-from rows _ (v.1.0 (inl refl));
       run = text-from rows _ (v.1.1.1.0 (inl refl));
     }
+
+explain-given : (words : List Text) → level_fault explain_built [] nothing_held words false [] ≡ []
+    → GivesRunFile (rows_after explain_built.rules [] words) × GivesFormat (rows_after explain_built.rules [] words)
+explain-given words e =
+    let v = level-values explain_built words explain-fills e in (
+      record {
+        file = text-from _ _ (v.0 (inl refl));
+        testcase = text-from _ _ (v.1.0 (inl refl));
+        run = text-from _ _ (v.1.1.1.0 (inl refl));
+      },
+      format-from _ _ refl refl refl (v.1.1.1.1.0 (inr tt)),
+    )
 
 -- ---- the subcommand at which the walk stops
 
@@ -207,14 +280,17 @@ entered-given p other = chosen (Gives p.1) p.0 app.subs (
   (
     λ hit e some. inr (inl (refl, run-given p.1 e)),
     (
-      λ hit e some. inr (inr (inl refl, run-file-given replay_built refl p.1 e)),
+      λ hit e some. inr (inr (inl (inl refl, run-file-given replay_built refl p.1 e))),
       (
-        λ hit e some. inr (inr (inr (inl refl), run-file-given coarsen_built refl p.1 e)),
+        λ hit e some. inr (inr (inl (inr (inl refl), run-file-given coarsen_built refl p.1 e))),
         (
-          λ hit e some. inr (inr (inr (inr refl), run-file-given double_built refl p.1 e)),
+          λ hit e some. inr (inr (inl (inr (inr refl), run-file-given double_built refl p.1 e))),
           (
-            λ hit e some. absurd (not-help p.0 other hit),
-            tt,
+            λ hit e some. let given = explain-given p.1 e in inr (inr (inr (refl, given.0, given.1))),
+            (
+              λ hit e some. absurd (not-help p.0 other hit),
+              tt,
+            ),
           ),
         ),
       ),

@@ -4,7 +4,7 @@ use Rattle.clap.specs.Walk.{Row, Text, first_of, one_of}
 use Rattle.clap.specs.Simple.{subcommand_of}
 use Rattle.clap.specs.Faults.{fault_of}
 use Rattle.clap.specs.Takes.{takes}
-use Rattle.clap.specs.declared.error.kind.ErrorKind.TheVariants.{DisplayHelp, InvalidSubcommand, MissingRequiredArgument, MissingSubcommand, UnknownArgument, ValueValidation}
+use Rattle.clap.specs.declared.error.kind.ErrorKind.TheVariants.{DisplayHelp, DisplayVersion, InvalidSubcommand, InvalidValue, MissingRequiredArgument, MissingSubcommand, UnknownArgument, ValueValidation}
 use Rattle.clap.proofs.OnLiterals.{clap_on_literals}
 use Rattle.ttcnx_command_line.specs.App.{ttcnx_app}
 
@@ -58,6 +58,28 @@ a-run-file-is-needed : fault_of ttcnx_app (codes "coarsen" ∷ codes "x1.ttcn" �
 unfolding clap_on_literals
 a-run-file-is-needed = refl
 
+abbrev explain_words : List Text → List Text
+explain_words more = codes "explain" ∷ codes "x1.ttcn" ∷ codes "--testcase" ∷ codes "TC" ∷ codes "--run=r.txt" ∷ more
+
+abbrev format_in : List Text → Option (Option Text)
+format_in more = option_map (λ p. first_of (codes "format") p.1) (subcommand_of ttcnx_app (explain_words more))
+
+a-format-is-read : (format_in (codes "--format=svg" ∷ []) ≡ Some (Some (codes "svg"))) × (format_in (codes "--format" ∷ codes "json" ∷ []) ≡ Some (Some (codes "json")))
+unfolding clap_on_literals
+a-format-is-read = (refl, refl)
+
+a-format-may-be-left-out : (format_in [] ≡ Some (Some (codes "text"))) × (takes ttcnx_app (explain_words []) ≡ true) × (fault_of ttcnx_app (explain_words []) ≡ [])
+unfolding clap_on_literals
+a-format-may-be-left-out = (refl, refl, refl)
+
+another-format : fault_of ttcnx_app (explain_words (codes "--format=png" ∷ [])) ≡ InvalidValue ∷ []
+unfolding clap_on_literals
+another-format = refl
+
+a-format-is-in-small-letters : fault_of ttcnx_app (explain_words (codes "--format=SVG" ∷ [])) ≡ InvalidValue ∷ []
+unfolding clap_on_literals
+a-format-is-in-small-letters = refl
+
 steps-are-needed : fault_of ttcnx_app (run_words []) ≡ MissingRequiredArgument ∷ []
 unfolding clap_on_literals
 steps-are-needed = refl
@@ -85,6 +107,10 @@ another-option = refl
 help-flag : fault_of ttcnx_app (codes "run" ∷ codes "--help" ∷ []) ≡ DisplayHelp ∷ []
 unfolding clap_on_literals
 help-flag = refl
+
+version-flag : (fault_of ttcnx_app (codes "--version" ∷ []) ≡ DisplayVersion ∷ []) × (fault_of ttcnx_app (codes "run" ∷ codes "--version" ∷ []) ≡ UnknownArgument ∷ [])
+unfolding clap_on_literals
+version-flag = (refl, refl)
 
 help-word : fault_of ttcnx_app (codes "help" ∷ []) ≡ DisplayHelp ∷ InvalidSubcommand ∷ []
 unfolding clap_on_literals

@@ -9,8 +9,10 @@ use Rattle.clap.specs.Values.{IsUnsignedIn, bool_text}
 use Rattle.clap.specs.Walk.{Row, Text, rows_of}
 use Rattle.clap.specs.declared.parser.matches.Found.{Found}
 use Rattle.clap.proofs.WalkLemmas.{first_value-rows, one_text-rows}
-use Rattle.ttcnx_command_line.specs.Command.{IsFlag, IsNumber, IsText, IsTextIfGiven}
-use Rattle.ttcnx_command_line.specs.internal.Given.{GivesFlag, GivesNumber, GivesText}
+use Rattle.ttcnx_command_line.specs.Command.{IsFlag, IsFormat, IsNumber, IsText, IsTextIfGiven, format_word}
+use Rattle.ttcnx_command_line.specs.declared.command.Format.{Format}
+use Rattle.ttcnx_command_line.specs.declared.command.Format.TheVariants as format
+use Rattle.ttcnx_command_line.specs.internal.Given.{GivesFlag, GivesFormat, GivesNumber, GivesText}
 
 -- `get_str` has a text where the argument has one
 pub text-there : (f : Found) (id : Text) (o : Option (Bor Text)) → option_map (λ s. s.now) o ≡ first_value f id → GivesText (rows_of f) id → IsSome o
@@ -68,3 +70,23 @@ flag-read f id b yes-true yes-false given = go (bytes_eq given.0 (codes "true"))
     go false hit any =
         let text = given.1 ∙ ap Some ((bytes_eq-Decides given.0 (codes "false")).0 any) in
         text ∙ ap (λ x. Some (bool_text x)) (sym (yes-false (one_text-rows f id ∙ text)))
+
+-- `get_str` has a text where the option names a format
+pub format-there : (f : Found) (o : Option (Bor Text)) → option_map (λ s. s.now) o ≡ first_value f (codes "format") → GivesFormat (rows_of f) → IsSome o
+format-there f o got given = text-there f (codes "format") o got (format_word given.0, given.1)
+
+-- a format that is named by another word than these three is the text
+pub format-left : (matches : List Row) (word : Text) → IsText matches (codes "format") word → GivesFormat matches
+    → (word ≡ codes "json" → ⊥) → (word ≡ codes "mermaid" → ⊥) → (word ≡ codes "svg" → ⊥) → IsFormat matches format.Text
+format-left matches word is given json mermaid svg = go given.0 given.1
+  where
+    same : (f : Format) → IsFormat matches f → word ≡ format_word f
+    same f at =
+        let both : Some word ≡ Some (format_word f) = sym is ∙ at in
+        cc
+
+    go : (f : Format) → IsFormat matches f → IsFormat matches format.Text
+    go format.Text at = at
+    go format.Json at = absurd (json (same format.Json at))
+    go format.Mermaid at = absurd (mermaid (same format.Mermaid at))
+    go format.Svg at = absurd (svg (same format.Svg at))

@@ -4,4 +4,8 @@ pub mod Examples
 pub mod Fills
 pub mod Getters
 pub mod Lines
+pub mod Places
+pub mod PlacesApps
+pub mod PlacesFaults
+pub mod PlacesTakes
 pub mod Walks

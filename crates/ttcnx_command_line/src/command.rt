@@ -7,10 +7,10 @@ ghost use Rattle.clap.specs.Walk.{texts};
 ghost use Rattle.search_layer.specs.Limits.{IsWithinLimits};
 ghost use Rattle.ttcnx_command_line.specs.App.{ttcnx_app};
 ghost use Rattle.ttcnx_command_line.specs.Command.{HasNumbers, HasRunFile, HasValues, IsExplained, IsFlag};
-ghost use Rattle.ttcnx_command_line.specs.Command.{IsMemory, IsNumber, IsText, IsTextIfGiven};
+ghost use Rattle.ttcnx_command_line.specs.Command.{IsFormat, IsMemory, IsNumber, IsText, IsTextIfGiven};
 ghost use Rattle.ttcnx_command_line.specs.Command.{StaysWithinLimits, subcommand_for};
 ghost use Rattle.ttcnx_command_line.specs.internal.Answer.{IsAnswer};
-ghost use Rattle.ttcnx_command_line.specs.internal.Given.{GivesCommand, GivesFlag, GivesNumber};
+ghost use Rattle.ttcnx_command_line.specs.internal.Given.{GivesCommand, GivesFlag, GivesFormat, GivesNumber};
 ghost use Rattle.ttcnx_command_line.specs.internal.Given.{GivesPlan, GivesRun, GivesRunFile, GivesText};
 
 use crate::definition::command;
@@ -19,6 +19,15 @@ use clap::{ArgMatches, Error as ClapError};
 use explore::Plan;
 use std::alloc::{AllocError, Global};
 use thiserror::Error;
+
+/// How a chart is drawn.
+#[derive(Clone, Copy, Debug, PartialEq, Eq)]
+pub enum Format {
+    Text,
+    Json,
+    Mermaid,
+    Svg,
+}
 
 /// What the program is asked to do.
 #[derive(Debug, Drop)]
@@ -36,6 +45,8 @@ pub enum Line {
         plan: Plan,
         /// Whether the report is written as JSON.
         json: bool,
+        /// Whether the runs of the report are explained.
+        explain: bool,
     },
     /// To follow a run of a test case.
     Replay {
@@ -64,12 +75,22 @@ pub enum Line {
         /// The file of the run.
         run: String,
     },
+    /// To explain a run of a test case, step by step.
+    Explain {
+        file: String,
+        testcase: String,
+        /// The file of the script, where one is given.
+        script: Option<String>,
+        /// The file of the run.
+        run: String,
+        format: Format,
+    },
 }
 
 /// Why the words tell no command.
 #[derive(Debug, Drop, Error)]
 pub enum LineError {
-    /// Help was asked for.
+    /// Help or the version was asked for.
     #[error("{0}")]
     Help(String),
     /// The words are at fault.
@@ -113,7 +134,9 @@ fn refusal(alloc: Global, error: &ClapError) -> Result<LineError, AllocError>
 {
     match error.kind() {
         ErrorKind::OutOfMemory => Ok(LineError::Memory(AllocError)),
-        ErrorKind::DisplayHelp => Ok(LineError::Help(error.to_string(alloc)?)),
+        ErrorKind::DisplayHelp | ErrorKind::DisplayVersion => {
+            Ok(LineError::Help(error.to_string(alloc)?))
+        }
         _ => Ok(LineError::Bad(error.to_string(alloc)?)),
     }
 }
@@ -133,13 +156,7 @@ fn line_of(alloc: Global, matches: &ArgMatches<'_>) -> Result<Line, AllocError>
         });
     }
     if let Some(given) = matches.subcommand_matches("run") {
-        return Ok(Line::Run {
-            file: text_of(alloc, given, "FILE")?,
-            testcase: text_of(alloc, given, "testcase")?,
-            script: text_if_given(alloc, given, "script")?,
-            plan: plan_of(given),
-            json: flag_of(given, "json"),
-        });
+        return run_of(alloc, given);
     }
     if let Some(given) = matches.subcommand_matches("replay") {
         let parts = run_file_of(alloc, given)?;
@@ -159,13 +176,40 @@ fn line_of(alloc: Global, matches: &ArgMatches<'_>) -> Result<Line, AllocError>
             run: parts.run,
         });
     }
-    let given = matches.subcommand_matches("double").unwrap();
+    if let Some(given) = matches.subcommand_matches("double") {
+        let parts = run_file_of(alloc, given)?;
+        return Ok(Line::Double {
+            file: parts.file,
+            testcase: parts.testcase,
+            script: parts.script,
+            run: parts.run,
+        });
+    }
+    let given = matches.subcommand_matches("explain").unwrap();
     let parts = run_file_of(alloc, given)?;
-    Ok(Line::Double {
+    Ok(Line::Explain {
         file: parts.file,
         testcase: parts.testcase,
         script: parts.script,
         run: parts.run,
+        format: format_of(given),
+    })
+}
+
+/// The command to explore the runs of a test case.
+fn run_of(alloc: Global, given: &ArgMatches<'_>) -> Result<Line, AllocError>
+    requires { GivesRun (rows_of (found_of given.now)) }
+    ensures limits { IfOk result StaysWithinLimits }
+    ensures subcommand { IfOk result (λ line. subcommand_for line ≡ codes "run") }
+    ensures values { IfOk result (HasValues (rows_of (found_of given.now))) }
+{
+    Ok(Line::Run {
+        file: text_of(alloc, given, "FILE")?,
+        testcase: text_of(alloc, given, "testcase")?,
+        script: text_if_given(alloc, given, "script")?,
+        plan: plan_of(given),
+        json: flag_of(given, "json"),
+        explain: flag_of(given, "explain"),
     })
 }
 
@@ -203,6 +247,23 @@ fn plan_of(given: &ArgMatches<'_>) -> Plan
         limit: number_of(given, "limit"),
         workers: number_of(given, "workers"),
         piece: number_of(given, "piece"),
+    }
+}
+
+/// The format that is named, which `clap` has found to be one of the four.
+fn format_of(given: &ArgMatches<'_>) -> Format
+    requires { GivesFormat (rows_of (found_of given.now)) }
+    ensures { IsFormat (rows_of (found_of given.now)) result }
+{
+    let word = given.get_str("format").unwrap();
+    if word == "json" {
+        Format::Json
+    } else if word == "mermaid" {
+        Format::Mermaid
+    } else if word == "svg" {
+        Format::Svg
+    } else {
+        Format::Text
     }
 }
 

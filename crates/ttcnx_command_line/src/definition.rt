@@ -1,20 +1,28 @@
 //! The commands and what they take, as `clap` is given them.
-ghost use Rattle.std.specs.Prelude.{◌≡◌, IfOk, false};
+ghost use Rattle.std.specs.Prelude.{◌≡◌, IfOk, codes, false};
 ghost use Rattle.clap.specs.Words.{app_of, rule_of};
 ghost use Rattle.clap.specs.declared.builder.command.Command.TheViews.{out-Command as fields_of};
-ghost use Rattle.ttcnx_command_line.specs.App.{check_app, file_word, json_flag, needed_option, number_option};
-ghost use Rattle.ttcnx_command_line.specs.App.{run_app, run_file_app, steps_option, ttcnx_app, value_option};
-ghost use Rattle.std.specs.Prelude.{codes};
+ghost use Rattle.ttcnx_command_line.specs.App.{app_with, check_app, explain_app, file_word, format_option};
+ghost use Rattle.ttcnx_command_line.specs.App.{flag, needed_option, number_option, run_app, run_file_app};
+ghost use Rattle.ttcnx_command_line.specs.App.{steps_option, value_option};
+ghost use Rattle.ttcnx_command_line.specs.internal.Named.{HoldsAtNames};
 
 use clap::{Arg, ArgAction, Command, value_parser};
 use std::alloc::{AllocError, Global};
 
+/// The version that `--version` prints.
+const VERSION: &str = "0.1";
+
+/// The words that name a format.
+static FORMATS: [&str; 4] = ["text", "json", "mermaid", "svg"];
+
 /// The program with its commands.
 pub(crate) fn command<'a>(alloc: Global) -> Result<Command<'a>, AllocError>
-    ensures { IfOk result (λ c. app_of c ≡ ttcnx_app) }
+    ensures { IfOk result (λ c. HoldsAtNames (λ names. app_of c ≡ app_with names)) }
 {
     Command::new(alloc, "ttcnx")
         .about("Checks modules written in TTCN-3, and explores their test cases")
+        .version(VERSION)
         .bin_name("ttcnx")?
         .no_binary_name(true)
         .subcommand_required(true)
@@ -25,19 +33,23 @@ pub(crate) fn command<'a>(alloc: Global) -> Result<Command<'a>, AllocError>
             "replay",
             "Follows a run of a test case",
             "The file of the run, with a label a line",
+            "Example: ttcnx replay examples/x2.ttcn --testcase T --run examples/x2.fail.run",
         )?)?
         .subcommand(run_file_command(
             alloc,
             "coarsen",
             "Turns a fine run of a test case into the run that it stands for",
             "The file of the fine run, with a label a line",
+            "Example: ttcnx coarsen examples/x6.ttcn --testcase T --run examples/x6.fine.run",
         )?)?
         .subcommand(run_file_command(
             alloc,
             "double",
             "Turns a run of a test case into a fine run: each choice apart from its snapshot",
             "The file of the run, with a label a line",
-        )?)
+            "Example: ttcnx double examples/x2.ttcn --testcase T --run examples/x2.pass.run",
+        )?)?
+        .subcommand(explain_command(alloc)?)
 }
 
 fn check_command<'a>(alloc: Global) -> Result<Command<'a>, AllocError>
@@ -46,6 +58,7 @@ fn check_command<'a>(alloc: Global) -> Result<Command<'a>, AllocError>
 {
     Command::new(alloc, "check")
         .about("Tests whether a module is well typed")
+        .after_help("Example: ttcnx check examples/x2.ttcn")
         .arg(file(alloc))
 }
 
@@ -64,6 +77,7 @@ fn run_command<'a>(alloc: Global) -> Result<Command<'a>, AllocError>
     );
     Command::new(alloc, "run")
         .about("Explores the runs of a test case")
+        .after_help("Example: ttcnx run examples/x2.ttcn --testcase T --steps 13")
         .arg(file(alloc))?
         .arg(testcase(alloc))?
         .arg(script(alloc))?
@@ -71,7 +85,12 @@ fn run_command<'a>(alloc: Global) -> Result<Command<'a>, AllocError>
         .arg(limit)?
         .arg(workers)?
         .arg(piece)?
-        .arg(json(alloc))
+        .arg(flag(alloc, "json", "Writes the report as JSON"))?
+        .arg(flag(
+            alloc,
+            "explain",
+            "Writes the runs behind the report, step by step",
+        ))
 }
 
 /// A command about a run of a test case, which stands in a file.
@@ -80,6 +99,7 @@ fn run_file_command<'a>(
     name: &'a str,
     about: &'a str,
     run_help: &'a str,
+    example: &'a str,
 ) -> Result<Command<'a>, AllocError>
     ensures app { IfOk result (λ c. app_of c ≡ run_file_app name.entry.now) }
     ensures local { IfOk result (λ c. (fields_of c).has_globals ≡ false) }
@@ -91,10 +111,26 @@ fn run_file_command<'a>(
         .help(run_help);
     Command::new(alloc, name)
         .about(about)
+        .after_help(example)
         .arg(file(alloc))?
         .arg(testcase(alloc))?
         .arg(script(alloc))?
         .arg(run)
+}
+
+/// A command about a run, which is shown in a format.
+fn explain_command<'a>(alloc: Global) -> Result<Command<'a>, AllocError>
+    ensures app { IfOk result (λ c. HoldsAtNames (λ names. app_of c ≡ explain_app names)) }
+    ensures local { IfOk result (λ c. (fields_of c).has_globals ≡ false) }
+{
+    run_file_command(
+        alloc,
+        "explain",
+        "Explains a run of a test case, step by step",
+        "The file of the run, with a label a line",
+        "Example: ttcnx explain examples/x2.ttcn --testcase T --run examples/x2.fail.run",
+    )?
+    .arg(format(alloc))
 }
 
 /// The file that a command reads.
@@ -155,13 +191,27 @@ fn number<'a>(alloc: Global, name: &'a str, most: u32, default: &'a str) -> Arg<
         .default_value(default)
 }
 
-/// The flag that asks for a report as JSON.
-fn json<'a>(alloc: Global) -> Arg<'a>
-    ensures rule { rule_of result ≡ json_flag }
+/// The format, one of four words.
+fn format<'a>(alloc: Global) -> Arg<'a>
+    ensures rule { HoldsAtNames (λ names. rule_of result ≡ format_option names) }
     ensures local { result.global ≡ false }
 {
-    Arg::new(alloc, "json")
-        .long("json")
+    Arg::new(alloc, "format")
+        .long("format")
+        .value_name("FORMAT")
+        .value_parser(FORMATS.as_slice())
+        .hide_possible_values(true)
+        .default_value("text")
+        .help("How the run is shown: text, json, mermaid or svg")
+}
+
+/// A flag.
+fn flag<'a>(alloc: Global, name: &'a str, help: &'a str) -> Arg<'a>
+    ensures rule { rule_of result ≡ flag name.entry.now }
+    ensures local { result.global ≡ false }
+{
+    Arg::new(alloc, name)
+        .long(name)
         .action(ArgAction::SetTrue)
-        .help("Writes the report as JSON")
+        .help(help)
 }

@@ -3,6 +3,8 @@ use Rattle.std.specs.Prelude.{◌≡◌, ◌⊎◌, ◌||◌, ℕ, true, List, S
 use Rattle.std.specs.Str.{bytes_eq}
 use Rattle.clap.specs.Values.{IsUnsignedIn}
 use Rattle.clap.specs.Walk.{Row, Text, first_of, one_of}
+use Rattle.ttcnx_command_line.specs.Command.{IsFormat}
+use Rattle.ttcnx_command_line.specs.declared.command.Format.{Format}
 
 -- the argument has a text
 abbrev pub GivesText : List Row → Text → Type 0
@@ -18,6 +20,10 @@ abbrev pub GivesFlag : List Row → Text → Type 0
 GivesFlag matches id = (text : Text) × (one_of id matches ≡ Some text)
     × ((bytes_eq text (codes "true") || bytes_eq text (codes "false")) ≡ true)
 
+-- the option `--format` names a format
+abbrev pub GivesFormat : List Row → Type 0
+GivesFormat matches = (format : Format) × IsFormat matches format
+
 -- the numbers of a plan are there
 pub record GivesPlan (matches : List Row) : Type 0 where
   pub steps : GivesNumber matches (codes "steps") 0 100000
@@ -31,6 +37,7 @@ pub record GivesRun (matches : List Row) : Type 0 where
   pub testcase : GivesText matches (codes "testcase")
   pub plan : GivesPlan matches
   pub json : GivesFlag matches (codes "json")
+  pub explain : GivesFlag matches (codes "explain")
 
 -- all that a command about a run takes is there
 pub record GivesRunFile (matches : List Row) : Type 0 where
@@ -38,13 +45,15 @@ pub record GivesRunFile (matches : List Row) : Type 0 where
   pub testcase : GivesText matches (codes "testcase")
   pub run : GivesText matches (codes "run")
 
--- the name is that of a command about a run
+-- the name is that of a command about a run that takes nothing else
 abbrev pub IsRunFileName : Text → Type 0
 IsRunFileName name =
     (name ≡ codes "replay") ⊎ ((name ≡ codes "coarsen") ⊎ (name ≡ codes "double"))
 
--- one of the five subcommands was given, with all that it takes
+-- one of the six subcommands was given, with all that it takes
 abbrev pub GivesCommand : Option (Text × List Row) → Type 0
 GivesCommand given = IsSomeAnd given (λ p.
     ((p.0 ≡ codes "check") × GivesText p.1 (codes "FILE"))
-    ⊎ (((p.0 ≡ codes "run") × GivesRun p.1) ⊎ (IsRunFileName p.0 × GivesRunFile p.1)))
+    ⊎ (((p.0 ≡ codes "run") × GivesRun p.1)
+    ⊎ ((IsRunFileName p.0 × GivesRunFile p.1)
+    ⊎ ((p.0 ≡ codes "explain") × GivesRunFile p.1 × GivesFormat p.1))))

@@ -15,14 +15,16 @@ returns c =
     let workers_local : c.help-workers.result.global ≡ false = ap (λ (x : Arg). x.global) c.help-workers.ensures ∙ c.number-2.ensures.local in
     let piece_local : c.help-piece.result.global ≡ false = ap (λ (x : Arg). x.global) c.help-piece.ensures ∙ c.number-3.ensures.local in
     let start = fields-set (new_app (codes "run")) (new_app (codes "run")) c.new.result c.about.result _ c.about.ensures (c.new.ensures.app, c.new.ensures.local) refl (λ e. e) in
-    let one = arg-added _ _ _ _ _ c.in_ok-arg.ensures start c.file.ensures.rule c.file.ensures.local in
+    let ended = fields-set (new_app (codes "run")) (new_app (codes "run")) c.about.result c.after_help.result _ c.after_help.ensures start refl (λ e. e) in
+    let one = arg-added _ _ _ _ _ c.in_ok-arg.ensures ended c.file.ensures.rule c.file.ensures.local in
     let two = arg-added _ _ _ _ _ c.in_ok-arg-2.ensures one c.testcase.ensures.rule c.testcase.ensures.local in
     let three = arg-added _ _ _ _ _ c.in_ok-arg-3.ensures two c.script.ensures.rule c.script.ensures.local in
     let four = arg-added _ _ _ _ _ c.in_ok-arg-4.ensures three c.steps.ensures.rule c.steps.ensures.local in
     let five = arg-added _ _ _ _ _ c.in_ok-arg-5.ensures four limit_is limit_local in
     let six = arg-added _ _ _ _ _ c.in_ok-arg-6.ensures five workers_is workers_local in
     let seven = arg-added _ _ _ _ _ c.in_ok-arg-7.ensures six piece_is piece_local in
+    let eight = arg-added _ _ _ _ _ c.in_ok-arg-8.ensures seven c.flag.ensures.rule c.flag.ensures.local in
     record {
-      app = IfOk-weaker c.arg-8.result _ _ (λ m h. (arg-added _ _ _ _ m h seven c.json.ensures.rule c.json.ensures.local).0) c.arg-8.ensures;
-      local = IfOk-weaker c.arg-8.result _ _ (λ m h. (arg-added _ _ _ _ m h seven c.json.ensures.rule c.json.ensures.local).1) c.arg-8.ensures;
+      app = IfOk-weaker c.arg-9.result _ _ (λ m h. (arg-added _ _ _ _ m h eight c.flag-2.ensures.rule c.flag-2.ensures.local).0) c.arg-9.ensures;
+      local = IfOk-weaker c.arg-9.result _ _ (λ m h. (arg-added _ _ _ _ m h eight c.flag-2.ensures.rule c.flag-2.ensures.local).1) c.arg-9.ensures;
     }

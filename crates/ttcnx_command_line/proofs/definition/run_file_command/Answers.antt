@@ -11,7 +11,8 @@ returns c =
     let run_local : c.help-run.result.global ≡ false = search rules in
     let fresh = new_app c.args.name.now in
     let start = fields-set fresh fresh c.new-2.result c.about.result _ c.about.ensures (c.new-2.ensures.app, c.new-2.ensures.local) refl (λ e. e) in
-    let one = arg-added _ _ _ _ _ c.in_ok-arg.ensures start c.file.ensures.rule c.file.ensures.local in
+    let ended = fields-set fresh fresh c.about.result c.after_help.result _ c.after_help.ensures start refl (λ e. e) in
+    let one = arg-added _ _ _ _ _ c.in_ok-arg.ensures ended c.file.ensures.rule c.file.ensures.local in
     let two = arg-added _ _ _ _ _ c.in_ok-arg-2.ensures one c.testcase.ensures.rule c.testcase.ensures.local in
     let three = arg-added _ _ _ _ _ c.in_ok-arg-3.ensures two c.script.ensures.rule c.script.ensures.local in
     record {
