@@ -6,14 +6,14 @@ use Rattle.std.specs.declared.alloc.Global.{Global}
 use Rattle.std.specs.declared.vec.Vec.{Vec}
 use Rattle.std.proofs.lemmas.List.{length-map}
 use Rattle.summary.specs.Graph.{Graph}
-use Rattle.summary.specs.Run.{Run, Start, steps_of, end_of}
+use Rattle.summary.specs.Run.{IsRun, Run, Start, steps_of, end_of}
 use Rattle.summary.specs.Sums.{Join, IsSemilattice, Observation, sum_of}
-use Rattle.summary.specs.Exploration.{Counts, IsComplete}
+use Rattle.summary.specs.Exploration.{Counts, HasMark, IsComplete}
 use Rattle.search_layer.specs.declared.visited.Step.{Step}
 use Rattle.explore.specs.Best.{IsBestOf}
 use Rattle.search_layer.specs.internal.Search.{Found, found_after, as_found}
 use Rattle.explore.specs.internal.Tied.{run_at, GoBack, AreLastSteps, IsFirstMarked, IsKept}
-use Rattle.explore.proofs.Lists.{Each, In, each-in, each-from-in, each-all, all-each, in-left, in-cases, in-map, from-map}
+use Rattle.explore.proofs.Lists.{Each, In, each-in, each-from-in, each-all, each-get, all-each, in-left, in-cases, in-map, from-map}
 use Rattle.explore.proofs.Visits.{IsLawful, visits}
 use Rattle.explore.proofs.Covering.{AreVisited, are-visited, Covers, covers, covers-more}
 use Rattle.explore.proofs.Conclusions.{counts, complete-if, quiet-if, best, none-best}
@@ -28,7 +28,7 @@ split_at (x ∷ xs) (suc k) d h = ap (λ ys. x ∷ ys) (split_at xs k d (omega a
 
 module _ {C L S : Type 0} (g : Graph C L) (cmp : L → L → Ordering) (eq : C → C → Bool) (F : C → Type 0) (lawful : IsLawful g cmp eq F)
     (j : Join S) (r : Observation C L S) (laws : IsSemilattice j) (n : ℕ) where
-  visited : AreVisited g cmp eq F lawful n (visits g eq n).old (visits g eq n).layer
+  pub visited : AreVisited g cmp eq F lawful n (visits g eq n).old (visits g eq n).layer
   visited = are-visited g cmp eq F lawful n
 
   covered : Covers g cmp eq F lawful n ((visits g eq n).old ++ (visits g eq n).layer)
@@ -46,11 +46,14 @@ module _ {C L S : Type 0} (g : Graph C L) (cmp : L → L → Ordering) (eq : C �
   )
 
   module _ (states : List C) (steps : List (Option (Step L))) (from : ℕ) (summary : S) (is : as_found states steps from summary ≡ found_after g j r eq n) where
-    states_are : states ≡ map (end_of g) ((visits g eq n).old ++ (visits g eq n).layer)
+    pub states_are : states ≡ map (end_of g) ((visits g eq n).old ++ (visits g eq n).layer)
     states_are = ap (λ (f : Found C L S). f.states) is ∙ tied.tied.states_are
 
-    last-steps : AreLastSteps ((visits g eq n).old ++ (visits g eq n).layer) steps
+    pub last-steps : AreLastSteps ((visits g eq n).old ++ (visits g eq n).layer) steps
     last-steps = subst (AreLastSteps ((visits g eq n).old ++ (visits g eq n).layer)) (sym (ap (λ (f : Found C L S). f.steps) is)) tied.tied.steps_are
+
+    pub from-is : from ≡ length (visits g eq n).old
+    from-is = ap (λ (f : Found C L S). f.from) is ∙ tied.from_is
 
     layer-is : drop from states ≡ map (end_of g) (visits g eq n).layer
     layer-is = (λ i. drop ((ap (λ (f : Found C L S). f.from) is ∙ tied.from_is) i) (states_are i)) ∙ drop-front j r laws g eq (visits g eq n).old (visits g eq n).layer
@@ -140,4 +143,17 @@ module _ {C L S : Type 0} (g : Graph C L) (cmp : L → L → Ordering) (eq : C �
               (unmarked mark runs place (omega arith) first.first)
               (sym (ap g.mark (state-at runs place g.first within)) ∙ first.marked g.first),
           k.2 runs last-steps,
+        )
+
+    -- some run of at most n steps ends in a state with a mark
+    pub marked-is : (mark place : ℕ) → place < length states → g.mark (get_or states place g.first) ≡ Some mark → (run : Run L) × HasMark g n mark run
+    marked-is mark place low marked =
+        let runs = (visits g eq n).old ++ (visits g eq n).layer in
+        let within : place < length runs = subst (λ m. place < m) (ap length states_are ∙ length-map runs (end_of g)) low in (
+          run_at runs place,
+          record {
+            is_run = each-get (IsRun g) runs place Start covered.runs within;
+            short = each-get (λ v. steps_of v ≤ n) runs place Start covered.short within;
+            marked = sym (ap g.mark (ap (λ xs. get_or xs place g.first) states_are ∙ state-at runs place g.first within)) ∙ marked;
+          },
         )

@@ -1,3 +1,5 @@
 pub mod Best
+pub mod Endings
 pub mod Ring
+pub mod Sightings
 pub mod internal

@@ -1,2 +1,4 @@
 pub mod Expansion
+pub mod Noting
 pub mod Tied
+pub mod Stopped

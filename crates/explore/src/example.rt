@@ -3,6 +3,7 @@ ghost use Rattle.std.specs.FinSet as set;
 ghost use Rattle.explore.specs.Ring.{ring, ring_same, ring_ascends, ring_after, ring_mark};
 ghost use Rattle.summary.specs.NumberSet.{union_semilattice};
 
+use crate::watched::Watched;
 use std::alloc::{AllocError, Global};
 use summary::{SmallSet, Summary, System};
 
@@ -73,6 +74,37 @@ impl System for Ring {
         } else {
             None
         }
+    }
+}
+
+/// Steps show their labels, and states their remainders by 4.
+impl Watched for Ring {
+    ghost use Rattle.std.specs.Prelude.{◌%◌, Some};
+    ghost use Rattle.std.proofs.Common.{refl};
+    ghost use Rattle.std.proofs.lemmas.Bool.{eq-eqb, eqb-true};
+
+    type Event = u8;
+
+    type Stand = u32;
+
+    ghost event = { λ it state label. Some label };
+
+    ghost stand = { λ it state. Some (state % 4) };
+
+    ghost one_event = { λ e f same. eqb-true e f same };
+
+    ghost one_stand = { λ s t same. eqb-true s t same };
+
+    ghost same_event = { λ e. eq-eqb e e refl };
+
+    ghost same_stand = { λ s. eq-eqb s s refl };
+
+    fn event(&self, _alloc: Global, _state: &u32, label: &u8) -> Result<Option<u8>, AllocError> {
+        Ok(Some(*label))
+    }
+
+    fn stand(&self, _alloc: Global, state: &u32) -> Result<Option<u32>, AllocError> {
+        Ok(Some(*state % 4))
     }
 }
 

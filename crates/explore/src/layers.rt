@@ -1,10 +1,14 @@
-ghost use Rattle.std.specs.Prelude.{◌≡◌, ◌≢◌, ◌+◌, ◌^◌, ◌<◌, ◌≤◌, ℕ, [], ◌∷◌, ◌++◌, length, None, All, IfOk, OnOk, IsErrOf};
+ghost use Rattle.std.specs.Prelude.{◌≡◌, ◌≢◌, ◌↔◌, ◌+◌, ◌^◌, ◌<◌, ◌≤◌, ℕ, [], ◌∷◌, ◌++◌, suc, length, None, Some, false, All, IfOk, OnOk, IsErrOf, IsTrue};
 ghost use Rattle.search_layer.specs.Limits.{IsWithinLimits};
-ghost use Rattle.search_layer.specs.internal.Search.{IsStep, with_steps, place_all, found_after, as_found};
+ghost use Rattle.search_layer.specs.internal.Search.{with_steps, place_all, found_after, as_found};
+ghost use Rattle.search_layer.specs.internal.Work.{AreFirst};
+ghost use Rattle.explore.specs.internal.Stopped.{IsEnd, IsMarked, finished_by};
 
+use crate::ending::{Ending, Stops};
 use crate::expand::expand_and_drop;
 use search_layer::{
-    Candidate, ExploreError, Gate, Leftovers, Plan, Visited, enter_layer, find_first, show_states,
+    Candidate, ExploreError, Firsts, Gate, Leftovers, Plan, Visited, enter_layer, find_first,
+    show_states,
 };
 use search_shards::ShardedSet;
 use std::alloc::{AllocError, Global};
@@ -12,51 +16,60 @@ use std::hash::Hash;
 use std::thread::Threads;
 use summary::{Summary, System};
 
-/// What stands after a layer: the states, what is left of its candidates, and the summary.
+/// What a search found: the states, the place where the last layer begins, the summary, how many layers there were, and why
+/// there were no more.
 #[derive(Drop)]
-struct Placed<S: Eq + Hash, L, U> {
-    visited: Visited<S, L>,
-    leftovers: Leftovers<Candidate<S, L>>,
-    summary: U,
+pub struct Explored<S: Eq + Hash, L, U> {
+    pub visited: Visited<S, L>,
+    pub from: usize,
+    pub summary: U,
+    pub steps: u64,
+    pub ending: Ending,
 }
 
-/// Lets the workers find a layer's new states, keeps these in order, and joins what all steps and the new states
-/// show.
-fn place_layer<Y: System, U: Summary<Y>, G: Gate, R: Threads + Sync>(
+/// A layer's states, and what is left of its candidates.
+#[derive(Drop)]
+struct Placed<S: Eq + Hash, L, U> {
+    explored: Explored<S, L, U>,
+    leftovers: Leftovers<Candidate<S, L>>,
+}
+
+/// Keeps a layer's new states in order, and joins what all steps and the new states show.
+fn place_layer<Y: System, U: Summary<Y>, R: Threads + Sync>(
     rt: &R,
     alloc: Global,
     system: &Y,
     plan: &Plan,
-    gate: &G,
-    layer: u64,
-    visited: Visited<Y::State, Y::Label>,
+    explored: Explored<Y::State, Y::Label, U>,
     candidates: Vec<Candidate<Y::State, Y::Label>>,
-    summary: U,
+    firsts: Firsts<U>,
 ) -> Result<Placed<Y::State, Y::Label, U>, ExploreError>
     requires plan { IsWithinLimits plan.now }
-    requires states { All (Y.fits system.now) visited.states.keys }
-    requires steps { All (IsStep (Y.graph system.now) visited.states.keys) candidates.items }
+    requires steps { explored.steps < plan.now.steps }
+    requires room { length explored.visited.states.keys + length firsts.positions.items ≤ plan.now.limit }
+    requires states { All (Y.fits system.now) explored.visited.states.keys }
     requires fits { All (λ c. Y.fits system.now c.state) candidates.items }
-    ensures placed { IfOk result (λ p. (from : ℕ) → as_found p.visited.states.keys p.visited.steps.items from p.summary
-        ≡ place_all U.joins (U.observation system.now) Y.State.eq (as_found visited.states.keys visited.steps.items from
-        (with_steps U.joins (U.observation system.now) (Y.graph system.now) visited.states.keys summary candidates.items)) candidates.items) }
-    ensures within { IfOk result (λ p. length p.visited.states.keys ≤ plan.now.limit) }
-    ensures too_many { IsErrOf result ExploreError.TooMany → (from : ℕ) → plan.now.limit
-        < length (place_all U.joins (U.observation system.now) Y.State.eq (as_found visited.states.keys visited.steps.items from
-        (with_steps U.joins (U.observation system.now) (Y.graph system.now) visited.states.keys summary candidates.items)) candidates.items).states }
+    requires first { AreFirst Y.State.eq explored.visited.states.keys candidates.items firsts.positions.items }
+    requires shown { firsts.shown ≡ with_steps U.joins (U.observation system.now) (Y.graph system.now) explored.visited.states.keys U.joins.none candidates.items }
+    ensures placed { IfOk result (λ p. (from : ℕ) → as_found p.explored.visited.states.keys p.explored.visited.steps.items from p.explored.summary
+        ≡ place_all U.joins (U.observation system.now) Y.State.eq (as_found explored.visited.states.keys explored.visited.steps.items from
+        (with_steps U.joins (U.observation system.now) (Y.graph system.now) explored.visited.states.keys explored.summary candidates.items)) candidates.items) }
+    ensures from { IfOk result (λ p. p.explored.from ≡ length explored.visited.states.keys) }
+    ensures steps { IfOk result (λ p. p.explored.steps ≡ explored.steps + 1) }
+    ensures ending { IfOk result (λ p. p.explored.ending ≡ explored.ending) }
+    ensures within { IfOk result (λ p. length p.explored.visited.states.keys ≤ plan.now.limit) }
+    ensures room { result ≢ Err ExploreError.TooMany }
     ensures planned { result ≢ Err ExploreError.BadPlan }
 {
-    let firsts = find_first::<Y, U, G, R>(
-        rt,
-        alloc,
-        system,
-        plan,
-        gate,
-        layer,
-        &visited.states,
-        candidates.as_slice(),
-    )?;
-    let summary = summary.join(alloc, firsts.shown)?;
+    let Explored {
+        visited,
+        from: _from,
+        summary,
+        steps,
+        ending,
+    } = explored;
+    let Firsts { positions, shown } = firsts;
+    let summary = summary.join(alloc, shown)?;
     let from = visited.states.len();
     let (visited, leftovers) = enter_layer(
         rt,
@@ -64,62 +77,171 @@ fn place_layer<Y: System, U: Summary<Y>, G: Gate, R: Threads + Sync>(
         plan,
         visited,
         candidates,
-        firsts.positions.as_slice(),
+        positions.as_slice(),
     )?;
     let shown = show_states::<Y, U, R>(rt, alloc, system, plan.workers, &visited.states, from)?;
     let summary = summary.join(alloc, shown)?;
-    Ok(Placed {
+    let explored = Explored {
         visited,
-        leftovers,
+        from,
         summary,
+        steps: steps + 1,
+        ending,
+    };
+    Ok(Placed {
+        explored,
+        leftovers,
     })
 }
 
-/// What a search found: the states, the place where the last layer begins, and the summary.
-#[derive(Drop)]
-pub struct Explored<S: Eq + Hash, L, U> {
-    pub visited: Visited<S, L>,
-    pub from: usize,
-    pub summary: U,
+/// Whether there are no candidates.
+fn are_none<S, L>(candidates: &Vec<Candidate<S, L>>) -> bool
+    ensures { IsTrue result ↔ (candidates.now.items ≡ []) }
+{
+    candidates.is_empty()
 }
 
-/// Searches layer by layer, up to the plan's steps.
+/// Whether so many new states are more than the plan's limit has room for.
+fn are_too_many(plan: &Plan, states: usize, new: usize) -> bool
+    requires { states ≤ plan.now.limit }
+    ensures { IsTrue result ↔ (plan.now.limit < states + new) }
+{
+    plan.limit - (states as u64) < new as u64
+}
+
+/// Whether a state has a mark.
+fn has_mark<Y: System>(system: &Y, state: &Y::State, mark: u8) -> bool
+    requires { Y.fits system.now state.now }
+    ensures { IsTrue result → (Y.graph system.now).mark state.now ≡ Some mark }
+{
+    system.mark(state) == Some(mark)
+}
+
+/// Whether one of the states from a place on has the mark.
+fn is_marked<Y: System>(
+    system: &Y,
+    states: &ShardedSet<Y::State>,
+    from: usize,
+    mark: Option<u8>,
+) -> bool
+    requires { All (Y.fits system.now) states.now.keys }
+    ensures { IsTrue result → IsMarked (Y.graph system.now) states.now.keys mark }
+{
+    let Some(mark) = mark else {
+        return false;
+    };
+    for place in from..states.len() {
+        if has_mark(system, &states[place], mark) {
+            return true;
+        }
+    }
+    false
+}
+
+/// What a search found that ended here.
+fn ended<S: Eq + Hash, L, U>(explored: Explored<S, L, U>, why: Ending) -> Explored<S, L, U>
+    ensures { result ≡ record explored { ending = why } }
+{
+    let Explored {
+        visited,
+        from,
+        summary,
+        steps,
+        ending: _ending,
+    } = explored;
+    Explored {
+        visited,
+        from,
+        summary,
+        steps,
+        ending: why,
+    }
+}
+
+/// What a search found whose last states have no labels: further layers are empty.
+fn finished<S: Eq + Hash + Drop, L: Drop, U: Drop>(
+    explored: Explored<S, L, U>,
+    plan: &Plan,
+    stops: &Stops,
+) -> Explored<S, L, U>
+    ensures { result ≡ finished_by plan.now stops.now explored }
+{
+    if stops.when_complete {
+        return ended(explored, Ending::Complete);
+    }
+    let Explored {
+        visited,
+        from: _from,
+        summary,
+        steps: _steps,
+        ending,
+    } = explored;
+    let behind = visited.states.len();
+    Explored {
+        visited,
+        from: behind,
+        summary,
+        steps: plan.steps,
+        ending,
+    }
+}
+
+/// Searches layer by layer, up to the plan's steps or to a stop.
 pub fn search<Y: System, U: Summary<Y>, G: Gate, R: Threads + Sync>(
     rt: &R,
     alloc: Global,
     system: &Y,
     plan: &Plan,
+    stops: &Stops,
     gate: &G,
 ) -> Result<Explored<Y::State, Y::Label, U>, ExploreError>
     requires plan { IsWithinLimits plan.now }
-    ensures found { IfOk result (λ s. as_found s.visited.states.keys s.visited.steps.items s.from s.summary
-        ≡ found_after (Y.graph system.now) U.joins (U.observation system.now) Y.State.eq plan.now.steps) }
-    ensures fits { IfOk result (λ s. All (Y.fits system.now) s.visited.states.keys) }
-    ensures within { IfOk result (λ s. length s.visited.states.keys ≤ plan.now.limit) }
-    ensures from { IfOk result (λ s. s.from ≤ length s.visited.states.keys) }
+    ensures end { IfOk result (IsEnd (Y.graph system.now) U.joins (U.observation system.now) Y.State.eq (Y.fits system.now) plan.now stops.now) }
     ensures too_many { IsErrOf result ExploreError.TooMany → plan.now.limit
         < length (found_after (Y.graph system.now) U.joins (U.observation system.now) Y.State.eq plan.now.steps).states }
+    ensures limited { IsErrOf result ExploreError.TooMany → stops.now.at_limit ≡ false }
     ensures planned { result ≢ Err ExploreError.BadPlan }
 {
-    let (mut visited, mut summary) = begin_search(alloc, system, plan.workers)?;
-    let mut from = 0;
+    let mut explored = begin_search::<Y, U>(alloc, system, plan.workers)?;
     let mut leftovers = Leftovers::new(alloc, 0, plan.workers);
     for layer in 0..plan.steps {
-        let candidates = expand_and_drop(rt, alloc, system, &visited.states, from, leftovers)?;
-        from = visited.states.len();
-        let placed = place_layer::<Y, U, G, R>(
-            rt, alloc, system, plan, gate, layer, visited, candidates, summary,
+        if is_marked(
+            system,
+            &explored.visited.states,
+            explored.from,
+            stops.at_mark,
+        ) {
+            return Ok(ended(explored, Ending::Mark));
+        }
+        let states = &explored.visited.states;
+        let candidates = expand_and_drop(rt, alloc, system, states, explored.from, leftovers)?;
+        if are_none(&candidates) {
+            return Ok(finished(explored, plan, stops));
+        }
+        let states = &explored.visited.states;
+        let firsts = find_first::<Y, U, G, R>(
+            rt,
+            alloc,
+            system,
+            plan,
+            gate,
+            layer,
+            states,
+            candidates.as_slice(),
         )?;
-        visited = placed.visited;
+        if are_too_many(plan, states.len(), firsts.positions.len()) {
+            return if stops.at_limit {
+                Ok(ended(explored, Ending::Limit))
+            } else {
+                Err(ExploreError::TooMany)
+            };
+        }
+        let placed = place_layer::<Y, U, R>(rt, alloc, system, plan, explored, candidates, firsts)?;
+        explored = placed.explored;
         leftovers = placed.leftovers;
-        summary = placed.summary;
     }
     leftovers.drop_all(rt);
-    Ok(Explored {
-        visited,
-        from,
-        summary,
-    })
+    Ok(explored)
 }
 
 /// The first state alone, in as many shards as there are workers, and what it shows.
@@ -127,11 +249,14 @@ fn begin_search<Y: System, U: Summary<Y>>(
     alloc: Global,
     system: &Y,
     workers: u64,
-) -> Result<(Visited<Y::State, Y::Label>, U), AllocError>
+) -> Result<Explored<Y::State, Y::Label, U>, AllocError>
     requires { 0 < workers }
-    ensures states { IfOk result (λ r. r.0.states.keys ≡ (Y.graph system.now).first ∷ []) }
-    ensures steps { IfOk result (λ r. r.0.steps.items ≡ None ∷ []) }
-    ensures summary { IfOk result (λ r. r.1 ≡ (U.observation system.now).at (Y.graph system.now).first) }
+    ensures states { IfOk result (λ s. s.visited.states.keys ≡ (Y.graph system.now).first ∷ []) }
+    ensures lasts { IfOk result (λ s. s.visited.steps.items ≡ None ∷ []) }
+    ensures from { IfOk result (λ s. s.from ≡ 0) }
+    ensures summary { IfOk result (λ s. s.summary ≡ (U.observation system.now).at (Y.graph system.now).first) }
+    ensures steps { IfOk result (λ s. s.steps ≡ 0) }
+    ensures ending { IfOk result (λ s. s.ending ≡ Ending.Steps) }
 {
     let first = system.start(alloc)?;
     let summary = U::at(alloc, system, &first)?;
@@ -140,5 +265,11 @@ fn begin_search<Y: System, U: Summary<Y>>(
     states.push(shard, first)?;
     let mut steps = Vec::new(alloc);
     steps.push(None)?;
-    Ok((Visited { states, steps }, summary))
+    Ok(Explored {
+        visited: Visited { states, steps },
+        from: 0,
+        summary,
+        steps: 0,
+        ending: Ending::Steps,
+    })
 }

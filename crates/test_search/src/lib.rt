@@ -5,6 +5,8 @@
 #[cfg(test)]
 mod boards;
 #[cfg(test)]
+mod bounds;
+#[cfg(test)]
 mod counted;
 #[cfg(test)]
 mod faults;

@@ -12,7 +12,7 @@ use summary::{Blocked, Branches, Key, Located, OrderedSet, Summary, System};
 
 /// Label 0 leads from state 0 to 1, from there to 2, and from there to 0.
 #[derive(Drop)]
-struct Light;
+pub(super) struct Light;
 
 impl System for Light {
     type State = u8;

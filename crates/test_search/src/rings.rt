@@ -1,6 +1,9 @@
 //! Rings: what is found of them, and which plans are refused.
 use explore::example::{Residues, Ring, Turns};
-use explore::{Answer, ExploreError, NoGate, Plan, explore};
+use explore::{
+    Answer, Ending, ExploreError, NoGate, Plan, Reached, Sighting, Stops, explore, explore_until,
+    explore_watched,
+};
 use std::alloc::Global;
 use std::process::Abort;
 use std::test::Fail;
@@ -136,6 +139,105 @@ fn the_limit_is_exact(rt: HostRuntime) {
         count(&rt, rt.alloc(), 10, &beyond),
         Err(ExploreError::TooMany)
     );
+}
+
+/// How far a ring of ten is explored, how many states are counted, and why no further.
+fn extent<R: Threads + Sync + Abort>(
+    rt: &R,
+    alloc: Global,
+    plan: &Plan,
+    stops: &Stops,
+) -> Result<(u64, u64, Ending), ExploreError> {
+    let system = ring(rt, 10);
+    let reached: Reached<Verdicts, u8> = explore_until::<Ring, Verdicts, NoGate, R>(
+        rt, alloc, &system, plan, stops, &NoGate,
+    )?;
+    Ok((reached.steps, reached.answer.count, reached.ending))
+}
+
+#[test]
+fn an_exploration_ends_where_it_is_to(rt: HostRuntime) {
+    let far = Plan { steps: 100, ..PLAN };
+    let few = Plan { limit: 7, ..far };
+    let limit = Stops {
+        at_limit: true,
+        ..Stops::NOWHERE
+    };
+    let complete = Stops {
+        when_complete: true,
+        ..Stops::NOWHERE
+    };
+    let mark = Stops {
+        at_mark: Some(0),
+        ..Stops::NOWHERE
+    };
+    let unseen = Stops {
+        at_mark: Some(1),
+        ..Stops::NOWHERE
+    };
+    assert_eq!(rt;
+        extent(&rt, rt.alloc(), &few, &Stops::NOWHERE),
+        Err(ExploreError::TooMany)
+    );
+    assert_eq!(rt;
+        extent(&rt, rt.alloc(), &few, &limit),
+        Ok((3, 5, Ending::Limit))
+    );
+    assert_eq!(rt;
+        extent(&rt, rt.alloc(), &far, &limit),
+        Ok((100, 10, Ending::Steps))
+    );
+    assert_eq!(rt;
+        extent(&rt, rt.alloc(), &far, &complete),
+        Ok((6, 10, Ending::Complete))
+    );
+    assert_eq!(rt;
+        extent(&rt, rt.alloc(), &far, &mark),
+        Ok((5, 10, Ending::Mark))
+    );
+    assert_eq!(rt;
+        extent(&rt, rt.alloc(), &far, &unseen),
+        Ok((100, 10, Ending::Steps))
+    );
+    assert_eq!(rt;
+        extent(&rt, rt.alloc(), &PLAN, &mark),
+        Ok((5, 10, Ending::Steps))
+    );
+}
+
+/// Whether a sighting has this number and these labels.
+fn is_sighting<E: Copy + Into<u32>>(
+    sighting: Option<&Sighting<E, u8>>,
+    number: u32,
+    run: &[u8],
+) -> bool {
+    match sighting {
+        Some(sighting) => sighting.event.into() == number && sighting.run.as_slice() == run,
+        None => false,
+    }
+}
+
+#[test]
+fn the_least_run_to_each_sight_is_found(rt: HostRuntime) -> Result<(), Fail> {
+    let system = ring(&rt, 10);
+    let sighted = explore_watched::<Ring, Verdicts, NoGate, HostRuntime>(
+        &rt,
+        rt.alloc(),
+        &system,
+        &PLAN,
+        &Stops::NOWHERE,
+        &NoGate,
+    )?;
+    let events = sighted.events.as_slice();
+    assert!(rt; events.len() == 2);
+    assert!(rt; is_sighting(events.get(0), 0, &[0]) && is_sighting(events.get(1), 1, &[1]));
+    let stands = sighted.stands.as_slice();
+    assert!(rt; stands.len() == 4);
+    assert!(rt; is_sighting(stands.get(0), 0, &[]) && is_sighting(stands.get(1), 1, &[0]));
+    assert!(rt;
+        is_sighting(stands.get(2), 2, &[0, 0]) && is_sighting(stands.get(3), 3, &[0, 0, 0])
+    );
+    Ok(())
 }
 
 #[test]

@@ -1,4 +1,5 @@
-use Rattle.std.proofs.Common.{◌≡◌, ◌<◌, length, map, drop, ap, sym, subst, ◌∙◌}
+use Rattle.std.proofs.Common.{◌≡◌, ◌<◌, ◌+◌, ◌++◌, length, map, drop, ap, sym, subst, ◌∙◌, arith}
+use Rattle.std.specs.Cmp.{IsEquivalence}
 use Rattle.std.specs.Prelude.{All}
 use Rattle.std.proofs.Math.Seq.{drop-append_seam}
 use Rattle.std.proofs.lemmas.Result.{err_from_is_err_and}
@@ -7,23 +8,27 @@ use Rattle.search_layer.specs.internal.Search.{Found, newly, state_of, with_step
 use Rattle.search_layer.proofs.StepSums.{steps-join}
 use Rattle.search_layer.proofs.SearchSteps.{place-all-fits}
 use Rattle.search_layer.proofs.Newly.{all-placed, entered}
+use Rattle.explore.proofs.Stopping.{length-with-new}
 use Rattle.explore.proofs.layers.place_layer.Given.{Over}
 use Rattle.explore.proofs.layers.place_layer.Goals as goal
+
+equivalence : (g : Over) → IsEquivalence g.Y.State.PartialEq.eq
+equivalence g = (g.met.Y.State.Eq g.world.𝓛 g.world.𝓜 g.world.𝓡 ((λ s x. x), (λ x. x), (λ x. x), λ x. x)).laws
 
 semilattice : (g : Over) → IsSemilattice g.U.Summary.joins
 semilattice g = (g.met.U.Summary g.world.𝓛 g.world.𝓜 g.world.𝓡 ((λ s x. x), (λ x. x), (λ x. x), λ x. x)).semilattice
 
-pub returns-in_err-visited-clause-too_many : goal.returns-in_err-visited-clause-too_many
-returns-in_err-visited-clause-too_many g c many from =
-    let joins = g.U.Summary.joins in
-    let observation = g.U.Summary.observation c.args.system.now in
+pub returns-in_err-visited-clause-room : goal.returns-in_err-visited-clause-room
+returns-in_err-visited-clause-room g c many =
     let eq = g.Y.State.PartialEq.eq in
-    let keys = c.args.visited.states.keys in
+    let keys = c.args.explored.visited.states.keys in
     let cs = c.args.candidates.items in
+    let firsts = c.args.firsts.positions.items in
     let p = err_from_is_err_and c.from_residual-in_err-visited.result c.from_residual-in_err-visited.ensures.1 in
-    let found : Found _ _ _ = as_found keys c.args.visited.steps.items from (with_steps joins observation (g.Y.System.graph c.args.system.now) keys c.args.summary cs) in
-    subst (λ (x : Found _ _ _). c.args.plan.now.limit < length x.states) (sym (all-placed joins observation eq found cs))
-    (c.in_err-visited.ensures.too_many (cc (p.1, p.2, many)))
+    let beyond : c.args.plan.now.limit < length (keys ++ map state_of (newly eq keys cs)) = c.in_err-visited.ensures.too_many (cc (p.1, p.2, many)) in
+    let all : length (keys ++ map state_of (newly eq keys cs)) ≡ length keys + length firsts = length-with-new eq (equivalence g) keys cs firsts c.requires.first in
+    let room = c.requires.room in
+    omega arith
 
 pub show_states-requires-clause-fits : goal.show_states-requires-clause-fits
 show_states-requires-clause-fits g c κs within =
@@ -32,7 +37,7 @@ show_states-requires-clause-fits g c κs within =
     let eq = g.Y.State.PartialEq.eq in
     let fits = g.Y.System.fits c.args.system.now in
     let cs = c.args.candidates.items in
-    let found : Found _ _ _ = as_found c.args.visited.states.keys c.args.visited.steps.items 0 c.args.summary in
+    let found : Found _ _ _ = as_found c.args.explored.visited.states.keys c.args.explored.visited.steps.items 0 c.args.explored.summary in
     subst (All fits) (sym c.in_ok-visited.ensures.states)
     (subst (λ (x : Found _ _ _). All fits x.states) (all-placed joins observation eq found cs) (place-all-fits joins observation eq fits found cs c.requires.states c.requires.fits))
 
@@ -42,17 +47,17 @@ returns-clause-placed g c from =
     let observation = g.U.Summary.observation c.args.system.now in
     let graph = g.Y.System.graph c.args.system.now in
     let eq = g.Y.State.PartialEq.eq in
-    let keys = c.args.visited.states.keys in
+    let keys = c.args.explored.visited.states.keys in
     let cs = c.args.candidates.items in
     let news = map state_of (newly eq keys cs) in
-    let stepped : c.in_ok-summary.summary ≡ with_steps joins observation graph keys c.args.summary cs =
+    let stepped : c.in_ok-summary.summary ≡ with_steps joins observation graph keys c.args.explored.summary cs =
     c.in_ok-summary.ensures
-    ∙ ap (joins.join c.args.summary) (c.in_ok-firsts.ensures.summary ∙ ap (with_steps joins observation graph keys joins.none) c.as_slice.ensures.value)
-    ∙ sym (steps-join joins observation graph keys (semilattice g) c.args.summary cs) in
+    ∙ ap (joins.join c.args.explored.summary) (c.requires.shown)
+    ∙ sym (steps-join joins observation graph keys (semilattice g) c.args.explored.summary cs) in
     let behind : drop c.len-from.result c.in_ok-visited.visited.states.keys ≡ news =
     (λ i. drop (c.len-from.ensures.len i) (c.in_ok-visited.ensures.states i)) ∙ drop-append_seam keys news in
-    entered joins observation eq keys c.in_ok-visited.visited.states.keys c.args.visited.steps.items c.in_ok-visited.visited.steps.items from
-    (with_steps joins observation graph keys c.args.summary cs) c.in_ok-shown.shown c.in_ok-summary-2.summary cs (semilattice g)
+    entered joins observation eq keys c.in_ok-visited.visited.states.keys c.args.explored.visited.steps.items c.in_ok-visited.visited.steps.items from
+    (with_steps joins observation graph keys c.args.explored.summary cs) c.in_ok-shown.shown c.in_ok-summary-2.summary cs (semilattice g)
     c.in_ok-visited.ensures.states c.in_ok-visited.ensures.steps
     (c.in_ok-shown.ensures ∙ ap (λ xs. join_all joins (map observation.at xs)) behind)
     (c.in_ok-summary-2.ensures ∙ ap (λ s. joins.join s c.in_ok-shown.shown) stepped)

@@ -1,0 +1,34 @@
+use Rattle.std.proofs.Common.{◌≤◌, sym, subst}
+use Rattle.std.proofs.lemmas.Result.{err_from_is_err_and}
+use Rattle.summary.specs.Exploration.{Counts}
+use Rattle.summary.specs.Sums.{IsSemilattice}
+use Rattle.explore.proofs.Endings.{ends}
+use Rattle.explore.proofs.Visits.{IsLawful}
+use Rattle.explore.proofs.Outcome.{too_many, go-back, as_many, count-is, complete-is, summary_is, every_bound, best-is}
+use Rattle.explore.proofs.answer.explore_until.Given.{Over}
+use Rattle.explore.proofs.answer.explore_until.Goals as goal
+
+-- the laws of the bound
+lawful : (g : Over) (system : _) → IsLawful (g.Y.System.graph system) g.Y.Label.Ord.cmp g.Y.State.PartialEq.eq (g.Y.System.fits system)
+lawful g system =
+    let laws = g.met.Y.System g.world.𝓛 g.world.𝓜 g.world.𝓡 ((λ s x. x), (λ x. x), (λ x. x), λ x. x) in
+    record {
+      total = (g.met.Y.Label.Ord g.world.𝓛 g.world.𝓜 g.world.𝓡 ((λ s x. x), (λ x. x), (λ x. x), λ x. x)).total;
+      itself = (g.met.Y.State.Eq g.world.𝓛 g.world.𝓜 g.world.𝓡 ((λ s x. x), (λ x. x), (λ x. x), λ x. x)).laws.refl;
+      same = laws.same system;
+      ascending = laws.ascending system;
+      first = laws.first_fits system;
+      after = laws.after_fits system;
+    }
+
+-- the laws of a summary's join
+semilattice : (g : Over) → IsSemilattice g.U.Summary.joins
+semilattice g = (g.met.U.Summary g.world.𝓛 g.world.𝓜 g.world.𝓡 ((λ s x. x), (λ x. x), (λ x. x), λ x. x)).semilattice
+
+pub returns-in_err-explored-clause-too_many : goal.returns-in_err-explored-clause-too_many
+returns-in_err-explored-clause-too_many g c many =
+    let system = c.args.system.now in
+    let p = err_from_is_err_and c.from_residual.result c.from_residual.ensures.1 in
+    too_many (g.Y.System.graph system) g.Y.Label.Ord.cmp g.Y.State.PartialEq.eq (g.Y.System.fits system) (lawful g system)
+    g.U.Summary.joins (g.U.Summary.observation system) (semilattice g) c.args.plan.now.steps c.args.plan.now.limit
+    (c.in_err-explored.ensures.too_many (cc (p.1, p.2, many)))

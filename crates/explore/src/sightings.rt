@@ -1,0 +1,145 @@
+//! The least runs that show something.
+ghost use Rattle.std.specs.Prelude.{◌≡◌, ◌<◌, ◌≤◌, List, [], length, take, All, IfOk, OnOk};
+ghost use Rattle.std.specs.List.{AllZip, list_any};
+ghost use Rattle.explore.specs.internal.Noting.{IsRunBy, IsRunTo, note, note_labels, note_states, note_steps};
+ghost use Rattle.explore.specs.internal.Tied.{AreLastSteps, GoBack};
+ghost use Rattle.summary.specs.Run.{Run};
+
+use crate::runs::run_to;
+use crate::watched::Watched;
+use search_layer::Step;
+use search_shards::ShardedSet;
+use std::alloc::{AllocError, Global};
+
+/// What runs show, with the labels of the least run that shows it.
+#[derive(Debug, Drop)]
+pub struct Sighting<E, L> {
+    pub event: E,
+    pub run: Vec<L>,
+}
+
+/// What is shown, and where it is shown first.
+#[derive(Drop)]
+pub(crate) struct Noted<E, X> {
+    pub event: E,
+    pub at: X,
+}
+
+/// Whether something was noted before.
+fn is_noted<E: PartialEq, X>(noted: &[Noted<E, X>], event: &E) -> bool
+    ensures { result ≡ list_any (λ n. E.eq n.event event.now) noted.now }
+{
+    noted.iter().any(|n| n.event == *event)
+}
+
+/// Notes what is shown here, unless it was noted before.
+fn note<E: PartialEq + Drop, X: Drop>(
+    noted: &mut Vec<Noted<E, X>>,
+    event: Option<E>,
+    at: X,
+) -> Result<(), AllocError>
+    ensures { OnOk result (noted.new.items ≡ note E.eq event at noted.old.items) }
+{
+    if let Some(event) = event {
+        if !is_noted(noted.as_slice(), &event) {
+            noted.push(Noted { event, at })?;
+        }
+    }
+    Ok(())
+}
+
+/// Notes what the steps of the state at a place show.
+fn note_labels<Y: Watched>(
+    alloc: Global,
+    system: &Y,
+    state: &Y::State,
+    place: usize,
+    noted: &mut Vec<Noted<Y::Event, Step<Y::Label>>>,
+) -> Result<(), AllocError>
+    requires { Y.fits system.now state.now }
+    ensures { OnOk result (noted.new.items ≡ note_labels (Y.graph system.now) Y.Event.eq (Y.event system.now) place state.now ((Y.graph system.now).enabled state.now) noted.old.items) }
+{
+    for label in system.labels(alloc, state)? {
+        let event = system.event(alloc, state, &label)?;
+        let before = place;
+        note(noted, event, Step { before, label })?;
+    }
+    Ok(())
+}
+
+/// What the steps of the states up to a place show.
+pub(crate) fn noted_steps<Y: Watched>(
+    alloc: Global,
+    system: &Y,
+    states: &ShardedSet<Y::State>,
+    to: usize,
+) -> Result<Vec<Noted<Y::Event, Step<Y::Label>>>, AllocError>
+    requires fits { All (Y.fits system.now) states.now.keys }
+    requires to { to ≤ length states.now.keys }
+    ensures { IfOk result (λ noted. noted.items ≡ note_steps (Y.graph system.now) Y.Event.eq (Y.event system.now) 0 (take to states.now.keys) []) }
+{
+    let mut noted = Vec::new(alloc);
+    for place in 0..to {
+        note_labels(alloc, system, &states[place], place, &mut noted)?;
+    }
+    Ok(noted)
+}
+
+/// What states show.
+pub(crate) fn noted_states<Y: Watched>(
+    alloc: Global,
+    system: &Y,
+    states: &ShardedSet<Y::State>,
+) -> Result<Vec<Noted<Y::Stand, usize>>, AllocError>
+    requires { All (Y.fits system.now) states.now.keys }
+    ensures { IfOk result (λ noted. noted.items ≡ note_states Y.Stand.eq (Y.stand system.now) 0 states.now.keys []) }
+{
+    let mut noted = Vec::new(alloc);
+    for place in 0..states.len() {
+        let stand = system.stand(alloc, &states[place])?;
+        note(&mut noted, stand, place)?;
+    }
+    Ok(noted)
+}
+
+/// The labels of the runs to the steps that were noted.
+pub(crate) fn runs_by<Y: Watched>(
+    alloc: Global,
+    system: &Y,
+    steps: &[Option<Step<Y::Label>>],
+    noted: Vec<Noted<Y::Event, Step<Y::Label>>>,
+) -> Result<Vec<Sighting<Y::Event, Y::Label>>, AllocError>
+    requires within { All (λ m. m.at.before < length steps.now) noted.items }
+    requires back { GoBack steps.now }
+    ensures { IfOk result (λ sightings. (runs : List (Run Y.Label)) → AreLastSteps runs steps.now → AllZip (IsRunBy runs) sightings.items noted.items) }
+{
+    let mut sightings = Vec::with_capacity(alloc, noted.len())?;
+    for one in noted {
+        let Noted { event, at } = one;
+        let Step { before, label } = at;
+        let mut run = run_to(alloc, system, steps, before)?;
+        run.push(label)?;
+        sightings.push(Sighting { event, run })?;
+    }
+    Ok(sightings)
+}
+
+/// The labels of the runs to the states that were noted.
+pub(crate) fn runs_to<Y: Watched>(
+    alloc: Global,
+    system: &Y,
+    steps: &[Option<Step<Y::Label>>],
+    noted: Vec<Noted<Y::Stand, usize>>,
+) -> Result<Vec<Sighting<Y::Stand, Y::Label>>, AllocError>
+    requires within { All (λ m. m.at < length steps.now) noted.items }
+    requires back { GoBack steps.now }
+    ensures { IfOk result (λ sightings. (runs : List (Run Y.Label)) → AreLastSteps runs steps.now → AllZip (IsRunTo runs) sightings.items noted.items) }
+{
+    let mut sightings = Vec::with_capacity(alloc, noted.len())?;
+    for one in noted {
+        let Noted { event, at } = one;
+        let run = run_to(alloc, system, steps, at)?;
+        sightings.push(Sighting { event, run })?;
+    }
+    Ok(sightings)
+}

@@ -1,0 +1,5 @@
+pub mod Standing
+pub mod Counted
+pub mod Longer
+pub mod Standings
+pub mod BoundedTests

@@ -1,0 +1,3 @@
+pub mod StandsFor
+pub mod Seen
+pub mod BoundedParts

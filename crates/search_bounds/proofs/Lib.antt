@@ -1,0 +1,5 @@
+pub mod Filters
+pub mod Kept
+pub mod BoundedRuns
+pub mod Successors
+pub mod Examples

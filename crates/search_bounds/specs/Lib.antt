@@ -1,0 +1,3 @@
+pub mod KeptRuns
+pub mod Bounded
+pub mod BoundedLaws
