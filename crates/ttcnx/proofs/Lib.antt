@@ -12,3 +12,5 @@ pub mod Stages
 pub mod Streams
 pub mod Told
 pub mod WellTyped
+pub mod Untils
+pub mod LeastAims

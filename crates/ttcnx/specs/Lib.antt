@@ -1,3 +1,4 @@
+pub mod Aims
 pub mod Answer
 pub mod Checked
 pub mod Converted
@@ -7,3 +8,5 @@ pub mod Named
 pub mod Replayed
 pub mod Streamed
 pub mod Tells
+pub mod Until
+pub mod internal

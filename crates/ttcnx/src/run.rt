@@ -111,7 +111,7 @@ pub fn run_script<G: Gate, R: Threads + Sync>(
 }
 
 /// The report on what was found.
-fn report_of(
+pub(crate) fn report_of(
     alloc: Global,
     name: &str,
     steps: u64,

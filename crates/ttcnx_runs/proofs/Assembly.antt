@@ -1,5 +1,5 @@
 -- What a search over live parts answers is true of the runs, on whole configurations.
-use Rattle.std.proofs.Common.{◌≡◌, ℕ, ◌<◌, ◌≤◌, length, subst, sym, ap, ◌∙◌}
+use Rattle.std.proofs.Common.{◌≡◌, ℕ, Option, None, true, false, true≢false, suc, ◌<◌, ◌≤◌, length, subst, sym, ap, ◌∙◌}
 use Rattle.std.specs.Prelude.{◌↔◌, IsTrue, Ok, Err}
 use Rattle.explore.specs.Best.{AreBest}
 use Rattle.search_layer.specs.Limits.{IsWithinLimits}
@@ -9,13 +9,18 @@ use Rattle.search_layer.specs.declared.plan.ExploreError.TheVariants as refused
 use Rattle.search_layer.specs.declared.plan.Plan.{Plan}
 use Rattle.ttcnx_runs.proofs.Best.{best-run}
 use Rattle.ttcnx_runs.proofs.Longer.{best-later}
-use Rattle.ttcnx_runs.proofs.Parts.{Shown}
 use Rattle.ttcnx_runs.proofs.Sums.{blocked-found, branches-found}
 use Rattle.ttcnx_runs.specs.Found.{AreFound, place_cmp, run_kept, standing_cmp}
 use Rattle.ttcnx_runs.specs.declared.exploration.Exploration.{Exploration}
-use Rattle.ttcnx_runs.specs.internal.Explored.{IsExplored}
+use Rattle.explore.specs.Endings as ended
+use Rattle.explore.specs.Endings.{HasEnded}
+use Rattle.explore.specs.declared.ending.Ending.{Ending}
+use Rattle.explore.specs.declared.ending.Stops.{Stops}
+use Rattle.ttcnx_runs.specs.Endings.{HaveEnded, all_done, at_limit, at_mark, complete}
+use Rattle.ttcnx_runs.specs.declared.exploration.Extent.{Extent}
+use Rattle.ttcnx_runs.specs.internal.Explored.{IsExplored, IsMadeOf, Searched}
 use Rattle.ttcnx_runs.specs.internal.Sums.{blocked_of, branches_of}
-use Rattle.laws_live.proofs.SameRuns.{same-complete, same-counts}
+use Rattle.laws_live.proofs.SameRuns.{same-complete, same-counts, same-marked}
 use Rattle.laws_live.specs.Parts.{CountsParts, IsCompleteByParts}
 use Rattle.summary.specs.Ascent.{Ascends}
 use Rattle.summary.specs.KeySet.{from_list}
@@ -28,20 +33,6 @@ use Rattle.summary.specs.Exploration.{Counts, IsComplete}
 use Rattle.step_labels.specs.declared.standing.Standing.{Standing}
 use Rattle.ttcn_syntax.specs.declared.place.Span.{Span}
 
--- what a search over live parts answers
-abbrev pub Searched : Type 0
-Searched = Answer (Shown Span Standing) Label
-
--- what is found is made of the answer
-pub record IsMadeOf (found : Exploration) (answer : Searched) : Type 0 where
-  pub configurations : found.configurations ≡ answer.count
-  pub complete : found.complete ≡ answer.complete
-  pub best : found.best.items ≡ answer.best.items
-  pub branches : from_list found.branches.items ≡ answer.summary.second.first.places
-  pub ascending : Ascends place_cmp found.branches.items
-  pub blocked : from_list found.blocked.items ≡ answer.summary.second.second.components
-  pub in_order : Ascends standing_cmp found.blocked.items
-
 -- the answer is that of the runs of at most n steps
 pub record AreSummed (test : Test) (n : ℕ) (answer : Searched) : Type 0 where
   pub counts : Counts (canonical_graph test) n answer.count
@@ -51,6 +42,13 @@ pub record AreSummed (test : Test) (n : ℕ) (answer : Searched) : Type 0 where
 module _ (test : Test) where
   pub too-many-parts : (n limit : ℕ) → ((count : ℕ) × Counts (canonical_graph test) n count × (limit < count)) → (count : ℕ) × CountsParts test n count × (limit < count)
   too-many-parts n limit more = (more.0, (same-counts test n more.0).0 more.1, more.2)
+
+  -- why the search over live parts went no further is why the exploration of all runs did not
+  pub runs-ended : (plan : Plan) (stops : Stops) (steps : ℕ) (why : Ending) → HasEnded (canonical_graph test) plan stops steps why → HaveEnded test plan stops steps why
+  runs-ended plan stops steps why (ended.all_done done) = all_done done
+  runs-ended plan stops steps why (ended.at_limit {count} stop low counts many) = at_limit stop low ((same-counts test (suc steps) count).0 counts) many
+  runs-ended plan stops steps why (ended.complete stop is) = complete stop ((same-complete test steps).0 is)
+  runs-ended plan stops steps why (ended.at_mark {mark} {run} is has) = at_mark is ((same-marked test steps mark run).0 has)
 
   module _ (found : Exploration) (answer : Searched) (made : IsMadeOf found answer) where
     pub complete-parts : (n : ℕ) → (IsTrue answer.complete ↔ IsComplete (canonical_graph test) n) → IsTrue found.complete ↔ IsCompleteByParts test n
@@ -79,35 +77,52 @@ module _ (test : Test) where
     }
 
     -- what was found, as the answer of an exploration
-    pub found-explored : (plan : Plan) → IsWithinLimits plan → Counts (canonical_graph test) plan.steps answer.count × (answer.count ≤ plan.limit)
-        → answer.summary.second.first.places ≡ branches_of (canonical_graph test) (branch_of test) plan.steps → answer.summary.second.second.components ≡ blocked_of (canonical_graph test) (blocked test) plan.steps
-        → (IsTrue answer.complete ↔ IsComplete (canonical_graph test) plan.steps) → AreBest (canonical_graph test) label_cmp plan.steps answer.best.items
-        → (IsTrue answer.complete → (bound : ℕ) → plan.steps ≤ bound → Counts (canonical_graph test) bound answer.count
+    pub found-explored : (plan : Plan) (stops : Stops) (n : ℕ) (why : Ending) → IsWithinLimits plan → n ≤ plan.steps
+        → HasEnded (canonical_graph test) plan stops n why
+        → Counts (canonical_graph test) n answer.count × (answer.count ≤ plan.limit)
+        → answer.summary.second.first.places ≡ branches_of (canonical_graph test) (branch_of test) n → answer.summary.second.second.components ≡ blocked_of (canonical_graph test) (blocked test) n
+        → (IsTrue answer.complete ↔ IsComplete (canonical_graph test) n) → AreBest (canonical_graph test) label_cmp n answer.best.items
+        → (IsTrue answer.complete → (bound : ℕ) → n ≤ bound → Counts (canonical_graph test) bound answer.count
         × (answer.summary.second.first.places ≡ branches_of (canonical_graph test) (branch_of test) bound) × (answer.summary.second.second.components ≡ blocked_of (canonical_graph test) (blocked test) bound))
-        → IsExplored test plan (Ok found)
-    found-explored plan fine count taken stands complete best later =
-        let is = are-found plan.steps (record { counts = count.0; branches = taken; blocked = stands }) best in
+        → IsExplored test plan stops (Ok (record { steps = n; found = found; ending = why }))
+    found-explored plan stops n why fine low stopped count taken stands whole best later =
+        let is = are-found n (record { counts = count.0; branches = taken; blocked = stands }) best in
         record {
           bad_plan = (λ refused. let no = refused in cc, λ no. absurd (no fine));
           planned = fine;
           too_many = λ refused. let no = refused in cc;
+          limited = λ refused. let no = refused in cc;
+          steps = low;
+          ended = runs-ended plan stops n why stopped;
           found = is;
           within = subst (λ (k : ℕ). k ≤ plan.limit) (sym made.configurations) count.1;
-          complete = complete-parts plan.steps complete;
+          complete = complete-parts n whole;
           every_bound = λ all bound above.
               let more = later (subst IsTrue made.complete all) bound above in
-              found-later plan.steps bound above is (record { counts = more.0; branches = more.1; blocked = more.2 });
+              found-later n bound above is (record { counts = more.0; branches = more.1; blocked = more.2 });
         }
 
   -- why nothing was found
-  pub refused-explored : (plan : Plan) (why : ExploreError) → ((why ≡ refused.BadPlan) → ¬ IsWithinLimits plan) → (¬ IsWithinLimits plan → why ≡ refused.BadPlan)
-      → (why ≡ refused.TooMany → (count : ℕ) × Counts (canonical_graph test) plan.steps count × (plan.limit < count)) → IsExplored test plan (Err why)
-  refused-explored plan why bad_plan beyond too_many = record {
+  pub refused-explored : (plan : Plan) (stops : Stops) (why : ExploreError) → ((why ≡ refused.BadPlan) → ¬ IsWithinLimits plan) → (¬ IsWithinLimits plan → why ≡ refused.BadPlan)
+      → (why ≡ refused.TooMany → (count : ℕ) × Counts (canonical_graph test) plan.steps count × (plan.limit < count))
+      → (why ≡ refused.TooMany → stops.at_limit ≡ false) → IsExplored test plan stops (Err why)
+  refused-explored plan stops why bad_plan beyond too_many limited = record {
     bad_plan = (λ is. bad_plan (let same = is in cc), λ no. ap Err (beyond no));
     planned = tt;
     too_many = λ is. too-many-parts plan.steps plan.limit (too_many (let same = is in cc));
+    limited = λ is. limited (let same = is in cc);
+    steps = tt;
+    ended = tt;
     found = tt;
     within = tt;
     complete = tt;
     every_bound = tt;
   }
+
+-- an exploration without stops has done all steps
+pub all-steps : (test : Test) (plan : Plan) (stops : Stops) (n : ℕ) (why : Ending) → stops.at_limit ≡ false → stops.when_complete ≡ false → stops.at_mark ≡ None
+    → HaveEnded test plan stops n why → n ≡ plan.steps
+all-steps test plan stops n why no_limit no_complete no_mark (all_done done) = done
+all-steps test plan stops n why no_limit no_complete no_mark (at_limit stop below counts many) = absurd (true≢false (sym stop ∙ no_limit))
+all-steps test plan stops n why no_limit no_complete no_mark (complete stop is) = absurd (true≢false (sym stop ∙ no_complete))
+all-steps test plan stops n why no_limit no_complete no_mark (at_mark is has) = cc

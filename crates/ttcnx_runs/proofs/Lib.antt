@@ -4,7 +4,9 @@ pub mod Leading
 pub mod Packing
 pub mod Assembly
 pub mod Best
+pub mod FirstSights
 pub mod Longer
 pub mod Parts
+pub mod SightsAlike
 pub mod Sums
 pub mod crossing

@@ -2,6 +2,7 @@
 use Rattle.std.proofs.Common.{◌≡◌, ℕ, ◌≤◌, Bool, List, [], ◌∷◌, map, ap, refl, ◌∙◌, Option}
 use Rattle.std.specs.Prelude.{IfOk, IsTrue, Result, Ok, Err}
 use Rattle.summary.specs.Exploration.{Counts}
+use Rattle.ttcnx_runs.specs.internal.Explored.{Shown}
 use Rattle.ttcnx_runs.specs.internal.Sums.{blocked_of, branches_of}
 use Rattle.summary.specs.KeySet.{empty, from_list, from_option, union, union_join}
 use Rattle.summary.specs.declared.blocked.Blocked.{Blocked}
@@ -38,10 +39,6 @@ module _ {C L S T : Type 0} (g : Graph C L) (j : Join S) (k : Join T) (r : Obser
 pub if-ok : {A E : Type 0} (r : Result A E) (P Q : A → Type 0) → IfOk r P → ((a : A) → P a → Q a) → IfOk r Q
 if-ok (Ok a) P Q holds so = so a holds
 if-ok (Err e) P Q holds so = tt
-
--- verdicts, branches and blocked components, as one summary
-abbrev pub Shown : Type 0 → Type 0 → Type 0
-Shown B T = Both Verdicts (Both (Branches B) (Blocked T))
 
 abbrev pub shown_join : {B T : Type 0} → Join (Shown B T)
 shown_join = record {

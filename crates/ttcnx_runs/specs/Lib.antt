@@ -7,6 +7,9 @@ pub mod Going
 pub mod Laws
 pub mod Runs
 pub mod Schemes
+pub mod Sights
 pub mod States
+pub mod Aims
+pub mod Endings
 pub mod Found
 pub mod internal

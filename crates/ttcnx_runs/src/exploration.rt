@@ -1,15 +1,16 @@
 //! All runs of a test case up to a bound (ES 201 873-4).
-ghost use Rattle.std.specs.Prelude.{◌≡◌, ◌↔◌, ℕ, ◌<◌, ◌≤◌, IfOk, IsErrOf, IsTrue, OnOk};
+ghost use Rattle.std.specs.Prelude.{◌≡◌, ◌↔◌, ℕ, ◌<◌, ◌≤◌, false, IfOk, IsErrOf, IsTrue, OnOk};
 ghost use Rattle.search_layer.specs.Limits.{IsWithinLimits};
 ghost use Rattle.ttcnx_runs.specs.Found.{AreFound, place_cmp, standing_cmp};
-ghost use Rattle.ttcnx_runs.specs.internal.Explored.{IsExplored};
+ghost use Rattle.ttcnx_runs.specs.Endings.{HaveEnded};
+ghost use Rattle.ttcnx_runs.specs.internal.Explored.{IsExplored, IsMadeOf};
 ghost use Rattle.summary.specs.Ascent.{Ascends};
 ghost use Rattle.summary.specs.KeySet.{from_list};
 ghost use Rattle.laws_live.specs.Parts.{CountsParts, IsCompleteByParts};
 
 use crate::search::search;
 use crate::{BranchPlace, Runs, Scheme};
-use explore::{Answer, ExploreError, Gate, Plan};
+use explore::{Answer, Ending, ExploreError, Gate, Plan, Reached, Stops};
 use std::alloc::{AllocError, Global};
 use std::marker::Brand;
 use std::thread::Threads;
@@ -37,6 +38,16 @@ pub struct Exploration {
     pub blocked: Vec<Standing>,
 }
 
+/// How far the runs of a test case were explored, and what was found of them.
+#[derive(Drop)]
+pub struct Extent {
+    /// What is found is of all runs of at most so many steps.
+    pub steps: u64,
+    pub found: Exploration,
+    /// Why it is of no longer runs.
+    pub ending: Ending,
+}
+
 /// Explores all runs of a machine's test case of at most the plan's steps.
 pub fn explore_runs<G: Gate, R: Threads + Sync>(
     rt: &R,
@@ -55,28 +66,79 @@ pub fn explore_runs<G: Gate, R: Threads + Sync>(
     // Where no longer run reaches another configuration, the same is true of the runs of every greater bound.
     ensures every_bound { IfOk result (λ found. IsTrue found.complete → (bound : ℕ) → plan.now.steps ≤ bound → AreFound machine.now.test bound found) }
 {
-    explore_within::<Brand, G, R>(rt, alloc, machine, plan, gate)
+    let extent = explore_runs_until(rt, alloc, machine, plan, &Stops::NOWHERE, gate)?;
+    Ok(extent.found)
 }
 
-/// Explores all runs of a machine's test case of at most the plan's steps, where a type names the machine.
+/// Explores all runs of a machine's test case of at most the plan's steps, or of fewer steps where one of the stops comes
+/// first.
+pub fn explore_runs_until<G: Gate, R: Threads + Sync>(
+    rt: &R,
+    alloc: Global,
+    machine: &Machine<'_>,
+    plan: &Plan,
+    stops: &Stops,
+    gate: &G,
+) -> Result<Extent, ExploreError>
+    ensures bad_plan { IsErrOf result ExploreError.BadPlan ↔ ¬ IsWithinLimits plan.now }
+    ensures planned { OnOk result (IsWithinLimits plan.now) }
+    ensures too_many { IsErrOf result ExploreError.TooMany → (count : ℕ) × CountsParts machine.now.test plan.now.steps count × (plan.now.limit < count) }
+    ensures limited { IsErrOf result ExploreError.TooMany → stops.now.at_limit ≡ false }
+
+    // What is found is of a bound within the plan's, and a stop says why it is less.
+    ensures steps { IfOk result (λ extent. extent.steps ≤ plan.now.steps) }
+    ensures ended { IfOk result (λ extent. HaveEnded machine.now.test plan.now stops.now extent.steps extent.ending) }
+
+    ensures found { IfOk result (λ extent. AreFound machine.now.test extent.steps extent.found) }
+    ensures within { IfOk result (λ extent. extent.found.configurations ≤ plan.now.limit) }
+    ensures complete { IfOk result (λ extent. IsTrue extent.found.complete ↔ IsCompleteByParts machine.now.test extent.steps) }
+
+    // Where no longer run reaches another configuration, the same is true of the runs of every greater bound.
+    ensures every_bound { IfOk result (λ extent. IsTrue extent.found.complete → (bound : ℕ) → extent.steps ≤ bound → AreFound machine.now.test bound extent.found) }
+{
+    explore_within::<Brand, G, R>(rt, alloc, machine, plan, stops, gate)
+}
+
+/// Explores all runs of a machine's test case of at most the plan's steps, or of fewer where a stop comes first. A type names
+/// the machine.
 fn explore_within<K: Scheme + Send + Sync, G: Gate, R: Threads + Sync>(
     rt: &R,
     alloc: Global,
     machine: &Machine<'_>,
     plan: &Plan,
+    stops: &Stops,
     gate: &G,
-) -> Result<Exploration, ExploreError>
+) -> Result<Extent, ExploreError>
     requires { machine.now ≡ K.machine }
-    ensures { IsExplored K.machine.test plan.now result }
+    ensures { IsExplored K.machine.test plan.now stops.now result }
 {
     let runs = Runs::<K>::new(machine);
-    match search::<Runs<'_, '_, K>, G, R>(rt, alloc, &runs, plan, gate) {
-        Ok(answer) => match found_by(alloc, answer) {
-            Ok(found) => Ok(found),
+    match search::<Runs<'_, '_, K>, G, R>(rt, alloc, &runs, plan, stops, gate) {
+        Ok(reached) => match extent_of(alloc, reached) {
+            Ok(extent) => Ok(extent),
             Err(AllocError) => Err(ExploreError::Memory),
         },
         Err(refused) => Err(refused),
     }
+}
+
+/// What an answer of the search tells, and the bound that it is of.
+pub(crate) fn extent_of(alloc: Global, reached: Reached<Shown, Label>) -> Result<Extent, AllocError>
+    ensures steps { IfOk result (λ extent. extent.steps ≡ reached.steps) }
+    ensures ending { IfOk result (λ extent. extent.ending ≡ reached.ending) }
+    ensures made { IfOk result (λ extent. IsMadeOf extent.found reached.answer) }
+{
+    let Reached {
+        steps,
+        answer,
+        ending,
+    } = reached;
+    let found = found_by(alloc, answer)?;
+    Ok(Extent {
+        steps,
+        found,
+        ending,
+    })
 }
 
 /// What an answer of the search tells.

@@ -9,11 +9,13 @@ mod places;
 mod runs;
 mod scheme;
 mod search;
+mod sights;
 mod state;
 
-pub use exploration::{Exploration, explore_runs};
+pub use exploration::{Exploration, Extent, explore_runs, explore_runs_until};
 pub use keys::BranchPlace;
 pub use laws::canonical_forms_are_equal_for_equal_live_parts;
 pub use runs::Runs;
 pub use scheme::Scheme;
+pub use sights::{Sights, sight_runs};
 pub use state::State;

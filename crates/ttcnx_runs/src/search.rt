@@ -1,43 +1,48 @@
 //! All runs of a system, with the branches that they take and the components that are blocked.
-ghost use Rattle.std.specs.Prelude.{◌↔◌, ◌≡◌, ℕ, ◌<◌, ◌≤◌, IfOk, IsErrOf, IsTrue, OnOk};
+ghost use Rattle.std.specs.Prelude.{◌↔◌, ◌≡◌, ℕ, ◌<◌, ◌≤◌, false, IfOk, IsErrOf, IsTrue, OnOk};
 ghost use Rattle.ttcnx_runs.specs.internal.Sums.{blocked_of, branches_of};
 ghost use Rattle.explore.specs.Best.{AreBest};
+ghost use Rattle.explore.specs.Endings.{HasEnded};
 ghost use Rattle.search_layer.specs.Limits.{IsWithinLimits};
 ghost use Rattle.summary.specs.Exploration.{Counts, IsComplete};
 
-use explore::{Answer, ExploreError, Gate, Plan, explore};
+use explore::{ExploreError, Gate, Plan, Reached, Stops, explore_until};
 use std::alloc::Global;
 use std::thread::Threads;
 use summary::{Blocked, Both, Branches, Located, Verdicts};
 
-/// Explores all runs of a system of at most the plan's steps.
+/// Explores all runs of a system of at most the plan's steps, or of fewer where a stop comes first.
 pub(crate) fn search<Y: Located, G: Gate, R: Threads + Sync>(
     rt: &R,
     alloc: Global,
     system: &Y,
     plan: &Plan,
+    stops: &Stops,
     gate: &G,
 ) -> Result<
-    Answer<Both<Verdicts, Both<Branches<Y::Branch>, Blocked<Y::Standing>>>, Y::Label>,
+    Reached<Both<Verdicts, Both<Branches<Y::Branch>, Blocked<Y::Standing>>>, Y::Label>,
     ExploreError,
 >
     ensures bad_plan { IsErrOf result ExploreError.BadPlan ↔ ¬ IsWithinLimits plan.now }
     ensures planned { OnOk result (IsWithinLimits plan.now) }
     ensures too_many { IsErrOf result ExploreError.TooMany
         → (count : ℕ) × Counts (Y.graph system.now) plan.now.steps count × (plan.now.limit < count) }
-    ensures count { IfOk result (λ answer. Counts (Y.graph system.now) plan.now.steps answer.count × (answer.count ≤ plan.now.limit)) }
-    ensures branches { IfOk result (λ answer. answer.summary.second.first.places ≡ branches_of (Y.graph system.now) (Y.branch system.now) plan.now.steps) }
-    ensures blocked { IfOk result (λ answer. answer.summary.second.second.components ≡ blocked_of (Y.graph system.now) (Y.blocked system.now) plan.now.steps) }
-    ensures complete { IfOk result (λ answer. IsTrue answer.complete ↔ IsComplete (Y.graph system.now) plan.now.steps) }
-    ensures best { IfOk result (λ answer. AreBest (Y.graph system.now) Y.Label.cmp plan.now.steps answer.best.items) }
+    ensures limited { IsErrOf result ExploreError.TooMany → stops.now.at_limit ≡ false }
+    ensures steps { IfOk result (λ reached. reached.steps ≤ plan.now.steps) }
+    ensures ended { IfOk result (λ reached. HasEnded (Y.graph system.now) plan.now stops.now reached.steps reached.ending) }
+    ensures count { IfOk result (λ reached. Counts (Y.graph system.now) reached.steps reached.answer.count × (reached.answer.count ≤ plan.now.limit)) }
+    ensures branches { IfOk result (λ reached. reached.answer.summary.second.first.places ≡ branches_of (Y.graph system.now) (Y.branch system.now) reached.steps) }
+    ensures blocked { IfOk result (λ reached. reached.answer.summary.second.second.components ≡ blocked_of (Y.graph system.now) (Y.blocked system.now) reached.steps) }
+    ensures complete { IfOk result (λ reached. IsTrue reached.answer.complete ↔ IsComplete (Y.graph system.now) reached.steps) }
+    ensures best { IfOk result (λ reached. AreBest (Y.graph system.now) Y.Label.cmp reached.steps reached.answer.best.items) }
 
     // Where no longer run ends in another state, the same is true of every greater bound.
-    ensures every_bound { IfOk result (λ answer. IsTrue answer.complete → (bound : ℕ) → plan.now.steps ≤ bound
-        → Counts (Y.graph system.now) bound answer.count
-        × (answer.summary.second.first.places ≡ branches_of (Y.graph system.now) (Y.branch system.now) bound)
-        × (answer.summary.second.second.components ≡ blocked_of (Y.graph system.now) (Y.blocked system.now) bound)) }
+    ensures every_bound { IfOk result (λ reached. IsTrue reached.answer.complete → (bound : ℕ) → reached.steps ≤ bound
+        → Counts (Y.graph system.now) bound reached.answer.count
+        × (reached.answer.summary.second.first.places ≡ branches_of (Y.graph system.now) (Y.branch system.now) bound)
+        × (reached.answer.summary.second.second.components ≡ blocked_of (Y.graph system.now) (Y.blocked system.now) bound)) }
 {
-    explore::<Y, Both<Verdicts, Both<Branches<Y::Branch>, Blocked<Y::Standing>>>, G, R>(
-        rt, alloc, system, plan, gate,
+    explore_until::<Y, Both<Verdicts, Both<Branches<Y::Branch>, Blocked<Y::Standing>>>, G, R>(
+        rt, alloc, system, plan, stops, gate,
     )
 }

@@ -1,5 +1,7 @@
-use Rattle.std.proofs.Common.{ap}
-use Rattle.std.specs.Prelude.{Err}
+use Rattle.std.proofs.Common.{ap, subst, sym}
+use Rattle.std.specs.Prelude.{Err, Ok}
+use Rattle.ttcnx_runs.specs.declared.exploration.Extent.{Extent}
+use Rattle.ttcnx_runs.specs.internal.Explored.{IsExplored}
 use denote.Exit
 use denote.Param.{param}
 use denote.Param.Send.{arg_send, arg_sync, param_send, param_sync, sendable}
@@ -17,19 +19,17 @@ search-requires-sync-Y-State g c κs within = param_sync _ _ (arg_sync _ Exit.no
 pub search-requires-sync-Y : goal.search-requires-sync-Y
 search-requires-sync-Y g c κs within = search (runs-sync, sendable) depth 20
 
-pub returns-in-Ok-found_by : goal.returns-in-Ok-found_by
-returns-in-Ok-found_by g c =
-    found-explored g.K.Scheme.machine.test c.in-Ok-found_by.found c.in-Ok.answer (record {
-      configurations = c.in-Ok-found_by.ensures.configurations;
-      complete = c.in-Ok-found_by.ensures.complete;
-      best = c.in-Ok-found_by.ensures.best;
-      branches = c.in-Ok-found_by.ensures.branches;
-      ascending = c.in-Ok-found_by.ensures.ascending;
-      blocked = c.in-Ok-found_by.ensures.blocked;
-      in_order = c.in-Ok-found_by.ensures.in_order;
-    }) c.args.plan.now c.in-Ok.ensures.planned c.in-Ok.ensures.count c.in-Ok.ensures.branches c.in-Ok.ensures.blocked c.in-Ok.ensures.complete c.in-Ok.ensures.best
-    c.in-Ok.ensures.every_bound
+pub returns-in-Ok-extent_of : goal.returns-in-Ok-extent_of
+returns-in-Ok-extent_of g c =
+    let extent = c.in-Ok-extent_of.extent in
+    let reached = c.in-Ok.reached in
+    let same = c.in-Ok-extent_of.ensures in
+    subst (λ (e : Extent). IsExplored g.K.Scheme.machine.test c.args.plan.now c.args.stops.now (Ok e))
+    (λ i. record { steps = sym same.steps i; found = extent.found; ending = sym same.ending i })
+    (found-explored g.K.Scheme.machine.test extent.found reached.answer same.made c.args.plan.now c.args.stops.now reached.steps reached.ending c.in-Ok.ensures.planned
+    c.in-Ok.ensures.steps c.in-Ok.ensures.ended c.in-Ok.ensures.count c.in-Ok.ensures.branches c.in-Ok.ensures.blocked c.in-Ok.ensures.complete c.in-Ok.ensures.best
+    c.in-Ok.ensures.every_bound)
 
 pub returns-in-Err : goal.returns-in-Err
-returns-in-Err g c = refused-explored g.K.Scheme.machine.test c.args.plan.now c.in-Err.refused
-    (λ is. c.in-Err.ensures.bad_plan.0 (ap Err is)) (λ no. let same = c.in-Err.ensures.bad_plan.1 no in cc) (λ is. c.in-Err.ensures.too_many (ap Err is))
+returns-in-Err g c = refused-explored g.K.Scheme.machine.test c.args.plan.now c.args.stops.now c.in-Err.refused
+    (λ is. c.in-Err.ensures.bad_plan.0 (ap Err is)) (λ no. let same = c.in-Err.ensures.bad_plan.1 no in cc) (λ is. c.in-Err.ensures.too_many (ap Err is)) (λ is. c.in-Err.ensures.limited (ap Err is))

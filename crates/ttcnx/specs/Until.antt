@@ -1,0 +1,31 @@
+-- What is answered where the runs of a test case are explored until a stop, unless an allocation fails.
+use Rattle.std.specs.Prelude.{◌≡◌, ◌<◌, ◌≤◌, ℕ, false, List, Result, Ok, Err}
+use Rattle.explore.specs.declared.ending.Stops.{Stops}
+use Rattle.laws_live.specs.Parts.{CountsParts}
+use Rattle.search_layer.specs.Limits.{IsWithinLimits}
+use Rattle.search_layer.specs.declared.plan.Plan.{Plan}
+use Rattle.semantics.specs.Snapshots.{Test}
+use Rattle.ttcnx.specs.Answer.{IsAnswer}
+use Rattle.ttcnx.specs.Named.{HasNoTest, IsTestOf, Source}
+use Rattle.ttcnx.specs.declared.fault.Fault.{Fault}
+use Rattle.ttcnx.specs.declared.fault.Fault.TheVariants as fault
+use Rattle.ttcnx.specs.declared.until.Until.{Until}
+use Rattle.ttcnx_runs.specs.Endings.{HaveEnded}
+
+-- the plan, but for its steps
+abbrev pub with_steps : Plan → ℕ → Plan
+with_steps plan steps = record plan { steps = steps }
+
+-- what is answered
+pub data IsAnswerUntil (given : Source) (name : List ℕ) (plan : Plan) (stops : Stops) : Result Until Fault → Type 0 where
+  -- the plan is beyond its limits
+  beyond : (IsWithinLimits plan → ⊥) → IsAnswerUntil given name plan stops (Err fault.BadPlan)
+  -- the plan is within its limits, and there is no test case of the name with the script: why
+  lacking : {why : Fault} → IsWithinLimits plan → HasNoTest given name why → IsAnswerUntil given name plan stops (Err why)
+  -- there is one, its runs reach more configurations than the limit, and the exploration is not to end there
+  too_many : {test : Test} {count : ℕ} → IsWithinLimits plan → IsTestOf given name test → stops.at_limit ≡ false → CountsParts test plan.steps count → plan.limit < count
+      → IsAnswerUntil given name plan stops (Err fault.TooMany)
+  -- there is one: the report of a bound within the plan's, which is the answer for this bound, and why it is no greater
+  reached : {until : Until} {test : Test} → IsTestOf given name test → until.report.steps ≤ plan.steps
+      → IsAnswer given name (with_steps plan until.report.steps) (Ok until.report)
+      → HaveEnded test plan stops until.report.steps until.ending → IsAnswerUntil given name plan stops (Ok until)

@@ -1,0 +1,75 @@
+//! From the text of a module to the least run to a place in it.
+ghost use Rattle.std.specs.Prelude.{◌≡◌, ◌≤◌, ◌⊎◌, ℕ, IfOk, IsErrOf};
+ghost use Rattle.std.specs.Option.{option_map};
+ghost use Rattle.semantics.specs.Snapshots.{Test};
+ghost use Rattle.ttcnx.specs.Aims.{IsLeastToAim};
+ghost use Rattle.ttcnx.specs.internal.Reaches.{reach_by};
+ghost use Rattle.ttcnx.specs.Named.{IsTestOf, source};
+ghost use Rattle.ttcnx_runs.specs.Endings.{HaveEnded};
+
+use crate::fault::Fault;
+use crate::testcase::test_of;
+use explore::{Ending, Gate, Plan, Stops};
+use std::alloc::Global;
+use std::thread::Threads;
+use step_labels::Label;
+use ttcn_step::Machine;
+use ttcn_syntax::Span;
+use ttcnx_runs::{Sights, sight_runs};
+
+/// Where a run is to get.
+#[derive(Clone, Copy, Debug, PartialEq, Eq)]
+pub enum Aim {
+    /// To a step that takes the branch at this place, or that begins with the statement there.
+    Step(Span),
+    /// To where some component is blocked at this place.
+    Block(Span),
+}
+
+/// A run to an aim, if there is one.
+#[derive(Debug, Drop)]
+pub struct Reaching {
+    /// Runs of at most so many steps were explored.
+    pub steps: u64,
+    /// Why no longer ones were.
+    pub ending: Ending,
+    /// The labels of the least of the shortest runs to the aim.
+    pub run: Option<Vec<Label>>,
+}
+
+/// Explores the runs of the test case of this name, as `run_until` does, for the least of the shortest runs to an aim.
+pub fn run_to<G: Gate, R: Threads + Sync>(
+    rt: &R,
+    alloc: Global,
+    text: &[u8],
+    script: &[u8],
+    name: &str,
+    plan: &Plan,
+    stops: &Stops,
+    aim: Aim,
+    gate: &G,
+) -> Result<Reaching, Fault>
+    ensures steps { IfOk result (λ reaching. reaching.steps ≤ plan.now.steps) }
+    ensures ended { IfOk result (λ reaching. (test : Test) → IsTestOf (source text.now script.now) name.now test → HaveEnded test plan.now stops.now reaching.steps reaching.ending) }
+
+    // The run is the least one, and there is none exactly where no run of so many steps gets there.
+    ensures least { IfOk result (λ reaching. (test : Test) → IsTestOf (source text.now script.now) name.now test
+        → IsLeastToAim test reaching.steps aim (option_map (λ run. run.items) reaching.run)) }
+{
+    let (program, testcase, script) = test_of(alloc, text, name, script)?;
+    let machine = Machine::with_script(alloc, &program, testcase, &script)?;
+    let sights = sight_runs(rt, alloc, &machine, plan, stops, gate)?;
+    let (steps, ending) = (sights.steps, sights.ending);
+    let run = reach(sights, aim);
+    Ok(Reaching { steps, ending, run })
+}
+
+/// The least of the runs that were found to an aim.
+fn reach(sights: Sights, aim: Aim) -> Option<Vec<Label>>
+    ensures { option_map (λ run. run.items) result ≡ reach_by sights aim }
+{
+    match aim {
+        Aim::Step(place) => sights.to_place(place),
+        Aim::Block(place) => sights.to_block(place),
+    }
+}

@@ -1,0 +1,50 @@
+//! From the text of a module to the report on as many steps as are wanted, or can be had.
+ghost use Rattle.std.specs.Prelude.{◌≡◌, ◌⊎◌, Err};
+ghost use Rattle.ttcnx.specs.Named.{source};
+ghost use Rattle.ttcnx.specs.Until.{IsAnswerUntil};
+
+use crate::fault::Fault;
+use crate::run::report_of;
+use crate::testcase::test_of;
+use explore::{Ending, Gate, Plan, Stops};
+use report::Report;
+use std::alloc::Global;
+use std::thread::Threads;
+use ttcn_step::Machine;
+use ttcnx_runs::{Extent, explore_runs_until};
+
+/// A report, which is of all runs of at most its steps, and why it is of no longer ones.
+#[derive(Debug, Drop)]
+pub struct Until {
+    pub report: Report,
+    pub ending: Ending,
+}
+
+/// Explores the runs of the test case of this name, as `run_script` does, up to the plan's steps or to a stop: the first layer
+/// with which more configurations than the limit are reached, a complete report, a verdict by its number.
+pub fn run_until<G: Gate, R: Threads + Sync>(
+    rt: &R,
+    alloc: Global,
+    text: &[u8],
+    script: &[u8],
+    name: &str,
+    plan: &Plan,
+    stops: &Stops,
+    gate: &G,
+) -> Result<Until, Fault>
+    ensures { (result ≡ Err Fault.Memory) ⊎ IsAnswerUntil (source text.now script.now) name.now plan.now stops.now result }
+{
+    if !plan.is_within_limits() {
+        return Err(Fault::BadPlan);
+    }
+    let (program, testcase, script) = test_of(alloc, text, name, script)?;
+    let machine = Machine::with_script(alloc, &program, testcase, &script)?;
+    let extent = explore_runs_until(rt, alloc, &machine, plan, stops, gate)?;
+    let Extent {
+        steps,
+        found,
+        ending,
+    } = extent;
+    let report = report_of(alloc, name, steps, found)?;
+    Ok(Until { report, ending })
+}
