@@ -15,6 +15,9 @@ const PLAN: Plan = Plan {
     piece: 1,
 };
 
+/// Nothing comes in at system ports.
+const SCRIPT: &str = "{}";
+
 /// How far the race is explored, whether the report on it is complete, and why it is of no longer runs.
 fn reported<R: Threads + Sync>(
     rt: &R,
@@ -22,7 +25,16 @@ fn reported<R: Threads + Sync>(
     plan: &Plan,
     stops: &Stops,
 ) -> Result<(u64, bool, Ending), Fail> {
-    let until = run_until(rt, alloc, RACE.as_bytes(), &[], "T", plan, stops, &NoGate)?;
+    let until = run_until(
+        rt,
+        alloc,
+        RACE.as_bytes(),
+        SCRIPT.as_bytes(),
+        "T",
+        plan,
+        stops,
+        &NoGate,
+    )?;
     Ok((until.report.steps, until.report.complete, until.ending))
 }
 
@@ -73,7 +85,7 @@ fn leads<R: Threads + Sync>(
         rt,
         alloc,
         text.as_bytes(),
-        &[],
+        SCRIPT.as_bytes(),
         "T",
         &PLAN,
         &stops,
