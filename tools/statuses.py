@@ -4,8 +4,10 @@ Usage: statuses.py PROGRAM. The last line tells how many were answered otherwise
 
 The texts of help, and one of each kind of refusal of a command line, stand in the folder statuses/, byte for byte. They are
 mostly words of `clap`, so they are what the program wrote once, read and found right: a change of them is to be read again.
+statuses/causes.ttcn has runs beside what their explanations must say.
 """
 import os
+import re
 import subprocess
 import sys
 import tempfile
@@ -57,13 +59,30 @@ def explained(name, script=None):
         return words, 0, file.read()
 
 
+def labels_of(words):
+    """Returns the labels of a run that is written in short, as `mtc*3 mtc.1`, a line each."""
+    parts = (word.partition("*") for word in words.split())
+    return "".join(f"{label}\n" * int(count or 1) for label, _, count in parts).encode()
+
+
+def cause_rows(folder):
+    """Returns the command lines that explain the runs of statuses/causes.ttcn, each with its status, and the lines of its text."""
+    module = f"{TOOLS}/statuses/causes.ttcn"
+    with open(module, encoding="utf-8") as file:
+        cases = re.findall(r"// run: ?(.*)\n((?: *// says: .*\n)+) *testcase (\w+)", file.read())
+    for run, says, name in cases:
+        run = file_in(folder, f"{name}.run", labels_of(run))
+        yield ["explain", module, "--testcase", name, "--run", run], 0, re.findall(r"// says: (.*)", says)
+
+
 def explained_rows(folder):
-    """Returns command lines that explain runs, each with its status, and what its text is or begins with."""
+    """Returns command lines that explain runs, each with its status, and what its text is or begins with, or how lines of it end."""
     test = ["--testcase", "T", "--run", f"{EXAMPLES}/x2.fail.run"]
     wrong = file_in(folder, "wrong.run", b"mtc\nmtc.1\n")
     return [
         *(explained(name) for name in EXPLAINED if not name.startswith("unit")),
         explained("unit.fail", "unit.json"),
+        *cause_rows(folder),
         (["explain", X2, *test, "--format", "json"], 0, stored("explained_json")),
         (["explain", X2, *test, "--format=mermaid"], 0, stored("explained_mermaid")),
         (["explain", X2, *test, "--format", "svg"], 0, stored("explained_svg")),
@@ -209,7 +228,7 @@ def refused_script_rows(folder):
 
 
 def rows(folder):
-    """Returns for each command line its words, the status, and what its text is, as bytes, or what it begins with."""
+    """Returns for each command line its words, the status, and what its text is, as bytes, what it begins with, or a list of how lines of it end."""
     missing = f"{folder}/missing"
     module = file_in(folder, "module", b"module M {")
     run = file_in(folder, "run", b"mtc\n\nmtc.01\n")
@@ -246,7 +265,10 @@ def rows(folder):
 def is_as_wanted(ran, status, wanted):
     """Tells whether a run has this status and this text, on the standard output where the status is 0 and else on the standard error, and the other one is empty."""
     told, silent = (ran.stdout, ran.stderr) if status == 0 else (ran.stderr, ran.stdout)
-    as_wanted = told == wanted if isinstance(wanted, bytes) else told.startswith(wanted.encode())
+    if isinstance(wanted, list):
+        as_wanted = all(any(line.endswith(end) for line in told.decode().splitlines()) for end in wanted)
+    else:
+        as_wanted = told == wanted if isinstance(wanted, bytes) else told.startswith(wanted.encode())
     return ran.returncode == status and as_wanted and not silent
 
 

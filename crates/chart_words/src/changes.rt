@@ -1,5 +1,5 @@
 //! What changes of a component's own data in a step (ES 201 873-1, 16, 19, 20.5 and 23).
-use crate::names::Names;
+use chart_causes::Names;
 use config_parts::{ActiveDefault, Cells, Component, Data, Frame};
 use std::alloc::{AllocError, Global};
 use std::fmt::Write;

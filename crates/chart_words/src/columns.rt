@@ -1,5 +1,5 @@
 //! The components of a run, as columns of a chart.
-use crate::names::{Names, write_path};
+use chart_causes::{Names, write_path};
 use chart_formats::Column;
 use chart_steps::Story;
 use config_parts::{Cells, Component, Config, Going};

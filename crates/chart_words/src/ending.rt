@@ -1,11 +1,35 @@
 //! Where a run ends, in words.
-use crate::names::write_path;
 use crate::step::Speaker;
+use chart_causes::write_path;
 use config_parts::{Component, Config, Going, Queue};
 use report::word_of;
 use std::alloc::{AllocError, Global};
 use std::fmt::Write;
 use step_labels::Standing;
+
+/// No more messages of a queue are shown.
+const MOST: usize = 10;
+
+/// Writes the last three digits of a number, behind a comma.
+fn write_last_three(out: &mut String, number: usize) -> Result<(), AllocError> {
+    let (hundreds, tens, ones) = (number / 100 % 10, number / 10 % 10, number % 10);
+    write!(out, ",{hundreds}{tens}{ones}")
+}
+
+/// Writes a number with a comma before each three digits at its end: `9,990`.
+fn write_count(out: &mut String, count: usize) -> Result<(), AllocError> {
+    let (thousands, millions) = (count / 1000, count / 1_000_000);
+    if millions > 0 {
+        write!(out, "{millions}")?;
+        write_last_three(out, thousands)?;
+        write_last_three(out, count)
+    } else if thousands > 0 {
+        write!(out, "{thousands}")?;
+        write_last_three(out, count)
+    } else {
+        write!(out, "{count}")
+    }
+}
 
 impl<'a> Speaker<'a> {
     /// A component, and the statement at which it stands.
@@ -16,21 +40,28 @@ impl<'a> Speaker<'a> {
         write!(
             text,
             " stands at line {line}: {}",
-            self.source.phrase(place)
+            self.source.phrase(alloc, place)?
         )?;
         Ok(text)
     }
 
-    /// The messages that wait at a port.
+    /// The messages that wait at a port: the first of them, and how many there are more.
     fn queue_line(self, alloc: Global, queue: &Queue) -> Result<String, AllocError> {
         let mut text = String::from_str(alloc, "    ")?;
         self.names.write_slot(&mut text, queue.port)?;
         text.push_str(" holds ")?;
-        let mut between = "";
-        for message in queue.messages.as_slice() {
-            text.push_str(between)?;
-            between = ", ";
+        let messages = queue.messages.as_slice();
+        for (at, message) in messages.iter().take(MOST).enumerate() {
+            if at > 0 {
+                text.push_str(", ")?;
+            }
             self.names.write_value(&mut text, &message.value)?;
+        }
+        let more = queue.messages.len().saturating_sub(MOST);
+        if more > 0 {
+            text.push_str(" .. (")?;
+            write_count(&mut text, more)?;
+            text.push_str(" more)")?;
         }
         Ok(text)
     }
@@ -65,7 +96,7 @@ impl<'a> Speaker<'a> {
         else {
             return Ok(());
         };
-        self.push_waiting(alloc, component, standing.place, lines)?;
+        self.push_waiting(alloc, going, component, standing.place, lines)?;
         self.push_queues(alloc, component, lines)
     }
 

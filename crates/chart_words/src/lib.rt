@@ -1,16 +1,19 @@
 //! What happens in a run, in words (ES 201 873-4).
 #![tactic(auto)]
 
+mod cause;
 mod changes;
 mod chart;
 mod columns;
 mod ending;
-mod names;
+mod parting;
 mod rows;
-mod search;
 mod source;
 mod step;
-mod value;
+mod untaken;
 mod waiting;
 
 pub use chart::{Run, chart_of};
+pub use chart_causes::Names;
+pub use parting::{Course, order_of};
+pub use untaken::{UntakenBranch, untaken_branches};

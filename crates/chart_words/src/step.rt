@@ -1,10 +1,12 @@
 //! What happens in a step, in words (ES 201 873-1, 19 to 24).
+use crate::cause::Failure;
 use crate::changes::{Changes, changes_of};
 use crate::columns::{column_of, component_in};
-use crate::names::{Names, write_name, write_path};
 use crate::source::Source;
+use chart_causes::{Names, write_name, write_path};
 use chart_formats::Arrow;
 use chart_steps::{Told, verdict_at};
+use check_rules::Definitions;
 use config_parts::{Component, Config, End, Request, Way};
 use report::word_of;
 use std::alloc::{AllocError, Global};
@@ -12,12 +14,15 @@ use std::fmt::Write;
 use step_labels::Label;
 use ttcn_step::Sent;
 use ttcn_syntax::{Name, Span, Verdict};
-use value_types::{Path, Slot};
+use value_types::{ComponentId, Path, Slot};
 
-/// What gives words: names, the module's text, and the components of the run in the order of the columns.
+/// What gives words: names, the module's definitions and its text, the main component, and the components of the run in the
+/// order of the columns.
 #[derive(Clone, Copy)]
 pub(crate) struct Speaker<'a> {
     pub(crate) names: Names<'a>,
+    pub(crate) defined: &'a Definitions<'a>,
+    pub(crate) mtc: &'a ComponentId,
     pub(crate) source: &'a Source<'a>,
     pub(crate) components: &'a [Component],
 }
@@ -195,7 +200,7 @@ impl<'a> Speaker<'a> {
             }
         }
         if let Some(place) = step.told.place {
-            let reason = self.source.reason(place);
+            let reason = self.source.reason(alloc, place)?;
             if !reason.is_empty() {
                 write!(text, " {reason}")?;
             }
@@ -290,7 +295,8 @@ impl<'a> Speaker<'a> {
                 let mut text = String::from_str(alloc, "starts ")?;
                 write_path(&mut text, started)?;
                 if let Some(place) = step.told.place {
-                    write!(text, ": {}", self.source.phrase(place))?;
+                    text.push_str(": ")?;
+                    text.push_str(self.source.phrase(alloc, place)?.as_str())?;
                 }
                 Some(text)
             }
@@ -320,23 +326,17 @@ impl<'a> Speaker<'a> {
         Ok(text)
     }
 
-    /// A dynamic error.
-    fn failing(self, alloc: Global, step: Step<'_>) -> Result<String, AllocError> {
+    /// A dynamic error: `DYNAMIC ERROR: division by zero: 1 / 0, in: x := 1 / n`.
+    fn failing(self, alloc: Global, step: Step<'_>, path: &Path) -> Result<String, AllocError> {
         let mut text = String::from_str(alloc, "DYNAMIC ERROR")?;
-        if let Some(place) = step.told.place {
-            write!(text, " in: {}", self.source.phrase(place))?;
+        let Failure { place, words } = self.failure(alloc, step, path)?;
+        if !words.is_empty() {
+            write!(text, ": {words}")?;
         }
-        text.push_str(match &step.told.request {
-            Some(Request::Sends(_, _, _)) => " (the port leads to no port, or to more than one)",
-            Some(Request::Starts(_, _)) => " (the component was started before)",
-            Some(Request::Connects(_, _)) => {
-                " (a component has ended, a port is mapped, or connected to another port there)"
-            }
-            Some(Request::Maps(_, _)) => {
-                " (the component has ended, the port is connected, or one of the two is mapped otherwise)"
-            }
-            _ => "",
-        })?;
+        if let Some(place) = place {
+            text.push_str(if words.is_empty() { " in: " } else { ", in: " })?;
+            text.push_str(self.source.phrase(alloc, place)?.as_str())?;
+        }
         Ok(text)
     }
 
@@ -344,7 +344,7 @@ impl<'a> Speaker<'a> {
     fn statement(self, alloc: Global, step: Step<'_>, path: &Path) -> Result<Words, AllocError> {
         if step.fails() {
             return Ok(Words {
-                text: self.failing(alloc, step)?,
+                text: self.failing(alloc, step, path)?,
                 computes: false,
             });
         }
@@ -366,7 +366,7 @@ impl<'a> Speaker<'a> {
             Some(text) => words.push(text)?,
             None => {
                 if let Some(place) = self.phrase_place(step, changed.is_empty()) {
-                    words.push(String::from_str(alloc, self.source.phrase(place))?)?;
+                    words.push(self.source.phrase(alloc, place)?)?;
                 }
             }
         }

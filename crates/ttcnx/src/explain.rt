@@ -12,7 +12,7 @@ use crate::testcase::test_of;
 use chart_formats::{Chart, to_json, to_mermaid, to_svg, to_text};
 use chart_steps::{Story, tell};
 use chart_words::{Run, chart_of};
-use check_rules::Program;
+use check_rules::{Definitions, Program};
 use report::read_run;
 use std::alloc::{AllocError, Global};
 use step_labels::Label;
@@ -64,6 +64,23 @@ pub(crate) fn chart(
 ) -> Result<Chart, AllocError>
     requires { Fits machine.now (last_of story.now.start story.now.steps.items) }
 {
+    let defined = program.definitions(alloc)?;
+    chart_by(alloc, machine, program, &defined, text, name, labels, story)
+}
+
+/// The chart of a run, by what the program defines.
+fn chart_by(
+    alloc: Global,
+    machine: &Machine<'_>,
+    program: &Program,
+    defined: &Definitions<'_>,
+    text: &[u8],
+    name: &str,
+    labels: &[Label],
+    story: &Story,
+) -> Result<Chart, AllocError>
+    requires { Fits machine.now (last_of story.now.start story.now.steps.items) }
+{
     let end = story.end();
     let standings = machine.standings(alloc, end)?;
     let stuck = machine.is_stuck(alloc, end)?;
@@ -72,6 +89,7 @@ pub(crate) fn chart(
         Run {
             text,
             definitions: program.module().definitions.as_slice(),
+            defined,
             slots: machine.names(),
             testcase: name,
             labels,

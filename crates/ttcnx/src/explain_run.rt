@@ -9,9 +9,12 @@ use crate::run::run_script;
 use crate::stream::told_as;
 use crate::testcase::test_of;
 use chart_formats::{Chart, Row};
-use chart_steps::tell;
+use chart_steps::{Story, tell};
+use chart_words::{Course, Names, UntakenBranch, order_of, untaken_branches};
+use check_rules::Program;
 use explore::{Gate, Plan};
-use report::{LabelText, Outcome, Report, word_of};
+use report::{LabelText, Outcome, PlaceText, Report, word_of};
+use serde_json::{Value, json};
 use std::alloc::{AllocError, Global};
 use std::fmt::Write;
 use std::thread::Threads;
@@ -20,16 +23,27 @@ use ttcn_step::{Machine, ReplayError};
 use ttcn_syntax::Verdict;
 use ttcnx_command_line::Format;
 
-/// A run to a verdict, and its chart.
+/// A run to a verdict: what its steps do, and its chart.
 #[derive(Drop)]
 struct Explained<'a> {
     verdict: Verdict,
     run: &'a [Label],
+    story: Story,
     chart: Chart,
 }
 
+/// What is told behind a report.
+#[derive(Drop)]
+struct Explanation<'a, 'n> {
+    report: &'a Report,
+    names: Names<'n>,
+    runs: Vec<Explained<'a>>,
+    /// The branches that no run takes.
+    untaken: Vec<UntakenBranch>,
+}
+
 /// What the command `run --explain` prints: the report that `run_script` gives, as text or as JSON, and behind it the chart of
-/// each of its runs. Behind charts as text it says of each two of them at which step they part.
+/// each of its runs and the branches that no run takes. As text it says of each two runs at which step they part.
 pub fn run_explained<G: Gate, R: Threads + Sync>(
     rt: &R,
     alloc: Global,
@@ -50,7 +64,7 @@ pub fn run_explained<G: Gate, R: Threads + Sync>(
     Ok(bytes)
 }
 
-/// The runs of a report, explained.
+/// What is told behind a report, as text or as JSON.
 fn explanations(
     alloc: Global,
     text: &[u8],
@@ -65,49 +79,138 @@ fn explanations(
         Err(_) => return Ok(String::new(alloc)),
     };
     let machine = Machine::with_script(alloc, &program, testcase, &script)?;
-    let mut explained = Vec::new(alloc);
+    let definitions = program.module().definitions.as_slice();
+    let mut runs = Vec::new(alloc);
     for outcome in &report.outcomes {
-        let Outcome { verdict, run } = outcome;
-        let run = run.as_slice();
-        match tell(alloc, &machine, run) {
-            Ok(story) => explained.push(Explained {
-                verdict: *verdict,
-                run,
-                chart: chart(alloc, &machine, &program, text, name, run, &story)?,
-            })?,
-            Err(ReplayError::NotEnabled(_)) => {}
-            Err(ReplayError::Memory) => return Err(AllocError),
+        if let Some(run) = explained_run(alloc, &machine, &program, text, name, outcome)? {
+            runs.push(run)?;
         }
     }
+    let explanation = Explanation {
+        report,
+        names: Names {
+            definitions,
+            slots: machine.names(),
+        },
+        runs,
+        untaken: untaken_branches(alloc, text, definitions, name, report.branches.as_slice())?,
+    };
     if json {
-        in_lines(alloc, explained.as_slice())
+        in_lines(alloc, &explanation)
     } else {
-        in_words(alloc, explained.as_slice())
+        in_words(alloc, &explanation)
     }
 }
 
-/// Charts as JSON, a line each.
-fn in_lines(alloc: Global, explained: &[Explained<'_>]) -> Result<String, AllocError> {
-    let mut out = String::new(alloc);
-    for one in explained {
-        out.push_str(drawn(alloc, &one.chart, Format::Json)?.as_str())?;
+/// The run to a verdict, explained.
+fn explained_run<'a>(
+    alloc: Global,
+    machine: &Machine<'_>,
+    program: &Program,
+    text: &[u8],
+    name: &str,
+    outcome: &'a Outcome,
+) -> Result<Option<Explained<'a>>, AllocError> {
+    let (verdict, run) = (outcome.verdict, outcome.run.as_slice());
+    match tell(alloc, machine, run) {
+        Ok(story) => {
+            let chart = chart(alloc, machine, program, text, name, run, &story)?;
+            Ok(Some(Explained {
+                verdict,
+                run,
+                story,
+                chart,
+            }))
+        }
+        Err(ReplayError::NotEnabled(_)) => Ok(None),
+        Err(ReplayError::Memory) => Err(AllocError),
     }
+}
+
+// ---- as JSON
+
+/// Charts as JSON, a line each, and a line for the branches that no run takes.
+fn in_lines(alloc: Global, explanation: &Explanation<'_, '_>) -> Result<String, AllocError> {
+    let mut out = String::new(alloc);
+    for run in &explanation.runs {
+        out.push_str(drawn(alloc, &run.chart, Format::Json)?.as_str())?;
+    }
+    out.push_str(
+        untaken_value(alloc, explanation.untaken.as_slice())?
+            .to_string(alloc)?
+            .as_str(),
+    )?;
+    out.push('\n')?;
     Ok(out)
 }
 
-/// Charts as text, and where they part.
-fn in_words(alloc: Global, explained: &[Explained<'_>]) -> Result<String, AllocError> {
-    let mut out = String::new(alloc);
-    for one in explained {
-        write!(out, "\nHow it ends with {}:\n\n", word_of(one.verdict))?;
-        out.push_str(drawn(alloc, &one.chart, Format::Text)?.as_str())?;
+/// The branches that no run takes.
+fn untaken_value(alloc: Global, branches: &[UntakenBranch]) -> Result<Value, AllocError> {
+    let mut values = Vec::new(alloc);
+    for branch in branches {
+        let place = PlaceText(branch.place).to_string(alloc)?;
+        let (behaviour, text) = (&branch.behaviour, &branch.text);
+        values.push(json!(in alloc; {"behaviour": behaviour, "place": place, "text": text})?)?;
     }
-    for one in 0..explained.len() {
-        for other in one + 1..explained.len() {
-            write_parting(&mut out, &explained[one], &explained[other])?;
+    let values = Value::Array(values);
+    json!(in alloc; {"untaken": values})
+}
+
+// ---- as text
+
+/// What is told behind a report as text, a section behind the other.
+fn in_words(alloc: Global, explanation: &Explanation<'_, '_>) -> Result<String, AllocError> {
+    let mut out = String::new(alloc);
+    write_runs(alloc, &mut out, explanation)?;
+    write_partings(alloc, &mut out, explanation)?;
+    write_untaken(&mut out, explanation)?;
+    Ok(out)
+}
+
+/// Writes the chart of each run.
+fn write_runs(
+    alloc: Global,
+    out: &mut String,
+    explanation: &Explanation<'_, '_>,
+) -> Result<(), AllocError> {
+    for run in &explanation.runs {
+        write!(out, "\nHow it ends with {}:\n\n", word_of(run.verdict))?;
+        out.push_str(drawn(alloc, &run.chart, Format::Text)?.as_str())?;
+    }
+    Ok(())
+}
+
+/// Writes of each two runs where they part.
+fn write_partings(
+    alloc: Global,
+    out: &mut String,
+    explanation: &Explanation<'_, '_>,
+) -> Result<(), AllocError> {
+    let runs = explanation.runs.as_slice();
+    for one in 0..runs.len() {
+        for other in one + 1..runs.len() {
+            write_parting(alloc, out, explanation.names, &runs[one], &runs[other])?;
         }
     }
-    Ok(out)
+    Ok(())
+}
+
+/// Writes the branches that no run takes.
+fn write_untaken(out: &mut String, explanation: &Explanation<'_, '_>) -> Result<(), AllocError> {
+    if explanation.untaken.is_empty() {
+        return Ok(());
+    }
+    if explanation.report.complete {
+        out.push_str("\nbranches that no run takes:\n")?;
+    } else {
+        let steps = explanation.report.steps;
+        writeln!(out, "\nbranches that no run within {steps} steps takes:")?;
+    }
+    for branch in &explanation.untaken {
+        let (place, behaviour) = (PlaceText(branch.place), &branch.behaviour);
+        writeln!(out, "  {place} in {behaviour}: {}", branch.text)?;
+    }
+    Ok(())
 }
 
 /// The number of labels with which both runs begin.
@@ -130,6 +233,15 @@ fn row_of(chart: &Chart, number: usize) -> Option<&Row> {
         .find(|row| row.first <= number && number <= row.last)
 }
 
+/// A run as what comes to components is told of it.
+fn course<'a>(run: &'a Explained<'_>) -> Course<'a> {
+    Course {
+        name: word_of(run.verdict),
+        labels: run.run,
+        story: &run.story,
+    }
+}
+
 /// Writes what a run does in a step.
 fn write_step(out: &mut String, one: &Explained<'_>, place: usize) -> Result<(), AllocError> {
     let number = place.saturating_add(1);
@@ -140,9 +252,11 @@ fn write_step(out: &mut String, one: &Explained<'_>, place: usize) -> Result<(),
     Ok(())
 }
 
-/// Writes where two runs part, and what each does there.
+/// Writes where two runs part, what each does there, and what first comes otherwise to a component behind it.
 fn write_parting(
+    alloc: Global,
     out: &mut String,
+    names: Names<'_>,
     one: &Explained<'_>,
     other: &Explained<'_>,
 ) -> Result<(), AllocError> {
@@ -151,5 +265,9 @@ fn write_parting(
     let number = place.saturating_add(1);
     writeln!(out, "\n{first} and {second} part at step {number}:")?;
     write_step(out, one, place)?;
-    write_step(out, other, place)
+    write_step(out, other, place)?;
+    match order_of(alloc, names, course(one), course(other), place)? {
+        Some(order) => writeln!(out, "  {order}"),
+        None => Ok(()),
+    }
 }

@@ -65,7 +65,7 @@ fn in_branches(branches: &[Branch], place: Span) -> Option<&Statement> {
 }
 
 /// The statement at a place among definitions.
-pub(crate) fn statement_at(definitions: &[Definition], place: Span) -> Option<&Statement> {
+pub fn statement_at(definitions: &[Definition], place: Span) -> Option<&Statement> {
     for definition in definitions {
         let found = match &definition.kind {
             DefinitionKind::Function(function) => in_block(function.body.as_slice(), place),
