@@ -88,6 +88,8 @@ def help_rows():
         (["coarsen", "--help"], 0, stored("help_coarsen")),
         (["double", "--help"], 0, stored("help_double")),
         (["explain", "--help"], 0, stored("help_explain")),
+        (["lint", "--help"], 0, stored("help_lint")),
+        (["list", "--help"], 0, stored("help_list")),
         (["--version"], 0, b"ttcnx 0.1\n"),
         (["-V"], 0, b"ttcnx 0.1\n"),
     ]
@@ -106,6 +108,8 @@ def refused_rows():
         (["check", "f", "g"], 2, stored("word_too_many")),
         ([*run, "--steps", "1", "--other"], 2, stored("unknown_option")),
         ([*run, "--step", "1"], 2, stored("similar_option")),
+        (run, 2, stored("no_bound")),
+        ([*run, "--steps", "1", "--until-complete"], 2, stored("two_bounds")),
         ([*run, "--steps"], 2, stored("missing_value")),
         ([*run, "--steps", "x"], 2, stored("no_number")),
         ([*run, "--steps", ""], 2, stored("empty_number")),

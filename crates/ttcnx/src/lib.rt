@@ -21,5 +21,5 @@ pub use replay::replay_text;
 pub use report::{Outcome, Report, Standing, to_json, to_text};
 pub use run::{run_script, run_text};
 pub use stream::{StreamFault, run_stream};
-pub use ttcnx_command_line::{Format, Line, LineError, read_line};
+pub use ttcnx_command_line::{Format, Line, LineError, LintFormat, Wishes, read_line};
 pub use ttcnx_streams::Counted;

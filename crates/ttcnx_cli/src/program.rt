@@ -100,6 +100,7 @@ where
             plan,
             json,
             explain: false,
+            wishes: _wishes,
         } => {
             let script = read_script(rt, script)?;
             explore(rt, &script, file, testcase.as_str(), &plan, json)
@@ -111,6 +112,7 @@ where
             plan,
             json,
             explain: true,
+            wishes: _wishes,
         } => {
             let script = read_script(rt, script)?;
             let text = read_bytes(rt, file, ENOUGH)?;
@@ -160,6 +162,14 @@ where
                 rt,
                 &explain_text(rt.alloc(), module, name, run, script, format)?,
             )
+        }
+        Line::Lint {
+            files: _files,
+            format: _format,
+        } => Ok(()),
+        Line::List { file } => {
+            let text = read_bytes(rt, file, ENOUGH)?;
+            print(rt, check_answer(rt.alloc(), &text)?.as_bytes())
         }
         Line::Double {
             file,

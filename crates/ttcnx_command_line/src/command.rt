@@ -1,17 +1,20 @@
 //! The command that words give.
-ghost use Rattle.std.specs.Prelude.{◌≡◌, ◌≤◌, ℕ, [], true, Some, IfErr, IfOk, IsSomeAnd, codes};
-ghost use Rattle.std.specs.Prelude.{option_map, string_bytes};
-ghost use Rattle.clap.specs.Words.{Row, fault_of, found_of, kind_of, rows_of, subcommand_of};
+ghost use Rattle.std.specs.Prelude.{◌≡◌, ◌≤◌, ℕ, [], true, Some, IfErr, IfOk, IsSomeAnd, MatchOption, codes};
+ghost use Rattle.std.specs.Prelude.{map, option_map, string_bytes};
+ghost use Rattle.clap.specs.Words.{Row, found_of, kind_of, rows_of, subcommand_of};
 ghost use Rattle.clap.specs.Words.{subcommand_rows_of, takes};
 ghost use Rattle.clap.specs.Walk.{texts};
 ghost use Rattle.search_layer.specs.Limits.{IsWithinLimits};
 ghost use Rattle.ttcnx_command_line.specs.App.{ttcnx_app};
-ghost use Rattle.ttcnx_command_line.specs.Command.{HasNumbers, HasRunFile, HasValues, IsExplained, IsFlag};
-ghost use Rattle.ttcnx_command_line.specs.Command.{IsFormat, IsMemory, IsNumber, IsText, IsTextIfGiven};
-ghost use Rattle.ttcnx_command_line.specs.Command.{StaysWithinLimits, subcommand_for};
-ghost use Rattle.ttcnx_command_line.specs.internal.Answer.{IsAnswer};
-ghost use Rattle.ttcnx_command_line.specs.internal.Given.{GivesCommand, GivesFlag, GivesFormat, GivesNumber};
-ghost use Rattle.ttcnx_command_line.specs.internal.Given.{GivesPlan, GivesRun, GivesRunFile, GivesText};
+ghost use Rattle.ttcnx_command_line.specs.Command.{AreSteps, AreTexts, HasNumbers, HasRunFile, HasValues, HasWishes};
+ghost use Rattle.ttcnx_command_line.specs.Command.{IsExplained, IsFlag, IsFormat, IsLintFormat, IsMemory, IsNumber};
+ghost use Rattle.ttcnx_command_line.specs.Command.{IsNumberIfGiven, IsText, IsTextIfGiven, IsVerdictIfGiven};
+ghost use Rattle.ttcnx_command_line.specs.Command.{StaysWithinLimits, faults_of, most_steps, run_fault, subcommand_for, verdict_word};
+ghost use Rattle.ttcnx_command_line.specs.internal.Answer.{HasRefusal, IsAnswer, IsBoundError};
+ghost use Rattle.ttcnx_command_line.specs.internal.Given.{GivesCommand, GivesFlag, GivesFormat, GivesLintFormat};
+ghost use Rattle.ttcnx_command_line.specs.internal.Given.{GivesNumber, GivesPlan, GivesRun, GivesRunFile, GivesText};
+ghost use Rattle.ttcnx_command_line.specs.internal.Given.{GivesTexts, GivesWishes, HasOneBound, MayGiveNumber};
+ghost use Rattle.ttcnx_command_line.specs.internal.Given.{GivesRunCommand, MayGiveVerdict, bound_of};
 
 use crate::definition::command;
 use clap::error::ErrorKind;
@@ -19,6 +22,27 @@ use clap::{ArgMatches, Error as ClapError};
 use explore::Plan;
 use std::alloc::{AllocError, Global};
 use thiserror::Error;
+use ttcn_syntax::Verdict;
+
+/// How many steps a run has that goes on until its report is complete.
+const MOST_STEPS: u64 = 100_000;
+
+/// What is answered where a `run` has no bound.
+const NO_BOUND: &str = "error: the following required arguments were not provided:
+  <--steps <N>|--until-complete>
+
+Usage: ttcnx run [OPTIONS] --testcase <NAME> <--steps <N>|--until-complete> <FILE>
+
+For more information, try '--help'.
+";
+
+/// What is answered where a `run` has two bounds.
+const TWO_BOUNDS: &str = "error: the argument '--steps <N>' cannot be used with '--until-complete'
+
+Usage: ttcnx run [OPTIONS] --testcase <NAME> <--steps <N>|--until-complete> <FILE>
+
+For more information, try '--help'.
+";
 
 /// How a chart is drawn.
 #[derive(Clone, Copy, Debug, PartialEq, Eq)]
@@ -27,6 +51,36 @@ pub enum Format {
     Json,
     Mermaid,
     Svg,
+}
+
+/// How findings are shown.
+#[derive(Clone, Copy, Debug, PartialEq, Eq)]
+pub enum LintFormat {
+    Text,
+    Json,
+}
+
+/// What else is asked of the runs that are explored.
+#[derive(Debug, Drop)]
+pub struct Wishes {
+    /// As many steps as the answer needs to be complete, in place of a number.
+    pub until_complete: bool,
+    /// The greatest number of expiries of a run, where there is one.
+    pub expiries: Option<u32>,
+    /// A timer expires only where no statement has a step.
+    pub patient: bool,
+    /// Above the limit, the report is on the most steps that stay within it.
+    pub partial: bool,
+    /// The verdict at which the exploration stops.
+    pub first: Option<Verdict>,
+    /// No progress is shown.
+    pub quiet: bool,
+    /// The place of a branch, to which a run is wanted.
+    pub run_to: Option<String>,
+    /// The place of a blocked statement, to which a run is wanted.
+    pub run_to_block: Option<String>,
+    /// The verdict to which a run with the fewest expiries is wanted.
+    pub few_expiries: Option<Verdict>,
 }
 
 /// What the program is asked to do.
@@ -47,6 +101,8 @@ pub enum Line {
         json: bool,
         /// Whether the runs of the report are explained.
         explain: bool,
+        /// What else is asked of the runs.
+        wishes: Wishes,
     },
     /// To follow a run of a test case.
     Replay {
@@ -85,6 +141,15 @@ pub enum Line {
         run: String,
         format: Format,
     },
+    /// To tell what is wrong with modules, and what looks wrong.
+    Lint {
+        files: Vec<String>,
+        format: LintFormat,
+    },
+    /// To list the test cases of a module.
+    List {
+        file: String,
+    },
 }
 
 /// Why the words tell no command.
@@ -118,13 +183,64 @@ pub fn read_line<'a>(alloc: Global, words: &'a [&'a str]) -> Result<Line, LineEr
         ≡ Some (subcommand_for line)) }
     ensures values { IfOk result (λ line.
         IsSomeAnd (subcommand_of ttcnx_app (texts words.now)) (λ p. HasValues p.1 line)) }
-    ensures accepted { IfOk result (λ line. fault_of ttcnx_app (texts words.now) ≡ []) }
-    ensures refused { IfErr result (IsExplained (fault_of ttcnx_app (texts words.now))) }
-    ensures taken { takes ttcnx_app (texts words.now) ≡ true → IfErr result IsMemory }
+    ensures accepted { IfOk result (λ line. faults_of (texts words.now) ≡ []) }
+    ensures refused { IfErr result (IsExplained (faults_of (texts words.now))) }
+    ensures taken { takes ttcnx_app (texts words.now) ≡ true
+        → run_fault (subcommand_of ttcnx_app (texts words.now)) ≡ [] → IfErr result IsMemory }
 {
     match command(alloc)?.try_get_matches_from(words) {
-        Ok(matches) => Ok(line_of(alloc, &matches)?),
+        Ok(matches) => bounded_line_of(alloc, &matches),
         Err(error) => Err(refusal(alloc, &error)?),
+    }
+}
+
+/// The command that was given, unless it is a `run` that doesn't have one bound.
+fn bounded_line_of(alloc: Global, matches: &ArgMatches<'_>) -> Result<Line, LineError>
+    requires { GivesCommand (subcommand_rows_of matches.now) }
+    ensures limits { IfOk result StaysWithinLimits }
+    ensures subcommand { IfOk result (λ line.
+        option_map (λ p. p.0) (subcommand_rows_of matches.now) ≡ Some (subcommand_for line)) }
+    ensures values { IfOk result (λ line.
+        IsSomeAnd (subcommand_rows_of matches.now) (λ p. HasValues p.1 line)) }
+    ensures bounded { IfOk result (λ line. run_fault (subcommand_rows_of matches.now) ≡ []) }
+    ensures refused { IfErr result (IsBoundError (run_fault (subcommand_rows_of matches.now))) }
+{
+    if let Some(text) = wrong_bound(matches) {
+        return Err(LineError::Bad(String::from_str(alloc, text)?));
+    }
+    Ok(line_of(alloc, matches)?)
+}
+
+/// Why a `run` is refused that `clap` takes: it has no bound, or two.
+fn wrong_bound(matches: &ArgMatches<'_>) -> Option<&'static str>
+    requires { GivesCommand (subcommand_rows_of matches.now) }
+    ensures { MatchOption result (run_fault (subcommand_rows_of matches.now) ≡ [])
+        (λ text. HasRefusal (run_fault (subcommand_rows_of matches.now))) }
+{
+    match matches.subcommand_matches("run") {
+        Some(given) => wrong_bound_of(given),
+        None => None,
+    }
+}
+
+/// Why a `run` with these arguments is refused.
+fn wrong_bound_of(given: &ArgMatches<'_>) -> Option<&'static str>
+    requires { GivesFlag (rows_of (found_of given.now)) (codes "until-complete") }
+    ensures { MatchOption result (HasOneBound (rows_of (found_of given.now)))
+        (λ text. HasRefusal (bound_of (rows_of (found_of given.now)))) }
+{
+    let has_steps = given.get_str("steps").is_some();
+    let until_complete = flag_of(given, "until-complete");
+    if has_steps {
+        if until_complete {
+            Some(TWO_BOUNDS)
+        } else {
+            None
+        }
+    } else if until_complete {
+        None
+    } else {
+        Some(NO_BOUND)
     }
 }
 
@@ -143,7 +259,8 @@ fn refusal(alloc: Global, error: &ClapError) -> Result<LineError, AllocError>
 
 /// The command that was given, with its values.
 fn line_of(alloc: Global, matches: &ArgMatches<'_>) -> Result<Line, AllocError>
-    requires { GivesCommand (subcommand_rows_of matches.now) }
+    requires command { GivesCommand (subcommand_rows_of matches.now) }
+    requires bound { run_fault (subcommand_rows_of matches.now) ≡ [] }
     ensures limits { IfOk result StaysWithinLimits }
     ensures subcommand { IfOk result (λ line.
         option_map (λ p. p.0) (subcommand_rows_of matches.now) ≡ Some (subcommand_for line)) }
@@ -155,9 +272,32 @@ fn line_of(alloc: Global, matches: &ArgMatches<'_>) -> Result<Line, AllocError>
             file: text_of(alloc, given, "FILE")?,
         });
     }
+    if let Some(given) = matches.subcommand_matches("list") {
+        return Ok(Line::List {
+            file: text_of(alloc, given, "FILE")?,
+        });
+    }
     if let Some(given) = matches.subcommand_matches("run") {
         return run_of(alloc, given);
     }
+    if let Some(given) = matches.subcommand_matches("lint") {
+        return Ok(Line::Lint {
+            files: texts_of(alloc, given, "FILE")?,
+            format: lint_format_of(given),
+        });
+    }
+    run_file_line_of(alloc, matches)
+}
+
+/// The command about a run that was given, with its values.
+fn run_file_line_of(alloc: Global, matches: &ArgMatches<'_>) -> Result<Line, AllocError>
+    requires { GivesRunCommand (subcommand_rows_of matches.now) }
+    ensures limits { IfOk result StaysWithinLimits }
+    ensures subcommand { IfOk result (λ line.
+        option_map (λ p. p.0) (subcommand_rows_of matches.now) ≡ Some (subcommand_for line)) }
+    ensures values { IfOk result (λ line.
+        IsSomeAnd (subcommand_rows_of matches.now) (λ p. HasValues p.1 line)) }
+{
     if let Some(given) = matches.subcommand_matches("replay") {
         let parts = run_file_of(alloc, given)?;
         return Ok(Line::Replay {
@@ -198,7 +338,8 @@ fn line_of(alloc: Global, matches: &ArgMatches<'_>) -> Result<Line, AllocError>
 
 /// The command to explore the runs of a test case.
 fn run_of(alloc: Global, given: &ArgMatches<'_>) -> Result<Line, AllocError>
-    requires { GivesRun (rows_of (found_of given.now)) }
+    requires gives { GivesRun (rows_of (found_of given.now)) }
+    requires bound { HasOneBound (rows_of (found_of given.now)) }
     ensures limits { IfOk result StaysWithinLimits }
     ensures subcommand { IfOk result (λ line. subcommand_for line ≡ codes "run") }
     ensures values { IfOk result (HasValues (rows_of (found_of given.now))) }
@@ -210,6 +351,25 @@ fn run_of(alloc: Global, given: &ArgMatches<'_>) -> Result<Line, AllocError>
         plan: plan_of(given),
         json: flag_of(given, "json"),
         explain: flag_of(given, "explain"),
+        wishes: wishes_of(alloc, given)?,
+    })
+}
+
+/// What else is asked of the runs.
+fn wishes_of(alloc: Global, given: &ArgMatches<'_>) -> Result<Wishes, AllocError>
+    requires { GivesWishes (rows_of (found_of given.now)) }
+    ensures { IfOk result (HasWishes (rows_of (found_of given.now))) }
+{
+    Ok(Wishes {
+        until_complete: flag_of(given, "until-complete"),
+        expiries: expiries_of(given),
+        patient: flag_of(given, "patient-timers"),
+        partial: flag_of(given, "partial"),
+        first: verdict_if_given(given, "first"),
+        quiet: flag_of(given, "quiet"),
+        run_to: text_if_given(alloc, given, "run-to")?,
+        run_to_block: text_if_given(alloc, given, "run-to-block")?,
+        few_expiries: verdict_if_given(given, "few-expiries"),
     })
 }
 
@@ -238,15 +398,81 @@ fn run_file_of(alloc: Global, given: &ArgMatches<'_>) -> Result<RunFile, AllocEr
 
 /// The numbers of a plan, which `clap` has found to be within the limits.
 fn plan_of(given: &ArgMatches<'_>) -> Plan
-    requires { GivesPlan (rows_of (found_of given.now)) }
+    requires gives { GivesPlan (rows_of (found_of given.now)) }
+    requires bound { HasOneBound (rows_of (found_of given.now)) }
     ensures numbers { HasNumbers (rows_of (found_of given.now)) result }
     ensures limits { IsWithinLimits result }
 {
     Plan {
-        steps: number_of(given, "steps"),
+        steps: steps_of(given),
         limit: number_of(given, "limit"),
         workers: number_of(given, "workers"),
         piece: number_of(given, "piece"),
+    }
+}
+
+/// The steps of a plan: a number, or the most where the answer has to be complete.
+fn steps_of(given: &ArgMatches<'_>) -> u64
+    requires gives { MayGiveNumber (rows_of (found_of given.now)) (codes "steps") 0 100000 }
+    requires bound { HasOneBound (rows_of (found_of given.now)) }
+    ensures steps { AreSteps (rows_of (found_of given.now)) result }
+    ensures limit { result ≤ most_steps }
+{
+    match number_if_given(given, "steps") {
+        Some(steps) => steps,
+        None => MOST_STEPS,
+    }
+}
+
+/// The greatest number of expiries, where it is given.
+fn expiries_of(given: &ArgMatches<'_>) -> Option<u32>
+    requires { MayGiveNumber (rows_of (found_of given.now)) (codes "expiries") 0 4294967295 }
+    ensures { IsNumberIfGiven (rows_of (found_of given.now)) (codes "expiries") result }
+{
+    match number_if_given(given, "expiries") {
+        Some(number) => Some(number as u32),
+        None => None,
+    }
+}
+
+/// The verdict that the argument names, where it is given.
+fn verdict_if_given(given: &ArgMatches<'_>, id: &str) -> Option<Verdict>
+    requires { MayGiveVerdict (rows_of (found_of given.now)) id.now }
+    ensures { IsVerdictIfGiven (rows_of (found_of given.now)) id.now result }
+{
+    match given.get_str(id) {
+        Some(word) => Some(verdict_of(word)),
+        None => None,
+    }
+}
+
+/// The verdict that a word names.
+fn verdict_of(word: &str) -> Verdict
+    requires { (verdict : _) × (word.now ≡ verdict_word verdict) }
+    ensures { word.now ≡ verdict_word result }
+{
+    if word == "none" {
+        Verdict::None
+    } else if word == "pass" {
+        Verdict::Pass
+    } else if word == "inconc" {
+        Verdict::Inconc
+    } else if word == "fail" {
+        Verdict::Fail
+    } else {
+        Verdict::Error
+    }
+}
+
+/// The format of findings that is named, which `clap` has found to be one of the two.
+fn lint_format_of(given: &ArgMatches<'_>) -> LintFormat
+    requires { GivesLintFormat (rows_of (found_of given.now)) }
+    ensures { IsLintFormat (rows_of (found_of given.now)) result }
+{
+    if given.get_str("format").unwrap() == "json" {
+        LintFormat::Json
+    } else {
+        LintFormat::Text
     }
 }
 
@@ -288,6 +514,27 @@ fn text_if_given(
         Some(text) => Ok(Some(String::from_str(alloc, text)?)),
         None => Ok(None),
     }
+}
+
+/// The texts of an argument that has one or more.
+fn texts_of(alloc: Global, given: &ArgMatches<'_>, id: &str) -> Result<Vec<String>, AllocError>
+    requires { GivesTexts (rows_of (found_of given.now)) id.now }
+    ensures { IfOk result (λ texts.
+        AreTexts (rows_of (found_of given.now)) id.now (map string_bytes texts.items)) }
+{
+    let mut texts = Vec::new(alloc);
+    for text in given.get_strs(id).unwrap() {
+        texts.push(String::from_str(alloc, text)?)?;
+    }
+    Ok(texts)
+}
+
+/// The number of an argument that may be left out.
+fn number_if_given(given: &ArgMatches<'_>, id: &str) -> Option<u64>
+    requires { (low : ℕ) × (high : ℕ) × MayGiveNumber (rows_of (found_of given.now)) id.now low high }
+    ensures { IsNumberIfGiven (rows_of (found_of given.now)) id.now result }
+{
+    given.get_one(id)
 }
 
 fn number_of(given: &ArgMatches<'_>, id: &str) -> u64

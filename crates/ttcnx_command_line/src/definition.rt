@@ -2,10 +2,11 @@
 ghost use Rattle.std.specs.Prelude.{◌≡◌, IfOk, codes, false};
 ghost use Rattle.clap.specs.Words.{app_of, rule_of};
 ghost use Rattle.clap.specs.declared.builder.command.Command.TheViews.{out-Command as fields_of};
-ghost use Rattle.ttcnx_command_line.specs.App.{app_with, check_app, explain_app, file_word, format_option};
-ghost use Rattle.ttcnx_command_line.specs.App.{flag, needed_option, number_option, run_app, run_file_app};
-ghost use Rattle.ttcnx_command_line.specs.App.{steps_option, value_option};
-ghost use Rattle.ttcnx_command_line.specs.internal.Named.{HoldsAtNames};
+ghost use Rattle.ttcnx_command_line.specs.App.{app_with, explain_app, file_app, file_word, files_word};
+ghost use Rattle.ttcnx_command_line.specs.App.{flag, format_option, format_words, lint_app, lint_words};
+ghost use Rattle.ttcnx_command_line.specs.App.{needed_option, number_option, range_option, run_app, run_file_app};
+ghost use Rattle.ttcnx_command_line.specs.App.{plan_app, value_option, verdict_option, verdict_words};
+ghost use Rattle.ttcnx_command_line.specs.internal.Named.{HasWords, HoldsAtNames};
 
 use clap::{Arg, ArgAction, Command, value_parser};
 use std::alloc::{AllocError, Global};
@@ -13,12 +14,22 @@ use std::alloc::{AllocError, Global};
 /// The version that `--version` prints.
 const VERSION: &str = "0.1";
 
+/// What a call of `run` looks like.
+const RUN_USAGE: &str =
+    "ttcnx run [OPTIONS] --testcase <NAME> <--steps <N>|--until-complete> <FILE>";
+
 /// The words that name a format.
 static FORMATS: [&str; 4] = ["text", "json", "mermaid", "svg"];
 
+/// The words that name a format of findings.
+static LINT_FORMATS: [&str; 2] = ["text", "json"];
+
+/// The words that name a verdict.
+static VERDICTS: [&str; 5] = ["none", "pass", "inconc", "fail", "error"];
+
 /// The program with its commands.
 pub(crate) fn command<'a>(alloc: Global) -> Result<Command<'a>, AllocError>
-    ensures { IfOk result (λ c. HoldsAtNames (λ names. app_of c ≡ app_with names)) }
+    ensures { IfOk result (λ c. (lists : _) × HasWords lists × (app_of c ≡ app_with lists)) }
 {
     Command::new(alloc, "ttcnx")
         .about("Checks modules written in TTCN-3, and explores their test cases")
@@ -26,7 +37,12 @@ pub(crate) fn command<'a>(alloc: Global) -> Result<Command<'a>, AllocError>
         .bin_name("ttcnx")?
         .no_binary_name(true)
         .subcommand_required(true)
-        .subcommand(check_command(alloc)?)?
+        .subcommand(file_command(
+            alloc,
+            "check",
+            "Tests whether a module is well typed",
+            "Example: ttcnx check examples/x2.ttcn",
+        )?)?
         .subcommand(run_command(alloc)?)?
         .subcommand(run_file_command(
             alloc,
@@ -49,21 +65,71 @@ pub(crate) fn command<'a>(alloc: Global) -> Result<Command<'a>, AllocError>
             "The file of the run, with a label a line",
             "Example: ttcnx double examples/x2.ttcn --testcase T --run examples/x2.pass.run",
         )?)?
-        .subcommand(explain_command(alloc)?)
+        .subcommand(explain_command(alloc)?)?
+        .subcommand(lint_command(alloc)?)?
+        .subcommand(file_command(
+            alloc,
+            "list",
+            "Lists the test cases of a module, one a line",
+            "Example: ttcnx list examples/x2.ttcn",
+        )?)
 }
 
-fn check_command<'a>(alloc: Global) -> Result<Command<'a>, AllocError>
-    ensures app { IfOk result (λ c. app_of c ≡ check_app) }
+/// A command about a module, which stands in a file.
+fn file_command<'a>(
+    alloc: Global,
+    name: &'a str,
+    about: &'a str,
+    example: &'a str,
+) -> Result<Command<'a>, AllocError>
+    ensures app { IfOk result (λ c. app_of c ≡ file_app name.entry.now) }
     ensures local { IfOk result (λ c. (fields_of c).has_globals ≡ false) }
 {
-    Command::new(alloc, "check")
-        .about("Tests whether a module is well typed")
-        .after_help("Example: ttcnx check examples/x2.ttcn")
+    Command::new(alloc, name)
+        .about(about)
+        .after_help(example)
         .arg(file(alloc))
 }
 
+/// The command that explores the runs of a test case.
 fn run_command<'a>(alloc: Global) -> Result<Command<'a>, AllocError>
-    ensures app { IfOk result (λ c. app_of c ≡ run_app) }
+    ensures app { IfOk result (λ c. HoldsAtNames verdict_words (λ first.
+        HoldsAtNames verdict_words (λ few. app_of c ≡ run_app first few))) }
+    ensures local { IfOk result (λ c. (fields_of c).has_globals ≡ false) }
+{
+    let patient = "A timer expires only where no statement has a step";
+    let partial = "Above the limit, reports on the most steps that stay within it";
+    let first =
+        "Stops at the first layer of runs in which this verdict is reached: none, pass, inconc, fail or error";
+    let few =
+        "Reports a run to this verdict with the fewest expiries: none, pass, inconc, fail or error";
+    plan_command(alloc)?
+        .arg(range(
+            alloc,
+            "expiries",
+            u32::MAX,
+            "The greatest number of expiries of a run: 0 to 4294967295",
+        ))?
+        .arg(flag(alloc, "patient-timers", patient))?
+        .arg(flag(alloc, "partial", partial))?
+        .arg(verdict(alloc, "first", first))?
+        .arg(flag(alloc, "quiet", "Shows no progress"))?
+        .arg(place(
+            alloc,
+            "run-to",
+            "Reports a run that takes the branch at this place",
+        ))?
+        .arg(place(
+            alloc,
+            "run-to-block",
+            "Reports a run behind which a component is blocked at this place",
+        ))?
+        .arg(verdict(alloc, "few-expiries", few))
+}
+
+/// The command that explores runs, with the words of its plan.
+fn plan_command<'a>(alloc: Global) -> Result<Command<'a>, AllocError>
+    ensures app { IfOk result (λ c. app_of c ≡ plan_app) }
     ensures local { IfOk result (λ c. (fields_of c).has_globals ≡ false) }
 {
     let limit = number(alloc, "limit", 10_000_000, "1000000").help(
@@ -77,11 +143,22 @@ fn run_command<'a>(alloc: Global) -> Result<Command<'a>, AllocError>
     );
     Command::new(alloc, "run")
         .about("Explores the runs of a test case")
+        .override_usage(RUN_USAGE)
         .after_help("Example: ttcnx run examples/x2.ttcn --testcase T --steps 13")
         .arg(file(alloc))?
         .arg(testcase(alloc))?
         .arg(script(alloc))?
-        .arg(steps(alloc))?
+        .arg(range(
+            alloc,
+            "steps",
+            100_000,
+            "The greatest number of steps of a run: 0 to 100000",
+        ))?
+        .arg(flag(
+            alloc,
+            "until-complete",
+            "In place of --steps: as many steps as the answer needs to be complete",
+        ))?
         .arg(limit)?
         .arg(workers)?
         .arg(piece)?
@@ -120,7 +197,7 @@ fn run_file_command<'a>(
 
 /// A command about a run, which is shown in a format.
 fn explain_command<'a>(alloc: Global) -> Result<Command<'a>, AllocError>
-    ensures app { IfOk result (λ c. HoldsAtNames (λ names. app_of c ≡ explain_app names)) }
+    ensures app { IfOk result (λ c. HoldsAtNames format_words (λ names. app_of c ≡ explain_app names)) }
     ensures local { IfOk result (λ c. (fields_of c).has_globals ≡ false) }
 {
     run_file_command(
@@ -133,6 +210,18 @@ fn explain_command<'a>(alloc: Global) -> Result<Command<'a>, AllocError>
     .arg(format(alloc))
 }
 
+/// The command that tells what is wrong with modules.
+fn lint_command<'a>(alloc: Global) -> Result<Command<'a>, AllocError>
+    ensures app { IfOk result (λ c. HoldsAtNames lint_words (λ names. app_of c ≡ lint_app names)) }
+    ensures local { IfOk result (λ c. (fields_of c).has_globals ≡ false) }
+{
+    Command::new(alloc, "lint")
+        .about("Tells all that is wrong with modules, and what looks wrong")
+        .after_help("Example: ttcnx lint examples/x1.ttcn examples/x2.ttcn --format json")
+        .arg(files(alloc))?
+        .arg(lint_format(alloc))
+}
+
 /// The file that a command reads.
 fn file<'a>(alloc: Global) -> Arg<'a>
     ensures rule { rule_of result ≡ file_word }
@@ -141,6 +230,17 @@ fn file<'a>(alloc: Global) -> Arg<'a>
     Arg::new(alloc, "FILE")
         .required(true)
         .help("The text of the module")
+}
+
+/// The files that a command reads, one or more.
+fn files<'a>(alloc: Global) -> Arg<'a>
+    ensures rule { rule_of result ≡ files_word }
+    ensures local { result.global ≡ false }
+{
+    Arg::new(alloc, "FILE")
+        .required(true)
+        .num_args(1..)
+        .help("The texts of the modules")
 }
 
 /// The test case that a command is about.
@@ -166,17 +266,16 @@ fn script<'a>(alloc: Global) -> Arg<'a>
         .help("The file of a script: what comes in at the system ports")
 }
 
-/// The number of steps, which has to be given.
-fn steps<'a>(alloc: Global) -> Arg<'a>
-    ensures rule { rule_of result ≡ steps_option }
+/// A number up to `most` that may be left out.
+fn range<'a>(alloc: Global, name: &'a str, most: u32, help: &'a str) -> Arg<'a>
+    ensures rule { rule_of result ≡ range_option name.entry.now most }
     ensures local { result.global ≡ false }
 {
-    Arg::new(alloc, "steps")
-        .long("steps")
+    Arg::new(alloc, name)
+        .long(name)
         .value_name("N")
-        .required(true)
-        .value_parser(value_parser!(u64).range(0..=100_000))
-        .help("The greatest number of steps of a run: 0 to 100000")
+        .value_parser(value_parser!(u64).range(0..=i64::from(most)))
+        .help(help)
 }
 
 /// A number from 1 on that may be left out.
@@ -193,7 +292,7 @@ fn number<'a>(alloc: Global, name: &'a str, most: u32, default: &'a str) -> Arg<
 
 /// The format, one of four words.
 fn format<'a>(alloc: Global) -> Arg<'a>
-    ensures rule { HoldsAtNames (λ names. rule_of result ≡ format_option names) }
+    ensures rule { HoldsAtNames format_words (λ names. rule_of result ≡ format_option names) }
     ensures local { result.global ≡ false }
 {
     Arg::new(alloc, "format")
@@ -203,6 +302,44 @@ fn format<'a>(alloc: Global) -> Arg<'a>
         .hide_possible_values(true)
         .default_value("text")
         .help("How the run is shown: text, json, mermaid or svg")
+}
+
+/// The format of findings, one of two words.
+fn lint_format<'a>(alloc: Global) -> Arg<'a>
+    ensures rule { HoldsAtNames lint_words (λ names. rule_of result ≡ format_option names) }
+    ensures local { result.global ≡ false }
+{
+    Arg::new(alloc, "format")
+        .long("format")
+        .value_name("FORMAT")
+        .value_parser(LINT_FORMATS.as_slice())
+        .hide_possible_values(true)
+        .default_value("text")
+        .help("How the findings are shown: text or json")
+}
+
+/// A verdict that may be left out, one of five words.
+fn verdict<'a>(alloc: Global, name: &'a str, help: &'a str) -> Arg<'a>
+    ensures rule { HoldsAtNames verdict_words (λ names. rule_of result ≡ verdict_option name.entry.now names) }
+    ensures local { result.global ≡ false }
+{
+    Arg::new(alloc, name)
+        .long(name)
+        .value_name("VERDICT")
+        .value_parser(VERDICTS.as_slice())
+        .hide_possible_values(true)
+        .help(help)
+}
+
+/// A place in the text that may be left out.
+fn place<'a>(alloc: Global, name: &'a str, help: &'a str) -> Arg<'a>
+    ensures rule { rule_of result ≡ value_option name.entry.now }
+    ensures local { result.global ≡ false }
+{
+    Arg::new(alloc, name)
+        .long(name)
+        .value_name("LINE:COL")
+        .help(help)
 }
 
 /// A flag.
