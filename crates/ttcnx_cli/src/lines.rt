@@ -166,9 +166,8 @@ fn wishes(rt: HostRuntime) -> Result<(), Fail> {
     let alloc = rt.alloc();
     let line = read_line(alloc, &RUN)?;
     let is_read = matches!(&line, Line::Run { wishes, .. }
-        if !wishes.until_complete && wishes.expiries.is_none() && !wishes.patient && !wishes.partial
-            && wishes.first.is_none() && !wishes.quiet && wishes.run_to.is_none()
-            && wishes.run_to_block.is_none() && wishes.few_expiries.is_none());
+        if !wishes.until_complete && !wishes.partial && wishes.first.is_none()
+            && wishes.run_to.is_none() && wishes.run_to_block.is_none());
     assert!(rt; is_read, "{line:?}");
     let words = [
         "run",
@@ -176,24 +175,17 @@ fn wishes(rt: HostRuntime) -> Result<(), Fail> {
         "--testcase",
         "T",
         "--until-complete",
-        "--expiries",
-        "4294967295",
-        "--patient-timers",
         "--partial",
         "--first",
         "fail",
-        "--quiet",
         "--run-to",
         "12:3",
         "--run-to-block=14:1",
-        "--few-expiries",
-        "inconc",
     ];
     let line = read_line(alloc, &words)?;
     let is_read = matches!(&line, Line::Run { plan, wishes, .. }
-        if plan.steps == 100_000 && wishes.until_complete && wishes.expiries == Some(u32::MAX)
-            && wishes.patient && wishes.partial && wishes.first == Some(Verdict::Fail)
-            && wishes.quiet && wishes.few_expiries == Some(Verdict::Inconc));
+        if plan.steps == 100_000 && wishes.until_complete && wishes.partial
+            && wishes.first == Some(Verdict::Fail));
     assert!(rt; is_read, "{line:?}");
     let is_read = matches!(&line, Line::Run { wishes, .. }
         if wishes.run_to.as_ref().is_some_and(|place| place.as_str() == "12:3")
@@ -290,10 +282,8 @@ fn faulty_lines(rt: HostRuntime) -> Result<(), Fail> {
         ("--piece", "65537"),
         ("--other", "1"),
         ("--testcase", "U"),
-        ("--expiries", "4294967296"),
-        ("--expiries", "-1"),
         ("--first", "passed"),
-        ("--few-expiries", "PASS"),
+        ("--first", "PASS"),
     ];
     for (name, value) in numbers {
         let words = ["run", "f", "--testcase", "T", name, value];

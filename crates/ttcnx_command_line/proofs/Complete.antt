@@ -214,28 +214,16 @@ run-fills = (
                   (
                     record { own = refl; action = refl; full = inr (inr tt); defaults = refl },
                     (
-                      record { own = refl; action = refl; full = inr (inl (omega arith)); defaults = tt },
+                      record { own = refl; action = refl; full = inr (inr tt); defaults = refl },
                       (
-                        record { own = refl; action = refl; full = inr (inr tt); defaults = refl },
+                        record { own = refl; action = refl; full = inr (inl (omega arith)); defaults = tt },
                         (
-                          record { own = refl; action = refl; full = inr (inr tt); defaults = refl },
+                          record { own = refl; action = refl; full = inr (inl (omega arith)); defaults = tt },
                           (
                             record { own = refl; action = refl; full = inr (inl (omega arith)); defaults = tt },
                             (
-                              record { own = refl; action = refl; full = inr (inr tt); defaults = refl },
-                              (
-                                record { own = refl; action = refl; full = inr (inl (omega arith)); defaults = tt },
-                                (
-                                  record { own = refl; action = refl; full = inr (inl (omega arith)); defaults = tt },
-                                  (
-                                    record { own = refl; action = refl; full = inr (inl (omega arith)); defaults = tt },
-                                    (
-                                      record { own = refl; action = refl; full = inl refl; defaults = tt },
-                                      tt,
-                                    ),
-                                  ),
-                                ),
-                              ),
+                              record { own = refl; action = refl; full = inl refl; defaults = tt },
+                              tt,
                             ),
                           ),
                         ),
@@ -332,12 +320,8 @@ run-given words e =
       explain = flag-from _ _ refl (v.1.1.1.1.1.1.1.1.1.0 (inr tt));
       wishes = record {
         until_complete = flag-from _ _ refl (v.1.1.1.1.0 (inr tt));
-        expiries = number-if-there _ _ 0 4294967295 refl may.1.1.1.1.1.1.1.1.1.1.0;
-        patient = flag-from _ _ refl (v.1.1.1.1.1.1.1.1.1.1.1.0 (inr tt));
-        partial = flag-from _ _ refl (v.1.1.1.1.1.1.1.1.1.1.1.1.0 (inr tt));
-        first = verdict-if-there _ _ refl refl may.1.1.1.1.1.1.1.1.1.1.1.1.1.0;
-        quiet = flag-from _ _ refl (v.1.1.1.1.1.1.1.1.1.1.1.1.1.1.0 (inr tt));
-        few_expiries = verdict-if-there _ _ refl refl may.1.1.1.1.1.1.1.1.1.1.1.1.1.1.1.1.1.0;
+        partial = flag-from _ _ refl (v.1.1.1.1.1.1.1.1.1.1.0 (inr tt));
+        first = verdict-if-there _ _ refl refl may.1.1.1.1.1.1.1.1.1.1.1.0;
       };
     }
 

@@ -92,12 +92,11 @@ takes-same a h words = ap₂ (λ stop names. takes_from h words (moved_app a) st
 abbrev pub IsTtcnx : App → Type 0
 IsTtcnx a = (lists : Lists) × HasWords lists × (a ≡ app_with lists)
 
-lists-same : (lists : Lists) → HasWords lists → lists_of format_words lint_words verdict_words verdict_words
-    ≡ lists_of (texts lists.formats.now) (texts lists.lint_formats.now) (texts lists.first.now) (texts lists.few_expiries.now)
-lists-same lists h = ap (λ words. lists_of words lint_words verdict_words verdict_words) (sym h.formats)
-    ∙ ap (λ words. lists_of (texts lists.formats.now) words verdict_words verdict_words) (sym h.lint_formats)
-    ∙ ap (λ words. lists_of (texts lists.formats.now) (texts lists.lint_formats.now) words verdict_words) (sym h.first)
-    ∙ ap (λ words. lists_of (texts lists.formats.now) (texts lists.lint_formats.now) (texts lists.first.now) words) (sym h.few_expiries)
+lists-same : (lists : Lists) → HasWords lists → lists_of format_words lint_words verdict_words
+    ≡ lists_of (texts lists.formats.now) (texts lists.lint_formats.now) (texts lists.verdicts.now)
+lists-same lists h = ap (λ words. lists_of words lint_words verdict_words) (sym h.formats)
+    ∙ ap (λ words. lists_of (texts lists.formats.now) words verdict_words) (sym h.lint_formats)
+    ∙ ap (λ words. lists_of (texts lists.formats.now) (texts lists.lint_formats.now) words) (sym h.verdicts)
 
 moved-built : (lists : Lists) → HasWords lists → built ttcnx_app ≡ moved_app (built (app_with lists))
 moved-built lists words = ap (λ l. built (app_with l)) (lists-same lists words)

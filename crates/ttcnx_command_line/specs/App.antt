@@ -93,16 +93,12 @@ plan_app = with_rule (with_rule (with_rule (with_rule (with_rule (with_rule (wit
     (flag (codes "explain"))
 
 -- and with what else is asked of the runs, where a verdict is one of the names
-abbrev pub run_app : Bor (List (Bor Text)) → Bor (List (Bor Text)) → App
-run_app first few = with_rule (with_rule (with_rule (with_rule (with_rule (with_rule (with_rule (with_rule plan_app
-    (range_option (codes "expiries") 4294967295))
-    (flag (codes "patient-timers")))
+abbrev pub run_app : Bor (List (Bor Text)) → App
+run_app names = with_rule (with_rule (with_rule (with_rule plan_app
     (flag (codes "partial")))
-    (verdict_option (codes "first") first))
-    (flag (codes "quiet")))
+    (verdict_option (codes "first") names))
     (value_option (codes "run-to")))
-    (value_option (codes "run-to-block")))
-    (verdict_option (codes "few-expiries") few)
+    (value_option (codes "run-to-block"))
 
 -- a command about a run of a test case: `name FILE --testcase NAME --run FILE`, with the option `--script FILE`
 abbrev pub run_file_app : Text → App
@@ -117,19 +113,18 @@ abbrev pub bare_app : App
 bare_app = on_top (λ s. record s { has_version = true; no_binary_name = true; subcommand_required = true })
     (new_app (codes "ttcnx"))
 
--- the lists of names with which the values of four options are compared
+-- the lists of names with which the values of three options are compared
 pub record Lists : Type 0 where
   pub formats : Bor (List (Bor Text))
   pub lint_formats : Bor (List (Bor Text))
-  pub first : Bor (List (Bor Text))
-  pub few_expiries : Bor (List (Bor Text))
+  pub verdicts : Bor (List (Bor Text))
 
 -- `ttcnx` with its eight commands, where a format or a verdict is one of the names
 abbrev pub app_with : Lists → App
 app_with lists = with_subcommand (with_subcommand (with_subcommand (with_subcommand (with_subcommand
     (with_subcommand (with_subcommand (with_subcommand bare_app
     (file_app (codes "check")).top)
-    (run_app lists.first lists.few_expiries).top)
+    (run_app lists.verdicts).top)
     (run_file_app (codes "replay")).top)
     (run_file_app (codes "coarsen")).top)
     (run_file_app (codes "double")).top)
@@ -138,14 +133,13 @@ app_with lists = with_subcommand (with_subcommand (with_subcommand (with_subcomm
     (file_app (codes "list")).top
 
 -- the lists of these words
-abbrev pub lists_of : List Text → List Text → List Text → List Text → Lists
-lists_of formats lint_formats first few_expiries = record {
+abbrev pub lists_of : List Text → List Text → List Text → Lists
+lists_of formats lint_formats verdicts = record {
   formats = names_of_words formats;
   lint_formats = names_of_words lint_formats;
-  first = names_of_words first;
-  few_expiries = names_of_words few_expiries;
+  verdicts = names_of_words verdicts;
 }
 
 -- `ttcnx` with its eight commands, four formats of a run, two of findings and five verdicts
 abbrev pub ttcnx_app : App
-ttcnx_app = app_with (lists_of format_words lint_words verdict_words verdict_words)
+ttcnx_app = app_with (lists_of format_words lint_words verdict_words)

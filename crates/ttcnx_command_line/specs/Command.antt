@@ -134,14 +134,10 @@ pub record HasNumbers (matches : List Row) (plan : Plan) : Type 0 where
 -- what else is asked of the runs is what the options say
 pub record HasWishes (matches : List Row) (wishes : Wishes) : Type 0 where
   pub until_complete : IsFlag matches (codes "until-complete") wishes.until_complete
-  pub expiries : IsNumberIfGiven matches (codes "expiries") wishes.expiries
-  pub patient : IsFlag matches (codes "patient-timers") wishes.patient
   pub partial : IsFlag matches (codes "partial") wishes.partial
   pub first : IsVerdictIfGiven matches (codes "first") wishes.first
-  pub quiet : IsFlag matches (codes "quiet") wishes.quiet
   pub run_to : IsTextIfGiven matches (codes "run-to") (option_map string_bytes wishes.run_to)
   pub run_to_block : IsTextIfGiven matches (codes "run-to-block") (option_map string_bytes wishes.run_to_block)
-  pub few_expiries : IsVerdictIfGiven matches (codes "few-expiries") wishes.few_expiries
 
 -- the values of a command about a run: the file of the module, the test case, the file of the script where one
 -- is given, and the file of the run

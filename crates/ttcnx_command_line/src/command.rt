@@ -63,24 +63,18 @@ pub enum LintFormat {
 /// What else is asked of the runs that are explored.
 #[derive(Debug, Drop)]
 pub struct Wishes {
-    /// As many steps as the answer needs to be complete, in place of a number.
+    /// As many steps as the report needs to be complete, in place of a number.
     pub until_complete: bool,
-    /// The greatest number of expiries of a run, where there is one.
-    pub expiries: Option<u32>,
-    /// A timer expires only where no statement has a step.
-    pub patient: bool,
-    /// Above the limit, the report is on the most steps that stay within it.
+    /// Above the limit, the report of the greatest bound that stays within it.
     pub partial: bool,
-    /// The verdict at which the exploration stops.
+    /// The report of the first bound at which some run ends with this verdict.
     pub first: Option<Verdict>,
-    /// No progress is shown.
-    pub quiet: bool,
-    /// The place of a branch, to which a run is wanted.
+    /// A place `LINE:COL`: the least of the shortest runs whose last step takes the branch there, or begins with the
+    /// statement there, is written as a run file in place of the report.
     pub run_to: Option<String>,
-    /// The place of a blocked statement, to which a run is wanted.
+    /// A place `LINE:COL`: the least of the shortest runs that end where some component is blocked there is written as
+    /// a run file in place of the report.
     pub run_to_block: Option<String>,
-    /// The verdict to which a run with the fewest expiries is wanted.
-    pub few_expiries: Option<Verdict>,
 }
 
 /// What the program is asked to do.
@@ -362,14 +356,10 @@ fn wishes_of(alloc: Global, given: &ArgMatches<'_>) -> Result<Wishes, AllocError
 {
     Ok(Wishes {
         until_complete: flag_of(given, "until-complete"),
-        expiries: expiries_of(given),
-        patient: flag_of(given, "patient-timers"),
         partial: flag_of(given, "partial"),
         first: verdict_if_given(given, "first"),
-        quiet: flag_of(given, "quiet"),
         run_to: text_if_given(alloc, given, "run-to")?,
         run_to_block: text_if_given(alloc, given, "run-to-block")?,
-        few_expiries: verdict_if_given(given, "few-expiries"),
     })
 }
 
@@ -411,7 +401,7 @@ fn plan_of(given: &ArgMatches<'_>) -> Plan
     }
 }
 
-/// The steps of a plan: a number, or the most where the answer has to be complete.
+/// The steps of a plan: a number, or the most where the report has to be complete.
 fn steps_of(given: &ArgMatches<'_>) -> u64
     requires gives { MayGiveNumber (rows_of (found_of given.now)) (codes "steps") 0 100000 }
     requires bound { HasOneBound (rows_of (found_of given.now)) }
@@ -421,17 +411,6 @@ fn steps_of(given: &ArgMatches<'_>) -> u64
     match number_if_given(given, "steps") {
         Some(steps) => steps,
         None => MOST_STEPS,
-    }
-}
-
-/// The greatest number of expiries, where it is given.
-fn expiries_of(given: &ArgMatches<'_>) -> Option<u32>
-    requires { MayGiveNumber (rows_of (found_of given.now)) (codes "expiries") 0 4294967295 }
-    ensures { IsNumberIfGiven (rows_of (found_of given.now)) (codes "expiries") result }
-{
-    match number_if_given(given, "expiries") {
-        Some(number) => Some(number as u32),
-        None => None,
     }
 }
 

@@ -93,38 +93,21 @@ fn file_command<'a>(
 
 /// The command that explores the runs of a test case.
 fn run_command<'a>(alloc: Global) -> Result<Command<'a>, AllocError>
-    ensures app { IfOk result (λ c. HoldsAtNames verdict_words (λ first.
-        HoldsAtNames verdict_words (λ few. app_of c ≡ run_app first few))) }
+    ensures app { IfOk result (λ c. HoldsAtNames verdict_words (λ names. app_of c ≡ run_app names)) }
     ensures local { IfOk result (λ c. (fields_of c).has_globals ≡ false) }
 {
-    let patient = "A timer expires only where no statement has a step";
-    let partial = "Above the limit, reports on the most steps that stay within it";
+    let partial = "Above the limit, writes the report of the greatest bound that stays within it";
     let first =
-        "Stops at the first layer of runs in which this verdict is reached: none, pass, inconc, fail or error";
-    let few =
-        "Reports a run to this verdict with the fewest expiries: none, pass, inconc, fail or error";
+        "Writes the report of the first bound at which some run ends with this verdict: none, pass, inconc, fail or error";
+    let run_to =
+        "Writes a run file in place of the report: the least of the shortest runs whose last step takes the branch at this place, or begins with the statement there";
+    let run_to_block =
+        "Writes a run file in place of the report: the least of the shortest runs that end where some component is blocked at this place";
     plan_command(alloc)?
-        .arg(range(
-            alloc,
-            "expiries",
-            u32::MAX,
-            "The greatest number of expiries of a run: 0 to 4294967295",
-        ))?
-        .arg(flag(alloc, "patient-timers", patient))?
         .arg(flag(alloc, "partial", partial))?
         .arg(verdict(alloc, "first", first))?
-        .arg(flag(alloc, "quiet", "Shows no progress"))?
-        .arg(place(
-            alloc,
-            "run-to",
-            "Reports a run that takes the branch at this place",
-        ))?
-        .arg(place(
-            alloc,
-            "run-to-block",
-            "Reports a run behind which a component is blocked at this place",
-        ))?
-        .arg(verdict(alloc, "few-expiries", few))
+        .arg(place(alloc, "run-to", run_to))?
+        .arg(place(alloc, "run-to-block", run_to_block))
 }
 
 /// The command that explores runs, with the words of its plan.
@@ -157,7 +140,7 @@ fn plan_command<'a>(alloc: Global) -> Result<Command<'a>, AllocError>
         .arg(flag(
             alloc,
             "until-complete",
-            "In place of --steps: as many steps as the answer needs to be complete",
+            "In place of --steps: as many steps as the report needs to be complete",
         ))?
         .arg(limit)?
         .arg(workers)?

@@ -63,12 +63,8 @@ HasOneBound matches = bound_of matches ≡ []
 -- all that is asked of the runs is there
 pub record GivesWishes (matches : List Row) : Type 0 where
   pub until_complete : GivesFlag matches (codes "until-complete")
-  pub expiries : MayGiveNumber matches (codes "expiries") 0 4294967295
-  pub patient : GivesFlag matches (codes "patient-timers")
   pub partial : GivesFlag matches (codes "partial")
   pub first : MayGiveVerdict matches (codes "first")
-  pub quiet : GivesFlag matches (codes "quiet")
-  pub few_expiries : MayGiveVerdict matches (codes "few-expiries")
 
 -- all that `run` takes is there
 pub record GivesRun (matches : List Row) : Type 0 where

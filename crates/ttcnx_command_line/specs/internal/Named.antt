@@ -12,5 +12,4 @@ HoldsAtNames words P = (names : Bor (List (Bor Text))) × (texts names.now ≡ w
 pub record HasWords (lists : Lists) : Type 0 where
   pub formats : texts lists.formats.now ≡ format_words
   pub lint_formats : texts lists.lint_formats.now ≡ lint_words
-  pub first : texts lists.first.now ≡ verdict_words
-  pub few_expiries : texts lists.few_expiries.now ≡ verdict_words
+  pub verdicts : texts lists.verdicts.now ≡ verdict_words

@@ -26,10 +26,8 @@ returns c =
     let check = c.in_ok-file_command.ensures in
     let one = subcommand-added bare_app (file_app (codes "check")) _ _ _ c.in_ok-subcommand.ensures bare (check.app, check.local) in
     let run = c.in_ok-run_command.ensures.app in
-    let first = run.0 in
-    let few = run.2.0 in
-    let run_is : IsApp (run_app first few) _ = (run.2.2, c.in_ok-run_command.ensures.local) in
-    let two = subcommand-added _ (run_app first few) _ _ _ c.in_ok-subcommand-2.ensures one run_is in
+    let run_is : IsApp (run_app run.0) _ = (run.2, c.in_ok-run_command.ensures.local) in
+    let two = subcommand-added _ (run_app run.0) _ _ _ c.in_ok-subcommand-2.ensures one run_is in
     let three = subcommand-added _ (run_file_app (codes "replay")) _ _ _ c.in_ok-subcommand-3.ensures two (c.in_ok-run_file_command.ensures.app, c.in_ok-run_file_command.ensures.local) in
     let four = subcommand-added _ (run_file_app (codes "coarsen")) _ _ _ c.in_ok-subcommand-4.ensures three (c.in_ok-run_file_command-2.ensures.app, c.in_ok-run_file_command-2.ensures.local) in
     let five = subcommand-added _ (run_file_app (codes "double")) _ _ _ c.in_ok-subcommand-5.ensures four (c.in_ok-run_file_command-3.ensures.app, c.in_ok-run_file_command-3.ensures.local) in
@@ -40,6 +38,6 @@ returns c =
     let lint_is : IsApp (lint_app lint.0) _ = (lint.2, c.in_ok-lint_command.ensures.local) in
     let seven = subcommand-added _ (lint_app lint.0) _ _ _ c.in_ok-subcommand-7.ensures six lint_is in
     let listing = c.in_ok-file_command-2.ensures in
-    let lists : Lists = record { formats = explain.0; lint_formats = lint.0; first = first; few_expiries = few } in
-    let words : HasWords lists = record { formats = explain.1; lint_formats = lint.1; first = run.1; few_expiries = run.2.1 } in
+    let lists : Lists = record { formats = explain.0; lint_formats = lint.0; verdicts = run.0 } in
+    let words : HasWords lists = record { formats = explain.1; lint_formats = lint.1; verdicts = run.1 } in
     IfOk-weaker c.subcommand-8.result _ _ (λ m h. (lists, words, (subcommand-added _ (file_app (codes "list")) _ _ m h seven (listing.app, listing.local)).0)) c.subcommand-8.ensures
