@@ -18,7 +18,7 @@ use Rattle.ttcn_step.proofs.Found.{Searched, said-found}
 use Rattle.ttcn_step.proofs.Steps.{apply-uncovered}
 use Rattle.ttcn_step.specs.declared.fine.Stored.{Stored}
 use Rattle.ttcn_step.specs.internal.Fine.{held_by}
-use Rattle.ttcn_step.specs.internal.Steps.{IsBehind}
+use Rattle.step_arrivals.specs.Behind.{IsBehind}
 use Rattle.value_types.specs.declared.value.ComponentId.{ComponentId}
 
 -- ---- fates

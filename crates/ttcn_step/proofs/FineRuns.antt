@@ -6,8 +6,8 @@ use Rattle.laws_fine.specs.Gathering.{Told}
 use Rattle.laws_fine.specs.Holding.{Holding, hold_fate, hold_from, hold_next, hold_run, hold_start}
 use Rattle.semantics.specs.Runs.{option_elim}
 use Rattle.semantics.specs.Snapshots.{Test}
-use Rattle.ttcn_step.specs.declared.coarsen.Told.{Told as Kept}
-use Rattle.ttcn_step.specs.internal.Fine.{fate_by, told_by}
+use Rattle.step_coarse.specs.Fates.{fate_by, told_by}
+use Rattle.step_coarse.specs.declared.fate.Told.{Told as Kept}
 
 module _ (test : Test) (labels : List FineLabel) where
   -- what is left of fine labels from a place on, where those before lead here and this is told of them

@@ -2,10 +2,8 @@ pub mod AtAlt
 pub mod Branching
 pub mod Choosing
 pub mod Coarsening
-pub mod Delivering
 pub mod Doubling
 pub mod Enabled
-pub mod Expiring
 pub mod FineChoices
 pub mod FineLeads
 pub mod FineRuns
@@ -15,10 +13,10 @@ pub mod Found
 pub mod FrameLimits
 pub mod FramesKept
 pub mod Limits
-pub mod Listed
 pub mod LiveForms
 pub mod NoWait
 pub mod Noted
+pub mod Parts
 pub mod Replaying
 pub mod Slotted
 pub mod Stepping

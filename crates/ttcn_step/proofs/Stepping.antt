@@ -1,19 +1,18 @@
 -- What single steps answer.
-use Rattle.std.proofs.Common.{◌≡◌, ℕ, Bool, true, false, Option, Some, None, Result, Ok, Err, IfOk, option_map, sym, ap, subst, ◌∙◌}
+use Rattle.std.proofs.Common.{◌≡◌, Option, Some, None, Result, Ok, Err, IfOk, option_map, sym, ap, subst, ◌∙◌}
 use Rattle.ttcn_syntax.specs.declared.tree.statement.Verdict.TheVariants as verdict
 use Rattle.semantics.specs.Configurations as rules
 use Rattle.semantics.specs.Snapshots.{Test}
 use Rattle.semantics.specs.Steps.{Label, Statement, apply, settled, statement_step, step_in}
-use Rattle.config_parts.specs.Acts.{DoesStep, HasPathsInOrder, Leads, act_by}
+use Rattle.config_parts.specs.Acts.{Leads, act_by}
 use Rattle.config_parts.specs.Legend.{Legend, component_by, config_by, going_by}
 use Rattle.config_parts.specs.declared.act.Act.{Act as Kept}
 use Rattle.config_parts.specs.declared.component.Component.{Component}
 use Rattle.config_parts.specs.declared.config.Config.{Config}
-use Rattle.config_parts.specs.declared.config.Config.TheVariants as config
 use Rattle.config_parts.specs.declared.config.Going.{Going}
 use Rattle.ttcn_step.proofs.Found.{Searched, found-step, missing-step}
 use Rattle.ttcn_step.proofs.Steps.{behind-failure}
-use Rattle.ttcn_step.specs.internal.Steps.{IsBehind}
+use Rattle.step_arrivals.specs.Behind.{IsBehind}
 use Rattle.value_types.specs.Outcomes.{Outcome, Yields}
 use Rattle.value_types.specs.declared.fault.Fault.{Fault}
 use Rattle.value_types.specs.declared.fault.Fault.TheVariants.{Dynamic}
@@ -36,35 +35,12 @@ module _ (legend : Legend) (test : Test) (copy going : Going) (same : copy ≡ g
   abbrev Done : Going → ComponentId → Kept → Option (Outcome rules.Configuration)
   Done g itself a = apply test (going_by legend g) itself (act_by legend a)
 
-  pub order-of-copy : HasPathsInOrder going → HasPathsInOrder copy
-  order-of-copy order = subst HasPathsInOrder (sym same) order
-
   pub copy-behind : (itself : ComponentId) (a : Kept) (after : Config) → Done copy itself a ≡ Some (Yields (config_by legend after)) → IsBehind legend (Done going itself a) (Some after)
   copy-behind itself a after leads = sym (ap (λ g. option_map settled (Done g itself a)) (sym same) ∙ ap (option_map settled) leads)
 
   pub copy-fails : (itself : ComponentId) (a : Kept) (fault : Fault) → fault ≡ Dynamic → Leads legend (Done copy itself a) (Err fault) → Some (rules.Ended verdict.Error) ≡ option_map settled (Done going itself a)
   copy-fails itself a fault is leads =
       sym (ap (λ g. option_map settled (Done g itself a)) (sym same) ∙ behind-failure legend (Done copy itself a) (subst (λ why. Leads legend (Done copy itself a) (Err why)) is leads))
-
-  -- ---- timers
-
-  abbrev Expired : Going → Label → Option (Outcome rules.Configuration)
-  Expired g label = step_in test (going_by legend g) label
-
-  expires-with : (label : Label) (new : Going) (b : Bool) → b ≡ true → DoesStep {E = ℕ} legend (Expired copy label) new (Ok b) → Expired copy label ≡ Some (Yields (rules.Goes (going_by legend new)))
-  expires-with label new true is does = does
-  expires-with label new false is does = absurd (let no = is in cc)
-
-  rests-with : (label : Label) (new : Going) (b : Bool) → b ≡ false → DoesStep {E = ℕ} legend (Expired copy label) new (Ok b) → Expired copy label ≡ None
-  rests-with label new true is does = absurd (let no = is in cc)
-  rests-with label new false is does = does
-
-  pub copy-expires : (label : Label) (new : Going) (b : Bool) → b ≡ true → DoesStep {E = ℕ} legend (Expired copy label) new (Ok b) → IsBehind legend (Expired going label) (Some (config.Going new))
-  copy-expires label new b is does =
-      sym (ap (λ g. option_map settled (Expired g label)) (sym same) ∙ ap (option_map settled) (expires-with label new b is does))
-
-  pub copy-rests : (label : Label) (new : Going) (b : Bool) → b ≡ false → DoesStep {E = ℕ} legend (Expired copy label) new (Ok b) → IsBehind legend (Expired going label) None
-  copy-rests label new b is does = sym (ap (λ g. option_map settled (Expired g label)) (sym same) ∙ ap (option_map settled) (rests-with label new b is does))
 
 -- ---- labels
 

@@ -16,7 +16,8 @@ use Rattle.semantics.specs.Snapshots.{Test}
 use Rattle.semantics.specs.Steps.{Label, Statement, statement_step}
 use Rattle.config_parts.specs.Legend.{Legend, component_by}
 use Rattle.config_parts.specs.declared.component.Component.{Component}
-use Rattle.ttcn_step.proofs.Listed.{grown, parts_of}
+use Rattle.step_arrivals.proofs.Listed.{grown}
+use Rattle.ttcn_step.proofs.Parts.{parts_of}
 use Rattle.ttcn_step.specs.Standing.{standing_of}
 use Rattle.step_labels.specs.declared.standing.Standing.{Standing}
 

@@ -1,29 +1,16 @@
 //! The runs that fine runs stand for (ES 201 873-1, 20.2).
-ghost use Rattle.std.specs.Prelude.{◌≡◌, IfOk, IfSome, MatchOption, map};
-ghost use Rattle.laws_fine.specs.Gathering.{first_by, first_told, gathered};
-ghost use Rattle.step_snapshot.specs.Tests.{test_by};
 ghost use Rattle.ttcn_step.specs.FineAnswers.{Coarsens};
 ghost use Rattle.ttcn_step.specs.Machines.{machine_of};
-ghost use Rattle.ttcn_step.specs.internal.Fine as spec;
-ghost use Rattle.ttcn_step.specs.internal.Fine.{fate_by, told_by};
-ghost use Rattle.ttcn_step.specs.internal.Following.{FirstIs, Follows};
+ghost use Rattle.ttcn_step.specs.internal.Following.{Follows};
 
 use crate::error::CoarsenError;
-use crate::fine::{Fate, Fine, fine_step};
-use crate::labels::statement_label;
+use crate::fine::{Fine, fine_step};
 use crate::start::start;
 use config_parts::Config;
-use std::alloc::{AllocError, Global};
+use std::alloc::Global;
+use step_coarse::{Told, gather};
 use step_labels::{FineLabel, Label};
 use step_snapshot::TestCase;
-use value_types::Path;
-
-/// A fine label, with what came of the choice where it is one.
-#[derive(Drop)]
-pub(crate) struct Told<'a> {
-    pub label: &'a FineLabel,
-    pub fate: Fate,
-}
 
 /// Where fine labels lead, and what came of each.
 #[derive(Drop)]
@@ -58,52 +45,6 @@ fn follow<'a>(
         })?;
     }
     Ok(Followed { fine, told })
-}
-
-/// What a label tells of the snapshot of a component: what came of its choice, or that it takes another snapshot.
-fn told_by_label(path: &Path, told: &Told<'_>) -> Option<Fate>
-    ensures { FirstIs path.now (told_by told.now) result }
-{
-    match told.label {
-        FineLabel::Snap(other) if other.numbers == path.numbers => Some(Fate::Lapses),
-        FineLabel::Choose(other) if other.numbers == path.numbers => Some(told.fate),
-        _ => None,
-    }
-}
-
-/// What came of the first choice of a component, if it makes one before its next snapshot.
-fn first_told(path: &Path, told: &[Told<'_>]) -> Fate
-    ensures { fate_by result ≡ first_told path.now (map told_by told.now) }
-{
-    for label in told {
-        if let Some(fate) = told_by_label(path, label) {
-            return fate;
-        }
-    }
-    Fate::Lapses
-}
-
-/// The labels that fine labels stand for. A choice moves to the place of its snapshot.
-fn gather(alloc: Global, told: &[Told<'_>]) -> Result<Vec<Label>, AllocError>
-    ensures { IfOk result (λ run. run.items ≡ gathered (map told_by told.now)) }
-{
-    let mut run = Vec::new(alloc);
-    for place in 0..told.len() {
-        let label = told[place].label;
-        match label {
-            FineLabel::Plain(label) => run.push(label.try_clone(alloc)?)?,
-            FineLabel::Choose(_) => {}
-            FineLabel::Snap(path) => match first_told(path, &told[place + 1..]) {
-                Fate::Lapses => {}
-                Fate::Takes => run.push(statement_label(alloc, path)?)?,
-                Fate::Faults => {
-                    run.push(statement_label(alloc, path)?)?;
-                    return Ok(run);
-                }
-            },
-        }
-    }
-    Ok(run)
 }
 
 /// The run that a fine run stands for, where it ends the test case.

@@ -11,13 +11,16 @@ ghost use Rattle.config_parts.specs.Legend.{Legend, going_by};
 ghost use Rattle.config_parts.specs.declared.config.Config.TheVariants as config;
 ghost use Rattle.ttcn_step.specs.Machines.{Fits, machine_of, said};
 ghost use Rattle.ttcn_step.specs.internal.Fine as spec;
-ghost use Rattle.ttcn_step.specs.internal.Fine.{fate_by, held_by};
+ghost use Rattle.step_coarse.specs.Fates.{fate_by};
+ghost use Rattle.ttcn_step.specs.internal.Fine.{held_by};
 
 use crate::alt::{is_of_alt, stands_at_alt};
 use crate::error::StepError;
-use crate::step::{asked, component_of, done, is_running, next, slots_are_ordered, step};
+use crate::step::{asked, component_of, done, is_running, next, step};
 use config_parts::{Config, Going, TryClone};
 use std::alloc::{AllocError, Global};
+use step_arrivals::slots_are_ordered;
+use step_coarse::Fate;
 use step_labels::{FineLabel, Label};
 use step_snapshot::TestCase;
 use ttcn_syntax::{Seq, Verdict};
@@ -39,17 +42,6 @@ pub(crate) struct Stored {
 pub(crate) struct Fine {
     pub now: Config,
     pub stored: Vec<Stored>,
-}
-
-/// What comes of a stored snapshot.
-#[derive(Clone, Copy)]
-pub(crate) enum Fate {
-    /// No choice is made by it, or nothing can be chosen.
-    Lapses,
-    /// A branch is taken.
-    Takes,
-    /// The choice, or taking the branch, is a dynamic error.
-    Faults,
 }
 
 /// The configuration behind a fine step, and what came of its choice where it is one.

@@ -1,122 +1,32 @@
 //! The labels of a configuration (ES 201 873-4).
-ghost use Rattle.std.specs.Prelude.{◌≡◌, ◌↔◌, ◌<◌, ◌++◌, [], IfOk, IsTrue, OnOk, length, map, true};
-ghost use Rattle.std.specs.List.{All, flat_map};
+ghost use Rattle.std.specs.Prelude.{◌≡◌, ◌↔◌, ◌<◌, ◌++◌, [], IfOk, IsTrue, OnOk, length, true};
+ghost use Rattle.std.specs.List.{flat_map};
 ghost use Rattle.semantics.specs.Configurations as rules;
 ghost use Rattle.semantics.specs.Labels as said_labels;
 ghost use Rattle.semantics.specs.Statements.{most};
 ghost use Rattle.semantics.specs.Steps as steps;
 ghost use Rattle.step_snapshot.specs.Tests.{extent_of, legend_by, test_by};
 ghost use Rattle.config_parts.specs.Acts.{HasPathsInOrder};
-ghost use Rattle.config_parts.specs.Legend.{component_by, frame_by, frame_with, going_by};
-ghost use Rattle.config_parts.specs.Views.{HasSlotsWithin, IsFrameWithin, IsWithin};
+ghost use Rattle.config_parts.specs.Legend.{component_by, going_by};
+ghost use Rattle.config_parts.specs.Views.{IsWithin};
 ghost use Rattle.config_parts.specs.declared.config.Config.TheVariants as config;
 ghost use Rattle.ttcn_step.specs.Machines.{Fits, machine_of, said};
 ghost use Rattle.ttcn_step.specs.internal.Steps as spec;
-ghost use Rattle.value_types.specs.Frames.{is_running};
 
-use crate::delivery::push_deliveries;
 use crate::plain::stands_at_plain;
-use crate::step::{has_step, is_running, slots_are_ordered};
-use config_parts::{Cells, Component, Config, Frame, Going};
+use crate::step::{has_step, is_running};
+use config_parts::{Component, Config, Going};
 use std::alloc::{AllocError, Global};
+use step_arrivals::{push_deliveries, push_expiries};
 use step_labels::Label;
 use step_snapshot::TestCase;
-use ttcn_syntax::Name;
-use value_types::{Path, Slot, TimerState};
-
-/// The name of a slot.
-pub(crate) fn name_of(alloc: Global, test: &TestCase<'_>, slot: Slot) -> Result<Name, AllocError>
-    requires { slot < length test.now.names }
-    ensures { IfOk result (λ name. name ≡ (legend_by test.now).names slot) }
-{
-    slots_are_ordered(test);
-    test.names.as_slice()[slot as usize].try_clone(alloc)
-}
+use value_types::Path;
 
 /// The label of a component's statement.
 pub(crate) fn statement_label(alloc: Global, path: &Path) -> Result<Label, AllocError>
     ensures { IfOk result (λ label. label ≡ steps.Statement path.now) }
 {
     Ok(Label::Statement(path.try_clone(alloc)?))
-}
-
-/// The label of the expiry of a timer.
-fn expiry_label(
-    alloc: Global,
-    test: &TestCase<'_>,
-    path: &Path,
-    frame: u32,
-    slot: Slot,
-) -> Result<Label, AllocError>
-    requires { slot < length test.now.names }
-    ensures { IfOk result (λ label. label ≡ steps.Expiry path.now frame ((legend_by test.now).names slot)) }
-{
-    Ok(Label::Expiry {
-        component: path.try_clone(alloc)?,
-        frame,
-        timer: name_of(alloc, test, slot)?,
-    })
-}
-
-fn runs(state: TimerState) -> bool
-    ensures { result ≡ is_running state }
-{
-    matches!(state, TimerState::Running)
-}
-
-/// The timers of a frame of a number that run.
-fn push_frame(
-    alloc: Global,
-    test: &TestCase<'_>,
-    path: &Path,
-    frame: u32,
-    cells: &Cells,
-    labels: &mut Vec<Label>,
-) -> Result<(), AllocError>
-    requires { HasSlotsWithin (length test.now.names) cells.now }
-    ensures { OnOk result (labels.new.items ≡ labels.old.items ++ said_labels.frame_expiries path.now frame (frame_with (legend_by test.now) [] cells.now)) }
-{
-    for timer in cells.timers.as_slice() {
-        if runs(timer.1) {
-            labels.push(expiry_label(alloc, test, path, frame, timer.0)?)?;
-        }
-    }
-    Ok(())
-}
-
-/// The timers of the frames above frame 0 that run, those of the lowest frame first.
-fn push_calls(
-    alloc: Global,
-    test: &TestCase<'_>,
-    path: &Path,
-    calls: &[Frame],
-    labels: &mut Vec<Label>,
-) -> Result<(), AllocError>
-    requires limit { length calls.now < most }
-    requires within { All (IsFrameWithin (extent_of test.now)) calls.now }
-    ensures { OnOk result (labels.new.items ≡ labels.old.items ++ said_labels.call_expiries path.now (map (frame_by (legend_by test.now)) calls.now)) }
-{
-    for below in 0..calls.len() {
-        let cells = &calls[calls.len() - 1 - below].cells;
-        push_frame(alloc, test, path, below as u32 + 1, cells, labels)?;
-    }
-    Ok(())
-}
-
-/// The timers of a component that run.
-fn push_expiries(
-    alloc: Global,
-    test: &TestCase<'_>,
-    component: &Component,
-    labels: &mut Vec<Label>,
-) -> Result<(), AllocError>
-    requires limit { length component.now.own.calls < most }
-    requires within { IsWithin (extent_of test.now) component.now.own }
-    ensures { OnOk result (labels.new.items ≡ labels.old.items ++ said_labels.expiries (component_by (legend_by test.now) component.now)) }
-{
-    let path = &component.itself.path;
-    push_frame(alloc, test, path, 0, &component.own.members, labels)?;
-    push_calls(alloc, test, path, component.own.calls.as_slice(), labels)
 }
 
 /// The enabled labels of a component.

@@ -4,7 +4,6 @@
 mod alt;
 mod branches;
 mod coarsen;
-mod delivery;
 mod double;
 mod error;
 mod fine;

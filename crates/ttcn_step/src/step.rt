@@ -1,5 +1,5 @@
 //! Single steps (ES 201 873-1, 12 and 20 to 24, ES 201 873-4).
-ghost use Rattle.std.specs.Prelude.{◌≡◌, ◌<◌, ℕ, IfOk, IfSome, Some, bytes_eq, is_some, length};
+ghost use Rattle.std.specs.Prelude.{◌≡◌, ◌<◌, IfOk, IfSome, Some, bytes_eq, is_some};
 ghost use Rattle.std.specs.List.{find};
 ghost use Rattle.std.specs.Option.{option_map};
 ghost use Rattle.step_forms.specs.Asks.{Asks, AsksWithin, uncovered_act};
@@ -8,32 +8,24 @@ ghost use Rattle.semantics.specs.Snapshots.{Test};
 ghost use Rattle.semantics.specs.Steps as steps;
 ghost use Rattle.step_snapshot.specs.Tests.{extent_of, legend_by, test_by};
 ghost use Rattle.config_parts.specs.Acts.{HasPathsInOrder, IsUncovered, act_by};
-ghost use Rattle.config_parts.specs.Legend.{IsLegend, Legend, component_by, config_by, going_by, state_by};
-ghost use Rattle.config_parts.specs.Views.{AreNames, Extent, IsActWithin, IsConfigWithin, IsGoingWithin, IsWithin};
+ghost use Rattle.config_parts.specs.Legend.{IsLegend, Legend, component_by, going_by, state_by};
+ghost use Rattle.config_parts.specs.Views.{Extent, IsActWithin, IsConfigWithin, IsGoingWithin, IsWithin};
 ghost use Rattle.config_parts.specs.declared.config.Config.TheVariants as config;
 ghost use Rattle.ttcn_step.specs.Answers.{Leads};
 ghost use Rattle.ttcn_step.specs.Machines.{Fits, machine_of, said};
+ghost use Rattle.step_arrivals.specs.Behind.{IsBehind};
 ghost use Rattle.ttcn_step.specs.internal.Steps as spec;
 
-use crate::delivery::delivery_named;
 use crate::error::StepError;
 use crate::plain::stands_at_plain;
-use config_parts::{Act, Component, Config, Going, State, TryClone, names_make_legends};
+use config_parts::{Act, Component, Config, Going, State, TryClone};
 use std::alloc::{AllocError, Global};
 use step_acts::act;
+use step_arrivals::{delivery_named, expiry_named, slots_are_ordered};
 use step_labels::Label;
 use step_snapshot::{Snapshot, TestCase};
-use ttcn_syntax::{Name, Seq, Verdict};
-use value_types::{ComponentId, Fault, Path, Slot};
-
-/// Slots are in the order of their names, and stand for them.
-pub(crate) fn slots_are_ordered(test: &TestCase<'_>)
-    ensures legend { IsLegend (legend_by test.now) }
-    ensures names { AreNames (legend_by test.now) test.now.names }
-{
-    names_make_legends();
-    test.names.are_in_order();
-}
+use ttcn_syntax::{Seq, Verdict};
+use value_types::{ComponentId, Fault};
 
 pub(crate) fn is_running(state: State) -> bool
     ensures { result ≡ rules.is_running_state (state_by state) }
@@ -113,7 +105,7 @@ pub(crate) fn done(
     act: Act,
 ) -> Result<Config, AllocError>
     ensures behind { (legend : Legend) (test : Test) → IsLegend legend → HasPathsInOrder going.now → IsUncovered (act_by legend act)
-        → IfOk result (λ after. spec.IsBehind legend (steps.apply test (going_by legend going.now) itself.now (act_by legend act)) (Some after)) }
+        → IfOk result (λ after. IsBehind legend (steps.apply test (going_by legend going.now) itself.now (act_by legend act)) (Some after)) }
     ensures within { (size : Extent) → IsGoingWithin size going.now → IsActWithin size act → IfOk result (IsConfigWithin size) }
 {
     let copy = going.try_clone(alloc)?;
@@ -134,7 +126,7 @@ fn statement(
     requires ordered { HasPathsInOrder going.now }
     requires all { IsGoingWithin (extent_of test.now) going.now }
     requires within { IsWithin (extent_of test.now) component.now.own }
-    ensures behind { IfOk result (spec.IsBehind (legend_by test.now) (steps.statement_step (test_by test.now) (going_by (legend_by test.now) going.now) (component_by (legend_by test.now) component.now))) }
+    ensures behind { IfOk result (IsBehind (legend_by test.now) (steps.statement_step (test_by test.now) (going_by (legend_by test.now) going.now) (component_by (legend_by test.now) component.now))) }
     ensures within { IfOk result (λ after. IfSome after (IsConfigWithin (extent_of test.now))) }
 {
     slots_are_ordered(test);
@@ -149,51 +141,6 @@ fn statement(
         }
         Err(Fault::Dynamic) => Ok(Some(Config::Ended(Verdict::Error))),
         Err(Fault::Memory) => Err(AllocError),
-    }
-}
-
-/// The configuration behind the expiry of the timer of a slot, if it is enabled.
-fn expiry(
-    alloc: Global,
-    test: &TestCase<'_>,
-    going: &Going,
-    path: &Path,
-    frame: u32,
-    timer: Slot,
-) -> Result<Option<Config>, AllocError>
-    requires ordered { HasPathsInOrder going.now }
-    requires all { IsGoingWithin (extent_of test.now) going.now }
-    requires within { timer < length test.now.names }
-    ensures behind { IfOk result (spec.IsBehind (legend_by test.now) (steps.step_in (test_by test.now) (going_by (legend_by test.now) going.now) (steps.Expiry path.now frame ((legend_by test.now).names timer)))) }
-    ensures within { IfOk result (λ after. IfSome after (IsConfigWithin (extent_of test.now))) }
-{
-    slots_are_ordered(test);
-    let mut copy = going.try_clone(alloc)?;
-    if copy.expire(alloc, path, frame, timer)? {
-        Ok(Some(Config::Going(copy)))
-    } else {
-        Ok(None)
-    }
-}
-
-/// The configuration behind the expiry of a timer of a component, if it is enabled.
-fn expiry_named(
-    alloc: Global,
-    test: &TestCase<'_>,
-    going: &Going,
-    path: &Path,
-    frame: u32,
-    timer: &Name,
-) -> Result<Option<Config>, AllocError>
-    requires ordered { HasPathsInOrder going.now }
-    requires all { IsGoingWithin (extent_of test.now) going.now }
-    ensures behind { IfOk result (spec.IsBehind (legend_by test.now) (steps.step_in (test_by test.now) (going_by (legend_by test.now) going.now) (steps.Expiry path.now frame timer.now))) }
-    ensures within { IfOk result (λ after. IfSome after (IsConfigWithin (extent_of test.now))) }
-{
-    slots_are_ordered(test);
-    match test.slot(timer) {
-        Some(slot) => expiry(alloc, test, going, path, frame, slot),
-        None => Ok(None),
     }
 }
 

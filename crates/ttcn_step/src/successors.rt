@@ -11,12 +11,12 @@ ghost use Rattle.ttcn_step.specs.Machines.{Fits, machine_of, said};
 ghost use Rattle.ttcn_step.specs.internal.Steps as spec;
 ghost use Rattle.ttcn_step.specs.internal.Successors as pairs;
 
-use crate::delivery::push_deliveries;
 use crate::labels::push_candidates;
 use crate::step::step;
 use crate::successor::Successor;
 use config_parts::{Config, Going};
 use std::alloc::{AllocError, Global};
+use step_arrivals::push_deliveries;
 use step_labels::Label;
 use step_snapshot::TestCase;
 

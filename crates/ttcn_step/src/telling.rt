@@ -11,11 +11,11 @@ ghost use Rattle.config_parts.specs.declared.config.Config.TheVariants as config
 ghost use Rattle.ttcn_step.specs.Machines.{Fits, machine_of, said};
 ghost use Rattle.ttcn_step.specs.Telling as spec;
 
-use crate::delivery::next_message;
 use crate::places::place_of;
-use crate::step::{asked, component_of, is_running, slots_are_ordered};
+use crate::step::{asked, component_of, is_running};
 use config_parts::{Act, Component, Config, End, Going, Request, TryClone, Way};
 use std::alloc::{AllocError, Global};
+use step_arrivals::{next_message, slots_are_ordered};
 use step_labels::Label;
 use step_snapshot::TestCase;
 use ttcn_syntax::{Name, Span};

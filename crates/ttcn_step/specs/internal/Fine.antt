@@ -1,9 +1,7 @@
 -- Fine configurations, as the private functions know them.
 use Rattle.std.specs.Prelude.{◌≡◌, ℕ, Bool, false, List, [], map, bytes_eq, Option, Some, None}
 use Rattle.std.specs.List.{All, filter, find}
-use Rattle.laws_fine.specs.Fates as rules
 use Rattle.laws_fine.specs.Fine.{FineLabel}
-use Rattle.laws_fine.specs.Gathering.{Told}
 use Rattle.laws_fine.specs.Holding.{Held, Holding, hold_fate, hold_next}
 use Rattle.semantics.specs.Configurations.{is_running_state}
 use Rattle.config_parts.specs.Legend.{Legend, going_by, state_by}
@@ -11,25 +9,15 @@ use Rattle.config_parts.specs.declared.component.Component.{Component}
 use Rattle.config_parts.specs.declared.config.Config.{Config}
 use Rattle.config_parts.specs.declared.config.Config.TheVariants as form
 use Rattle.config_parts.specs.declared.config.Going.{Going}
+use Rattle.step_coarse.specs.Fates.{fate_by}
 use Rattle.ttcn_step.specs.Machines.{Fits, Machine, legend, said}
-use Rattle.ttcn_step.specs.declared.coarsen.Told.{Told as KeptTold}
-use Rattle.ttcn_step.specs.declared.fine.Fate.{Fate}
-use Rattle.ttcn_step.specs.declared.fine.Fate.TheVariants as fate
 use Rattle.ttcn_step.specs.declared.fine.FineStep.{FineStep}
 use Rattle.ttcn_step.specs.declared.fine.Stored.{Stored}
 
 -- ---- what the code's forms stand for
 
-abbrev pub fate_by : Fate → rules.Fate
-fate_by fate.Lapses = rules.Lapses
-fate_by fate.Takes = rules.Takes
-fate_by fate.Faults = rules.Faults
-
 abbrev pub held_by : Legend → Stored → Held
 held_by legend entry = record { path = entry.path; taken = going_by legend entry.taken; since = entry.since.items }
-
-abbrev pub told_by : KeptTold → Told
-told_by told = (told.label.now, fate_by told.fate)
 
 -- a configuration, with what is held of these stored snapshots
 abbrev pub holding_of : Machine → Config → List Stored → Holding

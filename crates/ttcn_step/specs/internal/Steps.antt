@@ -1,5 +1,5 @@
 -- Steps, as the private functions know them.
-use Rattle.std.specs.Prelude.{◌≡◌, List, [], ◌∷◌, ◌++◌, Option, if◌then◌else◌}
+use Rattle.std.specs.Prelude.{List, [], ◌∷◌, ◌++◌, Option, if◌then◌else◌}
 use Rattle.std.specs.List.{filter_map, flat_map}
 use Rattle.std.specs.Option.{option_map}
 use Rattle.semantics.specs.Configurations as rules
@@ -7,23 +7,17 @@ use Rattle.semantics.specs.Configurations.{is_running_state, path_of}
 use Rattle.semantics.specs.Labels.{deliveries, expiries}
 use Rattle.semantics.specs.Snapshots.{Test, snapshot_of}
 use Rattle.semantics.specs.Statements as said
-use Rattle.semantics.specs.Steps.{Label, Statement, next, settled}
+use Rattle.semantics.specs.Steps.{Label, Statement, next}
 use Rattle.step_snapshot.specs.Tests.{legend_by, test_by}
 use Rattle.step_snapshot.specs.declared.test_case.TestCase.{TestCase}
-use Rattle.config_parts.specs.Legend.{Legend, component_by, config_by, data_by, going_by}
+use Rattle.config_parts.specs.Legend.{component_by, data_by, going_by}
 use Rattle.config_parts.specs.declared.component.Component.{Component}
-use Rattle.config_parts.specs.declared.config.Config.{Config}
 use Rattle.config_parts.specs.declared.config.Going.{Going}
-use Rattle.value_types.specs.Outcomes.{Outcome}
 
 -- what a component asks for
 abbrev pub asked : TestCase → Going → Component → said.Act
 asked t going component =
     said.act (test_by t) (snapshot_of (going_by (legend_by t) going) (component_by (legend_by t) component)) (data_by (legend_by t) component.own)
-
--- the configuration behind a step, where there is a step: one that fails ends the test case
-abbrev pub IsBehind : Legend → Option (Outcome rules.Configuration) → Option Config → Type 0
-IsBehind legend step after = option_map (config_by legend) after ≡ option_map settled step
 
 -- a label with the configuration that it leads to, where it is enabled
 abbrev pub lead : Test → rules.Configuration → Label → Option (Label × rules.Configuration)

@@ -5,7 +5,8 @@ use Rattle.ttcn_step.proofs.Doubling.{as-error}
 use Rattle.ttcn_step.proofs.coarsen.coarsen.Goals as goal
 use Rattle.ttcn_step.specs.FineAnswers.{Coarsens, HasEnded}
 use Rattle.ttcn_step.specs.Machines.{machine_of, said}
-use Rattle.ttcn_step.specs.internal.Fine.{holding_of, told_by}
+use Rattle.step_coarse.specs.Fates.{told_by}
+use Rattle.ttcn_step.specs.internal.Fine.{holding_of}
 
 pub returns-in_err-fine : goal.returns-in_err-fine
 returns-in_err-fine c =

@@ -10,7 +10,8 @@ use Rattle.ttcn_step.proofs.coarsen.follow.Goals as goal
 use Rattle.ttcn_step.specs.Machines.{Fits, legend, machine_of}
 use Rattle.ttcn_step.specs.declared.fine.FineStep.{FineStep}
 use Rattle.ttcn_step.specs.declared.fine.Stored.{Stored}
-use Rattle.ttcn_step.specs.internal.Fine.{IsWellBehind, Leads, held_by, holding_of, told_by}
+use Rattle.step_coarse.specs.Fates.{told_by}
+use Rattle.ttcn_step.specs.internal.Fine.{IsWellBehind, Leads, held_by, holding_of}
 
 pub loop-place-init : goal.loop-place-init
 loop-place-init c =

@@ -3,7 +3,8 @@ use Rattle.laws_fine.specs.Holding.{hold_run}
 use Rattle.step_snapshot.specs.Tests.{test_by}
 use Rattle.ttcn_step.proofs.FineRuns.{Left}
 use Rattle.ttcn_step.specs.Machines.{machine_of}
-use Rattle.ttcn_step.specs.internal.Fine.{IsWell, holding_of, told_by}
+use Rattle.step_coarse.specs.Fates.{told_by}
+use Rattle.ttcn_step.specs.internal.Fine.{IsWell, holding_of}
 use Rattle.ttcn_step.proofs.coarsen.follow.Given as goal
 
 -- what is left of the labels leads where all lead

@@ -3,7 +3,7 @@ use Rattle.semantics.specs.Labels.{labels_of_component}
 use Rattle.step_snapshot.specs.Tests.{extent_of, legend_by, test_by}
 use Rattle.config_parts.specs.Legend.{component_by, going_by}
 use Rattle.ttcn_step.proofs.Limits.{kept-at, within-at}
-use Rattle.ttcn_step.proofs.Listed.{parts_of}
+use Rattle.ttcn_step.proofs.Parts.{parts_of}
 use Rattle.ttcn_step.proofs.Steps.{paths-in-order}
 use Rattle.ttcn_step.proofs.Stuck.{empties, fills, left-over, passed}
 use Rattle.ttcn_step.proofs.labels.are_stuck.Goals as goal

@@ -3,7 +3,8 @@ use Rattle.semantics.specs.Labels.{labels_of_component}
 use Rattle.step_snapshot.specs.Tests.{extent_of, legend_by, test_by}
 use Rattle.config_parts.specs.Legend.{component_by, going_by}
 use Rattle.ttcn_step.proofs.Limits.{kept-at, within-at}
-use Rattle.ttcn_step.proofs.Listed.{grown, parts_of}
+use Rattle.step_arrivals.proofs.Listed.{grown}
+use Rattle.ttcn_step.proofs.Parts.{parts_of}
 use Rattle.ttcn_step.proofs.Steps.{paths-in-order}
 use Rattle.ttcn_step.proofs.labels.component_labels.Goals as goal
 

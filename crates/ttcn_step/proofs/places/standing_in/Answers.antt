@@ -4,7 +4,7 @@ use Rattle.semantics.specs.Places.{place_of, with_place}
 use Rattle.step_snapshot.specs.Tests.{legend_by}
 use Rattle.config_parts.specs.Legend.{component_by}
 use Rattle.config_parts.specs.declared.component.Component.{Component}
-use Rattle.ttcn_step.proofs.Listed.{grown}
+use Rattle.step_arrivals.proofs.Listed.{grown}
 use Rattle.step_labels.specs.declared.standing.Standing.{Standing}
 use Rattle.ttcn_step.proofs.places.standing_in.Goals as goal
 

@@ -1,7 +1,8 @@
 use Rattle.std.proofs.Common.{subst, sym}
 use Rattle.config_parts.specs.Views.{IsGoingWithin}
 use Rattle.config_parts.specs.declared.config.Going.{Going}
-use Rattle.ttcn_step.proofs.Stepping.{copy-behind, copy-fails, order-of-copy}
+use Rattle.step_arrivals.proofs.Copied.{order-of-copy}
+use Rattle.ttcn_step.proofs.Stepping.{copy-behind, copy-fails}
 use Rattle.ttcn_step.proofs.step.done.Goals as goal
 
 pub returns-in-Ok-clause-behind : goal.returns-in-Ok-clause-behind

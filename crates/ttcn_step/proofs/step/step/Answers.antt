@@ -10,7 +10,7 @@ use Rattle.ttcn_step.proofs.Found.{found-within, searched}
 use Rattle.ttcn_step.proofs.Stepping.{Stepped, behind-missing, behind-same, behind-statement, ok-both, ok-more}
 use Rattle.ttcn_step.proofs.Steps.{paths-in-order}
 use Rattle.ttcn_step.specs.Machines.{Fits, machine_of}
-use Rattle.ttcn_step.specs.internal.Steps.{IsBehind}
+use Rattle.step_arrivals.specs.Behind.{IsBehind}
 use Rattle.ttcn_step.proofs.step.step.Goals as goal
 
 pub returns-in-None-clause-behind : goal.returns-in-None-clause-behind

@@ -2,7 +2,8 @@ use Rattle.std.proofs.Common.{refl}
 use Rattle.step_snapshot.specs.Tests.{extent_of, legend_by}
 use Rattle.config_parts.specs.Legend.{component_by}
 use Rattle.ttcn_step.proofs.Limits.{kept-at, within-at}
-use Rattle.ttcn_step.proofs.Listed.{grown, parts_of}
+use Rattle.step_arrivals.proofs.Listed.{grown}
+use Rattle.ttcn_step.proofs.Parts.{parts_of}
 use Rattle.ttcn_step.specs.internal.Steps.{candidates_of}
 use Rattle.ttcn_step.proofs.successors.component_candidates.Goals as goal
 

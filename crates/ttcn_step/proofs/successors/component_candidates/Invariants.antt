@@ -1,6 +1,6 @@
 use Rattle.std.proofs.Common.{◌≡◌, ◌++◌, drop}
 use Rattle.step_snapshot.specs.Tests.{legend_by}
-use Rattle.ttcn_step.proofs.Listed.{parts_of}
+use Rattle.ttcn_step.proofs.Parts.{parts_of}
 use Rattle.ttcn_step.specs.internal.Steps.{candidates_of}
 use Rattle.ttcn_step.proofs.successors.component_candidates.Given as goal
 

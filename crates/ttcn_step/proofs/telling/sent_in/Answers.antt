@@ -2,7 +2,7 @@ use Rattle.std.proofs.Common.{ℕ, List, Option, ap, option_map}
 use Rattle.step_snapshot.specs.Tests.{legend_by, test_by}
 use Rattle.config_parts.specs.Legend.{going_by}
 use Rattle.semantics.specs.Configurations as rules
-use Rattle.ttcn_step.proofs.Delivering.{none-mapped}
+use Rattle.step_arrivals.proofs.Delivering.{none-mapped}
 use Rattle.ttcn_step.proofs.Told.{brings-unmapped}
 use Rattle.ttcn_step.proofs.telling.sent_in.Goals as goal
 

@@ -1,0 +1,4 @@
+pub mod Copied
+pub mod Delivering
+pub mod Expiring
+pub mod Listed

@@ -1,0 +1,10 @@
+use Rattle.std.proofs.Common.{ap, length, sym, option_map}
+use Rattle.semantics.specs.Steps.{settled}
+use Rattle.step_snapshot.specs.Tests.{legend_by, test_by}
+use Rattle.step_arrivals.proofs.Expiring.{no-expiry}
+use Rattle.step_arrivals.proofs.expiry.expiry_named.Goals as goal
+
+pub returns-in-None-clause-behind : goal.returns-in-None-clause-behind
+returns-in-None-clause-behind c =
+    let t = c.args.test.now in
+    sym (ap (option_map settled) (no-expiry (legend_by t) t.names c.args.timer.now c.slots_are_ordered.ensures.names c.in-None.ensures.missing (test_by t) c.args.going.now c.args.path.now (length t.graphs.lists) c.args.frame c.requires.all.components))

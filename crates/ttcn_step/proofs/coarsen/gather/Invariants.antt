@@ -1,8 +1,0 @@
-use Rattle.std.proofs.Common.{◌≡◌, ◌++◌, drop, map}
-use Rattle.laws_fine.specs.Gathering.{gathered}
-use Rattle.ttcn_step.specs.internal.Fine.{told_by}
-use Rattle.ttcn_step.proofs.coarsen.gather.Given as goal
-
--- the labels so far, in front of those to come
-abbrev pub invariant-loop-place : goal.invariant-loop-place
-invariant-loop-place l = l.run.items ++ gathered (map told_by (drop l.place l.told)) ≡ gathered (map told_by l.told)
