@@ -75,6 +75,17 @@ def cause_rows(folder):
         yield ["explain", module, "--testcase", name, "--run", run], 0, re.findall(r"// says: (.*)", says)
 
 
+def drawing_rows(folder):
+    """Returns the command lines that draw a run with all that charts can show, and a run without steps, in each format."""
+    module, test = f"{TOOLS}/statuses/drawn.ttcn", ["--testcase", "tc_drawn"]
+    script = ["--script", file_in(folder, "drawn.json", b'{"ui":[{"boolean":true}]}')]
+    run = file_in(folder, "drawn.run", labels_of("mtc*7 mtc.1*9 system.ui mtc*3"))
+    none = file_in(folder, "none.run", b"")
+    for drawing in ["text", "json", "mermaid", "svg"]:
+        yield ["explain", module, *test, "--run", run, *script, "--format", drawing], 0, stored(f"drawn_{drawing}")
+        yield ["explain", module, *test, "--run", none, *script, "--format", drawing], 0, stored(f"drawn_none_{drawing}")
+
+
 def explained_rows(folder):
     """Returns command lines that explain runs, each with its status, and what its text is or begins with, or how lines of it end."""
     test = ["--testcase", "T", "--run", f"{EXAMPLES}/x2.fail.run"]
@@ -83,6 +94,7 @@ def explained_rows(folder):
         *(explained(name) for name in EXPLAINED if not name.startswith("unit")),
         explained("unit.fail", "unit.json"),
         *cause_rows(folder),
+        *drawing_rows(folder),
         (["explain", X2, *test, "--format", "json"], 0, stored("explained_json")),
         (["explain", X2, *test, "--format=mermaid"], 0, stored("explained_mermaid")),
         (["explain", X2, *test, "--format", "svg"], 0, stored("explained_svg")),

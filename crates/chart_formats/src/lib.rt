@@ -5,8 +5,6 @@ mod chart;
 mod json;
 mod mermaid;
 mod svg;
-#[cfg(test)]
-mod tests;
 mod text;
 mod words;
 

@@ -1,16 +1,6 @@
 //! Explores the runs of test cases written in TTCN-3, up to a bound.
 #![tactic(auto)]
 
-#[cfg(test)]
-mod devices;
-#[cfg(test)]
-mod faults;
-#[cfg(test)]
-mod gate;
-#[cfg(test)]
-mod lines;
-#[cfg(test)]
-mod plans;
 mod program;
 
 use std::process::ExitCode;
