@@ -16,16 +16,21 @@ use Rattle.ttcnx_runs.specs.Endings.{HaveEnded}
 abbrev pub with_steps : Plan → ℕ → Plan
 with_steps plan steps = record plan { steps = steps }
 
--- what is answered
-pub data IsAnswerUntil (given : Source) (name : List ℕ) (plan : Plan) (stops : Stops) : Result Until Fault → Type 0 where
+-- why nothing is told of the runs
+pub data IsRefusedUntil (given : Source) (name : List ℕ) (plan : Plan) (stops : Stops) : Fault → Type 0 where
   -- the plan is beyond its limits
-  beyond : (IsWithinLimits plan → ⊥) → IsAnswerUntil given name plan stops (Err fault.BadPlan)
+  beyond : (IsWithinLimits plan → ⊥) → IsRefusedUntil given name plan stops fault.BadPlan
   -- the plan is within its limits, and there is no test case of the name with the script: why
-  lacking : {why : Fault} → IsWithinLimits plan → HasNoTest given name why → IsAnswerUntil given name plan stops (Err why)
+  lacking : {why : Fault} → IsWithinLimits plan → HasNoTest given name why → IsRefusedUntil given name plan stops why
   -- there is one, its runs reach more configurations than the limit, and the exploration is not to end there
   too_many : {test : Test} {count : ℕ} → IsWithinLimits plan → IsTestOf given name test → stops.at_limit ≡ false → CountsParts test plan.steps count → plan.limit < count
-      → IsAnswerUntil given name plan stops (Err fault.TooMany)
-  -- there is one: the report of a bound within the plan's, which is the answer for this bound, and why it is no greater
+      → IsRefusedUntil given name plan stops fault.TooMany
+
+-- what is answered
+pub data IsAnswerUntil (given : Source) (name : List ℕ) (plan : Plan) (stops : Stops) : Result Until Fault → Type 0 where
+  -- there is no report: why
+  refused : {why : Fault} → IsRefusedUntil given name plan stops why → IsAnswerUntil given name plan stops (Err why)
+  -- the report of a bound within the plan's, which is the answer for this bound, and why it is no greater
   reached : {until : Until} {test : Test} → IsTestOf given name test → until.report.steps ≤ plan.steps
       → IsAnswer given name (with_steps plan until.report.steps) (Ok until.report)
       → HaveEnded test plan stops until.report.steps until.ending → IsAnswerUntil given name plan stops (Ok until)

@@ -1,11 +1,12 @@
 //! From the text of a module to the least run to a place in it.
-ghost use Rattle.std.specs.Prelude.{◌≡◌, ◌≤◌, ◌⊎◌, ℕ, IfOk, IsErrOf};
+ghost use Rattle.std.specs.Prelude.{◌≡◌, ◌↔◌, ◌<◌, ◌⊎◌, length, Err, IsErrOf};
 ghost use Rattle.std.specs.Option.{option_map};
-ghost use Rattle.semantics.specs.Snapshots.{Test};
-ghost use Rattle.ttcnx.specs.Aims.{IsLeastToAim};
+ghost use Rattle.search_layer.specs.Limits.{IsWithinLimits};
+ghost use Rattle.ttcn_syntax.specs.Limits.{longest_text};
+ghost use Rattle.ttcnx.specs.Aims.{IsAnswerTo};
+ghost use Rattle.ttcnx.specs.Fault.{lexical_fault};
+ghost use Rattle.ttcnx.specs.Named.{source};
 ghost use Rattle.ttcnx.specs.internal.Reaches.{reach_by};
-ghost use Rattle.ttcnx.specs.Named.{IsTestOf, source};
-ghost use Rattle.ttcnx_runs.specs.Endings.{HaveEnded};
 
 use crate::fault::Fault;
 use crate::testcase::test_of;
@@ -14,7 +15,7 @@ use std::alloc::Global;
 use std::thread::Threads;
 use step_labels::Label;
 use ttcn_step::Machine;
-use ttcn_syntax::Span;
+use ttcn_syntax::{LexError, Span};
 use ttcnx_runs::{Sights, sight_runs};
 
 /// Where a run is to get.
@@ -49,13 +50,16 @@ pub fn run_to<G: Gate, R: Threads + Sync>(
     aim: Aim,
     gate: &G,
 ) -> Result<Reaching, Fault>
-    ensures steps { IfOk result (λ reaching. reaching.steps ≤ plan.now.steps) }
-    ensures ended { IfOk result (λ reaching. (test : Test) → IsTestOf (source text.now script.now) name.now test → HaveEnded test plan.now stops.now reaching.steps reaching.ending) }
+    ensures answer { (result ≡ Err Fault.Memory) ⊎ IsAnswerTo (source text.now script.now) name.now plan.now stops.now aim result }
 
-    // The run is the least one, and there is none exactly where no run of so many steps gets there.
-    ensures least { IfOk result (λ reaching. (test : Test) → IsTestOf (source text.now script.now) name.now test
-        → IsLeastToAim test reaching.steps aim (option_map (λ run. run.items) reaching.run)) }
+    // These two are decided before memory is asked for.
+    ensures bad_plan { IsErrOf result Fault.BadPlan ↔ (IsWithinLimits plan.now → ⊥) }
+    ensures too_long { IsWithinLimits plan.now → longest_text < length text.now
+        → result ≡ Err (lexical_fault LexError.TextTooLong) }
 {
+    if !plan.is_within_limits() {
+        return Err(Fault::BadPlan);
+    }
     let (program, testcase, script) = test_of(alloc, text, name, script)?;
     let machine = Machine::with_script(alloc, &program, testcase, &script)?;
     let sights = sight_runs(rt, alloc, &machine, plan, stops, gate)?;

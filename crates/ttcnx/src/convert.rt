@@ -4,7 +4,7 @@ ghost use Rattle.std.specs.List.{flat_map};
 ghost use Rattle.report.specs.Labels.{fine_text, label_text};
 ghost use Rattle.report.specs.Texts.{line};
 ghost use Rattle.ttcn_syntax.specs.Limits.{longest_text};
-ghost use Rattle.ttcnx.specs.Converted.{HasOneConversion, IsCoarsened, IsDoubled};
+ghost use Rattle.ttcnx.specs.Converted.{HasOneConversion, IsCoarsened, IsDoubled, label_lines};
 ghost use Rattle.ttcnx.specs.Fault.{lexical_fault};
 ghost use Rattle.ttcnx.specs.Named.{source};
 
@@ -40,7 +40,7 @@ pub fn coarsen_text(
     let labels = read_fine(alloc, run)?;
     let machine = Machine::with_script(alloc, &program, testcase, &script)?;
     let run = machine.coarsen(alloc, labels.as_slice())?;
-    Ok(LabelLines(run.as_slice()).to_string(alloc)?.into_bytes())
+    Ok(run_file(alloc, run.as_slice())?.into_bytes())
 }
 
 /// What the command `double` prints for a module, the name of a test case, a run file and a script: the labels of the run's
@@ -67,6 +67,13 @@ pub fn double_text(
     let machine = Machine::with_script(alloc, &program, testcase, &script)?;
     let fine = machine.double(alloc, labels.as_slice())?;
     Ok(FineLines(fine.as_slice()).to_string(alloc)?.into_bytes())
+}
+
+/// The file of a run: its labels, a line each.
+pub fn run_file(alloc: Global, run: &[Label]) -> Result<String, AllocError>
+    ensures { IfOk result (λ file. string_bytes file ≡ label_lines run.now) }
+{
+    LabelLines(run).to_string(alloc)
 }
 
 /// Labels, a line each.

@@ -1,7 +1,8 @@
 //! From the text of a module to the report on a test case with its runs explained.
-ghost use Rattle.std.specs.Prelude.{◌≡◌, ◌⊎◌, Err};
+ghost use Rattle.std.specs.Prelude.{◌≡◌, ◌++◌, ◌⊎◌, ℕ, List, Err, IfOk};
 ghost use Rattle.ttcnx.specs.Explained.{IsExplainedAnswer};
 ghost use Rattle.ttcnx.specs.Named.{source};
+ghost use Rattle.ttcnx.specs.Streamed.{told_as};
 
 use crate::explain::{chart, drawn};
 use crate::fault::Fault;
@@ -57,8 +58,22 @@ pub fn run_explained<G: Gate, R: Threads + Sync>(
     ensures { (result ≡ Err Fault.Memory) ⊎ IsExplainedAnswer (source text.now script.now) name.now plan.now json result }
 {
     let report = run_script(rt, alloc, text, script, name, plan, gate)?;
-    let told = told_as(alloc, &report, json)?;
-    let more = explanations(alloc, text, script, name, &report, json)?;
+    Ok(explain_report(alloc, text, script, name, &report, json)?)
+}
+
+/// A report on a test case, as text or as JSON, and behind it what `run_explained` prints of its runs.
+pub fn explain_report(
+    alloc: Global,
+    text: &[u8],
+    script: &[u8],
+    name: &str,
+    report: &Report,
+    json: bool,
+) -> Result<Vec<u8>, AllocError>
+    ensures { IfOk result (λ told. (more : List ℕ) × (told.items ≡ told_as json report.now ++ more)) }
+{
+    let told = told_as(alloc, report, json)?;
+    let more = explanations(alloc, text, script, name, report, json)?;
     let mut bytes = told.into_bytes();
     bytes.extend_from_slice(more.as_bytes())?;
     Ok(bytes)

@@ -1,5 +1,8 @@
 //! From the text of a module to the report on as many steps as are wanted, or can be had.
-ghost use Rattle.std.specs.Prelude.{◌≡◌, ◌⊎◌, Err};
+ghost use Rattle.std.specs.Prelude.{◌≡◌, ◌↔◌, ◌<◌, ◌⊎◌, length, Err, IsErrOf};
+ghost use Rattle.search_layer.specs.Limits.{IsWithinLimits};
+ghost use Rattle.ttcn_syntax.specs.Limits.{longest_text};
+ghost use Rattle.ttcnx.specs.Fault.{lexical_fault};
 ghost use Rattle.ttcnx.specs.Named.{source};
 ghost use Rattle.ttcnx.specs.Until.{IsAnswerUntil};
 
@@ -11,6 +14,7 @@ use report::Report;
 use std::alloc::Global;
 use std::thread::Threads;
 use ttcn_step::Machine;
+use ttcn_syntax::LexError;
 use ttcnx_runs::{Extent, explore_runs_until};
 
 /// A report, which is of all runs of at most its steps, and why it is of no longer ones.
@@ -32,7 +36,12 @@ pub fn run_until<G: Gate, R: Threads + Sync>(
     stops: &Stops,
     gate: &G,
 ) -> Result<Until, Fault>
-    ensures { (result ≡ Err Fault.Memory) ⊎ IsAnswerUntil (source text.now script.now) name.now plan.now stops.now result }
+    ensures answer { (result ≡ Err Fault.Memory) ⊎ IsAnswerUntil (source text.now script.now) name.now plan.now stops.now result }
+
+    // These two are decided before memory is asked for.
+    ensures bad_plan { IsErrOf result Fault.BadPlan ↔ (IsWithinLimits plan.now → ⊥) }
+    ensures too_long { IsWithinLimits plan.now → longest_text < length text.now
+        → result ≡ Err (lexical_fault LexError.TextTooLong) }
 {
     if !plan.is_within_limits() {
         return Err(Fault::BadPlan);

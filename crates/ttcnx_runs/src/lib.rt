@@ -15,7 +15,7 @@ mod state;
 pub use exploration::{Exploration, Extent, explore_runs, explore_runs_until};
 pub use keys::BranchPlace;
 pub use laws::canonical_forms_are_equal_for_equal_live_parts;
-pub use runs::Runs;
+pub use runs::{Runs, mark_of};
 pub use scheme::Scheme;
 pub use sights::{Sights, sight_runs};
 pub use state::State;

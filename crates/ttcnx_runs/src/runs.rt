@@ -42,7 +42,7 @@ impl<'t, 'a, K: Scheme> Runs<'t, 'a, K> {
 }
 
 /// The number of a verdict, from the best on.
-fn mark_of(verdict: Verdict) -> u8
+pub fn mark_of(verdict: Verdict) -> u8
     ensures { result ≡ badness verdict }
 {
     match verdict {

@@ -1,5 +1,5 @@
 //! Runs to places of a test case, and to blocks.
-ghost use Rattle.std.specs.Prelude.{◌≡◌, ◌↔◌, ℕ, ◌<◌, ◌≤◌, [], IfOk, IsErrOf};
+ghost use Rattle.std.specs.Prelude.{◌≡◌, ◌↔◌, ℕ, ◌<◌, ◌≤◌, [], false, IfOk, IsErrOf, OnOk};
 ghost use Rattle.explore.specs.Sightings.{AreSighted, shown_at_end, shown_by_step};
 ghost use Rattle.laws_live.specs.Parts.{CountsParts};
 ghost use Rattle.search_layer.specs.Limits.{IsWithinLimits};
@@ -99,9 +99,14 @@ pub fn sight_runs<G: Gate, R: Threads + Sync>(
     gate: &G,
 ) -> Result<Sights, ExploreError>
     ensures bad_plan { IsErrOf result ExploreError.BadPlan ↔ ¬ IsWithinLimits plan.now }
+    ensures planned { OnOk result (IsWithinLimits plan.now) }
     ensures too_many { IsErrOf result ExploreError.TooMany → (count : ℕ) × CountsParts machine.now.test plan.now.steps count × (plan.now.limit < count) }
+    ensures limited { IsErrOf result ExploreError.TooMany → stops.now.at_limit ≡ false }
+
+    // The runs are those of a bound within the plan's, and a stop says why it is less.
     ensures steps { IfOk result (λ sights. sights.steps ≤ plan.now.steps) }
     ensures ended { IfOk result (λ sights. HaveEnded machine.now.test plan.now stops.now sights.steps sights.ending) }
+
     ensures places { IfOk result (λ sights. AreSighted (graph_of machine.now.test) label_cmp sights.steps
         (shown_by_step (graph_of machine.now.test) (place_in_text machine.now.test)) sights.places.items) }
     ensures blocks { IfOk result (λ sights. AreSighted (graph_of machine.now.test) label_cmp sights.steps

@@ -1,11 +1,10 @@
-use Rattle.std.proofs.Common.{rules, ◌≡◌, ◌++◌, ap, sym, string_bytes, ◌∙◌}
+use Rattle.std.proofs.Common.{◌≡◌}
 use Rattle.std.specs.Prelude.{◌⊎◌, Err}
 use Rattle.ttcnx.proofs.Explaining.{report-answers, unreported-answers}
 use Rattle.ttcnx.proofs.Stages.{as-error}
 use Rattle.ttcnx.proofs.explain_run.run_explained.Goals as goal
 use Rattle.ttcnx.specs.Explained.{IsExplainedAnswer}
 use Rattle.ttcnx.specs.Named.{source}
-use Rattle.ttcnx.specs.Streamed.{told_as}
 use Rattle.ttcnx.specs.declared.fault.Fault.TheVariants.{Memory}
 
 pub returns-in_err-report : goal.returns-in_err-report
@@ -17,6 +16,5 @@ returns-in_err-report g c =
 
 pub returns : goal.returns
 returns g c =
-    let more = string_bytes c.in_ok-more.more in
-    let told : c.extend_from_slice.new.self.items ≡ told_as c.args.json c.in_ok-report.report ++ more = search rules in
-    report-answers (source c.args.text.now c.args.script.now) c.args.name.now c.args.plan.now c.args.json c.in_ok-report.report more c.extend_from_slice.new.self c.in_ok-report.ensures.answer told
+    let told = c.in_ok-explain_report.ensures in
+    report-answers (source c.args.text.now c.args.script.now) c.args.name.now c.args.plan.now c.args.json c.in_ok-report.report told.0 c.in_ok-explain_report.field-0 c.in_ok-report.ensures.answer told.1

@@ -22,7 +22,9 @@ returns-in-Ok g c =
     let n = c.in-Ok.sighted.reached.steps in
     record {
       bad_plan = (λ is. let no = is in cc, λ no. absurd (no c.in-Ok.ensures.planned));
+      planned = c.in-Ok.ensures.planned;
       too_many = λ is. let no = is in cc;
+      limited = λ is. let no = is in cc;
       steps = c.in-Ok.ensures.steps;
       ended = runs-ended test c.args.plan.now c.args.stops.now n c.in-Ok.sighted.reached.ending c.in-Ok.ensures.ended;
       places = sighted-alike test label_cmp n (shown_by_step (canonical_graph test) (place_in_text test)) (shown_by_step (graph_of test) (place_in_text test)) (places-alike test)
@@ -41,6 +43,8 @@ returns-in-Err g c =
       );
       too_many = λ is. let same : why ≡ refused.TooMany = (let e = is in cc) in
           too-many-parts g.K.Scheme.machine.test c.args.plan.now.steps c.args.plan.now.limit (c.in-Err.ensures.too_many (ap Err same));
+      planned = tt;
+      limited = λ is. let same : why ≡ refused.TooMany = (let e = is in cc) in c.in-Err.ensures.limited (ap Err same);
       steps = tt;
       ended = tt;
       places = tt;
