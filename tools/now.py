@@ -25,7 +25,7 @@ NO_ANSWER = 70
 
 COMMANDS = {"check", "run", "replay", "explain", "coarsen", "double"}
 # The options that have a value, and those of them whose value is a file. What is neither option nor value is a file.
-VALUES = {"--testcase", "--steps", "--limit", "--workers", "--piece", "--run", "--script", "--format"}
+VALUES = {"--testcase", "--steps", "--limit", "--workers", "--piece", "--run", "--script", "--format", "--first", "--run-to", "--run-to-block"}
 FILES = {"--run", "--script"}
 
 # What the toolchain writes before and behind the program's own error: notes, and how the program ended or why it has no answer.

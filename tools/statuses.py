@@ -42,6 +42,24 @@ ONE_FIRST_IN_JSON = (
     b'{"run":["mtc","mtc","mtc","mtc/0.t","mtc","mtc","mtc"],"verdict":"inconc"}]}\n'
 )
 
+# the report on examples/x2.ttcn, and the beginning of its runs
+TO_RACE = b"mtc\n" * 6
+RACE_RUN = b"verdict %s 10\n" + b"  mtc\n" * 6 + b"  %s\n" + b"  mtc\n" * 3
+RACE = b"testcase T\nsteps 13\nconfigurations 47\ncomplete yes\n" + RACE_RUN % (b"pass", b"mtc.1") + RACE_RUN % (b"fail", b"mtc.2") + b"branch 14:1\nbranch 15:1\n"
+
+# a report on it of fewer steps, and that on a module that counts without end, which is of the most steps
+FEW = b"testcase T\nsteps 6\nconfigurations 8\ncomplete no\n"
+FEW_IN_JSON = b'{"blocked":[],"branches":[],"complete":false,"configurations":8,"steps":6,"testcase":"T","verdicts":[]}\n'
+COUNTING = b"module L {\ntype component C {}\ntestcase T() runs on C {\nvar integer n := 0;\nwhile (true) { n := n + 1 }\n}\n}\n"
+
+COUNTED = b"testcase T\nsteps 100000\nconfigurations 100001\ncomplete no\n"
+
+# words that are no places
+NO_PLACES = ["", "14", "14:", ":1", "14:1:1", "14: 1", "+14:1", "014:1", "14:01", "x:1", "4294967296:1", "14.1"]
+
+# a module that waits for ever in line 6
+WAITING = b"module W {\ntype port P message { inout integer }\ntype component C { port P p }\ntestcase T() runs on C {\nvar integer n := 0;\np.receive(1);\n}\n}\n"
+
 
 def stored(name):
     """Returns a text of the folder statuses/."""
@@ -106,6 +124,66 @@ def explained_rows(folder):
     ]
 
 
+def until_rows(folder):
+    """Returns command lines with reports up to a stop, each with its status, and what its text is or begins with."""
+    run = ["run", X2, "--testcase", "T"]
+    few = [*run, "--steps", "13", "--limit", "10"]
+    counting = ["run", file_in(folder, "counting.ttcn", COUNTING), "--testcase", "T"]
+    stopped = b"stopped E1 TooMany behind 6 steps\n"
+    return [
+        ([*run, "--until-complete"], 0, RACE),
+        ([*run, "--until-complete", "--workers", "4", "--piece", "1", "--limit", "47"], 0, RACE),
+        ([*run, "--until-complete", "--json"], 0, '{"blocked":[],"branches":["14:1","15:1"],"complete":true,"configurations":47,"steps":13,'),
+        ([*run, "--until-complete", "--explain"], 0, stored("explained_report")),
+        ([*run, "--until-complete", "--explain", "--json"], 0, stored("explained_report_json")),
+        ([*run, "--until-complete", "--limit", "46"], 3, b"refused E1 TooMany\n"),
+        ([*run, "--until-complete", "--limit", "10", "--partial"], 3, (FEW, stopped)),
+        ([*run, "--steps", "13", "--partial"], 0, RACE),
+        ([*run, "--steps", "6", "--partial", "--limit", "10"], 0, FEW),
+        (few, 3, b"refused E1 TooMany\n"),
+        ([*few, "--partial"], 3, (FEW, stopped)),
+        ([*few, "--partial", "--json"], 3, (FEW_IN_JSON, stopped)),
+        ([*few, "--partial", "--explain"], 3, (stored("explained_few"), stopped)),
+        ([*few, "--partial", "--explain", "--json"], 3, (FEW_IN_JSON + stored("explained_few_json"), stopped)),
+        ([*few, "--partial", "--first", "fail"], 3, (FEW, stopped)),
+        ([*run, "--steps", "13", "--first", "fail"], 0, stored("first_fail")),
+        ([*run, "--steps", "10"], 0, stored("first_fail")),
+        ([*run, "--until-complete", "--first", "pass", "--workers", "2", "--piece", "1"], 0, stored("first_fail")),
+        ([*run, "--until-complete", "--first", "error"], 0, RACE),
+        ([*run, "--steps", "9", "--first", "fail"], 0, "testcase T\nsteps 9\n"),
+        ([*counting, "--until-complete", "--limit", "100"], 3, b"refused E1 TooMany\n"),
+        ([*counting, "--until-complete"], 3, (COUNTED, b"stopped E3 NotComplete behind 100000 steps\n")),
+        ([*run[:3], "t", "--until-complete"], 1, b"refused U1 NoSuchTestCase\n"),
+        (["run", f"{folder}/missing", *run[2:], "--until-complete"], 5, f"cannot read {folder}/missing\n".encode()),
+    ]
+
+
+def aim_rows(folder):
+    """Returns command lines with runs to places, each with its status and what its text is."""
+    run = ["run", X2, "--testcase", "T", "--steps", "13"]
+    complete = ["run", X2, "--testcase", "T", "--until-complete"]
+    waiting = ["run", file_in(folder, "waiting.ttcn", WAITING), "--testcase", "T", "--until-complete"]
+    script = ["--script", file_in(folder, "two_to_come.json", b'{"p":[{"integer":2}]}')]
+    return [
+        ([*run, "--run-to", "15:1"], 0, TO_RACE + b"mtc.2\nmtc\n"),
+        ([*complete, "--run-to=14:1", "--workers", "4", "--piece", "1"], 0, TO_RACE + b"mtc.1\nmtc\n"),
+        ([*run, "--run-to", "15:16"], 0, TO_RACE + b"mtc.2\nmtc\nmtc\n"),
+        ([*run, "--limit", "46", "--run-to", "15:1"], 0, TO_RACE + b"mtc.2\nmtc\n"),
+        ([*run, "--limit", "7", "--run-to", "15:1"], 3, b"refused E1 TooMany\n"),
+        ([*run[:-1], "7", "--run-to", "15:1"], 1, b"refused U2 NoSuchRun of 7 steps\n"),
+        ([*run, "--run-to", "1:1"], 1, b"refused U2 NoSuchRun of 13 steps\n"),
+        ([*complete, "--run-to", "0:4294967295"], 1, b"refused U2 NoSuchRun\n"),
+        ([*complete, "--run-to-block", "15:1"], 1, b"refused U2 NoSuchRun\n"),
+        ([*waiting, "--run-to-block", "6:1"], 0, b"mtc\n"),
+        ([*waiting, "--run-to", "6:1"], 1, b"refused U2 NoSuchRun\n"),
+        (["run", Y1, "--testcase", "T", "--steps", "9", *script, "--run-to", "10:1"], 0, FIRST + b"system.p\nmtc\n"),
+        (["run", Y1, "--testcase", "T", "--steps", "9", "--run-to", "10:1"], 1, b"refused U2 NoSuchRun of 9 steps\n"),
+        ([*run[:3], "t", "--steps", "13", "--run-to", "15:1"], 1, b"refused U1 NoSuchTestCase\n"),
+        *(([*run, "--run-to", word], 2, f"error: invalid value '{word}' for '--run-to <LINE:COL>': ") for word in NO_PLACES),
+        *((["run", "f", *run[2:], f"--run-to-block={word}"], 2, f"error: invalid value '{word}' for '--run-to-block <LINE:COL>': ") for word in NO_PLACES),
+    ]
+
+
 def help_rows():
     """Returns the command lines that ask for help, each with its status and the whole text that is wanted."""
     return [
@@ -137,6 +215,15 @@ def refused_rows():
         (["check", "f", "g"], 2, stored("word_too_many")),
         ([*run, "--steps", "1", "--other"], 2, stored("unknown_option")),
         ([*run, "--step", "1"], 2, stored("similar_option")),
+        (run, 2, stored("no_bound")),
+        ([*run, "--steps", "1", "--until-complete"], 2, stored("two_bounds")),
+        ([*run, "--steps", "1", "--run-to", "1:1", "--run-to-block", "1:1"], 2, stored("two_aims")),
+        ([*run, "--steps", "1", "--run-to", "1:1", "--explain"], 2, stored("run_to_and_explain")),
+        ([*run, "--steps", "1", "--json", "--run-to-block=1:1"], 2, stored("run_to_block_and_json")),
+        ([*run, "--steps", "1", "--run-to", "1:1", "--partial"], 2, "error: the argument '--run-to <LINE:COL>' cannot be used with '--partial'\n"),
+        ([*run, "--steps", "1", "--run-to", "1:1", "--first", "fail"], 2, "error: the argument '--run-to <LINE:COL>' cannot be used with '--first <VERDICT>'\n"),
+        ([*run, "--steps", "1", "--first", "failed"], 2, stored("unknown_verdict")),
+        ([*run, "--steps", "1", "--run-to", "14"], 2, stored("no_place")),
         ([*run, "--steps"], 2, stored("missing_value")),
         ([*run, "--steps", "x"], 2, stored("no_number")),
         ([*run, "--steps", ""], 2, stored("empty_number")),
@@ -240,7 +327,10 @@ def refused_script_rows(folder):
 
 
 def rows(folder):
-    """Returns for each command line its words, the status, and what its text is, as bytes, what it begins with, or a list of how lines of it end."""
+    """Returns for each command line its words, the status, and what its text is, as bytes, what it begins with, or a list of how lines of it end.
+
+    Where both outputs have text, it is a pair of them.
+    """
     missing = f"{folder}/missing"
     module = file_in(folder, "module", b"module M {")
     run = file_in(folder, "run", b"mtc\n\nmtc.01\n")
@@ -269,13 +359,20 @@ def rows(folder):
         *long_rows(folder),
         *script_rows(folder),
         *explained_rows(folder),
+        *until_rows(folder),
+        *aim_rows(folder),
         *help_rows(),
         *refused_rows(),
     ]
 
 
 def is_as_wanted(ran, status, wanted):
-    """Tells whether a run has this status and this text, on the standard output where the status is 0 and else on the standard error, and the other one is empty."""
+    """Tells whether a run has this status and this text, on the standard output where the status is 0 and else on the standard error, and the other one is empty.
+
+    A pair has the texts of both.
+    """
+    if isinstance(wanted, tuple):
+        return (ran.returncode, ran.stdout, ran.stderr) == (status, *wanted)
     told, silent = (ran.stdout, ran.stderr) if status == 0 else (ran.stderr, ran.stdout)
     if isinstance(wanted, list):
         as_wanted = all(any(line.endswith(end) for line in told.decode().splitlines()) for end in wanted)

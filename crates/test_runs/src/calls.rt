@@ -6,7 +6,7 @@ use std::alloc::Global;
 use std::test::Fail;
 use std::thread::Threads;
 use ttcn_syntax::Span;
-use ttcnx::{Aim, run_to, run_until};
+use ttcnx::{Aim, Fault, Reaching, run_to, run_until};
 
 const PLAN: Plan = Plan {
     steps: 100,
@@ -114,5 +114,48 @@ fn the_least_run_to_an_aim_is_found(rt: HostRuntime) -> Result<(), Fail> {
     let receive = Aim::Block(Span { line: 6, column: 1 });
     assert!(rt; leads(&rt, alloc, BLOCK, receive, Some("mtc\n"))?);
     assert!(rt; leads(&rt, alloc, RACE, receive, None)?);
+    Ok(())
+}
+
+/// What is answered for a run to the first branch of the race.
+fn to_first_branch<R: Threads + Sync>(
+    rt: &R,
+    alloc: Global,
+    plan: &Plan,
+    stops: &Stops,
+) -> Result<Reaching, Fault> {
+    let branch = Aim::Step(Span {
+        line: 14,
+        column: 1,
+    });
+    run_to(
+        rt,
+        alloc,
+        RACE.as_bytes(),
+        SCRIPT.as_bytes(),
+        "T",
+        plan,
+        stops,
+        branch,
+        &NoGate,
+    )
+}
+
+/// Above the limit there is no answer, or one of fewer steps.
+#[test]
+fn runs_to_an_aim_have_a_limit(rt: HostRuntime) -> Result<(), Fail> {
+    let alloc = rt.alloc();
+    let limit = Stops {
+        at_limit: true,
+        ..Stops::NOWHERE
+    };
+    let (few, none) = (Plan { limit: 10, ..PLAN }, Plan { limit: 0, ..PLAN });
+    let refused = to_first_branch(&rt, alloc, &few, &Stops::NOWHERE);
+    assert!(rt; matches!(refused, Err(Fault::TooMany)));
+    let stopped = to_first_branch(&rt, alloc, &few, &limit)?;
+    assert!(rt; stopped.run.is_none() && stopped.steps == 6);
+    assert!(rt; stopped.ending == Ending::Limit);
+    let beyond = to_first_branch(&rt, alloc, &none, &limit);
+    assert!(rt; matches!(beyond, Err(Fault::BadPlan)));
     Ok(())
 }

@@ -1,7 +1,8 @@
 //! Command lines that are read, and such that are refused.
-use explore::Plan;
+use explore::{Plan, Stops};
 use std::test::Fail;
-use ttcnx::{Format, Line, LineError, read_line};
+use ttcn_syntax::Verdict;
+use ttcnx::{Format, Line, LineError, read_line, stops_of};
 
 const RUN: [&str; 6] = ["run", "a b.ttcn", "--testcase", "T", "--steps", "100000"];
 
@@ -15,7 +16,7 @@ fn commands(rt: HostRuntime) -> Result<(), Fail> {
     };
     let line = read_line(rt.alloc(), &RUN)?;
     let is_read =
-        matches!(&line, Line::Run { file, testcase, script: None, plan: found, json: false, explain: false }
+        matches!(&line, Line::Run { file, testcase, script: None, plan: found, json: false, explain: false, .. }
         if file.as_str() == "a b.ttcn" && testcase.as_str() == "T" && *found == plan);
     assert!(rt; is_read, "{line:?}");
     let words = [
@@ -40,7 +41,7 @@ fn commands(rt: HostRuntime) -> Result<(), Fail> {
     };
     let line = read_line(rt.alloc(), &words)?;
     let is_read =
-        matches!(&line, Line::Run { file, testcase, script: None, plan: found, json: true, explain: true }
+        matches!(&line, Line::Run { file, testcase, script: None, plan: found, json: true, explain: true, .. }
         if file.as_str() == "f" && testcase.as_str() == "" && *found == plan);
     assert!(rt; is_read, "{line:?}");
     let words = ["replay", "f", "--run", "a run", "--testcase", "T"];
@@ -159,6 +160,137 @@ fn formats(rt: HostRuntime) -> Result<(), Fail> {
     Ok(())
 }
 
+/// What else is asked of the runs, and that nothing is asked where no option says so.
+#[test]
+fn wishes(rt: HostRuntime) -> Result<(), Fail> {
+    let alloc = rt.alloc();
+    let line = read_line(alloc, &RUN)?;
+    let is_read = matches!(&line, Line::Run { wishes, .. }
+        if !wishes.until_complete && !wishes.partial && wishes.first.is_none()
+            && wishes.run_to.is_none() && wishes.run_to_block.is_none());
+    assert!(rt; is_read, "{line:?}");
+    let words = [
+        "run",
+        "f",
+        "--testcase",
+        "T",
+        "--until-complete",
+        "--partial",
+        "--first",
+        "fail",
+    ];
+    let line = read_line(alloc, &words)?;
+    let is_read = matches!(&line, Line::Run { plan, wishes, .. }
+        if plan.steps == 100_000 && wishes.until_complete && wishes.partial
+            && wishes.first == Some(Verdict::Fail));
+    assert!(rt; is_read, "{line:?}");
+    let stops = Stops {
+        at_limit: true,
+        when_complete: true,
+        at_mark: Some(3),
+    };
+    let is_meant = matches!(&line, Line::Run { wishes, .. } if stops_of(wishes) == stops);
+    assert!(rt; is_meant, "{line:?}");
+    let words = [
+        "run",
+        "f",
+        "--testcase",
+        "T",
+        "--steps=1",
+        "--run-to",
+        "12:3",
+    ];
+    let line = read_line(alloc, &words)?;
+    let is_read = matches!(&line, Line::Run { wishes, .. }
+        if wishes.run_to.as_ref().is_some_and(|place| place.as_str() == "12:3")
+            && wishes.run_to_block.is_none());
+    assert!(rt; is_read, "{line:?}");
+    let words = [
+        "run",
+        "f",
+        "--testcase",
+        "T",
+        "--steps=1",
+        "--run-to-block=14:1",
+    ];
+    let line = read_line(alloc, &words)?;
+    let is_read = matches!(&line, Line::Run { wishes, .. }
+        if wishes.run_to.is_none()
+            && wishes.run_to_block.as_ref().is_some_and(|place| place.as_str() == "14:1"));
+    assert!(rt; is_read, "{line:?}");
+    Ok(())
+}
+
+/// Each word that names a verdict.
+#[test]
+fn verdicts(rt: HostRuntime) -> Result<(), Fail> {
+    let named = [
+        ("none", Verdict::None),
+        ("pass", Verdict::Pass),
+        ("inconc", Verdict::Inconc),
+        ("fail", Verdict::Fail),
+        ("error", Verdict::Error),
+    ];
+    for (word, wanted) in named {
+        let words = ["run", "f", "--testcase", "T", "--steps=1", "--first", word];
+        let line = read_line(rt.alloc(), &words)?;
+        let is_read = matches!(&line, Line::Run { wishes, .. } if wishes.first == Some(wanted));
+        assert!(rt; is_read, "{line:?}");
+    }
+    Ok(())
+}
+
+/// A run has exactly one bound.
+#[test]
+fn bounds(rt: HostRuntime) -> Result<(), Fail> {
+    let alloc = rt.alloc();
+    let none = read_line(alloc, &["run", "f", "--testcase", "T"]);
+    let is_told = matches!(&none, Err(LineError::Bad(text))
+        if text.as_str().starts_with("error: the following required arguments were not provided:\n  <--steps <N>|--until-complete>\n"));
+    assert!(rt; is_told);
+    let words = [
+        "run",
+        "f",
+        "--testcase",
+        "T",
+        "--steps",
+        "3",
+        "--until-complete",
+    ];
+    let both = read_line(alloc, &words);
+    let is_told = matches!(&both, Err(LineError::Bad(text))
+        if text.as_str().starts_with("error: the argument '--steps <N>' cannot be used with '--until-complete'\n"));
+    assert!(rt; is_told);
+    Ok(())
+}
+
+/// A run to a place is wanted alone: not with another one, and not with what is about the report.
+#[test]
+fn aims(rt: HostRuntime) -> Result<(), Fail> {
+    let alloc = rt.alloc();
+    for aim in ["--run-to=1:1", "--run-to-block=1:1"] {
+        for other in ["--json", "--explain", "--partial", "--first=fail"] {
+            let words = ["run", "f", "--testcase", "T", "--steps=3", aim, other];
+            let refused = matches!(read_line(alloc, &words), Err(LineError::Bad(_)));
+            assert!(rt; refused, "{aim} {other}");
+        }
+    }
+    let words = [
+        "run",
+        "f",
+        "--testcase",
+        "T",
+        "--until-complete",
+        "--run-to=1:1",
+        "--run-to-block=1:1",
+    ];
+    let both = read_line(alloc, &words);
+    let is_told = matches!(&both, Err(LineError::Bad(text))
+        if text.as_str().starts_with("error: the argument '--run-to <LINE:COL>' cannot be used with '--run-to-block <LINE:COL>'\n"));
+    assert!(rt; is_told);
+    Ok(())
+}
+
 /// The version of the program.
 #[test]
 fn version(rt: HostRuntime) -> Result<(), Fail> {
@@ -185,13 +317,16 @@ fn faulty_lines(rt: HostRuntime) -> Result<(), Fail> {
         ("--piece", "65537"),
         ("--other", "1"),
         ("--testcase", "U"),
+        ("--first", "passed"),
+        ("--first", "PASS"),
     ];
     for (name, value) in numbers {
         let words = ["run", "f", "--testcase", "T", name, value];
         let refused = matches!(read_line(alloc, &words), Err(LineError::Bad(_)));
         assert!(rt; refused, "{name} {value}");
     }
-    let lines: [&[&str]; 20] = [
+    let lines: [&[&str]; 21] = [
+        &["check", "f", "--until-complete"],
         &[],
         &["walk"],
         &["check"],

@@ -1,16 +1,23 @@
 -- What is answered where the runs of a test case are explored until a stop, unless an allocation fails.
 use Rattle.std.specs.Prelude.{◌≡◌, ◌<◌, ◌≤◌, ℕ, false, List, Result, Ok, Err}
+use Rattle.std.specs.Option.{option_map}
 use Rattle.explore.specs.declared.ending.Stops.{Stops}
 use Rattle.laws_live.specs.Parts.{CountsParts}
 use Rattle.search_layer.specs.Limits.{IsWithinLimits}
 use Rattle.search_layer.specs.declared.plan.Plan.{Plan}
+use Rattle.semantics.specs.Configurations.{badness}
 use Rattle.semantics.specs.Snapshots.{Test}
 use Rattle.ttcnx.specs.Answer.{IsAnswer}
 use Rattle.ttcnx.specs.Named.{HasNoTest, IsTestOf, Source}
 use Rattle.ttcnx.specs.declared.fault.Fault.{Fault}
 use Rattle.ttcnx.specs.declared.fault.Fault.TheVariants as fault
 use Rattle.ttcnx.specs.declared.until.Until.{Until}
+use Rattle.ttcnx_command_line.specs.declared.command.Wishes.{Wishes}
 use Rattle.ttcnx_runs.specs.Endings.{HaveEnded}
+
+-- where an exploration ends by what is wished: at the limit, where the report is complete, where some run ends with the verdict
+abbrev pub stops_of : Wishes → Stops
+stops_of wishes = record { at_limit = wishes.partial; when_complete = wishes.until_complete; at_mark = option_map badness wishes.first }
 
 -- the plan, but for its steps
 abbrev pub with_steps : Plan → ℕ → Plan

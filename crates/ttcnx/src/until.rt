@@ -4,7 +4,7 @@ ghost use Rattle.search_layer.specs.Limits.{IsWithinLimits};
 ghost use Rattle.ttcn_syntax.specs.Limits.{longest_text};
 ghost use Rattle.ttcnx.specs.Fault.{lexical_fault};
 ghost use Rattle.ttcnx.specs.Named.{source};
-ghost use Rattle.ttcnx.specs.Until.{IsAnswerUntil};
+ghost use Rattle.ttcnx.specs.Until.{IsAnswerUntil, stops_of};
 
 use crate::fault::Fault;
 use crate::run::report_of;
@@ -15,7 +15,23 @@ use std::alloc::Global;
 use std::thread::Threads;
 use ttcn_step::Machine;
 use ttcn_syntax::LexError;
-use ttcnx_runs::{Extent, explore_runs_until};
+use ttcnx_command_line::Wishes;
+use ttcnx_runs::{Extent, explore_runs_until, mark_of};
+
+/// Where an exploration ends by what is wished.
+pub fn stops_of(wishes: &Wishes) -> Stops
+    ensures { result ≡ stops_of wishes.now }
+{
+    let at_mark = match wishes.first {
+        Some(verdict) => Some(mark_of(verdict)),
+        None => None,
+    };
+    Stops {
+        at_limit: wishes.partial,
+        when_complete: wishes.until_complete,
+        at_mark,
+    }
+}
 
 /// A report, which is of all runs of at most its steps, and why it is of no longer ones.
 #[derive(Debug, Drop)]

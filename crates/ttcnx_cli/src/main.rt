@@ -2,6 +2,7 @@
 #![tactic(auto)]
 
 mod program;
+mod run_command;
 
 use std::process::ExitCode;
 

@@ -1,28 +1,30 @@
 //! What the program does: from its words to what it writes and the status that it exits with.
-use explore::{NoGate, Plan};
-use std::alloc::AllocError;
+use crate::run_command::{self, Request, Telling};
+use std::alloc::{AllocError, Global};
 use std::io::{self, ErrorKind, Read};
 use std::rt::{Env, Files};
 use std::thread::Threads;
 use std::{env, fs};
 use ttcn_syntax::LONGEST_TEXT;
 use ttcnx::{
-    Counted, Fault, Line, LineError, StreamFault, check_answer, coarsen_text, double_text,
-    explain_text, fault_line, read_line, replay_text, run_explained, run_stream, status,
+    Fault, Line, LineError, check_answer, coarsen_text, double_text, explain_text, fault_line,
+    read_line, replay_text, status,
 };
 
 /// How many bytes of a module or a script are read: a text that has them all is refused as too long.
-const ENOUGH: u64 = LONGEST_TEXT as u64 + 1;
+pub(crate) const ENOUGH: u64 = LONGEST_TEXT as u64 + 1;
 
 /// The script of a command that is given none: nothing comes in.
 const NO_SCRIPT: &[u8] = b"{}";
 
-/// Why a command line was not answered.
+/// Why a command line was not answered, or not as it asks.
 #[derive(Debug, Drop)]
-enum Stop {
+pub(crate) enum Stop {
     /// The words are at fault, as the text says.
     Words(String),
     Fault(Fault),
+    /// A line tells it, and there is a status to exit with.
+    Told(String, u8),
 }
 
 impl From<AllocError> for Stop {
@@ -50,6 +52,10 @@ where
             2
         }
         Err(Stop::Fault(fault)) => tell(rt, &fault),
+        Err(Stop::Told(line, status)) => {
+            let _ = rt.eprintln(&line);
+            status
+        }
     }
 }
 
@@ -76,7 +82,7 @@ where
     let words = words(rt)?;
     let texts: Vec<&str> = words.iter().map(|word| word.as_str()).collect(alloc)?;
     match read_line(alloc, texts.get(1..).unwrap_or(&[])) {
-        Ok(line) => Ok(answer_line(rt, line)?),
+        Ok(line) => answer_line(rt, line),
         Err(LineError::Help(text)) => Ok(print(rt, text.as_bytes())?),
         Err(LineError::Bad(text)) => Err(Stop::Words(text)),
         Err(LineError::Memory(_)) => Err(Stop::Fault(Fault::Memory)),
@@ -84,14 +90,14 @@ where
 }
 
 /// Answers a command.
-fn answer_line<R>(rt: &R, line: Line) -> Result<(), Fault>
+fn answer_line<R>(rt: &R, line: Line) -> Result<(), Stop>
 where
     R: Files + Print + AllocGlobal + Threads + Sync,
 {
     match line {
         Line::Check { file } => {
             let text = read_bytes(rt, file, ENOUGH)?;
-            print(rt, check_answer(rt.alloc(), &text)?.as_bytes())
+            Ok(print(rt, check_answer(rt.alloc(), &text)?.as_bytes())?)
         }
         Line::Run {
             file,
@@ -99,125 +105,96 @@ where
             script,
             plan,
             json,
-            explain: false,
+            explain,
+            wishes,
         } => {
-            let script = read_script(rt, script)?;
-            explore(rt, &script, file, testcase.as_str(), &plan, json)
-        }
-        Line::Run {
-            file,
-            testcase,
-            script,
-            plan,
-            json,
-            explain: true,
-        } => {
-            let script = read_script(rt, script)?;
-            let text = read_bytes(rt, file, ENOUGH)?;
-            let name = testcase.as_str();
-            print(
-                rt,
-                &run_explained(rt, rt.alloc(), &text, &script, name, &plan, &NoGate, json)?,
-            )
+            let request = Request {
+                file,
+                testcase,
+                script,
+                plan,
+                telling: Telling { json, explain },
+                wishes,
+            };
+            run_command::run(rt, request)
         }
         Line::Replay {
             file,
             testcase,
             script,
             run,
-        } => {
-            let given = read_all(rt, script, file, run)?;
-            let name = testcase.as_str();
-            print(
-                rt,
-                &replay_text(rt.alloc(), &given.module, name, &given.run, &given.script)?,
+        } => follow(rt, script, file, run, |alloc, given| {
+            replay_text(
+                alloc,
+                &given.module,
+                testcase.as_str(),
+                &given.run,
+                &given.script,
             )
-        }
+        }),
         Line::Coarsen {
             file,
             testcase,
             script,
             run,
-        } => {
-            let given = read_all(rt, script, file, run)?;
-            let name = testcase.as_str();
-            print(
-                rt,
-                &coarsen_text(rt.alloc(), &given.module, name, &given.run, &given.script)?,
+        } => follow(rt, script, file, run, |alloc, given| {
+            coarsen_text(
+                alloc,
+                &given.module,
+                testcase.as_str(),
+                &given.run,
+                &given.script,
             )
-        }
+        }),
+        Line::Double {
+            file,
+            testcase,
+            script,
+            run,
+        } => follow(rt, script, file, run, |alloc, given| {
+            double_text(
+                alloc,
+                &given.module,
+                testcase.as_str(),
+                &given.run,
+                &given.script,
+            )
+        }),
         Line::Explain {
             file,
             testcase,
             script,
             run,
             format,
-        } => {
-            let given = read_all(rt, script, file, run)?;
-            let name = testcase.as_str();
+        } => follow(rt, script, file, run, |alloc, given| {
             let (module, run, script) = (&given.module, &given.run, &given.script);
-            print(
-                rt,
-                &explain_text(rt.alloc(), module, name, run, script, format)?,
-            )
-        }
-        Line::Double {
-            file,
-            testcase,
-            script,
-            run,
-        } => {
-            let given = read_all(rt, script, file, run)?;
-            let name = testcase.as_str();
-            print(
-                rt,
-                &double_text(rt.alloc(), &given.module, name, &given.run, &given.script)?,
-            )
-        }
+            explain_text(alloc, module, testcase.as_str(), run, script, format)
+        }),
     }
+}
+
+/// Reads the files of a command about a run, and writes what is answered for them.
+fn follow<R, F>(
+    rt: &R,
+    script: Option<String>,
+    file: String,
+    run: String,
+    answer: F,
+) -> Result<(), Stop>
+where
+    R: Files + Print + AllocGlobal,
+    F: Fn(Global, &Given) -> Result<Vec<u8>, Fault>,
+    requires { F.IsAlwaysCallable answer }
+{
+    let given = read_all(rt, script, file, run)?;
+    Ok(print(rt, &answer(rt.alloc(), &given)?)?)
 }
 
 /// Writes bytes to the standard output.
-fn print<R: Print>(rt: &R, bytes: &[u8]) -> Result<(), Fault> {
+pub(crate) fn print<R: Print>(rt: &R, bytes: &[u8]) -> Result<(), Fault> {
     match Print::write_all(rt, bytes) {
         Ok(()) => Ok(()),
         Err(_) => Err(Fault::CannotWrite),
-    }
-}
-
-/// Explores the runs of a test case of the module in a file under a script, and writes the report to the standard
-/// output.
-fn explore<R>(
-    rt: &R,
-    script: &[u8],
-    file: String,
-    testcase: &str,
-    plan: &Plan,
-    json: bool,
-) -> Result<(), Fault>
-where
-    R: Files + Print + AllocGlobal + Threads + Sync,
-{
-    let mut reader = match fs::open(rt, file.as_str()) {
-        Ok(opened) => Counted::new(opened),
-        Err(error) => return Err(unread(file, &error)),
-    };
-    let mut writer = Counted::new(io::writer(rt));
-    match run_stream(
-        rt,
-        rt.alloc(),
-        &mut reader,
-        &mut writer,
-        script,
-        testcase,
-        plan,
-        json,
-        &NoGate,
-    ) {
-        Ok(()) => Ok(()),
-        Err(StreamFault::Read) => Err(Fault::CannotRead(file)),
-        Err(StreamFault::Write) => Err(Fault::CannotWrite),
-        Err(StreamFault::Refused(fault)) => Err(fault),
     }
 }
 
@@ -247,7 +224,10 @@ fn read_all<R: Files + AllocGlobal>(
 }
 
 /// The bytes of the script, which is read before all other files.
-fn read_script<R: Files + AllocGlobal>(rt: &R, file: Option<String>) -> Result<Vec<u8>, Fault> {
+pub(crate) fn read_script<R: Files + AllocGlobal>(
+    rt: &R,
+    file: Option<String>,
+) -> Result<Vec<u8>, Fault> {
     match file {
         Some(file) => read_bytes(rt, file, ENOUGH),
         None => Ok(Vec::from_slice(rt.alloc(), NO_SCRIPT)?),
@@ -267,7 +247,11 @@ fn words<R: Env + AllocGlobal>(rt: &R) -> Result<Vec<String>, Stop> {
 }
 
 /// The bytes of a file, or so many of them where it has more.
-fn read_bytes<R: Files + AllocGlobal>(rt: &R, file: String, most: u64) -> Result<Vec<u8>, Fault> {
+pub(crate) fn read_bytes<R: Files + AllocGlobal>(
+    rt: &R,
+    file: String,
+    most: u64,
+) -> Result<Vec<u8>, Fault> {
     match bytes_of(rt, file.as_str(), most) {
         Ok(bytes) => Ok(bytes),
         Err(error) => Err(unread(file, &error)),
@@ -275,7 +259,7 @@ fn read_bytes<R: Files + AllocGlobal>(rt: &R, file: String, most: u64) -> Result
 }
 
 /// Why the file of this name was not read.
-fn unread(file: String, error: &io::Error) -> Fault {
+pub(crate) fn unread(file: String, error: &io::Error) -> Fault {
     if error.kind() == ErrorKind::OutOfMemory {
         Fault::Memory
     } else {

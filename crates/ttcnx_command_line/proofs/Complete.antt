@@ -1,14 +1,14 @@
 -- Words that have no fault give one of the six subcommands, with all that it takes.
-use Rattle.std.proofs.Common.{◌≡◌, ◌∙◌, ◌==◌, ◌-◌, ◌&&◌, ◌||◌, ℕ, Bool, cond, inl, inr, true, false, not, refl, sym, ap, subst, arith, List, [], ◌∷◌, Option, Some, None, is_some, option_map, codes, true≢false}
+use Rattle.std.proofs.Common.{◌≡◌, ◌∙◌, ◌⊎◌, ◌==◌, ◌-◌, ◌&&◌, ◌||◌, ℕ, Bool, cond, inl, inr, true, false, not, refl, sym, ap, subst, arith, List, [], ◌∷◌, Option, Some, None, is_some, option_map, codes, true≢false}
 use Rattle.std.specs.List.{find, list_any}
-use Rattle.std.specs.Prelude.{slice_get}
+use Rattle.std.specs.Prelude.{option_and_then, slice_get}
 use Rattle.std.specs.Option.{option_map_or}
 use Rattle.std.specs.Str.{bytes_eq}
 use Rattle.std.proofs.lemmas.Slice.Eq.{bytes_eq-Decides}
 use Rattle.clap.specs.Facts.{explicit_source}
 use Rattle.clap.specs.Values.{read_as, reading_of}
 use Rattle.clap.specs.ValueTests.{accepts}
-use Rattle.clap.specs.Walk.{Held, Names, finished, settled, walk, Row, Rule, Text, answers_to, first_of, nothing_held, one_of, rows_after, stop_after, walk_from}
+use Rattle.clap.specs.Walk.{Held, Names, finished, settled, walk, Row, Rule, Text, answers_to, first_of, nothing_held, one_of, row_text, rows_after, stop_after, walk_from}
 use Rattle.clap.specs.Simple.{App, Shape, built, entered, label_of, names_of, new_rule, rows_at, subcommand_of}
 use Rattle.clap.specs.Faults.{defaults_fault, entered_fault, fault_of, level_fault, settle_fault, walk_fault}
 use Rattle.clap.specs.Kinds.{Kinds, check_kinds, or_else}
@@ -16,13 +16,15 @@ use Rattle.clap.specs.Takes.{is_given}
 use Rattle.clap.specs.declared.builder.value_parser.ValueParser.{ValueParser}
 use Rattle.clap.specs.declared.builder.value_parser.ValueParser.TheVariants as vp
 use Rattle.clap.proofs.ValueTestLemmas.{accepts-Accepts}
-use Rattle.ttcnx_command_line.specs.App.{format_words, names_of_words, ttcnx_app}
-use Rattle.ttcnx_command_line.specs.Command.{format_word}
+use Rattle.ttcn_syntax.specs.declared.tree.statement.Verdict.{Verdict}
+use Rattle.ttcn_syntax.specs.declared.tree.statement.Verdict.TheVariants as verdict
+use Rattle.ttcnx_command_line.specs.App.{format_words, names_of_words, ttcnx_app, verdict_words}
+use Rattle.ttcnx_command_line.specs.Command.{format_word, verdict_word}
 use Rattle.ttcnx_command_line.specs.declared.command.Format.{Format}
 use Rattle.ttcnx_command_line.specs.declared.command.Format.TheVariants as format
-use Rattle.ttcnx_command_line.specs.internal.Given.{GivesCommand, GivesFlag, GivesFormat, GivesNumber, GivesRun, GivesRunFile, GivesText}
+use Rattle.ttcnx_command_line.specs.internal.Given.{GivesCommand, GivesFlag, GivesFormat, GivesNumber, GivesRun, GivesRunFile, GivesText, MayGiveNumber, MayGiveVerdict}
 use Rattle.ttcnx_command_line.proofs.Walks.{IsNoHelp, none-of, walk-enters}
-use Rattle.ttcnx_command_line.proofs.Fills.{AllOf, Fills, FirstPasses, HasValue, IsWanted, level-values, no-check}
+use Rattle.ttcnx_command_line.proofs.Fills.{AllOf, Fills, FirstPasses, HasValue, IsWanted, MayHave, level-rows, level-values, no-check}
 
 -- ---- from a first value to what is read
 
@@ -58,27 +60,67 @@ number-from rows a low high is v =
 flag-from : (rows : List Row) (a : Rule) → a.parser ≡ Some vp.Bool → HasValue rows a → GivesFlag rows a.id
 flag-from rows a is v = passed rows a vp.Bool is v
 
--- a text that is one of the words names a format
-named : (text : Text) → accepts false (vp.Names (names_of_words format_words)) text ≡ true → (f : Format) × (text ≡ format_word f)
-named text = go (bytes_eq (codes "text") text) (bytes_eq (codes "json") text) (bytes_eq (codes "mermaid") text) (bytes_eq (codes "svg") text) refl refl refl refl
-  where
-    is : (f : Format) → bytes_eq (format_word f) text ≡ true → (g : Format) × (text ≡ format_word g)
-    is f hit = (f, sym ((bytes_eq-Decides (format_word f) text).0 hit))
+-- ---- words that name something
 
-    go : (a b c d : Bool) → bytes_eq (codes "text") text ≡ a → bytes_eq (codes "json") text ≡ b → bytes_eq (codes "mermaid") text ≡ c → bytes_eq (codes "svg") text ≡ d
-        → (a || (b || (c || (d || false)))) ≡ true → (f : Format) × (text ≡ format_word f)
-    go true b c d at_a at_b at_c at_d any = is format.Text at_a
-    go false true c d at_a at_b at_c at_d any = is format.Json at_b
-    go false false true d at_a at_b at_c at_d any = is format.Mermaid at_c
-    go false false false true at_a at_b at_c at_d any = is format.Svg at_d
-    go false false false false at_a at_b at_c at_d any = absurd (true≢false (sym any))
+abbrev IsOneOf : List Text → Text → Type 0
+IsOneOf [] text = ⊥
+IsOneOf (word ∷ words) text = (text ≡ word) ⊎ IsOneOf words text
+
+one-of-words : (words : List Text) (text : Text) → accepts false (vp.Names (names_of_words words)) text ≡ true → IsOneOf words text
+one-of-words [] text e = absurd (true≢false (sym e))
+one-of-words (word ∷ words) text e = go (bytes_eq word text) refl e (one-of-words words text)
+  where
+    go : (b : Bool) → bytes_eq word text ≡ b → (b || accepts false (vp.Names (names_of_words words)) text) ≡ true
+        → (accepts false (vp.Names (names_of_words words)) text ≡ true → IsOneOf words text) → IsOneOf (word ∷ words) text
+    go true hit any rest = inl (sym ((bytes_eq-Decides word text).0 hit))
+    go false miss any rest = inr (rest any)
+
+word-from : (rows : List Row) (a : Rule) (words : List Text) → a.ignore_case ≡ false → a.parser ≡ Some (vp.Names (names_of_words words)) → HasValue rows a
+    → (text : Text) × (first_of a.id rows ≡ Some text) × IsOneOf words text
+word-from rows a words as_written is v =
+    let text = first-passed rows a (vp.Names (names_of_words words)) is v in
+    (text.0, text.1, one-of-words words text.0 (subst (λ b. accepts b (vp.Names (names_of_words words)) text.0 ≡ true) as_written text.2))
+
+named-format : (text : Text) → IsOneOf format_words text → (f : Format) × (text ≡ format_word f)
+named-format text (inl e) = (format.Text, e)
+named-format text (inr (inl e)) = (format.Json, e)
+named-format text (inr (inr (inl e))) = (format.Mermaid, e)
+named-format text (inr (inr (inr (inl e)))) = (format.Svg, e)
+named-format text (inr (inr (inr (inr none)))) = absurd none
+
+named-verdict : (text : Text) → IsOneOf verdict_words text → (v : Verdict) × (text ≡ verdict_word v)
+named-verdict text (inl e) = (verdict.None, e)
+named-verdict text (inr (inl e)) = (verdict.Pass, e)
+named-verdict text (inr (inr (inl e))) = (verdict.Inconc, e)
+named-verdict text (inr (inr (inr (inl e)))) = (verdict.Fail, e)
+named-verdict text (inr (inr (inr (inr (inl e))))) = (verdict.Error, e)
+named-verdict text (inr (inr (inr (inr (inr none))))) = absurd none
 
 format-from : (rows : List Row) (a : Rule) → a.id ≡ codes "format" → a.ignore_case ≡ false → a.parser ≡ Some (vp.Names (names_of_words format_words)) → HasValue rows a
     → GivesFormat rows
 format-from rows a own as_written is v =
-    let text = first-passed rows a (vp.Names (names_of_words format_words)) is v in
-    let f = named text.0 (subst (λ b. accepts b (vp.Names (names_of_words format_words)) text.0 ≡ true) as_written text.2) in
+    let text = word-from rows a format_words as_written is v in
+    let f = named-format text.0 text.2 in
     (f.0, subst (λ id. first_of id rows ≡ Some (format_word f.0)) own (text.1 ∙ ap Some f.1))
+
+-- ---- what may be left out
+
+number-if-there : (rows : List Row) (a : Rule) (low high : ℕ) → a.parser ≡ Some (vp.Unsigned low high) → MayHave rows a → MayGiveNumber rows a.id low high
+number-if-there rows a low high is may = go (find (λ r. bytes_eq r.id a.id) rows) refl
+  where
+    go : (o : Option Row) → find (λ r. bytes_eq r.id a.id) rows ≡ o → MayGiveNumber rows a.id low high
+    go None none = inl (ap (option_and_then row_text) none, ap (option_and_then (λ r. slice_get r.values 0)) none)
+    go (Some r) found = inr (number-from rows a low high is (may r found))
+
+verdict-if-there : (rows : List Row) (a : Rule) → a.ignore_case ≡ false → a.parser ≡ Some (vp.Names (names_of_words verdict_words)) → MayHave rows a → MayGiveVerdict rows a.id
+verdict-if-there rows a as_written is may = go (find (λ r. bytes_eq r.id a.id) rows) refl
+  where
+    go : (o : Option Row) → find (λ r. bytes_eq r.id a.id) rows ≡ o → MayGiveVerdict rows a.id
+    go None none = inl (ap (option_and_then (λ r. slice_get r.values 0)) none)
+    go (Some r) found =
+        let text = word-from rows a verdict_words as_written is (may r found) in
+        let v = named-verdict text.0 text.2 in
+        inr (v.0, text.1 ∙ ap Some v.1)
 
 -- ---- the command as clap builds it
 
@@ -136,18 +178,33 @@ run-fills = (
       (
         record { own = refl; action = refl; full = inr (inl (omega arith)); defaults = tt },
         (
-          record { own = refl; action = refl; full = inr (inl (omega arith)); defaults = refl },
+          record { own = refl; action = refl; full = inr (inr tt); defaults = refl },
           (
             record { own = refl; action = refl; full = inr (inl (omega arith)); defaults = refl },
             (
               record { own = refl; action = refl; full = inr (inl (omega arith)); defaults = refl },
               (
-                record { own = refl; action = refl; full = inr (inr tt); defaults = refl },
+                record { own = refl; action = refl; full = inr (inl (omega arith)); defaults = refl },
                 (
                   record { own = refl; action = refl; full = inr (inr tt); defaults = refl },
                   (
-                    record { own = refl; action = refl; full = inl refl; defaults = tt },
-                    tt,
+                    record { own = refl; action = refl; full = inr (inr tt); defaults = refl },
+                    (
+                      record { own = refl; action = refl; full = inr (inr tt); defaults = refl },
+                      (
+                        record { own = refl; action = refl; full = inr (inl (omega arith)); defaults = tt },
+                        (
+                          record { own = refl; action = refl; full = inr (inl (omega arith)); defaults = tt },
+                          (
+                            record { own = refl; action = refl; full = inr (inl (omega arith)); defaults = tt },
+                            (
+                              record { own = refl; action = refl; full = inl refl; defaults = tt },
+                              tt,
+                            ),
+                          ),
+                        ),
+                      ),
+                    ),
                   ),
                 ),
               ),
@@ -212,17 +269,23 @@ check-given words e =
 run-given : (words : List Text) → level_fault run_built [] nothing_held words false [] ≡ [] → GivesRun (rows_after run_built.rules [] words)
 run-given words e =
     let v = level-values run_built words run-fills e in
+    let may = level-rows run_built words run-fills e in
     record {
       file = text-from _ _ (v.0 (inl refl));
       testcase = text-from _ _ (v.1.0 (inl refl));
       plan = record {
-        steps = number-from _ _ 0 100000 refl (v.1.1.1.0 (inl refl));
-        limit = number-from _ _ 1 10000000 refl (v.1.1.1.1.0 (inr tt));
-        workers = number-from _ _ 1 64 refl (v.1.1.1.1.1.0 (inr tt));
-        piece = number-from _ _ 1 65536 refl (v.1.1.1.1.1.1.0 (inr tt));
+        steps = number-if-there _ _ 0 100000 refl may.1.1.1.0;
+        limit = number-from _ _ 1 10000000 refl (v.1.1.1.1.1.0 (inr tt));
+        workers = number-from _ _ 1 64 refl (v.1.1.1.1.1.1.0 (inr tt));
+        piece = number-from _ _ 1 65536 refl (v.1.1.1.1.1.1.1.0 (inr tt));
       };
-      json = flag-from _ _ refl (v.1.1.1.1.1.1.1.0 (inr tt));
-      explain = flag-from _ _ refl (v.1.1.1.1.1.1.1.1.0 (inr tt));
+      json = flag-from _ _ refl (v.1.1.1.1.1.1.1.1.0 (inr tt));
+      explain = flag-from _ _ refl (v.1.1.1.1.1.1.1.1.1.0 (inr tt));
+      wishes = record {
+        until_complete = flag-from _ _ refl (v.1.1.1.1.0 (inr tt));
+        partial = flag-from _ _ refl (v.1.1.1.1.1.1.1.1.1.1.0 (inr tt));
+        first = verdict-if-there _ _ refl refl may.1.1.1.1.1.1.1.1.1.1.1.0;
+      };
     }
 
 run-file-given : (s : Shape) → s.rules ≡ run_file_rules → (words : List Text) → level_fault s [] nothing_held words false [] ≡ [] → GivesRunFile (rows_after s.rules [] words)

@@ -4,9 +4,10 @@ use Rattle.clap.specs.Walk.{Row, Text, first_of, one_of}
 use Rattle.clap.specs.Simple.{subcommand_of}
 use Rattle.clap.specs.Faults.{fault_of}
 use Rattle.clap.specs.Takes.{takes}
-use Rattle.clap.specs.declared.error.kind.ErrorKind.TheVariants.{DisplayHelp, DisplayVersion, InvalidSubcommand, InvalidValue, MissingRequiredArgument, MissingSubcommand, UnknownArgument, ValueValidation}
+use Rattle.clap.specs.declared.error.kind.ErrorKind.TheVariants.{ArgumentConflict, DisplayHelp, DisplayVersion, InvalidSubcommand, InvalidValue, MissingRequiredArgument, MissingSubcommand, UnknownArgument, ValueValidation}
 use Rattle.clap.proofs.OnLiterals.{clap_on_literals}
 use Rattle.ttcnx_command_line.specs.App.{ttcnx_app}
+use Rattle.ttcnx_command_line.specs.Command.{faults_of}
 
 abbrev run_words : List Text → List Text
 run_words more = codes "run" ∷ codes "x1.ttcn" ∷ codes "--testcase" ∷ codes "TC" ∷ more
@@ -80,9 +81,25 @@ a-format-is-in-small-letters : fault_of ttcnx_app (explain_words (codes "--forma
 unfolding clap_on_literals
 a-format-is-in-small-letters = refl
 
-steps-are-needed : fault_of ttcnx_app (run_words []) ≡ MissingRequiredArgument ∷ []
+a-bound-is-needed : faults_of (run_words []) ≡ MissingRequiredArgument ∷ []
 unfolding clap_on_literals
-steps-are-needed = refl
+a-bound-is-needed = refl
+
+one-bound-is-enough : (faults_of (run_words (codes "--steps=8" ∷ [])) ≡ []) × (faults_of (run_words (codes "--until-complete" ∷ [])) ≡ [])
+unfolding clap_on_literals
+one-bound-is-enough = (refl, refl)
+
+two-bounds-are-in-conflict : faults_of (run_words (codes "--steps=8" ∷ codes "--until-complete" ∷ [])) ≡ ArgumentConflict ∷ []
+unfolding clap_on_literals
+two-bounds-are-in-conflict = refl
+
+a-verdict-is-read : value_in (codes "first") (subcommand_of ttcnx_app (run_words (codes "--steps=8" ∷ codes "--first=fail" ∷ []))) ≡ Some (Some (codes "fail"))
+unfolding clap_on_literals
+a-verdict-is-read = refl
+
+another-verdict : fault_of ttcnx_app (run_words (codes "--steps=8" ∷ codes "--first=red" ∷ [])) ≡ InvalidValue ∷ []
+unfolding clap_on_literals
+another-verdict = refl
 
 check-takes-no-script : fault_of ttcnx_app (codes "check" ∷ codes "x1.ttcn" ∷ codes "--script=s.json" ∷ []) ≡ UnknownArgument ∷ []
 unfolding clap_on_literals

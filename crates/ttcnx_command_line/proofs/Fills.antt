@@ -303,10 +303,19 @@ wanted-values c [] rows fit all need default = tt
 wanted-values c (a ∷ rest) rows fit all need default =
     (wanted-value c rows a fit.0 all need.0 default.0, wanted-values c rest rows fit.1 all need.1 default.1)
 
--- words that have no fault at a command with no subcommand give each argument that is required or has a default a value
-pub level-values : (s : Shape) (words : List Text) → AllOf (Fills s.rules) s.rules → level_fault s [] nothing_held words false [] ≡ []
-    → AllOf (λ a. IsWanted a → HasValue (rows_after s.rules [] words) a) s.rules
-level-values s words fit e =
+-- a row of the argument that is there has a first value that the argument takes
+abbrev pub MayHave : List Row → Rule → Type 0
+MayHave rows a = (r : Row) → find (λ x. bytes_eq x.id a.id) rows ≡ Some r → HasValue rows a
+
+row-values : (c xs : List Rule) (rows : List Row) → AllOf (Fills c) xs → AllFilled c rows → AllOf (MayHave rows) xs
+row-values c [] rows fit all = tt
+row-values c (a ∷ rest) rows fit all = (row-value c rows a fit.0 all, row-values c rest rows fit.1 all)
+
+-- words that have no fault at a command with no subcommand give each argument that is required or has a default a value,
+-- and the rows of the others, where there are such, have values that they take
+level-both : (s : Shape) (words : List Text) → AllOf (Fills s.rules) s.rules → level_fault s [] nothing_held words false [] ≡ []
+    → AllOf (λ a. IsWanted a → HasValue (rows_after s.rules [] words) a) s.rules × AllOf (MayHave (rows_after s.rules [] words)) s.rules
+level-both s words fit e =
     let end = (walk s.rules [] nothing_held words).held in
     let first = none-of _ _ e in
     let second = none-of _ _ first.1 in
@@ -315,5 +324,15 @@ level-values s words fit e =
     let walked : AllFilled s.rules end.rows = walk-keeps s (AllFilled s.rules) keeps [] (walk_from nothing_held) words tt first.0 in
     let settled_filled : AllFilled s.rules (settled s.rules end).rows = settle-keeps s (AllFilled s.rules) keeps end.pending end.rows walked second.0 in
     let all : AllFilled s.rules (finished s.rules end) = defaults-filled s.rules s.rules fit (settled s.rules end).rows settled_filled in
-    let want = no-want s.subcommand_negates_reqs _ (no-check _ _ _ third.1).1 in
-    wanted-values s.rules s.rules (finished s.rules end) fit all (all-needed s.rules (finished s.rules end) want) (all-defaults s.rules (settled s.rules end).rows)
+    let want = no-want s.subcommand_negates_reqs _ (no-check _ _ _ third.1).1 in (
+      wanted-values s.rules s.rules (finished s.rules end) fit all (all-needed s.rules (finished s.rules end) want) (all-defaults s.rules (settled s.rules end).rows),
+      row-values s.rules s.rules (finished s.rules end) fit all,
+    )
+
+pub level-values : (s : Shape) (words : List Text) → AllOf (Fills s.rules) s.rules → level_fault s [] nothing_held words false [] ≡ []
+    → AllOf (λ a. IsWanted a → HasValue (rows_after s.rules [] words) a) s.rules
+level-values s words fit e = (level-both s words fit e).0
+
+pub level-rows : (s : Shape) (words : List Text) → AllOf (Fills s.rules) s.rules → level_fault s [] nothing_held words false [] ≡ []
+    → AllOf (MayHave (rows_after s.rules [] words)) s.rules
+level-rows s words fit e = (level-both s words fit e).1

@@ -2,14 +2,13 @@
 use Rattle.std.proofs.Common.{◌≡◌, ◌∙◌, ◌&&◌, Bool, cond, true, false, refl, sym, ap, ap₂, List, [], ◌∷◌, map, Option, Some, None, is_some, option_map}
 use Rattle.std.specs.List.{find}
 use Rattle.std.specs.Option.{option_map_or}
-use Rattle.std.specs.Borrow.{Bor}
 use Rattle.clap.specs.Kinds.{Kinds}
 use Rattle.clap.specs.Walk.{Held, Names, Text, Walk, answers_to, nothing_held, stop_after, texts, walk, walk_from}
 use Rattle.clap.specs.Simple.{App, Shape, built, entered, label_of, names_of, rows_at, subcommand_of}
 use Rattle.clap.specs.Faults.{fault_of, built_fault, entered_fault, level_fault}
 use Rattle.clap.specs.Takes.{takes, built_takes, entered_passes, level_passes}
-use Rattle.ttcnx_command_line.specs.App.{app_with, format_words, names_of_words, ttcnx_app}
-use Rattle.ttcnx_command_line.specs.internal.Named.{HoldsAtNames}
+use Rattle.ttcnx_command_line.specs.App.{Lists, app_with, format_words, lists_of, ttcnx_app, verdict_words}
+use Rattle.ttcnx_command_line.specs.internal.Named.{HasWords}
 use Rattle.ttcnx_command_line.proofs.Places.{moved_shape, rows-same, walks-same}
 use Rattle.ttcnx_command_line.proofs.PlacesFaults.{level-fault-same}
 use Rattle.ttcnx_command_line.proofs.PlacesTakes.{level-passes-same}
@@ -89,12 +88,15 @@ takes-same a h words = ap₂ (λ stop names. takes_from h words (moved_app a) st
 
 -- ---- the commands of `ttcnx`
 
--- the command stands for `ttcnx`, with the names of the formats at some place
+-- the command stands for `ttcnx`, with the lists of names at some places
 abbrev pub IsTtcnx : App → Type 0
-IsTtcnx a = HoldsAtNames (λ names. a ≡ app_with names)
+IsTtcnx a = (lists : Lists) × HasWords lists × (a ≡ app_with lists)
 
-moved-built : (names : Bor (List (Bor Text))) → texts names.now ≡ format_words → built ttcnx_app ≡ moved_app (built (app_with names))
-moved-built names same = ap (λ words. built (app_with (names_of_words words))) (sym same)
+lists-same : (lists : Lists) → HasWords lists → lists_of format_words verdict_words ≡ lists_of (texts lists.formats.now) (texts lists.verdicts.now)
+lists-same lists h = ap₂ lists_of (sym h.formats) (sym h.verdicts)
+
+moved-built : (lists : Lists) → HasWords lists → built ttcnx_app ≡ moved_app (built (app_with lists))
+moved-built lists words = ap (λ l. built (app_with l)) (lists-same lists words)
 
 pub same-faults : (a : App) (words : List Text) → IsTtcnx a → fault_of ttcnx_app words ≡ fault_of a words
 same-faults a words is = ap (λ b. built_fault b nothing_held words) (moved-built is.0 is.1) ∙ fault-same (built (app_with is.0)) nothing_held words

@@ -18,9 +18,9 @@ value_option name = record (new_rule name) { long = Some name; value_names = 1 }
 abbrev pub needed_option : Text → Rule
 needed_option name = record (value_option name) { required = true }
 
--- `--steps`, a number from 0 to 100,000 that has to be given
-abbrev pub steps_option : Rule
-steps_option = record (needed_option (codes "steps")) { parser = Some (Unsigned 0 100000) }
+-- a number from 0 to `most`, which may be left out
+abbrev pub range_option : Text → ℕ → Rule
+range_option name most = record (value_option name) { parser = Some (Unsigned 0 most) }
 
 -- a number from 1 to `most`, which is `default` where it is left out
 abbrev pub number_option : Text → ℕ → Text → Rule
@@ -43,14 +43,22 @@ names_of_words words = lent (map lent words)
 abbrev pub format_words : List Text
 format_words = codes "text" ∷ codes "json" ∷ codes "mermaid" ∷ codes "svg" ∷ []
 
+-- the words that name a verdict
+abbrev pub verdict_words : List Text
+verdict_words = codes "none" ∷ codes "pass" ∷ codes "inconc" ∷ codes "fail" ∷ codes "error" ∷ []
+
+-- `--name VERDICT`, one of the names, which may be left out
+abbrev pub verdict_option : Text → Bor (List (Bor Text)) → Rule
+verdict_option name names = record (value_option name) { parser = Some (Names names) }
+
 -- `--format`, one of the names, which is `text` where it is left out
 abbrev pub format_option : Bor (List (Bor Text)) → Rule
 format_option names =
     record (value_option (codes "format")) { parser = Some (Names names); defaults = codes "text" ∷ [] }
 
--- `check FILE`
-abbrev pub check_app : App
-check_app = with_rule (new_app (codes "check")) file_word
+-- a command about a module: `name FILE`
+abbrev pub file_app : Text → App
+file_app name = with_rule (new_app name) file_word
 
 -- a command about a test case: `name FILE --testcase NAME`, with the option `--script FILE`
 abbrev pub testcase_app : Text → App
@@ -59,15 +67,25 @@ testcase_app name = with_rule (with_rule (with_rule (new_app name)
     (needed_option (codes "testcase")))
     (value_option (codes "script"))
 
--- `run FILE --testcase NAME --steps N`, with the options of a script and a plan and the flags `--json` and `--explain`
-abbrev pub run_app : App
-run_app = with_rule (with_rule (with_rule (with_rule (with_rule (with_rule (testcase_app (codes "run"))
-    steps_option)
+-- `run FILE --testcase NAME` with `--steps N` or `--until-complete`, and the options of a script and a plan and the
+-- flags `--json` and `--explain`
+abbrev pub plan_app : App
+plan_app = with_rule (with_rule (with_rule (with_rule (with_rule (with_rule (with_rule (testcase_app (codes "run"))
+    (range_option (codes "steps") 100000))
+    (flag (codes "until-complete")))
     (number_option (codes "limit") 10000000 (codes "1000000")))
     (number_option (codes "workers") 64 (codes "1")))
     (number_option (codes "piece") 65536 (codes "256")))
     (flag (codes "json")))
     (flag (codes "explain"))
+
+-- and with what else is asked of the runs, where a verdict is one of the names
+abbrev pub run_app : Bor (List (Bor Text)) → App
+run_app names = with_rule (with_rule (with_rule (with_rule plan_app
+    (flag (codes "partial")))
+    (verdict_option (codes "first") names))
+    (value_option (codes "run-to")))
+    (value_option (codes "run-to-block"))
 
 -- a command about a run of a test case: `name FILE --testcase NAME --run FILE`, with the option `--script FILE`
 abbrev pub run_file_app : Text → App
@@ -82,17 +100,29 @@ abbrev pub bare_app : App
 bare_app = on_top (λ s. record s { has_version = true; no_binary_name = true; subcommand_required = true })
     (new_app (codes "ttcnx"))
 
--- `ttcnx` with its six commands, where a format is one of the names
-abbrev pub app_with : Bor (List (Bor Text)) → App
-app_with names = with_subcommand (with_subcommand (with_subcommand (with_subcommand (with_subcommand
-    (with_subcommand bare_app
-    check_app.top)
-    run_app.top)
+-- the lists of names with which the values of two options are compared
+pub record Lists : Type 0 where
+  pub formats : Bor (List (Bor Text))
+  pub verdicts : Bor (List (Bor Text))
+
+-- `ttcnx` with its six commands, where a format or a verdict is one of the names
+abbrev pub app_with : Lists → App
+app_with lists = with_subcommand (with_subcommand (with_subcommand (with_subcommand
+    (with_subcommand (with_subcommand bare_app
+    (file_app (codes "check")).top)
+    (run_app lists.verdicts).top)
     (run_file_app (codes "replay")).top)
     (run_file_app (codes "coarsen")).top)
     (run_file_app (codes "double")).top)
-    (explain_app names).top
+    (explain_app lists.formats).top
 
--- `ttcnx` with its six commands and four formats
+-- the lists of these words
+abbrev pub lists_of : List Text → List Text → Lists
+lists_of formats verdicts = record {
+  formats = names_of_words formats;
+  verdicts = names_of_words verdicts;
+}
+
+-- `ttcnx` with its six commands, four formats and five verdicts
 abbrev pub ttcnx_app : App
-ttcnx_app = app_with (names_of_words format_words)
+ttcnx_app = app_with (lists_of format_words verdict_words)

@@ -1,24 +1,45 @@
 //! The command that words give.
-ghost use Rattle.std.specs.Prelude.{◌≡◌, ◌≤◌, ℕ, [], true, Some, IfErr, IfOk, IsSomeAnd, codes};
+ghost use Rattle.std.specs.Prelude.{◌≡◌, ◌≤◌, ℕ, [], true, Some, IfErr, IfOk, IsSomeAnd, MatchOption, codes, is_some};
 ghost use Rattle.std.specs.Prelude.{option_map, string_bytes};
-ghost use Rattle.clap.specs.Words.{Row, fault_of, found_of, kind_of, rows_of, subcommand_of};
+ghost use Rattle.clap.specs.Words.{Row, found_of, kind_of, rows_of, subcommand_of};
 ghost use Rattle.clap.specs.Words.{subcommand_rows_of, takes};
 ghost use Rattle.clap.specs.Walk.{texts};
 ghost use Rattle.search_layer.specs.Limits.{IsWithinLimits};
 ghost use Rattle.ttcnx_command_line.specs.App.{ttcnx_app};
-ghost use Rattle.ttcnx_command_line.specs.Command.{HasNumbers, HasRunFile, HasValues, IsExplained, IsFlag};
-ghost use Rattle.ttcnx_command_line.specs.Command.{IsFormat, IsMemory, IsNumber, IsText, IsTextIfGiven};
-ghost use Rattle.ttcnx_command_line.specs.Command.{StaysWithinLimits, subcommand_for};
-ghost use Rattle.ttcnx_command_line.specs.internal.Answer.{IsAnswer};
-ghost use Rattle.ttcnx_command_line.specs.internal.Given.{GivesCommand, GivesFlag, GivesFormat, GivesNumber};
-ghost use Rattle.ttcnx_command_line.specs.internal.Given.{GivesPlan, GivesRun, GivesRunFile, GivesText};
+ghost use Rattle.ttcnx_command_line.specs.Command.{AreSteps, HasNumbers, HasRunFile, HasValues, HasWishes};
+ghost use Rattle.ttcnx_command_line.specs.Command.{IsExplained, IsFlag, IsFormat, IsMemory, IsNumber};
+ghost use Rattle.ttcnx_command_line.specs.Command.{IsNumberIfGiven, IsText, IsTextIfGiven, IsVerdictIfGiven};
+ghost use Rattle.ttcnx_command_line.specs.Command.{StaysWithinLimits, aim_fault, fault_of_run, faults_of, is_about_report, most_steps, run_fault, subcommand_for, verdict_word};
+ghost use Rattle.ttcnx_command_line.specs.internal.Answer.{HasRefusal, IsAnswer, IsBoundError};
+ghost use Rattle.ttcnx_command_line.specs.internal.Given.{GivesCommand, GivesFlag, GivesFormat};
+ghost use Rattle.ttcnx_command_line.specs.internal.Given.{GivesNumber, GivesPlan, GivesRun, GivesRunFile, GivesText};
+ghost use Rattle.ttcnx_command_line.specs.internal.Given.{GivesWishes, HasOneBound, MayGiveNumber};
+ghost use Rattle.ttcnx_command_line.specs.internal.Given.{GivesAboutReport, GivesRunCommand, MayGiveVerdict, aim_of, bound_of};
 
 use crate::definition::command;
 use clap::error::ErrorKind;
 use clap::{ArgMatches, Error as ClapError};
 use explore::Plan;
 use std::alloc::{AllocError, Global};
+use std::fmt;
 use thiserror::Error;
+use ttcn_syntax::Verdict;
+
+/// How many steps a run has that goes on until its report is complete.
+const MOST_STEPS: u64 = 100_000;
+
+/// What ends the answer to a `run` that is at fault.
+const RUN_HELP: &str =
+    "\n\nUsage: ttcnx run [OPTIONS] --testcase <NAME> <--steps <N>|--until-complete> <FILE>\n\nFor more information, try '--help'.\n";
+
+/// The options of a `run`, as `clap` shows them.
+const STEPS: &str = "--steps <N>";
+
+const UNTIL_COMPLETE: &str = "--until-complete";
+
+const RUN_TO: &str = "--run-to <LINE:COL>";
+
+const RUN_TO_BLOCK: &str = "--run-to-block <LINE:COL>";
 
 /// How a chart is drawn.
 #[derive(Clone, Copy, Debug, PartialEq, Eq)]
@@ -27,6 +48,49 @@ pub enum Format {
     Json,
     Mermaid,
     Svg,
+}
+
+/// What else is asked of the runs that are explored.
+#[derive(Debug, Drop)]
+pub struct Wishes {
+    /// As many steps as the report needs to be complete, in place of a number.
+    pub until_complete: bool,
+    /// Above the limit, the report of the greatest bound that stays within it.
+    pub partial: bool,
+    /// The report of the first bound at which some run ends with this verdict.
+    pub first: Option<Verdict>,
+    /// A place `LINE:COL`: the least of the shortest runs whose last step takes the branch there, or begins with the
+    /// statement there, is written as a run file in place of the report.
+    pub run_to: Option<String>,
+    /// A place `LINE:COL`: the least of the shortest runs that end where some component is blocked there is written as
+    /// a run file in place of the report.
+    pub run_to_block: Option<String>,
+}
+
+/// Why a `run` is refused that `clap` takes.
+#[derive(Clone, Copy, Debug)]
+enum WrongRun {
+    /// It has no bound.
+    Unbounded,
+    /// These two of its options can't stand together.
+    Conflict(&'static str, &'static str),
+}
+
+impl fmt::Display for WrongRun {
+    fn fmt<W: fmt::Write>(&self, f: &mut fmt::Formatter<W>) -> fmt::Result {
+        match self {
+            WrongRun::Unbounded => write!(
+                f,
+                "error: the following required arguments were not provided:\n  <{STEPS}|{UNTIL_COMPLETE}>{RUN_HELP}"
+            ),
+            WrongRun::Conflict(one, other) => {
+                write!(
+                    f,
+                    "error: the argument '{one}' cannot be used with '{other}'{RUN_HELP}"
+                )
+            }
+        }
+    }
 }
 
 /// What the program is asked to do.
@@ -47,6 +111,8 @@ pub enum Line {
         json: bool,
         /// Whether the runs of the report are explained.
         explain: bool,
+        /// What else is asked of the runs.
+        wishes: Wishes,
     },
     /// To follow a run of a test case.
     Replay {
@@ -118,13 +184,127 @@ pub fn read_line<'a>(alloc: Global, words: &'a [&'a str]) -> Result<Line, LineEr
         ≡ Some (subcommand_for line)) }
     ensures values { IfOk result (λ line.
         IsSomeAnd (subcommand_of ttcnx_app (texts words.now)) (λ p. HasValues p.1 line)) }
-    ensures accepted { IfOk result (λ line. fault_of ttcnx_app (texts words.now) ≡ []) }
-    ensures refused { IfErr result (IsExplained (fault_of ttcnx_app (texts words.now))) }
-    ensures taken { takes ttcnx_app (texts words.now) ≡ true → IfErr result IsMemory }
+    ensures accepted { IfOk result (λ line. faults_of (texts words.now) ≡ []) }
+    ensures refused { IfErr result (IsExplained (faults_of (texts words.now))) }
+    ensures taken { takes ttcnx_app (texts words.now) ≡ true
+        → run_fault (subcommand_of ttcnx_app (texts words.now)) ≡ [] → IfErr result IsMemory }
 {
     match command(alloc)?.try_get_matches_from(words) {
-        Ok(matches) => Ok(line_of(alloc, &matches)?),
+        Ok(matches) => bounded_line_of(alloc, &matches),
         Err(error) => Err(refusal(alloc, &error)?),
+    }
+}
+
+/// The command that was given, unless it is a `run` with options that don't fit together.
+fn bounded_line_of(alloc: Global, matches: &ArgMatches<'_>) -> Result<Line, LineError>
+    requires { GivesCommand (subcommand_rows_of matches.now) }
+    ensures limits { IfOk result StaysWithinLimits }
+    ensures subcommand { IfOk result (λ line.
+        option_map (λ p. p.0) (subcommand_rows_of matches.now) ≡ Some (subcommand_for line)) }
+    ensures values { IfOk result (λ line.
+        IsSomeAnd (subcommand_rows_of matches.now) (λ p. HasValues p.1 line)) }
+    ensures bounded { IfOk result (λ line. run_fault (subcommand_rows_of matches.now) ≡ []) }
+    ensures refused { IfErr result (IsBoundError (run_fault (subcommand_rows_of matches.now))) }
+{
+    if let Some(wrong) = wrong_run(matches) {
+        return Err(LineError::Bad(wrong.to_string(alloc)?));
+    }
+    Ok(line_of(alloc, matches)?)
+}
+
+/// Why a `run` is refused that `clap` takes.
+fn wrong_run(matches: &ArgMatches<'_>) -> Option<WrongRun>
+    requires { GivesCommand (subcommand_rows_of matches.now) }
+    ensures { MatchOption result (run_fault (subcommand_rows_of matches.now) ≡ [])
+        (λ wrong. HasRefusal (run_fault (subcommand_rows_of matches.now))) }
+{
+    match matches.subcommand_matches("run") {
+        Some(given) => wrong_run_of(given),
+        None => None,
+    }
+}
+
+/// Why a `run` with these arguments is refused.
+fn wrong_run_of(given: &ArgMatches<'_>) -> Option<WrongRun>
+    requires { GivesRun (rows_of (found_of given.now)) }
+    ensures { MatchOption result (fault_of_run (rows_of (found_of given.now)) ≡ [])
+        (λ wrong. HasRefusal (fault_of_run (rows_of (found_of given.now)))) }
+{
+    match wrong_bound_of(given) {
+        Some(wrong) => Some(wrong),
+        None => wrong_aim_of(given),
+    }
+}
+
+/// What is wrong with the bound of a `run`: it has none, or two.
+fn wrong_bound_of(given: &ArgMatches<'_>) -> Option<WrongRun>
+    requires { GivesFlag (rows_of (found_of given.now)) (codes "until-complete") }
+    ensures { MatchOption result (HasOneBound (rows_of (found_of given.now)))
+        (λ wrong. HasRefusal (bound_of (rows_of (found_of given.now)))) }
+{
+    let has_steps = given.get_str("steps").is_some();
+    let until_complete = flag_of(given, "until-complete");
+    if has_steps {
+        if until_complete {
+            Some(WrongRun::Conflict(STEPS, UNTIL_COMPLETE))
+        } else {
+            None
+        }
+    } else if until_complete {
+        None
+    } else {
+        Some(WrongRun::Unbounded)
+    }
+}
+
+/// What is wrong with the aim of a `run`: there are two, or something else is asked of the report.
+fn wrong_aim_of(given: &ArgMatches<'_>) -> Option<WrongRun>
+    requires { GivesAboutReport (rows_of (found_of given.now)) }
+    ensures { MatchOption result (aim_of (rows_of (found_of given.now)) ≡ [])
+        (λ wrong. HasRefusal (aim_of (rows_of (found_of given.now)))) }
+{
+    let to_place = given.get_str("run-to").is_some();
+    let to_block = given.get_str("run-to-block").is_some();
+    let about_report = about_report_of(given);
+    conflict_of(to_place, to_block, about_report)
+}
+
+/// An option that is about the report.
+fn about_report_of(given: &ArgMatches<'_>) -> Option<&'static str>
+    requires { GivesAboutReport (rows_of (found_of given.now)) }
+    ensures { is_some result ≡ is_about_report (rows_of (found_of given.now)) }
+{
+    let json = flag_of(given, "json");
+    let explain = flag_of(given, "explain");
+    let partial = flag_of(given, "partial");
+    let first = given.get_str("first").is_some();
+    if json {
+        Some("--json")
+    } else if explain {
+        Some("--explain")
+    } else if partial {
+        Some("--partial")
+    } else if first {
+        Some("--first <VERDICT>")
+    } else {
+        None
+    }
+}
+
+/// Which two options can't stand together, where an aim is given or not, and an option about the report or none.
+fn conflict_of(
+    to_place: bool,
+    to_block: bool,
+    about_report: Option<&'static str>,
+) -> Option<WrongRun>
+    ensures { MatchOption result (aim_fault to_place to_block (is_some about_report.entry) ≡ [])
+        (λ wrong. HasRefusal (aim_fault to_place to_block (is_some about_report.entry))) }
+{
+    match about_report {
+        _ if to_place && to_block => Some(WrongRun::Conflict(RUN_TO, RUN_TO_BLOCK)),
+        Some(other) if to_place => Some(WrongRun::Conflict(RUN_TO, other)),
+        Some(other) if to_block => Some(WrongRun::Conflict(RUN_TO_BLOCK, other)),
+        _ => None,
     }
 }
 
@@ -143,7 +323,8 @@ fn refusal(alloc: Global, error: &ClapError) -> Result<LineError, AllocError>
 
 /// The command that was given, with its values.
 fn line_of(alloc: Global, matches: &ArgMatches<'_>) -> Result<Line, AllocError>
-    requires { GivesCommand (subcommand_rows_of matches.now) }
+    requires command { GivesCommand (subcommand_rows_of matches.now) }
+    requires bound { run_fault (subcommand_rows_of matches.now) ≡ [] }
     ensures limits { IfOk result StaysWithinLimits }
     ensures subcommand { IfOk result (λ line.
         option_map (λ p. p.0) (subcommand_rows_of matches.now) ≡ Some (subcommand_for line)) }
@@ -158,6 +339,18 @@ fn line_of(alloc: Global, matches: &ArgMatches<'_>) -> Result<Line, AllocError>
     if let Some(given) = matches.subcommand_matches("run") {
         return run_of(alloc, given);
     }
+    run_file_line_of(alloc, matches)
+}
+
+/// The command about a run that was given, with its values.
+fn run_file_line_of(alloc: Global, matches: &ArgMatches<'_>) -> Result<Line, AllocError>
+    requires { GivesRunCommand (subcommand_rows_of matches.now) }
+    ensures limits { IfOk result StaysWithinLimits }
+    ensures subcommand { IfOk result (λ line.
+        option_map (λ p. p.0) (subcommand_rows_of matches.now) ≡ Some (subcommand_for line)) }
+    ensures values { IfOk result (λ line.
+        IsSomeAnd (subcommand_rows_of matches.now) (λ p. HasValues p.1 line)) }
+{
     if let Some(given) = matches.subcommand_matches("replay") {
         let parts = run_file_of(alloc, given)?;
         return Ok(Line::Replay {
@@ -198,7 +391,8 @@ fn line_of(alloc: Global, matches: &ArgMatches<'_>) -> Result<Line, AllocError>
 
 /// The command to explore the runs of a test case.
 fn run_of(alloc: Global, given: &ArgMatches<'_>) -> Result<Line, AllocError>
-    requires { GivesRun (rows_of (found_of given.now)) }
+    requires gives { GivesRun (rows_of (found_of given.now)) }
+    requires bound { HasOneBound (rows_of (found_of given.now)) }
     ensures limits { IfOk result StaysWithinLimits }
     ensures subcommand { IfOk result (λ line. subcommand_for line ≡ codes "run") }
     ensures values { IfOk result (HasValues (rows_of (found_of given.now))) }
@@ -210,6 +404,21 @@ fn run_of(alloc: Global, given: &ArgMatches<'_>) -> Result<Line, AllocError>
         plan: plan_of(given),
         json: flag_of(given, "json"),
         explain: flag_of(given, "explain"),
+        wishes: wishes_of(alloc, given)?,
+    })
+}
+
+/// What else is asked of the runs.
+fn wishes_of(alloc: Global, given: &ArgMatches<'_>) -> Result<Wishes, AllocError>
+    requires { GivesWishes (rows_of (found_of given.now)) }
+    ensures { IfOk result (HasWishes (rows_of (found_of given.now))) }
+{
+    Ok(Wishes {
+        until_complete: flag_of(given, "until-complete"),
+        partial: flag_of(given, "partial"),
+        first: verdict_if_given(given, "first"),
+        run_to: text_if_given(alloc, given, "run-to")?,
+        run_to_block: text_if_given(alloc, given, "run-to-block")?,
     })
 }
 
@@ -238,15 +447,58 @@ fn run_file_of(alloc: Global, given: &ArgMatches<'_>) -> Result<RunFile, AllocEr
 
 /// The numbers of a plan, which `clap` has found to be within the limits.
 fn plan_of(given: &ArgMatches<'_>) -> Plan
-    requires { GivesPlan (rows_of (found_of given.now)) }
+    requires gives { GivesPlan (rows_of (found_of given.now)) }
+    requires bound { HasOneBound (rows_of (found_of given.now)) }
     ensures numbers { HasNumbers (rows_of (found_of given.now)) result }
     ensures limits { IsWithinLimits result }
 {
     Plan {
-        steps: number_of(given, "steps"),
+        steps: steps_of(given),
         limit: number_of(given, "limit"),
         workers: number_of(given, "workers"),
         piece: number_of(given, "piece"),
+    }
+}
+
+/// The steps of a plan: a number, or the most where the report has to be complete.
+fn steps_of(given: &ArgMatches<'_>) -> u64
+    requires gives { MayGiveNumber (rows_of (found_of given.now)) (codes "steps") 0 100000 }
+    requires bound { HasOneBound (rows_of (found_of given.now)) }
+    ensures steps { AreSteps (rows_of (found_of given.now)) result }
+    ensures limit { result ≤ most_steps }
+{
+    match number_if_given(given, "steps") {
+        Some(steps) => steps,
+        None => MOST_STEPS,
+    }
+}
+
+/// The verdict that the argument names, where it is given.
+fn verdict_if_given(given: &ArgMatches<'_>, id: &str) -> Option<Verdict>
+    requires { MayGiveVerdict (rows_of (found_of given.now)) id.now }
+    ensures { IsVerdictIfGiven (rows_of (found_of given.now)) id.now result }
+{
+    match given.get_str(id) {
+        Some(word) => Some(verdict_of(word)),
+        None => None,
+    }
+}
+
+/// The verdict that a word names.
+fn verdict_of(word: &str) -> Verdict
+    requires { (verdict : _) × (word.now ≡ verdict_word verdict) }
+    ensures { word.now ≡ verdict_word result }
+{
+    if word == "none" {
+        Verdict::None
+    } else if word == "pass" {
+        Verdict::Pass
+    } else if word == "inconc" {
+        Verdict::Inconc
+    } else if word == "fail" {
+        Verdict::Fail
+    } else {
+        Verdict::Error
     }
 }
 
@@ -288,6 +540,14 @@ fn text_if_given(
         Some(text) => Ok(Some(String::from_str(alloc, text)?)),
         None => Ok(None),
     }
+}
+
+/// The number of an argument that may be left out.
+fn number_if_given(given: &ArgMatches<'_>, id: &str) -> Option<u64>
+    requires { (low : ℕ) × (high : ℕ) × MayGiveNumber (rows_of (found_of given.now)) id.now low high }
+    ensures { IsNumberIfGiven (rows_of (found_of given.now)) id.now result }
+{
+    given.get_one(id)
 }
 
 fn number_of(given: &ArgMatches<'_>, id: &str) -> u64

@@ -2,10 +2,11 @@
 ghost use Rattle.std.specs.Prelude.{◌≡◌, IfOk, codes, false};
 ghost use Rattle.clap.specs.Words.{app_of, rule_of};
 ghost use Rattle.clap.specs.declared.builder.command.Command.TheViews.{out-Command as fields_of};
-ghost use Rattle.ttcnx_command_line.specs.App.{app_with, check_app, explain_app, file_word, format_option};
-ghost use Rattle.ttcnx_command_line.specs.App.{flag, needed_option, number_option, run_app, run_file_app};
-ghost use Rattle.ttcnx_command_line.specs.App.{steps_option, value_option};
-ghost use Rattle.ttcnx_command_line.specs.internal.Named.{HoldsAtNames};
+ghost use Rattle.ttcnx_command_line.specs.App.{app_with, explain_app, file_app, file_word};
+ghost use Rattle.ttcnx_command_line.specs.App.{flag, format_option, format_words};
+ghost use Rattle.ttcnx_command_line.specs.App.{needed_option, number_option, range_option, run_app, run_file_app};
+ghost use Rattle.ttcnx_command_line.specs.App.{plan_app, value_option, verdict_option, verdict_words};
+ghost use Rattle.ttcnx_command_line.specs.internal.Named.{HasWords, HoldsAtNames};
 
 use clap::{Arg, ArgAction, Command, value_parser};
 use std::alloc::{AllocError, Global};
@@ -13,12 +14,19 @@ use std::alloc::{AllocError, Global};
 /// The version that `--version` prints.
 const VERSION: &str = "0.1";
 
+/// What a call of `run` looks like.
+const RUN_USAGE: &str =
+    "ttcnx run [OPTIONS] --testcase <NAME> <--steps <N>|--until-complete> <FILE>";
+
 /// The words that name a format.
 static FORMATS: [&str; 4] = ["text", "json", "mermaid", "svg"];
 
+/// The words that name a verdict.
+static VERDICTS: [&str; 5] = ["none", "pass", "inconc", "fail", "error"];
+
 /// The program with its commands.
 pub(crate) fn command<'a>(alloc: Global) -> Result<Command<'a>, AllocError>
-    ensures { IfOk result (λ c. HoldsAtNames (λ names. app_of c ≡ app_with names)) }
+    ensures { IfOk result (λ c. (lists : _) × HasWords lists × (app_of c ≡ app_with lists)) }
 {
     Command::new(alloc, "ttcnx")
         .about("Checks modules written in TTCN-3, and explores their test cases")
@@ -26,7 +34,12 @@ pub(crate) fn command<'a>(alloc: Global) -> Result<Command<'a>, AllocError>
         .bin_name("ttcnx")?
         .no_binary_name(true)
         .subcommand_required(true)
-        .subcommand(check_command(alloc)?)?
+        .subcommand(file_command(
+            alloc,
+            "check",
+            "Tests whether a module is well typed",
+            "Example: ttcnx check examples/x2.ttcn",
+        )?)?
         .subcommand(run_command(alloc)?)?
         .subcommand(run_file_command(
             alloc,
@@ -52,18 +65,44 @@ pub(crate) fn command<'a>(alloc: Global) -> Result<Command<'a>, AllocError>
         .subcommand(explain_command(alloc)?)
 }
 
-fn check_command<'a>(alloc: Global) -> Result<Command<'a>, AllocError>
-    ensures app { IfOk result (λ c. app_of c ≡ check_app) }
+/// A command about a module, which stands in a file.
+fn file_command<'a>(
+    alloc: Global,
+    name: &'a str,
+    about: &'a str,
+    example: &'a str,
+) -> Result<Command<'a>, AllocError>
+    ensures app { IfOk result (λ c. app_of c ≡ file_app name.entry.now) }
     ensures local { IfOk result (λ c. (fields_of c).has_globals ≡ false) }
 {
-    Command::new(alloc, "check")
-        .about("Tests whether a module is well typed")
-        .after_help("Example: ttcnx check examples/x2.ttcn")
+    Command::new(alloc, name)
+        .about(about)
+        .after_help(example)
         .arg(file(alloc))
 }
 
+/// The command that explores the runs of a test case.
 fn run_command<'a>(alloc: Global) -> Result<Command<'a>, AllocError>
-    ensures app { IfOk result (λ c. app_of c ≡ run_app) }
+    ensures app { IfOk result (λ c. HoldsAtNames verdict_words (λ names. app_of c ≡ run_app names)) }
+    ensures local { IfOk result (λ c. (fields_of c).has_globals ≡ false) }
+{
+    let partial = "Above the limit, writes the report of the greatest bound that stays within it";
+    let first =
+        "Writes the report of the first bound at which some run ends with this verdict: none, pass, inconc, fail or error";
+    let run_to =
+        "Writes a run file in place of the report: the least of the shortest runs whose last step takes the branch at this place, or begins with the statement there";
+    let run_to_block =
+        "Writes a run file in place of the report: the least of the shortest runs that end where some component is blocked at this place";
+    plan_command(alloc)?
+        .arg(flag(alloc, "partial", partial))?
+        .arg(verdict(alloc, "first", first))?
+        .arg(place(alloc, "run-to", run_to))?
+        .arg(place(alloc, "run-to-block", run_to_block))
+}
+
+/// The command that explores runs, with the words of its plan.
+fn plan_command<'a>(alloc: Global) -> Result<Command<'a>, AllocError>
+    ensures app { IfOk result (λ c. app_of c ≡ plan_app) }
     ensures local { IfOk result (λ c. (fields_of c).has_globals ≡ false) }
 {
     let limit = number(alloc, "limit", 10_000_000, "1000000").help(
@@ -77,11 +116,22 @@ fn run_command<'a>(alloc: Global) -> Result<Command<'a>, AllocError>
     );
     Command::new(alloc, "run")
         .about("Explores the runs of a test case")
+        .override_usage(RUN_USAGE)
         .after_help("Example: ttcnx run examples/x2.ttcn --testcase T --steps 13")
         .arg(file(alloc))?
         .arg(testcase(alloc))?
         .arg(script(alloc))?
-        .arg(steps(alloc))?
+        .arg(range(
+            alloc,
+            "steps",
+            100_000,
+            "The greatest number of steps of a run: 0 to 100000",
+        ))?
+        .arg(flag(
+            alloc,
+            "until-complete",
+            "In place of --steps: as many steps as the report needs to be complete",
+        ))?
         .arg(limit)?
         .arg(workers)?
         .arg(piece)?
@@ -120,7 +170,7 @@ fn run_file_command<'a>(
 
 /// A command about a run, which is shown in a format.
 fn explain_command<'a>(alloc: Global) -> Result<Command<'a>, AllocError>
-    ensures app { IfOk result (λ c. HoldsAtNames (λ names. app_of c ≡ explain_app names)) }
+    ensures app { IfOk result (λ c. HoldsAtNames format_words (λ names. app_of c ≡ explain_app names)) }
     ensures local { IfOk result (λ c. (fields_of c).has_globals ≡ false) }
 {
     run_file_command(
@@ -166,17 +216,16 @@ fn script<'a>(alloc: Global) -> Arg<'a>
         .help("The file of a script: what comes in at the system ports")
 }
 
-/// The number of steps, which has to be given.
-fn steps<'a>(alloc: Global) -> Arg<'a>
-    ensures rule { rule_of result ≡ steps_option }
+/// A number up to `most` that may be left out.
+fn range<'a>(alloc: Global, name: &'a str, most: u32, help: &'a str) -> Arg<'a>
+    ensures rule { rule_of result ≡ range_option name.entry.now most }
     ensures local { result.global ≡ false }
 {
-    Arg::new(alloc, "steps")
-        .long("steps")
+    Arg::new(alloc, name)
+        .long(name)
         .value_name("N")
-        .required(true)
-        .value_parser(value_parser!(u64).range(0..=100_000))
-        .help("The greatest number of steps of a run: 0 to 100000")
+        .value_parser(value_parser!(u64).range(0..=i64::from(most)))
+        .help(help)
 }
 
 /// A number from 1 on that may be left out.
@@ -193,7 +242,7 @@ fn number<'a>(alloc: Global, name: &'a str, most: u32, default: &'a str) -> Arg<
 
 /// The format, one of four words.
 fn format<'a>(alloc: Global) -> Arg<'a>
-    ensures rule { HoldsAtNames (λ names. rule_of result ≡ format_option names) }
+    ensures rule { HoldsAtNames format_words (λ names. rule_of result ≡ format_option names) }
     ensures local { result.global ≡ false }
 {
     Arg::new(alloc, "format")
@@ -203,6 +252,30 @@ fn format<'a>(alloc: Global) -> Arg<'a>
         .hide_possible_values(true)
         .default_value("text")
         .help("How the run is shown: text, json, mermaid or svg")
+}
+
+/// A verdict that may be left out, one of five words.
+fn verdict<'a>(alloc: Global, name: &'a str, help: &'a str) -> Arg<'a>
+    ensures rule { HoldsAtNames verdict_words (λ names. rule_of result ≡ verdict_option name.entry.now names) }
+    ensures local { result.global ≡ false }
+{
+    Arg::new(alloc, name)
+        .long(name)
+        .value_name("VERDICT")
+        .value_parser(VERDICTS.as_slice())
+        .hide_possible_values(true)
+        .help(help)
+}
+
+/// A place in the text that may be left out.
+fn place<'a>(alloc: Global, name: &'a str, help: &'a str) -> Arg<'a>
+    ensures rule { rule_of result ≡ value_option name.entry.now }
+    ensures local { result.global ≡ false }
+{
+    Arg::new(alloc, name)
+        .long(name)
+        .value_name("LINE:COL")
+        .help(help)
 }
 
 /// A flag.

@@ -1,9 +1,11 @@
 -- What clap's matches hold where `ttcnx` takes the words.
-use Rattle.std.specs.Prelude.{◌≡◌, ◌⊎◌, ◌||◌, ℕ, true, List, Some, Option, IsSomeAnd, codes}
+use Rattle.std.specs.Prelude.{◌≡◌, ◌⊎◌, ◌||◌, ℕ, true, List, [], None, Some, Option, IsSomeAnd, codes}
 use Rattle.std.specs.Str.{bytes_eq}
+use Rattle.clap.specs.Kinds.{Kinds}
 use Rattle.clap.specs.Values.{IsUnsignedIn}
 use Rattle.clap.specs.Walk.{Row, Text, first_of, one_of}
-use Rattle.ttcnx_command_line.specs.Command.{IsFormat}
+use Rattle.ttcn_syntax.specs.declared.tree.statement.Verdict.{Verdict}
+use Rattle.ttcnx_command_line.specs.Command.{IsFormat, IsText, aim_fault, bound_fault, has_value, is_about_report, is_set, verdict_word}
 use Rattle.ttcnx_command_line.specs.declared.command.Format.{Format}
 
 -- the argument has a text
@@ -24,12 +26,46 @@ GivesFlag matches id = (text : Text) × (one_of id matches ≡ Some text)
 abbrev pub GivesFormat : List Row → Type 0
 GivesFormat matches = (format : Format) × IsFormat matches format
 
+-- the argument has a number from `low` to `high`, or none
+abbrev pub MayGiveNumber : List Row → Text → ℕ → ℕ → Type 0
+MayGiveNumber matches id low high = ((one_of id matches ≡ None) × (first_of id matches ≡ None))
+    ⊎ GivesNumber matches id low high
+
+-- the argument names a verdict, or has no value
+abbrev pub MayGiveVerdict : List Row → Text → Type 0
+MayGiveVerdict matches id = (first_of id matches ≡ None)
+    ⊎ ((verdict : Verdict) × IsText matches id (verdict_word verdict))
+
 -- the numbers of a plan are there
 pub record GivesPlan (matches : List Row) : Type 0 where
-  pub steps : GivesNumber matches (codes "steps") 0 100000
+  pub steps : MayGiveNumber matches (codes "steps") 0 100000
   pub limit : GivesNumber matches (codes "limit") 1 10000000
   pub workers : GivesNumber matches (codes "workers") 1 64
   pub piece : GivesNumber matches (codes "piece") 1 65536
+
+-- what is wrong with the bound of a `run`
+abbrev pub bound_of : List Row → Kinds
+bound_of matches = bound_fault (has_value (codes "steps") matches) (is_set (codes "until-complete") matches)
+
+-- what is wrong with its aim
+abbrev pub aim_of : List Row → Kinds
+aim_of matches = aim_fault (has_value (codes "run-to") matches) (has_value (codes "run-to-block") matches) (is_about_report matches)
+
+-- exactly one of `--steps` and `--until-complete` is given
+abbrev pub HasOneBound : List Row → Type 0
+HasOneBound matches = bound_of matches ≡ []
+
+-- the flags by which the aim of a `run` is judged have values
+pub record GivesAboutReport (matches : List Row) : Type 0 where
+  pub json : GivesFlag matches (codes "json")
+  pub explain : GivesFlag matches (codes "explain")
+  pub partial : GivesFlag matches (codes "partial")
+
+-- all that is asked of the runs is there
+pub record GivesWishes (matches : List Row) : Type 0 where
+  pub until_complete : GivesFlag matches (codes "until-complete")
+  pub partial : GivesFlag matches (codes "partial")
+  pub first : MayGiveVerdict matches (codes "first")
 
 -- all that `run` takes is there
 pub record GivesRun (matches : List Row) : Type 0 where
@@ -38,6 +74,7 @@ pub record GivesRun (matches : List Row) : Type 0 where
   pub plan : GivesPlan matches
   pub json : GivesFlag matches (codes "json")
   pub explain : GivesFlag matches (codes "explain")
+  pub wishes : GivesWishes matches
 
 -- all that a command about a run takes is there
 pub record GivesRunFile (matches : List Row) : Type 0 where
@@ -49,6 +86,12 @@ pub record GivesRunFile (matches : List Row) : Type 0 where
 abbrev pub IsRunFileName : Text → Type 0
 IsRunFileName name =
     (name ≡ codes "replay") ⊎ ((name ≡ codes "coarsen") ⊎ (name ≡ codes "double"))
+
+-- a command about a run was given, with all that it takes
+abbrev pub GivesRunCommand : Option (Text × List Row) → Type 0
+GivesRunCommand given = IsSomeAnd given (λ p.
+    (IsRunFileName p.0 × GivesRunFile p.1)
+    ⊎ ((p.0 ≡ codes "explain") × GivesRunFile p.1 × GivesFormat p.1))
 
 -- one of the six subcommands was given, with all that it takes
 abbrev pub GivesCommand : Option (Text × List Row) → Type 0

@@ -2,7 +2,8 @@ use Rattle.std.proofs.Common.{refl, ap, codes, true}
 use Rattle.std.proofs.lemmas.Result.{IfOk-weaker}
 use Rattle.clap.specs.Words.{App, new_app}
 use Rattle.clap.specs.Simple.{on_top}
-use Rattle.ttcnx_command_line.specs.App.{bare_app, check_app, explain_app, run_app, run_file_app}
+use Rattle.ttcnx_command_line.specs.App.{Lists, bare_app, explain_app, file_app, run_app, run_file_app}
+use Rattle.ttcnx_command_line.specs.internal.Named.{HasWords}
 use Rattle.ttcnx_command_line.proofs.Builds.{IsApp, fields-set, subcommand-added}
 use Rattle.ttcnx_command_line.proofs.definition.command.Goals as goal
 
@@ -22,11 +23,16 @@ returns c =
     let named = fields-set versioned versioned c.version.result _ _ c.in_ok-bin_name.ensures.0 version refl (λ e. e) in
     let words = fields-set versioned whole _ c.no_binary_name.result _ c.no_binary_name.ensures named refl (ap (on_top (λ s. record s { no_binary_name = true }))) in
     let bare = fields-set whole bare_app c.no_binary_name.result c.subcommand_required.result _ c.subcommand_required.ensures words refl (ap (on_top (λ s. record s { subcommand_required = true }))) in
-    let one = subcommand-added bare_app check_app _ _ _ c.in_ok-subcommand.ensures bare (c.in_ok-check_command.ensures.app, c.in_ok-check_command.ensures.local) in
-    let two = subcommand-added _ run_app _ _ _ c.in_ok-subcommand-2.ensures one (c.in_ok-run_command.ensures.app, c.in_ok-run_command.ensures.local) in
+    let check = c.in_ok-file_command.ensures in
+    let one = subcommand-added bare_app (file_app (codes "check")) _ _ _ c.in_ok-subcommand.ensures bare (check.app, check.local) in
+    let run = c.in_ok-run_command.ensures.app in
+    let run_is : IsApp (run_app run.0) _ = (run.2, c.in_ok-run_command.ensures.local) in
+    let two = subcommand-added _ (run_app run.0) _ _ _ c.in_ok-subcommand-2.ensures one run_is in
     let three = subcommand-added _ (run_file_app (codes "replay")) _ _ _ c.in_ok-subcommand-3.ensures two (c.in_ok-run_file_command.ensures.app, c.in_ok-run_file_command.ensures.local) in
     let four = subcommand-added _ (run_file_app (codes "coarsen")) _ _ _ c.in_ok-subcommand-4.ensures three (c.in_ok-run_file_command-2.ensures.app, c.in_ok-run_file_command-2.ensures.local) in
     let five = subcommand-added _ (run_file_app (codes "double")) _ _ _ c.in_ok-subcommand-5.ensures four (c.in_ok-run_file_command-3.ensures.app, c.in_ok-run_file_command-3.ensures.local) in
     let explain = c.in_ok-explain_command.ensures.app in
-    let below : IsApp (explain_app explain.0) _ = (explain.2, c.in_ok-explain_command.ensures.local) in
-    IfOk-weaker c.subcommand-6.result _ _ (λ m h. (explain.0, explain.1, (subcommand-added _ (explain_app explain.0) _ _ m h five below).0)) c.subcommand-6.ensures
+    let explain_is : IsApp (explain_app explain.0) _ = (explain.2, c.in_ok-explain_command.ensures.local) in
+    let lists : Lists = record { formats = explain.0; verdicts = run.0 } in
+    let words : HasWords lists = record { formats = explain.1; verdicts = run.1 } in
+    IfOk-weaker c.subcommand-6.result _ _ (λ m h. (lists, words, (subcommand-added _ (explain_app explain.0) _ _ m h five explain_is).0)) c.subcommand-6.ensures

@@ -1,30 +1,16 @@
-use Rattle.std.proofs.Common.{◌≡◌, ◌∙◌, ap, refl, codes, false}
 use Rattle.std.proofs.lemmas.Result.{IfOk-weaker}
-use Rattle.clap.specs.Words.{new_app, rule_of}
-use Rattle.clap.specs.declared.builder.arg.Arg.{Arg}
-use Rattle.ttcnx_command_line.specs.App.{number_option}
-use Rattle.ttcnx_command_line.proofs.Builds.{arg-added, fields-set}
+use Rattle.ttcnx_command_line.specs.App.{plan_app}
+use Rattle.ttcnx_command_line.proofs.Builds.{IsApp, arg-added}
 use Rattle.ttcnx_command_line.proofs.definition.run_command.Goals as goal
 
 pub returns : goal.returns
 returns c =
-    let limit_is : rule_of c.help-limit.result ≡ number_option (codes "limit") 10000000 (codes "1000000") = ap rule_of c.help-limit.ensures ∙ c.number.ensures.rule in
-    let workers_is : rule_of c.help-workers.result ≡ number_option (codes "workers") 64 (codes "1") = ap rule_of c.help-workers.ensures ∙ c.number-2.ensures.rule in
-    let piece_is : rule_of c.help-piece.result ≡ number_option (codes "piece") 65536 (codes "256") = ap rule_of c.help-piece.ensures ∙ c.number-3.ensures.rule in
-    let limit_local : c.help-limit.result.global ≡ false = ap (λ (x : Arg). x.global) c.help-limit.ensures ∙ c.number.ensures.local in
-    let workers_local : c.help-workers.result.global ≡ false = ap (λ (x : Arg). x.global) c.help-workers.ensures ∙ c.number-2.ensures.local in
-    let piece_local : c.help-piece.result.global ≡ false = ap (λ (x : Arg). x.global) c.help-piece.ensures ∙ c.number-3.ensures.local in
-    let start = fields-set (new_app (codes "run")) (new_app (codes "run")) c.new.result c.about.result _ c.about.ensures (c.new.ensures.app, c.new.ensures.local) refl (λ e. e) in
-    let ended = fields-set (new_app (codes "run")) (new_app (codes "run")) c.about.result c.after_help.result _ c.after_help.ensures start refl (λ e. e) in
-    let one = arg-added _ _ _ _ _ c.in_ok-arg.ensures ended c.file.ensures.rule c.file.ensures.local in
-    let two = arg-added _ _ _ _ _ c.in_ok-arg-2.ensures one c.testcase.ensures.rule c.testcase.ensures.local in
-    let three = arg-added _ _ _ _ _ c.in_ok-arg-3.ensures two c.script.ensures.rule c.script.ensures.local in
-    let four = arg-added _ _ _ _ _ c.in_ok-arg-4.ensures three c.steps.ensures.rule c.steps.ensures.local in
-    let five = arg-added _ _ _ _ _ c.in_ok-arg-5.ensures four limit_is limit_local in
-    let six = arg-added _ _ _ _ _ c.in_ok-arg-6.ensures five workers_is workers_local in
-    let seven = arg-added _ _ _ _ _ c.in_ok-arg-7.ensures six piece_is piece_local in
-    let eight = arg-added _ _ _ _ _ c.in_ok-arg-8.ensures seven c.flag.ensures.rule c.flag.ensures.local in
+    let start : IsApp plan_app _ = (c.in_ok-plan_command.ensures.app, c.in_ok-plan_command.ensures.local) in
+    let one = arg-added _ _ _ _ _ c.in_ok-arg.ensures start c.flag.ensures.rule c.flag.ensures.local in
+    let names = c.verdict.ensures.rule in
+    let two = arg-added _ _ _ _ _ c.in_ok-arg-2.ensures one names.2 c.verdict.ensures.local in
+    let three = arg-added _ _ _ _ _ c.in_ok-arg-3.ensures two c.place.ensures.rule c.place.ensures.local in
     record {
-      app = IfOk-weaker c.arg-9.result _ _ (λ m h. (arg-added _ _ _ _ m h eight c.flag-2.ensures.rule c.flag-2.ensures.local).0) c.arg-9.ensures;
-      local = IfOk-weaker c.arg-9.result _ _ (λ m h. (arg-added _ _ _ _ m h eight c.flag-2.ensures.rule c.flag-2.ensures.local).1) c.arg-9.ensures;
+      app = IfOk-weaker c.arg-4.result _ _ (λ m h. (names.0, names.1, (arg-added _ _ _ _ m h three c.place-2.ensures.rule c.place-2.ensures.local).0)) c.arg-4.ensures;
+      local = IfOk-weaker c.arg-4.result _ _ (λ m h. (arg-added _ _ _ _ m h three c.place-2.ensures.rule c.place-2.ensures.local).1) c.arg-4.ensures;
     }
