@@ -18,8 +18,9 @@ use Rattle.explore.specs.declared.ending.Ending.{Ending}
 use Rattle.explore.specs.declared.ending.Stops.{Stops}
 use Rattle.ttcnx_runs.specs.Endings.{HaveEnded, all_done, at_limit, at_mark, complete}
 use Rattle.ttcnx_runs.specs.declared.exploration.Extent.{Extent}
-use Rattle.ttcnx_runs.specs.internal.Explored.{IsExplored, IsMadeOf, Searched}
-use Rattle.ttcnx_runs.specs.internal.Sums.{blocked_of, branches_of}
+use Rattle.ttcnx_runs.specs.Answers.{IsMadeOf, Searched}
+use Rattle.ttcnx_runs.specs.internal.Explored.{IsExplored}
+use Rattle.ttcnx_runs.specs.Sums.{blocked_of, branches_of}
 use Rattle.laws_live.proofs.SameRuns.{same-complete, same-counts, same-marked}
 use Rattle.laws_live.specs.Parts.{CountsParts, IsCompleteByParts}
 use Rattle.summary.specs.Ascent.{Ascends}

@@ -15,7 +15,7 @@ use Rattle.semantics.specs.Steps.{Label}
 use Rattle.ttcn_syntax.specs.declared.tree.statement.Verdict.{Verdict}
 use Rattle.ttcn_syntax.specs.declared.tree.statement.Verdict.TheVariants as verdict
 
-below-8 : (v : Verdict) → badness v < 8
+pub below-8 : (v : Verdict) → badness v < 8
 below-8 verdict.None = omega arith
 below-8 verdict.Pass = omega arith
 below-8 verdict.Inconc = omega arith

@@ -2,8 +2,8 @@
 use Rattle.std.proofs.Common.{◌≡◌, ℕ, ◌≤◌, Bool, List, [], ◌∷◌, map, ap, refl, ◌∙◌, Option}
 use Rattle.std.specs.Prelude.{IfOk, IsTrue, Result, Ok, Err}
 use Rattle.summary.specs.Exploration.{Counts}
-use Rattle.ttcnx_runs.specs.internal.Explored.{Shown}
-use Rattle.ttcnx_runs.specs.internal.Sums.{blocked_of, branches_of}
+use Rattle.ttcnx_runs.specs.Answers.{Shown}
+use Rattle.ttcnx_runs.specs.Sums.{blocked_of, branches_of}
 use Rattle.summary.specs.KeySet.{empty, from_list, from_option, union, union_join}
 use Rattle.summary.specs.declared.blocked.Blocked.{Blocked}
 use Rattle.summary.specs.declared.branches.Branches.{Branches}

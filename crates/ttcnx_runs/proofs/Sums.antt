@@ -2,7 +2,7 @@
 use Rattle.std.proofs.Common.{◌≡◌, ℕ, List, ◌∙◌}
 use Rattle.ttcn_syntax.specs.declared.place.Span.{Span}
 use Rattle.ttcnx_runs.specs.Found.{AreBlocked, AreBranches, place_cmp, standing_cmp}
-use Rattle.ttcnx_runs.specs.internal.Sums.{blocked_of, branches_of}
+use Rattle.ttcnx_runs.specs.Sums.{blocked_of, branches_of}
 use Rattle.laws_live.proofs.SameReadings.{blocked_seen, branches_seen}
 use Rattle.laws_live.specs.PlaceReadings.{blocked_reading, branch_reading}
 use Rattle.summary.specs.Ascent.{Ascends}

@@ -10,6 +10,8 @@ pub mod Schemes
 pub mod Sights
 pub mod States
 pub mod Aims
+pub mod Answers
 pub mod Endings
 pub mod Found
+pub mod Sums
 pub mod internal

@@ -1,3 +1,2 @@
 pub mod Explored
-pub mod Sums
 pub mod Watched

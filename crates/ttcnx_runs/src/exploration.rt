@@ -3,7 +3,8 @@ ghost use Rattle.std.specs.Prelude.{◌≡◌, ◌↔◌, ℕ, ◌<◌, ◌≤�
 ghost use Rattle.search_layer.specs.Limits.{IsWithinLimits};
 ghost use Rattle.ttcnx_runs.specs.Found.{AreFound, place_cmp, standing_cmp};
 ghost use Rattle.ttcnx_runs.specs.Endings.{HaveEnded};
-ghost use Rattle.ttcnx_runs.specs.internal.Explored.{IsExplored, IsMadeOf};
+ghost use Rattle.ttcnx_runs.specs.Answers.{IsMadeOf};
+ghost use Rattle.ttcnx_runs.specs.internal.Explored.{IsExplored};
 ghost use Rattle.summary.specs.Ascent.{Ascends};
 ghost use Rattle.summary.specs.KeySet.{from_list};
 ghost use Rattle.laws_live.specs.Parts.{CountsParts, IsCompleteByParts};
@@ -123,7 +124,7 @@ fn explore_within<K: Scheme + Send + Sync, G: Gate, R: Threads + Sync>(
 }
 
 /// What an answer of the search tells, and the bound that it is of.
-pub(crate) fn extent_of(alloc: Global, reached: Reached<Shown, Label>) -> Result<Extent, AllocError>
+pub fn extent_of(alloc: Global, reached: Reached<Shown, Label>) -> Result<Extent, AllocError>
     ensures steps { IfOk result (λ extent. extent.steps ≡ reached.steps) }
     ensures ending { IfOk result (λ extent. extent.ending ≡ reached.ending) }
     ensures made { IfOk result (λ extent. IsMadeOf extent.found reached.answer) }

@@ -8,11 +8,12 @@ mod laws;
 mod places;
 mod runs;
 mod scheme;
-mod search;
+pub mod search;
 mod sights;
 mod state;
+mod timed;
 
-pub use exploration::{Exploration, Extent, explore_runs, explore_runs_until};
+pub use exploration::{Exploration, Extent, explore_runs, explore_runs_until, extent_of};
 pub use keys::BranchPlace;
 pub use laws::canonical_forms_are_equal_for_equal_live_parts;
 pub use runs::{Runs, mark_of};

@@ -1,6 +1,6 @@
 //! All runs of a system, with the branches that they take and the components that are blocked.
 ghost use Rattle.std.specs.Prelude.{◌↔◌, ◌≡◌, ℕ, ◌<◌, ◌≤◌, false, IfOk, IsErrOf, IsTrue, OnOk};
-ghost use Rattle.ttcnx_runs.specs.internal.Sums.{blocked_of, branches_of};
+ghost use Rattle.ttcnx_runs.specs.Sums.{blocked_of, branches_of};
 ghost use Rattle.explore.specs.Best.{AreBest};
 ghost use Rattle.explore.specs.Endings.{HasEnded};
 ghost use Rattle.search_layer.specs.Limits.{IsWithinLimits};
@@ -12,7 +12,7 @@ use std::thread::Threads;
 use summary::{Blocked, Both, Branches, Located, Verdicts};
 
 /// Explores all runs of a system of at most the plan's steps, or of fewer where a stop comes first.
-pub(crate) fn search<Y: Located, G: Gate, R: Threads + Sync>(
+pub fn search<Y: Located, G: Gate, R: Threads + Sync>(
     rt: &R,
     alloc: Global,
     system: &Y,
