@@ -4,8 +4,10 @@
 mod program;
 mod run_command;
 
+use std::io::IsTerminal;
 use std::process::ExitCode;
 
 fn main(rt: HostRuntime) -> ExitCode {
-    ExitCode::from(program::run(&rt))
+    let shows = rt.stderr().is_terminal();
+    ExitCode::from(program::run(&rt, shows))
 }

@@ -1,9 +1,9 @@
 //! The command `run`: the report on a test case, or the least run to a place.
 use crate::program::{ENOUGH, Stop, print, read_bytes, read_script, unread};
-use explore::{Ending, NoGate, Plan, Stops};
+use explore::{Ending, Plan, Stops};
 use report::PlaceText;
 use std::alloc::{AllocError, Global};
-use std::rt::Files;
+use std::rt::{Clock, Files};
 use std::thread::Threads;
 use std::{fs, io};
 use ttcn_syntax::Span;
@@ -11,6 +11,7 @@ use ttcnx::{
     Aim, Counted, Fault, Reaching, StreamFault, Until, Wishes, explain_report, run_explained,
     run_file, run_stream, run_to, run_until, stops_of, to_json, to_text,
 };
+use ttcnx_progress::{Behind, Progress};
 
 /// What a `run` is given.
 #[derive(Drop)]
@@ -21,6 +22,8 @@ pub(crate) struct Request {
     pub plan: Plan,
     pub telling: Telling,
     pub wishes: Wishes,
+    /// Whether a line shows how far the exploration is.
+    pub shows: bool,
 }
 
 /// How a report is told.
@@ -33,7 +36,18 @@ pub(crate) struct Telling {
 /// Explores the runs of a test case, and writes the report on them, or the run that is wanted in its place.
 pub(crate) fn run<R>(rt: &R, request: Request) -> Result<(), Stop>
 where
-    R: Files + Print + AllocGlobal + Threads + Sync,
+    R: Clock + Files + Print + Eprint + AllocGlobal + Threads + Sync,
+{
+    let progress = Progress::new(rt, request.plan.piece, request.shows);
+    let answered = answer(rt, request, &progress);
+    progress.clear();
+    answered
+}
+
+/// Explores the runs of a test case, and writes what is wanted.
+fn answer<R>(rt: &R, request: Request, progress: &Progress<'_, R>) -> Result<(), Stop>
+where
+    R: Clock + Files + Print + Eprint + AllocGlobal + Threads + Sync,
 {
     let Request {
         file,
@@ -42,25 +56,37 @@ where
         plan,
         telling,
         wishes,
+        shows: _shows,
     } = request;
     let name = testcase.as_str();
     let aim = aim_of(rt.alloc(), &wishes)?;
     let script = read_script(rt, script)?;
     if let Some(aim) = aim {
         let text = read_bytes(rt, file, ENOUGH)?;
-        return write_run(rt, &text, &script, name, &plan, wishes.until_complete, aim);
+        let until_complete = wishes.until_complete;
+        return write_run(
+            rt,
+            &text,
+            &script,
+            name,
+            &plan,
+            until_complete,
+            aim,
+            progress,
+        );
     }
     let stops = stops_of(&wishes);
     if stops == Stops::NOWHERE && !telling.explain {
-        return Ok(stream(rt, &script, file, name, &plan, telling.json)?);
+        return Ok(stream(rt, &script, file, name, &plan, telling.json, progress)?);
     }
     let text = read_bytes(rt, file, ENOUGH)?;
     if stops == Stops::NOWHERE {
         let (alloc, json) = (rt.alloc(), telling.json);
-        let told = run_explained(rt, alloc, &text, &script, name, &plan, &NoGate, json)?;
+        let told = run_explained(rt, alloc, &text, &script, name, &plan, progress, json)?;
+        progress.clear();
         return Ok(print(rt, &told)?);
     }
-    write_report(rt, &text, &script, name, &plan, &stops, telling)
+    write_report(rt, &text, &script, name, &plan, &stops, telling, progress)
 }
 
 /// Explores the runs of a test case of the module in a file under a script, and writes the report to the standard
@@ -72,15 +98,16 @@ fn stream<R>(
     testcase: &str,
     plan: &Plan,
     json: bool,
+    progress: &Progress<'_, R>,
 ) -> Result<(), Fault>
 where
-    R: Files + Print + AllocGlobal + Threads + Sync,
+    R: Clock + Files + Print + Eprint + AllocGlobal + Threads + Sync,
 {
     let mut reader = match fs::open(rt, file.as_str()) {
         Ok(opened) => Counted::new(opened),
         Err(error) => return Err(unread(file, &error)),
     };
-    let mut writer = Counted::new(io::writer(rt));
+    let mut writer = Counted::new(Behind::new(progress, io::writer(rt)));
     match run_stream(
         rt,
         rt.alloc(),
@@ -90,7 +117,7 @@ where
         testcase,
         plan,
         json,
-        &NoGate,
+        progress,
     ) {
         Ok(()) => Ok(()),
         Err(StreamFault::Read) => Err(Fault::CannotRead(file)),
@@ -111,12 +138,13 @@ fn write_report<R>(
     plan: &Plan,
     stops: &Stops,
     telling: Telling,
+    progress: &Progress<'_, R>,
 ) -> Result<(), Stop>
 where
-    R: Print + AllocGlobal + Threads + Sync,
+    R: Clock + Files + Print + Eprint + AllocGlobal + Threads + Sync,
 {
     let alloc = rt.alloc();
-    let until = run_until(rt, alloc, text, script, testcase, plan, stops, &NoGate)?;
+    let until = run_until(rt, alloc, text, script, testcase, plan, stops, progress)?;
     let report = &until.report;
     let told = if telling.explain {
         explain_report(alloc, text, script, testcase, report, telling.json)?
@@ -126,6 +154,7 @@ where
         to_text(alloc, report)?.into_bytes()
     };
     let shortfall = shortfall(alloc, &until, stops)?;
+    progress.clear();
     print(rt, &told)?;
     match shortfall {
         Some(line) => Err(Stop::Told(line, 3)),
@@ -156,9 +185,10 @@ fn write_run<R>(
     plan: &Plan,
     until_complete: bool,
     aim: Aim,
+    progress: &Progress<'_, R>,
 ) -> Result<(), Stop>
 where
-    R: Print + AllocGlobal + Threads + Sync,
+    R: Clock + Files + Print + Eprint + AllocGlobal + Threads + Sync,
 {
     let alloc = rt.alloc();
     // A run that is found within the limit is the least of all runs.
@@ -168,8 +198,9 @@ where
         at_mark: None,
     };
     let reaching = run_to(
-        rt, alloc, text, script, testcase, plan, &stops, aim, &NoGate,
+        rt, alloc, text, script, testcase, plan, &stops, aim, progress,
     )?;
+    progress.clear();
     match &reaching.run {
         Some(run) => Ok(print(rt, run_file(alloc, run.as_slice())?.as_bytes())?),
         None => Err(unreached(alloc, &reaching)?),
