@@ -16,6 +16,7 @@ const PAGE: u64 = 4096;
 
 /// A gate that shows, at most once a second and behind the first second, in which layer the workers are, how many candidates
 /// they have begun with, how many that is a second, and how much memory the program holds.
+#[derive(Drop)]
 pub struct Progress<'a, R> {
     rt: &'a R,
     /// When the exploration began, where something is to be shown.
