@@ -4,6 +4,9 @@
     compare.py PROGRAM SEED COUNT [--keep FOLDER]
         runs the program and the reference on COUNT random modules, from the
         seed SEED on, and prints each module whose reports differ in any byte
+    compare.py PROGRAM SEED COUNT [--expiries K] [--patient-timers]
+        does so for the runs with at most K expiries of timers, with patient
+        timers, or both
     compare.py PROGRAM SEED COUNT --fine
         compares what both make of random fine runs of such modules, some of
         them broken: `coarsen`, `double`, and `replay` of what was printed
@@ -167,15 +170,25 @@ def folded(lines):
     return shown
 
 
+NUMBERS = ("steps", "configurations")
+
+
 def as_json(lines):
     """The report in its other form, made from the text."""
-    report = {"testcase": lines[0].split(" ")[1], "steps": int(lines[1].split(" ")[1]),
-              "configurations": int(lines[2].split(" ")[1]),
-              "complete": lines[3] == "complete yes",
-              "verdicts": [], "branches": [], "blocked": []}
-    for line in lines[4:]:
+    report = {"verdicts": [], "branches": [], "blocked": []}
+    for line in lines:
         words = line.split()
-        if words[0] == "verdict":
+        if words[0] == "testcase":
+            report["testcase"] = words[1]
+        elif words[0] in NUMBERS:
+            report[words[0]] = int(words[1])
+        elif words[0] == "expiries":
+            report.setdefault("within", {})["expiries"] = int(words[1])
+        elif words[0] == "patient-timers":
+            report.setdefault("within", {})["patient_timers"] = True
+        elif words[0] == "complete":
+            report["complete"] = words[1] == "yes"
+        elif words[0] == "verdict":
             report["verdicts"].append({"run": [], "verdict": words[1]})
         elif words[0] == "branch":
             report["branches"].append(words[1])
@@ -199,8 +212,11 @@ def answer_of(row):
     if command in following:
         printed = following[command](text, name, run_file_of(settings), script)
     else:
+        expiries = settings.get("expiries")
+        bound = reference.Bound(None if expiries is None else int(expiries),
+                                "patient-timers" in settings)
         printed = reference.run(text, name, int(settings["steps"]),
-                                int(settings.get("limit", "1000000")), script)
+                                int(settings.get("limit", "1000000")), script, bound)
     lines = printed.splitlines() or ["no lines"]
     if printed.startswith("refused"):
         return [f"status {status_of(printed)}"] + lines
@@ -284,8 +300,9 @@ def printed_by_program(words):
 class Comparison:
     """Runs the program and the reference on the same modules."""
 
-    def __init__(self, program, folder, keep):
+    def __init__(self, program, folder, keep, bound=reference.ALL_RUNS):
         self.program = program
+        self.bound = bound
         self.folder = pathlib.Path(folder)
         self.script = self.folder / "script.json"
         self.keep = keep
@@ -299,16 +316,20 @@ class Comparison:
         choices = random.Random(seed)
         file = self.written(made)
         steps = made.steps
-        report = reference.run(made.text, made.testcase, steps, LIMIT, made.script)
+        report = self.report(made, steps)
         self.compare_run(seed, made, file, steps, report, choices)
         while report.startswith("refused E1") and steps > 0:
             # Fewer steps give fewer configurations, and so a report.
             steps -= 2
-            report = reference.run(made.text, made.testcase, steps, LIMIT, made.script)
+            report = self.report(made, steps)
             if not report.startswith("refused"):
                 self.compare_run(seed, made, file, steps, report, choices)
         if choices.random() < 0.3:
             self.compare_replay(seed, made, file, choices)
+
+    def report(self, made, steps):
+        """What the reference answers for so many steps."""
+        return reference.run(made.text, made.testcase, steps, LIMIT, made.script, self.bound)
 
     def written(self, made):
         """Writes a module and its script; tells the module's file."""
@@ -322,11 +343,16 @@ class Comparison:
         """The words for the script, where the module has one."""
         return [] if made.script is None else ["--script", str(self.script)]
 
+    def within_bound(self):
+        """The words for the bound."""
+        words = [] if self.bound.expiries is None else ["--expiries", str(self.bound.expiries)]
+        return words + (["--patient-timers"] if self.bound.patient else [])
+
     def compare_run(self, seed, made, file, steps, report, choices):
         plan = ["--workers", str(choices.choice([1, 1, 2, 3])),
                 "--piece", str(choices.choice([1, 2, 7, 256]))]
         words = ["run", str(file), "--testcase", made.testcase, "--steps", str(steps),
-                 "--limit", str(LIMIT)] + plan + self.with_script(made)
+                 "--limit", str(LIMIT)] + plan + self.with_script(made) + self.within_bound()
         expected = printed_by_reference(report)
         if expected.status == 0 and choices.random() < 0.15:
             words.append("--json")
@@ -428,10 +454,10 @@ def random_walk(fine_machine, choices, tries=3):
     return walk
 
 
-def compare_modules(program, seed, count, keep):
+def compare_modules(program, seed, count, keep, bound):
     """Prints each module that both answer otherwise; tells how many answers."""
     with tempfile.TemporaryDirectory() as folder:
-        comparison = Comparison(program, folder, keep)
+        comparison = Comparison(program, folder, keep, bound)
         for each in range(seed, seed + count):
             comparison.compare(each)
     different = sum(comparison.different.values())
@@ -568,6 +594,8 @@ def main():
     parser.add_argument("--rows", metavar="FOLDER")
     parser.add_argument("--laws", metavar=("SEED", "COUNT"), nargs=2, type=int)
     parser.add_argument("--fine", action="store_true")
+    parser.add_argument("--expiries", metavar="K", type=int)
+    parser.add_argument("--patient-timers", action="store_true")
     parser.add_argument("--keep", metavar="FOLDER")
     parser.add_argument("program", nargs="?")
     parser.add_argument("seed", nargs="?", type=int, default=0)
@@ -579,8 +607,12 @@ def main():
         return 1 if check_laws(*words.laws) else 0
     if words.program is None:
         parser.error("a program, --laws or --rows is needed")
-    compare = compare_fine_runs if words.fine else compare_modules
-    return 1 if compare(words.program, words.seed, words.count, words.keep) else 0
+    if words.fine:
+        different = compare_fine_runs(words.program, words.seed, words.count, words.keep)
+    else:
+        bound = reference.Bound(words.expiries, words.patient_timers)
+        different = compare_modules(words.program, words.seed, words.count, words.keep, bound)
+    return 1 if different else 0
 
 
 if __name__ == "__main__":

@@ -14,6 +14,7 @@ the same fields, in blocks beside each other, fewer configurations may be told
 apart.  No module can compare such values.
 
     reference.py FILE --testcase NAME --steps N [--limit L] [--script FILE]
+                 [--expiries K] [--patient-timers]
     reference.py FILE --testcase NAME --replay RUNFILE [--script FILE]
 """
 
@@ -2839,6 +2840,42 @@ class TooMany(Exception):
     """More configurations than the limit allows."""
 
 
+class Bound(NamedTuple):
+    """What is asked of runs: that they have at most so many expiries of timers
+    (None is any number), and that a timer is patient, which expires only where
+    no statement has a step."""
+
+    expiries: Optional[int] = None
+    patient: bool = False
+
+
+ALL_RUNS = Bound()
+
+
+class Reached(NamedTuple):
+    """Where a run ends, and how many timers may still expire there."""
+
+    configuration: object
+    left: Optional[int]
+
+
+def moves(machine, reached, bound):
+    """Every step of a configuration, with what it reaches, or None where the
+    bound forbids it."""
+    steps = machine.steps(reached.configuration)
+    may_expire = reached.left != 0
+    if bound.patient:
+        steps = list(steps)
+        may_expire = may_expire and all(step.label.kind != 0 for step in steps)
+    for step in steps:
+        if step.label.kind != 1:
+            yield step, Reached(step.end, reached.left)
+        elif may_expire:
+            yield step, Reached(step.end, None if reached.left is None else reached.left - 1)
+        else:
+            yield step, None
+
+
 class Answer(NamedTuple):
     """What all runs of at most so many steps lead to.  `runs` maps a verdict
     to the least of its shortest runs."""
@@ -2850,10 +2887,10 @@ class Answer(NamedTuple):
     blocked: set
 
 
-def explore(machine, steps, limit):
-    """All runs of at most `steps` steps, layer by layer.  Configurations enter
-    in the order of their least shortest runs."""
-    start = machine.start()
+def explore(machine, steps, limit, bound=ALL_RUNS):
+    """All runs of at most `steps` steps that keep a bound, layer by layer.
+    What is reached enters in the order of its least shortest run."""
+    start = Reached(machine.start(), bound.expiries)
     came_from = {start: None}
     runs = {}
     branches = set()
@@ -2865,25 +2902,29 @@ def explore(machine, steps, limit):
     complete = True
     while layer:
         following = []
-        for configuration in layer:
-            if isinstance(configuration, Ended):
-                runs[configuration.verdict] = run_to(came_from, configuration)
+        for reached in layer:
+            if isinstance(reached.configuration, Ended):
+                verdict = reached.configuration.verdict
+                if verdict not in runs:
+                    runs[verdict] = run_to(came_from, reached)
                 continue
             enabled = False
-            for step in machine.steps(configuration):
+            for step, end in moves(machine, reached, bound):
                 enabled = True
+                if end is None:
+                    continue
                 if depth == steps:
                     complete = False
                     break
                 if step.branch is not None:
                     branches.add(step.branch)
-                if step.end not in came_from:
-                    came_from[step.end] = (configuration, step.label)
-                    following.append(step.end)
+                if end not in came_from:
+                    came_from[end] = (reached, step.label)
+                    following.append(end)
                     if len(came_from) > limit:
                         raise TooMany
             if not enabled:
-                blocked.update(machine.blocked(configuration))
+                blocked.update(machine.blocked(reached.configuration))
         if depth == steps:
             break
         layer = following
@@ -2891,19 +2932,23 @@ def explore(machine, steps, limit):
     return Answer(len(came_from), complete, runs, branches, blocked)
 
 
-def run_to(came_from, configuration):
+def run_to(came_from, reached):
     labels = []
-    while came_from[configuration] is not None:
-        configuration, label = came_from[configuration]
+    while came_from[reached] is not None:
+        reached, label = came_from[reached]
         labels.append(label)
     return labels[::-1]
 
 
-def report(name, steps, answer):
+def report(name, steps, answer, bound=ALL_RUNS):
     """The report as text."""
-    lines = [f"testcase {name}", f"steps {steps}",
-             f"configurations {answer.count}",
-             "complete " + ("yes" if answer.complete else "no")]
+    lines = [f"testcase {name}", f"steps {steps}"]
+    if bound.expiries is not None:
+        lines.append(f"expiries {bound.expiries}")
+    if bound.patient:
+        lines.append("patient-timers")
+    lines += [f"configurations {answer.count}",
+              "complete " + ("yes" if answer.complete else "no")]
     for number, verdict in enumerate(VERDICTS):
         if number in answer.runs:
             run = answer.runs[number]
@@ -2928,16 +2973,16 @@ def machine_of(text, name, script):
     return Machine(module, testcase, read)
 
 
-def run(text, name, steps, limit=1000000, script=None):
+def run(text, name, steps, limit=1000000, script=None, bound=ALL_RUNS):
     """What is printed for a run: the report or the refusal."""
     machine = machine_of(text, name, script)
     if isinstance(machine, str):
         return machine
     try:
-        answer = explore(machine, steps, limit)
+        answer = explore(machine, steps, limit, bound)
     except TooMany:
         return "refused E1 TooMany\n"
-    return report(name, steps, answer)
+    return report(name, steps, answer, bound)
 
 
 # --------------------------------------------------------------------------
@@ -3033,13 +3078,16 @@ def main():
     parser.add_argument("--limit", type=int, default=1000000)
     parser.add_argument("--replay", metavar="RUNFILE")
     parser.add_argument("--script", metavar="FILE")
+    parser.add_argument("--expiries", type=int)
+    parser.add_argument("--patient-timers", action="store_true")
     words = parser.parse_args()
     text = read_bytes(words.file)
     script = None if words.script is None else read_bytes(words.script)
     if words.replay is not None:
         printed = replay(text, words.testcase, read_bytes(words.replay), script)
     else:
-        printed = run(text, words.testcase, words.steps, words.limit, script)
+        bound = Bound(words.expiries, words.patient_timers)
+        printed = run(text, words.testcase, words.steps, words.limit, script, bound)
     sys.stdout.write(printed)
     return 1 if printed.startswith("refused") else 0
 
