@@ -1,0 +1,6 @@
+pub mod Assembly
+pub mod Bests
+pub mod Crossing
+pub mod Mapped
+pub mod Sums
+pub mod Unbounded

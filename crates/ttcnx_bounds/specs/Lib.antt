@@ -1,0 +1,3 @@
+pub mod BoundedEndings
+pub mod BoundedFound
+pub mod internal
