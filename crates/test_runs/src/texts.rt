@@ -31,3 +31,22 @@ p.receive
 }
 }
 ";
+
+/// A component waits for a message of another one, or for a timer.
+pub const TIMEOUT: &str = "module G {
+type port P message { inout integer }
+type component M { port P p; timer t := 1.0 }
+type component W { port P q }
+function f() runs on W { q.send(1) }
+testcase T() runs on M {
+var W a := W.create;
+connect(self:p, a:q);
+a.start(f());
+t.start;
+alt {
+[] p.receive(1) { t.stop; setverdict(pass) }
+[] t.timeout { setverdict(inconc) }
+}
+}
+}
+";

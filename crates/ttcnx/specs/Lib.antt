@@ -1,5 +1,6 @@
 pub mod Aims
 pub mod Answer
+pub mod Bounded
 pub mod Checked
 pub mod Converted
 pub mod Explained

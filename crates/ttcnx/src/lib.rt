@@ -2,6 +2,7 @@
 #![tactic(auto)]
 
 mod aim;
+mod bounded;
 mod check;
 mod convert;
 mod explain;
@@ -14,6 +15,7 @@ mod testcase;
 mod until;
 
 pub use aim::{Aim, Reaching, run_to};
+pub use bounded::run_bounded;
 pub use check::{check_answer, check_text};
 pub use check_rules::Rule;
 pub use convert::{coarsen_text, double_text, run_file};
@@ -24,6 +26,7 @@ pub use fault::{Fault, Refusal, ScriptRefusal, fault_line, status};
 pub use replay::replay_text;
 pub use report::{Outcome, Report, Standing, to_json, to_text};
 pub use run::{run_script, run_text};
+pub use search_bounds::Bound;
 pub use stream::{StreamFault, run_stream};
 pub use ttcnx_command_line::{Format, Line, LineError, Wishes, read_line};
 pub use ttcnx_streams::Counted;
