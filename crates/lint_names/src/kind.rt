@@ -1,0 +1,106 @@
+//! Kinds of names, and which kind is wanted where a name is used.
+
+/// What a name is declared as.
+#[derive(Clone, Copy, PartialEq, Eq)]
+pub enum Kind {
+    Record,
+    Enumerated,
+    PortType,
+    Component,
+    Constant,
+    Template,
+    Function,
+    Altstep,
+    Testcase,
+    Enumerator,
+    Variable,
+    Port,
+    Timer,
+}
+
+impl Kind {
+    /// The kind with its article.
+    pub fn phrase(self) -> &'static str {
+        match self {
+            Kind::Record => "a record type",
+            Kind::Enumerated => "an enumeration",
+            Kind::PortType => "a port type",
+            Kind::Component => "a component type",
+            Kind::Constant => "a constant",
+            Kind::Template => "a template",
+            Kind::Function => "a function",
+            Kind::Altstep => "an altstep",
+            Kind::Testcase => "a test case",
+            Kind::Enumerator => "a name of an enumeration",
+            Kind::Variable => "a variable",
+            Kind::Port => "a port",
+            Kind::Timer => "a timer",
+        }
+    }
+
+    /// The kind without an article.
+    pub fn noun(self) -> &'static str {
+        match self {
+            Kind::Function => "function",
+            Kind::Altstep => "altstep",
+            _ => "definition",
+        }
+    }
+
+    pub fn is_type(self) -> bool {
+        matches!(
+            self,
+            Kind::Record | Kind::Enumerated | Kind::PortType | Kind::Component
+        )
+    }
+}
+
+/// What a name has to stand for where it is used.
+#[derive(Clone, Copy, PartialEq, Eq)]
+pub enum Wanted {
+    Called,
+    Type,
+    Component,
+    Port,
+    Timer,
+    /// What may be started or stopped: a timer or a component.
+    Started,
+    /// A reference to a component.
+    Reference,
+    Value,
+}
+
+impl Wanted {
+    pub fn phrase(self) -> &'static str {
+        match self {
+            Wanted::Called => "what can be called",
+            Wanted::Type => "a type",
+            Wanted::Component => "a component type",
+            Wanted::Port => "a port",
+            Wanted::Timer => "a timer",
+            Wanted::Started => "a timer or a component",
+            Wanted::Reference => "a component",
+            Wanted::Value => "a value",
+        }
+    }
+
+    /// Whether a name of a kind may stand there.
+    pub fn takes(self, kind: Kind) -> bool {
+        match self {
+            Wanted::Called => matches!(
+                kind,
+                Kind::Function | Kind::Altstep | Kind::Testcase | Kind::Template
+            ),
+            Wanted::Type => kind.is_type(),
+            Wanted::Component => kind == Kind::Component,
+            Wanted::Port => kind == Kind::Port,
+            Wanted::Timer => kind == Kind::Timer,
+            Wanted::Started => { matches!(kind, Kind::Timer | Kind::Variable | Kind::Constant) }
+            Wanted::Reference => matches!(kind, Kind::Variable | Kind::Constant),
+            Wanted::Value => matches!(
+                kind,
+                Kind::Constant | Kind::Template | Kind::Enumerator | Kind::Variable
+            ),
+        }
+    }
+}

@@ -1,0 +1,183 @@
+//! Names that aren't visible, of the wrong kind, or declared twice.
+use crate::scene::Scene;
+use lint_names::{
+    Kind, Known, Remark, Shown, Wanted, definition_at, is_behind_type, is_name, is_symbol, meaning,
+    name_at, nearest_name, place_at, symbol_before, word_at, word_before,
+};
+use std::alloc::AllocError;
+use ttcn_syntax::{Spanned, Symbol, Word};
+
+/// A place where a type is named: behind a word of a declaration, or before a name.
+pub(crate) fn is_type_place(tokens: &[Spanned], at: usize) -> bool {
+    is_name(tokens, at.saturating_add(1))
+        || matches!(
+            word_before(tokens, at),
+            Some(
+                Word::Var
+                    | Word::Const
+                    | Word::Template
+                    | Word::On
+                    | Word::System
+                    | Word::In
+                    | Word::Out
+                    | Word::Inout
+            )
+        )
+}
+
+impl<'a> Scene<'a> {
+    /// A name of the part that has to be visible: no field, no name that is declared, no port of a component.
+    fn is_use(self, at: usize) -> bool {
+        let is_field = symbol_before(self.tokens, at) == Some(Symbol::Dot)
+            || (is_symbol(self.tokens, at.saturating_add(1), Symbol::Assign)
+                && at != self.part.from);
+        is_name(self.tokens, at) && !is_field && !self.is_declared(at) && !self.is_port_of(at)
+    }
+
+    /// A name that the part declares.
+    fn is_declared(self, at: usize) -> bool {
+        let Some(definition) = definition_at(self.defined, at) else {
+            return false;
+        };
+        let is_next = symbol_before(self.tokens, at) == Some(Symbol::Comma)
+            && self.is_declaration();
+        let is_enumerator = definition.known.kind == Kind::Enumerated
+            && definition.body(self.tokens).is_some_and(|open| open < at);
+        definition.known.at == at
+            || is_behind_type(self.tokens, at)
+            || is_next
+            || is_enumerator
+            || word_before(self.tokens, at) == Some(Word::Timer)
+    }
+
+    /// Whether the part begins with a word of declarations.
+    fn is_declaration(self) -> bool {
+        matches!(
+            word_at(self.tokens, self.part.from),
+            Some(Word::Var | Word::Const | Word::Timer | Word::Port)
+        )
+    }
+
+    /// A port behind the colon of `connect`, `map` and `unmap`.
+    fn is_port_of(self, at: usize) -> bool {
+        symbol_before(self.tokens, at) == Some(Symbol::Colon)
+            && matches!(
+                word_at(self.tokens, self.whole.from),
+                Some(Word::Connect | Word::Map | Word::Unmap)
+            )
+    }
+
+    /// What a name has to stand for at its place.
+    fn wanted(self, at: usize) -> Wanted {
+        let next = at.saturating_add(1);
+        if is_symbol(self.tokens, next, Symbol::LeftParen) {
+            return Wanted::Called;
+        }
+        if is_type_place(self.tokens, at) {
+            return Wanted::Type;
+        }
+        if matches!(word_before(self.tokens, at), Some(Word::To | Word::From)) {
+            return Wanted::Reference;
+        }
+        if !is_symbol(self.tokens, next, Symbol::Dot) {
+            return Wanted::Value;
+        }
+        match word_at(self.tokens, next.saturating_add(1)) {
+            Some(Word::Create) => Wanted::Component,
+            Some(Word::Send | Word::Receive) => Wanted::Port,
+            Some(Word::Timeout) => Wanted::Timer,
+            Some(Word::Start | Word::Stop | Word::Running) => Wanted::Started,
+            _ => Wanted::Value,
+        }
+    }
+
+    /// A name that isn't visible, and the one that may have been meant.
+    fn unknown(self, at: usize, name: &'a [u8], known: &[Known<'a>]) -> Result<Remark, AllocError> {
+        let message = format!(in self.alloc; "`{}` isn't visible here", Shown(name))?;
+        let remark = self.remark(at, message);
+        match nearest_name(self.alloc, name, known, self.wanted(at))? {
+            Some(near) => {
+                let help = format!(in self.alloc; "did you mean `{}`?", Shown(near))?;
+                Ok(remark.with_help(help))
+            }
+            None => Ok(remark),
+        }
+    }
+
+    /// The names of the part that aren't visible.
+    fn unknown_names(self, known: &[Known<'a>]) -> Result<Vec<Remark>, AllocError> {
+        let mut remarks = Vec::new(self.alloc);
+        for at in self.part.from..self.part.to {
+            if let Some(name) = name_at(self.tokens, at) {
+                if self.is_use(at) && meaning(known, name).is_none() {
+                    remarks.push(self.unknown(at, name, known)?)?;
+                }
+            }
+        }
+        Ok(remarks)
+    }
+
+    /// The first name of the part of another kind than is wanted where it stands.
+    fn misplaced(self, known: &[Known<'a>]) -> Result<Remark, AllocError> {
+        for at in self.part.from..self.part.to {
+            if let Some(name) = name_at(self.tokens, at) {
+                let wanted = self.wanted(at);
+                match meaning(known, name) {
+                    Some(item) if self.is_use(at) && !wanted.takes(item.kind) => {
+                        let (kind, wanted) = (item.kind.phrase(), wanted.phrase());
+                        let message = format!(in self.alloc;
+                            "`{}` is {kind}, and {wanted} is wanted here",
+                            Shown(name)
+                        )?;
+                        return Ok(self.remark(at, message));
+                    }
+                    _ => {}
+                }
+            }
+        }
+        let at = self.first(|at| self.is_use(at));
+        let message = "what this name stands for is of another kind than is wanted here";
+        self.fixed(at, message)
+    }
+
+    /// `C2`: the names that aren't visible, or else one of the wrong kind.
+    pub(crate) fn wrong_names(self) -> Result<Vec<Remark>, AllocError> {
+        let known = self.visible()?;
+        let mut remarks = self.unknown_names(known.as_slice())?;
+        if remarks.is_empty() {
+            remarks.push(self.misplaced(known.as_slice())?)?;
+        }
+        Ok(remarks)
+    }
+
+    /// Where a name is declared before a position of the part: in the same thing, or elsewhere.
+    fn declared_before(self, at: usize, name: &[u8], known: &[Known<'a>]) -> Option<usize> {
+        let again = (self.whole.from..at).find(|other| {
+            name_at(self.tokens, *other) == Some(name) && self.is_declared(*other)
+        });
+        if again.is_some() {
+            return again;
+        }
+        let earlier = known
+            .iter()
+            .find(|item| item.name == name && item.at != at)?;
+        Some(earlier.at)
+    }
+
+    /// `C1`: a name that is declared where it is visible already.
+    pub(crate) fn duplicate(self) -> Result<Remark, AllocError> {
+        let known = self.visible()?;
+        for at in self.part.from..self.part.to {
+            if let (true, Some(name)) = (self.is_declared(at), name_at(self.tokens, at)) {
+                if let Some(first) = self.declared_before(at, name, known.as_slice()) {
+                    let message = format!(in self.alloc; "`{}` is declared already", Shown(name))?;
+                    let line = place_at(self.tokens, first).line;
+                    let help = format!(in self.alloc; "it is declared in line {line}")?;
+                    return Ok(self.remark(at, message).with_help(help));
+                }
+            }
+        }
+        let at = self.first(|at| self.is_declared(at));
+        self.fixed(at, "this name is declared already")
+    }
+}
