@@ -38,15 +38,6 @@ impl Kind {
         }
     }
 
-    /// The kind without an article.
-    pub fn noun(self) -> &'static str {
-        match self {
-            Kind::Function => "function",
-            Kind::Altstep => "altstep",
-            _ => "definition",
-        }
-    }
-
     pub fn is_type(self) -> bool {
         matches!(
             self,

@@ -18,5 +18,5 @@ pub use remark::Remark;
 pub use tokens::{
     Shown, before, closing, copy_of, depth_behind, end_of_event, end_of_statement, is_name,
     is_symbol, is_word, name_at, outside, place_at, position_of, symbol_at, symbol_before,
-    token_at, word_at, word_before,
+    token_at, word_at, word_before, word_of,
 };

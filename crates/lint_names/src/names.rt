@@ -111,18 +111,22 @@ fn end_of_definition(tokens: &[Spanned], kind: Kind, from: usize) -> usize {
     }
 }
 
+/// Whether a definition, or what stands behind all of them, begins at a position.
+fn begins(tokens: &[Spanned], at: usize) -> bool {
+    head_of(tokens, at).is_some()
+        || is_word(tokens, at, Word::With)
+        || is_word(tokens, at, Word::Control)
+}
+
 /// The position behind constants or a template of the module, whose `;` may be missing.
 fn end_of_constants(tokens: &[Spanned], from: usize) -> usize {
     let end = end_of_statement(tokens, from);
-    let begins = |at: usize| {
-        head_of(tokens, at).is_some()
-            || is_word(tokens, at, Word::With)
-            || is_word(tokens, at, Word::Control)
-    };
-    match (from.saturating_add(1)..end).find(|at| begins(*at)) {
-        Some(at) => at,
-        None => end,
+    for at in from.saturating_add(1)..end {
+        if begins(tokens, at) {
+            return at;
+        }
     }
+    end
 }
 
 /// The definitions of the module, in the order of the text.

@@ -3,7 +3,7 @@ use std::alloc::{AllocError, Global};
 use ttcn_syntax::Span;
 
 /// What is said of a place in the text.
-#[derive(Debug, Drop)]
+#[derive(Drop)]
 pub struct Remark {
     /// Where the word stands that it is about.
     pub place: Span,

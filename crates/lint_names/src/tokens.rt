@@ -16,6 +16,23 @@ impl fmt::Display for Shown<'_> {
     }
 }
 
+/// The word or the symbol that a text begins with.
+pub fn word_of(text: &[u8]) -> &[u8] {
+    let end = text
+        .iter()
+        .position(|byte| !byte.is_ascii_alphanumeric() && *byte != b'_');
+    let count = match (end, text) {
+        (
+            Some(0),
+            [b':' | b'=' | b'!' | b'<' | b'>', b'=', ..] | [b'-', b'>', ..] | [b'.', b'.', ..],
+        ) => 2,
+        (Some(0), _) => 1,
+        (Some(end), _) => end,
+        (None, _) => text.len(),
+    };
+    text.get(..count).unwrap_or(text)
+}
+
 /// The token at a position.
 pub fn token_at(tokens: &[Spanned], at: usize) -> Option<&Token> {
     Some(&tokens.get(at)?.token)

@@ -1,8 +1,9 @@
 //! Calls with wrong arguments, on other component types, or of the wrong kind.
-use crate::scene::Scene;
+use crate::scene::{Scene, quoted};
+use crate::sought::Sought;
 use lint_names::{
-    Defined, Kind, Remark, Shown, before, closing, definition_at, definition_of, is_symbol,
-    is_word, meaning, name_at, outside, symbol_before,
+    Defined, Kind, Remark, closing, definition_at, definition_of, is_symbol, meaning, name_at,
+    outside, symbol_before,
 };
 use std::alloc::AllocError;
 use ttcn_syntax::{Symbol, Word};
@@ -54,89 +55,98 @@ impl<'a> Scene<'a> {
                 None => 0,
             };
             if given != wanted {
-                let name = Shown(definition.known.name);
                 let ending = if given == 1 { "" } else { "s" };
-                let message = format!(in self.alloc; "`{name}` is given {given} argument{ending}")?;
+                let behind = format!(in self.alloc; " is given {given} argument{ending}")?;
                 let help = format!(in self.alloc; "it takes {wanted}")?;
-                return Ok(self.remark(at, message).with_help(help));
+                return Ok(self.named(at, "", behind.as_str())?.with_help(help));
             }
         }
         let message = "there are more or fewer arguments here than parameters";
         self.fixed(self.part.from, message)
     }
 
-    fn has_start(self) -> bool {
-        (self.part.from..self.part.to).any(|at| is_word(self.tokens, at, Word::Start))
-    }
-
-    /// The component type on which a call of the part would run: that of the component that is started, or of the
-    /// caller.
+    /// The name of the component type on which a call of the part would run: that of the component that is started, or
+    /// of the caller.
     fn component(self) -> Result<Option<&'a [u8]>, AllocError> {
-        if !self.has_start() {
-            return Ok(match definition_at(self.defined, self.whole.from) {
+        match self.find(Sought::Words(&[Word::Start])) {
+            Some(start) => self.started(start),
+            None => Ok(match definition_at(self.defined, self.whole.from) {
                 Some(caller) => caller.runs_on(self.tokens),
                 None => None,
-            });
+            }),
         }
-        let start = self.first_word(&[Word::Start]);
-        let known = self.visible()?;
-        let declared = match before(start).and_then(before) {
-            Some(at) => match name_at(self.tokens, at) {
-                Some(name) => meaning(known.as_slice(), name),
-                None => None,
-            },
-            None => None,
+    }
+
+    /// The name of the type of the component before `.start`.
+    fn started(self, start: usize) -> Result<Option<&'a [u8]>, AllocError> {
+        let Some(name) = name_at(self.tokens, start.saturating_sub(2)) else {
+            return Ok(None);
         };
-        Ok(match declared.and_then(|item| item.typed) {
+        let known = self.visible()?;
+        let Some(item) = meaning(known.as_slice(), name) else {
+            return Ok(None);
+        };
+        Ok(match item.typed {
             Some(at) => name_at(self.tokens, at),
             None => None,
         })
     }
 
+    /// What is wrong with the component type of a call.
+    fn wrong_component(
+        self,
+        called: Called<'a>,
+        here: Option<&'a [u8]>,
+    ) -> Result<Option<Remark>, AllocError> {
+        let (at, definition) = called;
+        let Some(there) = definition.runs_on(self.tokens) else {
+            if self.find(Sought::Words(&[Word::Start])).is_none() {
+                return Ok(None);
+            }
+            let help = "a component is started with a function that has `runs on`";
+            let remark = self.named(at, "", " doesn't say on what it runs")?;
+            return Ok(Some(remark.with_fixed_help(self.alloc, help)?));
+        };
+        if here == Some(there) {
+            return Ok(None);
+        }
+        let behind = quoted(self.alloc, " runs on ", there, "")?;
+        let remark = self.named(at, "", behind.as_str())?;
+        Ok(Some(match here {
+            Some(here) => {
+                let help = quoted(self.alloc, "here it would run on ", here, "")?;
+                remark.with_help(help)
+            }
+            None => remark,
+        }))
+    }
+
     /// `C13`: a behaviour that runs on another component type.
     pub(crate) fn runs_on(self) -> Result<Remark, AllocError> {
         let here = self.component()?;
-        for (at, definition) in self.calls()? {
-            let name = Shown(definition.known.name);
-            match (definition.runs_on(self.tokens), here) {
-                (None, _) if self.has_start() => {
-                    let message = format!(in self.alloc; "`{name}` doesn't say on what it runs")?;
-                    let help = "a component is started with a function that has `runs on`";
-                    return self.remark(at, message).with_fixed_help(self.alloc, help);
-                }
-                (Some(there), Some(here)) if there != here => {
-                    let message = format!(in self.alloc; "`{name}` runs on `{}`", Shown(there))?;
-                    let help = format!(in self.alloc; "here it would run on `{}`", Shown(here))?;
-                    return Ok(self.remark(at, message).with_help(help));
-                }
-                (Some(there), None) => {
-                    let message = format!(in self.alloc; "`{name}` runs on `{}`", Shown(there))?;
-                    return Ok(self.remark(at, message));
-                }
-                _ => {}
+        for called in self.calls()? {
+            if let Some(remark) = self.wrong_component(called, here)? {
+                return Ok(remark);
             }
         }
         let at = self.first_word(&[Word::Start]);
         self.fixed(at, "the function runs on another component type")
     }
 
-    /// Whether a call's value is wanted: it stands behind `:=`.
-    fn is_value(self, at: usize) -> bool {
-        symbol_before(self.tokens, at) == Some(Symbol::Assign)
-    }
-
     /// What is wrong with a call of a definition's kind, or nothing.
     fn wrong_kind(self, called: Called<'a>) -> Option<&'static str> {
         let (at, definition) = called;
         let is_branch = is_symbol(self.tokens, self.whole.from, Symbol::LeftBracket);
+        let is_value = symbol_before(self.tokens, at) == Some(Symbol::Assign);
+        let is_started = self.find(Sought::Words(&[Word::Start])).is_some();
         match definition.known.kind {
-            Kind::Testcase => Some("is a test case, which can't be called"),
-            Kind::Altstep if self.has_start() || self.is_value(at) => {
-                Some("is an altstep, which can't be called here")
+            Kind::Testcase => Some(" is a test case, which can't be called"),
+            Kind::Altstep if is_started || is_value => {
+                Some(" is an altstep, which can't be called here")
             }
-            Kind::Function if is_branch => Some("is no altstep"),
+            Kind::Function if is_branch => Some(" is no altstep"),
             Kind::Function if definition.result(self.tokens).is_none() => {
-                Some("returns no value")
+                Some(" returns no value")
             }
             _ => None,
         }
@@ -146,10 +156,7 @@ impl<'a> Scene<'a> {
     pub(crate) fn call_kind(self) -> Result<Remark, AllocError> {
         for called in self.calls()? {
             if let Some(wrong) = self.wrong_kind(called) {
-                let (at, definition) = called;
-                let name = Shown(definition.known.name);
-                let message = format!(in self.alloc; "`{name}` {wrong}")?;
-                return Ok(self.remark(at, message));
+                return self.named(called.0, "", wrong);
             }
         }
         self.fixed(self.part.from, "this can't be called here")

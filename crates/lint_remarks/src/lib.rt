@@ -6,6 +6,7 @@ mod names;
 mod oddities;
 mod rules;
 mod scene;
+mod sought;
 mod statements;
 mod values;
 

@@ -1,5 +1,5 @@
 //! Names that aren't visible, of the wrong kind, or declared twice.
-use crate::scene::Scene;
+use crate::scene::{Scene, quoted};
 use lint_names::{
     Kind, Known, Remark, Shown, Wanted, definition_at, is_behind_type, is_name, is_symbol, meaning,
     name_at, nearest_name, place_at, symbol_before, word_at, word_before,
@@ -93,13 +93,9 @@ impl<'a> Scene<'a> {
 
     /// A name that isn't visible, and the one that may have been meant.
     fn unknown(self, at: usize, name: &'a [u8], known: &[Known<'a>]) -> Result<Remark, AllocError> {
-        let message = format!(in self.alloc; "`{}` isn't visible here", Shown(name))?;
-        let remark = self.remark(at, message);
+        let remark = self.named(at, "", " isn't visible here")?;
         match nearest_name(self.alloc, name, known, self.wanted(at))? {
-            Some(near) => {
-                let help = format!(in self.alloc; "did you mean `{}`?", Shown(near))?;
-                Ok(remark.with_help(help))
-            }
+            Some(near) => Ok(remark.with_help(quoted(self.alloc, "did you mean ", near, "?")?)),
             None => Ok(remark),
         }
     }
@@ -117,27 +113,27 @@ impl<'a> Scene<'a> {
         Ok(remarks)
     }
 
+    /// What the name at a position stands for, where it is of another kind than is wanted there.
+    fn wrong_kind_at(self, at: usize, known: &[Known<'a>]) -> Option<Kind> {
+        let item = meaning(known, name_at(self.tokens, at)?)?;
+        if self.is_use(at) && !self.wanted(at).takes(item.kind) {
+            Some(item.kind)
+        } else {
+            None
+        }
+    }
+
     /// The first name of the part of another kind than is wanted where it stands.
     fn misplaced(self, known: &[Known<'a>]) -> Result<Remark, AllocError> {
         for at in self.part.from..self.part.to {
-            if let Some(name) = name_at(self.tokens, at) {
-                let wanted = self.wanted(at);
-                match meaning(known, name) {
-                    Some(item) if self.is_use(at) && !wanted.takes(item.kind) => {
-                        let (kind, wanted) = (item.kind.phrase(), wanted.phrase());
-                        let message = format!(in self.alloc;
-                            "`{}` is {kind}, and {wanted} is wanted here",
-                            Shown(name)
-                        )?;
-                        return Ok(self.remark(at, message));
-                    }
-                    _ => {}
-                }
+            if let Some(kind) = self.wrong_kind_at(at, known) {
+                let (kind, wanted) = (kind.phrase(), self.wanted(at).phrase());
+                let behind = format!(in self.alloc; " is {kind}, and {wanted} is wanted here")?;
+                return self.named(at, "", behind.as_str());
             }
         }
-        let at = self.first(|at| self.is_use(at));
-        let message = "what this name stands for is of another kind than is wanted here";
-        self.fixed(at, message)
+        let message = "what a name stands for is of another kind than is wanted here";
+        self.fixed(self.part.from, message)
     }
 
     /// `C2`: the names that aren't visible, or else one of the wrong kind.
@@ -150,34 +146,36 @@ impl<'a> Scene<'a> {
         Ok(remarks)
     }
 
-    /// Where a name is declared before a position of the part: in the same thing, or elsewhere.
-    fn declared_before(self, at: usize, name: &[u8], known: &[Known<'a>]) -> Option<usize> {
-        let again = (self.whole.from..at).find(|other| {
-            name_at(self.tokens, *other) == Some(name) && self.is_declared(*other)
-        });
-        if again.is_some() {
-            return again;
+    /// Where the name that is declared at a position of the part is declared, too: before it in the same thing, or
+    /// elsewhere.
+    fn other_declaration(self, at: usize, known: &[Known<'a>]) -> Option<usize> {
+        let name = name_at(self.tokens, at)?;
+        if !self.is_declared(at) {
+            return None;
         }
-        let earlier = known
-            .iter()
-            .find(|item| item.name == name && item.at != at)?;
-        Some(earlier.at)
+        for other in self.whole.from..at {
+            if name_at(self.tokens, other) == Some(name) && self.is_declared(other) {
+                return Some(other);
+            }
+        }
+        for item in known {
+            if item.name == name && item.at != at {
+                return Some(item.at);
+            }
+        }
+        None
     }
 
     /// `C1`: a name that is declared where it is visible already.
     pub(crate) fn duplicate(self) -> Result<Remark, AllocError> {
         let known = self.visible()?;
         for at in self.part.from..self.part.to {
-            if let (true, Some(name)) = (self.is_declared(at), name_at(self.tokens, at)) {
-                if let Some(first) = self.declared_before(at, name, known.as_slice()) {
-                    let message = format!(in self.alloc; "`{}` is declared already", Shown(name))?;
-                    let line = place_at(self.tokens, first).line;
-                    let help = format!(in self.alloc; "it is declared in line {line}")?;
-                    return Ok(self.remark(at, message).with_help(help));
-                }
+            if let Some(other) = self.other_declaration(at, known.as_slice()) {
+                let line = place_at(self.tokens, other).line;
+                let help = format!(in self.alloc; "it is declared in line {line}")?;
+                return Ok(self.named(at, "", " is declared already")?.with_help(help));
             }
         }
-        let at = self.first(|at| self.is_declared(at));
-        self.fixed(at, "this name is declared already")
+        self.fixed(self.part.from, "a name is declared already")
     }
 }

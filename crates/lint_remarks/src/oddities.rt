@@ -1,15 +1,16 @@
 //! What looks wrong in a module, and refuses nothing.
+use crate::scene::quoted;
 use lint_names::{
-    Defined, Kind, Known, Remark, Shown, Wanted, add_declaration, add_members, closing,
-    definition_at, definition_of, depth_behind, end_of_event, is_symbol, is_word, meaning, name_at,
-    nearest_name, place_at, symbol_at, visible, word_at,
+    Defined, Kind, Known, Remark, Wanted, add_declaration, add_members, closing, definition_at,
+    definition_of, depth_behind, end_of_event, is_symbol, is_word, meaning, name_at, nearest_name,
+    place_at, symbol_at, visible, word_at,
 };
 use std::alloc::{AllocError, Global};
 use std::fmt;
 use ttcn_syntax::{Spanned, Symbol, Word};
 
 /// What looks wrong, and refuses nothing.
-#[derive(Clone, Copy, Debug, PartialEq, Eq)]
+#[derive(Clone, Copy, PartialEq, Eq)]
 pub enum Oddity {
     /// A port that the component type doesn't have.
     NoSuchPort,
@@ -33,7 +34,7 @@ impl fmt::Display for Oddity {
 }
 
 /// What looks wrong, and what is said of it.
-#[derive(Debug, Drop)]
+#[derive(Drop)]
 pub struct Warning {
     pub oddity: Oddity,
     pub remark: Remark,
@@ -48,9 +49,22 @@ struct Look<'a> {
 }
 
 impl<'a> Look<'a> {
-    /// What is said of a position, in words.
-    fn remark(self, at: usize, message: String) -> Remark {
-        Remark::new(place_at(self.tokens, at), message)
+    /// Adds a warning.
+    fn warn(
+        self,
+        warnings: &mut Vec<Warning>,
+        (oddity, at): (Oddity, usize),
+        message: String,
+        help: Option<String>,
+    ) -> Result<(), AllocError> {
+        let place = place_at(self.tokens, at);
+        let remark = Remark {
+            place,
+            message,
+            help,
+        };
+        warnings.push(Warning { oddity, remark })?;
+        Ok(())
     }
 
     // ---- ports that aren't there
@@ -96,8 +110,8 @@ impl<'a> Look<'a> {
 
     /// A warning where the port behind a colon isn't one of the component's.
     fn port_behind(self, colon: usize, warnings: &mut Vec<Warning>) -> Result<(), AllocError> {
-        let port = colon.saturating_add(1);
-        let Some(name) = name_at(self.tokens, port) else {
+        let at = colon.saturating_add(1);
+        let Some(name) = name_at(self.tokens, at) else {
             return Ok(());
         };
         let Some(component) = self.component_before(colon)? else {
@@ -105,26 +119,22 @@ impl<'a> Look<'a> {
         };
         let mut members: Vec<Known<'a>> = Vec::new(self.alloc);
         add_members(self.tokens, component, &mut members)?;
-        let is_there = members
-            .iter()
-            .any(|member| member.kind == Kind::Port && member.name == name);
-        if is_there {
+        if is_port(members.as_slice(), name) {
             return Ok(());
         }
-        let (shown, owner) = (Shown(name), Shown(component.known.name));
-        let message = format!(in self.alloc; "component type `{owner}` has no port `{shown}`")?;
+        let behind = quoted(self.alloc, " has no port ", name, "")?;
+        let message = quoted(
+            self.alloc,
+            "component type ",
+            component.known.name,
+            behind.as_str(),
+        )?;
         let near = nearest_name(self.alloc, name, members.as_slice(), Wanted::Port)?;
-        let remark = self.remark(port, message);
-        let remark = match near {
-            Some(near) => {
-                let help = format!(in self.alloc; "did you mean `{}`?", Shown(near))?;
-                remark.with_help(help)
-            }
-            None => remark,
+        let help = match near {
+            Some(near) => Some(quoted(self.alloc, "did you mean ", near, "?")?),
+            None => None,
         };
-        let oddity = Oddity::NoSuchPort;
-        warnings.push(Warning { oddity, remark })?;
-        Ok(())
+        self.warn(warnings, (Oddity::NoSuchPort, at), message, help)
     }
 
     /// Ports of `connect`, `map` and `unmap` that the component types don't have.
@@ -147,26 +157,27 @@ impl<'a> Look<'a> {
     // ---- timers that are never started
 
     fn is_started(self, name: &[u8]) -> bool {
-        (0..self.tokens.len()).any(|at| {
-            name_at(self.tokens, at) == Some(name)
+        for at in 0..self.tokens.len() {
+            if name_at(self.tokens, at) == Some(name)
                 && is_word(self.tokens, at.saturating_add(2), Word::Start)
-        })
+            {
+                return true;
+            }
+        }
+        false
     }
 
     fn timers(self, warnings: &mut Vec<Warning>) -> Result<(), AllocError> {
+        let mut declared = Vec::new(self.alloc);
         for at in 0..self.tokens.len() {
-            let mut declared = Vec::new(self.alloc);
             if is_word(self.tokens, at, Word::Timer) {
                 add_declaration(self.tokens, at, &mut declared)?;
             }
-            for timer in declared {
-                if !self.is_started(timer.name) {
-                    let name = Shown(timer.name);
-                    let message = format!(in self.alloc; "timer `{name}` is never started")?;
-                    let remark = self.remark(timer.at, message);
-                    let oddity = Oddity::IdleTimer;
-                    warnings.push(Warning { oddity, remark })?;
-                }
+        }
+        for timer in declared {
+            if !self.is_started(timer.name) {
+                let message = quoted(self.alloc, "timer ", timer.name, " is never started")?;
+                self.warn(warnings, (Oddity::IdleTimer, timer.at), message, None)?;
             }
         }
         Ok(())
@@ -177,29 +188,29 @@ impl<'a> Look<'a> {
     /// Whether a branch at a position takes what a later one waits for, or all that can happen: `[else]`, or a receive
     /// without guard, template and sender.
     fn takes_all(self, branch: usize, later: usize) -> bool {
-        if is_word(self.tokens, branch.saturating_add(1), Word::Else) {
+        let bracket = branch.saturating_add(1);
+        let event = branch.saturating_add(2);
+        let other = closing(self.tokens, later).saturating_add(1);
+        if is_word(self.tokens, bracket, Word::Else) {
             return true;
         }
-        if !is_symbol(self.tokens, branch.saturating_add(1), Symbol::RightBracket) {
-            return false;
-        }
-        let event = branch.saturating_add(2);
-        let Some(receive) = self.receive(event) else {
+        let (Some(receive), Some(_)) = (self.receive(event), self.receive(other)) else {
             return false;
         };
-        let end = end_of_event(self.tokens, event);
-        let is_bare = (receive.saturating_add(1)..end).all(|at| {
-            !is_symbol(self.tokens, at, Symbol::LeftParen) && !is_word(self.tokens, at, Word::From)
-        });
-        let other = closing(self.tokens, later).saturating_add(1);
-        let waits = match self.receive(other) {
-            Some(_) => {
-                is_word(self.tokens, event, Word::Any)
-                    || name_at(self.tokens, event) == name_at(self.tokens, other)
+        let is_same = is_word(self.tokens, event, Word::Any)
+            || name_at(self.tokens, event) == name_at(self.tokens, other);
+        is_same && is_symbol(self.tokens, bracket, Symbol::RightBracket) && self.is_bare(receive)
+    }
+
+    /// Whether a receive at a position takes every message.
+    fn is_bare(self, receive: usize) -> bool {
+        for at in receive..end_of_event(self.tokens, receive) {
+            let is_template = is_symbol(self.tokens, at, Symbol::LeftParen);
+            if is_template || is_word(self.tokens, at, Word::From) {
+                return false;
             }
-            None => false,
-        };
-        is_bare && waits
+        }
+        true
     }
 
     /// The position of `receive` in an event.
@@ -232,10 +243,12 @@ impl<'a> Look<'a> {
 
     /// The branch among earlier ones that takes what a later one waits for.
     fn taking(self, earlier: &[usize], later: usize) -> Option<usize> {
-        earlier
-            .iter()
-            .find(|branch| self.takes_all(**branch, later))
-            .copied()
+        for branch in earlier {
+            if self.takes_all(*branch, later) {
+                return Some(*branch);
+            }
+        }
+        None
     }
 
     /// Branches between two braces that are never taken.
@@ -247,9 +260,7 @@ impl<'a> Look<'a> {
                 let line = place_at(self.tokens, branch).line;
                 let message = String::from_str(self.alloc, "this branch is never taken")?;
                 let help = format!(in self.alloc; "the branch in line {line} is taken before")?;
-                let remark = self.remark(*later, message).with_help(help);
-                let oddity = Oddity::DeadBranch;
-                warnings.push(Warning { oddity, remark })?;
+                self.warn(warnings, (Oddity::DeadBranch, *later), message, Some(help))?;
             }
         }
         Ok(())
@@ -275,24 +286,40 @@ impl<'a> Look<'a> {
     // ---- functions and altsteps that nothing calls
 
     fn is_called(self, definition: Defined<'_>) -> bool {
-        (0..self.tokens.len()).any(|at| {
-            !definition.holds(at) && name_at(self.tokens, at) == Some(definition.known.name)
-        })
+        for at in 0..self.tokens.len() {
+            let is_name = name_at(self.tokens, at) == Some(definition.known.name);
+            if is_name && !definition.holds(at) {
+                return true;
+            }
+        }
+        false
     }
 
     fn uncalled(self, warnings: &mut Vec<Warning>) -> Result<(), AllocError> {
         for definition in self.defined {
-            let kind = definition.known.kind;
-            if matches!(kind, Kind::Function | Kind::Altstep) && !self.is_called(*definition) {
-                let (name, what) = (Shown(definition.known.name), kind.noun());
-                let message = format!(in self.alloc; "nothing calls {what} `{name}`")?;
-                let remark = self.remark(definition.known.at, message);
-                let oddity = Oddity::NotCalled;
-                warnings.push(Warning { oddity, remark })?;
+            let Known { name, kind, at, .. } = definition.known;
+            let what = match kind {
+                Kind::Function => "nothing calls function ",
+                Kind::Altstep => "nothing calls altstep ",
+                _ => continue,
+            };
+            if !self.is_called(*definition) {
+                let message = quoted(self.alloc, what, name, "")?;
+                self.warn(warnings, (Oddity::NotCalled, at), message, None)?;
             }
         }
         Ok(())
     }
+}
+
+/// Whether a name is that of a port among members.
+fn is_port(members: &[Known<'_>], name: &[u8]) -> bool {
+    for member in members {
+        if member.kind == Kind::Port && member.name == name {
+            return true;
+        }
+    }
+    false
 }
 
 /// What looks wrong in a module, in the order of the text.

@@ -1,10 +1,7 @@
 //! What breaks a rule, and where its words stand.
-use lint_names::{
-    Defined, Known, Remark, is_symbol, name_at, place_at, symbol_at, symbol_before, visible,
-    word_at,
-};
+use lint_names::{Defined, Known, Remark, Shown, name_at, place_at, visible};
 use std::alloc::{AllocError, Global};
-use ttcn_syntax::{Spanned, Symbol, Word};
+use ttcn_syntax::Spanned;
 
 /// Tokens in a row: those from `from` on, below `to`.
 #[derive(Clone, Copy, PartialEq, Eq)]
@@ -23,6 +20,16 @@ pub struct Scene<'a> {
     pub part: Part,
 }
 
+/// Words round a name.
+pub(crate) fn quoted(
+    alloc: Global,
+    before: &str,
+    name: &[u8],
+    behind: &str,
+) -> Result<String, AllocError> {
+    format!(in alloc; "{before}`{}`{behind}", Shown(name))
+}
+
 impl<'a> Scene<'a> {
     pub(crate) fn remark(self, at: usize, message: String) -> Remark {
         Remark::new(place_at(self.tokens, at), message)
@@ -38,31 +45,14 @@ impl<'a> Scene<'a> {
         self.fixed(at, message)?.with_fixed_help(self.alloc, help)
     }
 
+    /// Said of a position: words round the name there.
+    pub(crate) fn named(self, at: usize, before: &str, behind: &str) -> Result<Remark, AllocError> {
+        let name = name_at(self.tokens, at).unwrap_or(b"this");
+        Ok(self.remark(at, quoted(self.alloc, before, name, behind)?))
+    }
+
     /// The names that are visible where the thing begins.
     pub(crate) fn visible(self) -> Result<Vec<Known<'a>>, AllocError> {
         visible(self.alloc, self.tokens, self.defined, self.whole.from)
-    }
-
-    /// The first position of the part at which a test holds, or its beginning.
-    pub(crate) fn first<F: Fn(usize) -> bool>(self, test: F) -> usize
-        requires { F.IsAlwaysCallable test }
-    {
-        match (self.part.from..self.part.to).find(|at| test(*at)) {
-            Some(at) => at,
-            None => self.part.from,
-        }
-    }
-
-    /// The first word of the part that is one of these, or its beginning.
-    pub(crate) fn first_word(self, words: &[Word]) -> usize {
-        self.first(|at| match word_at(self.tokens, at) {
-            Some(word) => words.contains(&word),
-            None => false,
-        })
-    }
-
-    /// The first such symbol of the part, or its beginning.
-    pub(crate) fn first_symbol(self, symbol: Symbol) -> usize {
-        self.first(|at| is_symbol(self.tokens, at, symbol))
     }
 }

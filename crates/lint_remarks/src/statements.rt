@@ -1,10 +1,10 @@
 //! Types, sizes, and words that can't stand where they do.
-use crate::names::is_type_place;
 use crate::scene::Scene;
+use crate::sought::Sought;
 use check_scope::rule::Rule;
-use lint_names::{Kind, Remark, Shown, definition_at, is_name, is_word, name_at, token_at};
+use lint_names::{Kind, Remark, definition_at, is_word};
 use std::alloc::AllocError;
-use ttcn_syntax::{Token, Word};
+use ttcn_syntax::Word;
 
 /// How large what is defined may be.
 fn limits(kind: Kind) -> &'static str {
@@ -19,21 +19,6 @@ fn limits(kind: Kind) -> &'static str {
 }
 
 impl Scene<'_> {
-    /// `C4`: what refers to itself.
-    fn cycle(self) -> Result<Remark, AllocError> {
-        let at = self.defined_name();
-        match name_at(self.tokens, at) {
-            Some(name) => {
-                let message = format!(in self.alloc;
-                    "`{}` refers to itself in a circle",
-                    Shown(name)
-                )?;
-                Ok(self.remark(at, message))
-            }
-            None => self.fixed(at, "this refers to itself in a circle"),
-        }
-    }
-
     /// `C5`: what is too large.
     fn size(self) -> Result<Remark, AllocError> {
         let help = match definition_at(self.defined, self.part.from) {
@@ -53,10 +38,7 @@ impl Scene<'_> {
 
     /// `C3`: a type that can't stand where it does.
     fn bad_type(self) -> Result<Remark, AllocError> {
-        let at = self.first(|at| {
-            is_word(self.tokens, at, Word::Default)
-                || is_name(self.tokens, at) && is_type_place(self.tokens, at)
-        });
+        let at = self.first(Sought::Type);
         let help = if is_word(self.tokens, at, Word::Default) {
             "`default` is the type of variables and parameters alone"
         } else {
@@ -67,11 +49,9 @@ impl Scene<'_> {
 
     /// The target of a redirect, or the beginning of the part.
     fn target(self) -> usize {
-        let at = self.first_word(&[Word::Value, Word::Sender]);
-        if is_word(self.tokens, at, Word::Value) || is_word(self.tokens, at, Word::Sender) {
-            at.saturating_add(1)
-        } else {
-            at
+        match self.find(Sought::Words(&[Word::Value, Word::Sender])) {
+            Some(at) => at.saturating_add(1),
+            None => self.part.from,
         }
     }
 
@@ -80,11 +60,10 @@ impl Scene<'_> {
         let start = self.part.from;
         match rule {
             Rule::BadType => self.bad_type(),
-            Rule::Cycle => self.cycle(),
+            Rule::Cycle => self.named(self.defined_name(), "", " refers to itself in a circle"),
             Rule::Size => self.size(),
             Rule::EnumNumbers => {
-                let at = self.first(|at| matches!(token_at(self.tokens, at), Some(Token::Int(_))));
-                self.fixed(at, "this number is given twice")
+                self.fixed(self.first(Sought::Number), "this number is given twice")
             }
             Rule::NotAssignable => {
                 let help = "a constant keeps its value; declare it by `var`";

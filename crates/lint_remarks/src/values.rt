@@ -1,35 +1,12 @@
 //! Values, operands, fields and messages of the wrong type.
-use crate::scene::Scene;
+use crate::scene::{Scene, quoted};
+use crate::sought::Sought;
 use lint_names::{
-    Kind, Remark, Shown, before, is_behind_type, is_name, is_symbol, is_word, meaning, name_at,
-    symbol_at, symbol_before, token_at, word_at,
+    Kind, Remark, before, is_behind_type, is_name, is_symbol, is_word, meaning, name_at, symbol_at,
+    symbol_before, token_at,
 };
 use std::alloc::AllocError;
 use ttcn_syntax::{Spanned, Symbol, Token, Word};
-
-/// Whether an operator stands at a position.
-fn is_operator(tokens: &[Spanned], at: usize) -> bool {
-    match token_at(tokens, at) {
-        Some(Token::Symbol(symbol)) => matches!(
-            symbol,
-            Symbol::Plus
-                | Symbol::Minus
-                | Symbol::Star
-                | Symbol::Slash
-                | Symbol::Less
-                | Symbol::Greater
-                | Symbol::LessEqual
-                | Symbol::GreaterEqual
-                | Symbol::Equal
-                | Symbol::NotEqual
-        ),
-        Some(Token::Word(word)) => matches!(
-            word,
-            Word::And | Word::Or | Word::Xor | Word::Not | Word::Mod | Word::Rem
-        ),
-        _ => false,
-    }
-}
 
 /// The spelling of a type.
 fn type_at(tokens: &[Spanned], at: usize) -> Option<&[u8]> {
@@ -44,38 +21,33 @@ impl Scene<'_> {
     /// `C8`: the value behind `:=` or `return`, or else the first one in brackets.
     pub(crate) fn value_type(self) -> Result<Remark, AllocError> {
         let message = "this value isn't of the type that is wanted here";
-        let assign = self.first_symbol(Symbol::Assign);
-        if is_symbol(self.tokens, assign, Symbol::Assign) {
+        if let Some(assign) = self.find(Sought::Symbol(Symbol::Assign)) {
             let remark = self.fixed(assign.saturating_add(1), message)?;
             return self.with_type(remark, assign);
         }
-        let open = self.first_symbol(Symbol::LeftParen);
-        let stands_behind = is_symbol(self.tokens, open, Symbol::LeftParen)
-            || is_word(self.tokens, open, Word::Return);
-        let at = if stands_behind {
-            open.saturating_add(1)
-        } else {
-            open
+        if is_word(self.tokens, self.part.from, Word::Return) {
+            return self.fixed(self.part.from.saturating_add(1), message);
+        }
+        let at = match self.find(Sought::Symbol(Symbol::LeftParen)) {
+            Some(open) => open.saturating_add(1),
+            None => self.part.from,
         };
         self.fixed(at, message)
     }
 
     /// Adds the type of the variable before `:=`.
     fn with_type(self, remark: Remark, assign: usize) -> Result<Remark, AllocError> {
-        let Some(target) = before(assign) else {
-            return Ok(remark);
-        };
+        let target = assign.saturating_sub(1);
         let Some(name) = name_at(self.tokens, target) else {
             return Ok(remark);
         };
-        let wanted = match self.type_of(target, name)? {
-            Some(at) => type_at(self.tokens, at),
-            None => None,
+        let Some(typed) = self.type_of(target, name)? else {
+            return Ok(remark);
         };
-        match wanted {
+        match type_at(self.tokens, typed) {
             Some(wanted) => {
-                let (name, wanted) = (Shown(name), Shown(wanted));
-                let help = format!(in self.alloc; "`{name}` is of type `{wanted}`")?;
+                let behind = quoted(self.alloc, " is of type ", wanted, "")?;
+                let help = quoted(self.alloc, "", name, behind.as_str())?;
                 Ok(remark.with_help(help))
             }
             None => Ok(remark),
@@ -99,23 +71,29 @@ impl Scene<'_> {
 
     /// `C7`: the operator.
     pub(crate) fn operand(self) -> Result<Remark, AllocError> {
-        let at = self.first(|at| is_operator(self.tokens, at));
+        let at = self.first(Sought::Operator);
         let help = "arithmetic takes integers, logic booleans, `==` two values of one type";
         self.helped(at, "this operator doesn't take these operands", help)
     }
 
-    /// Whether some record of the module has a field of a name.
-    fn is_field(self, name: &[u8]) -> bool {
-        self.defined.iter().any(|definition| {
-            definition.known.kind == Kind::Record
-                && (definition.from..definition.to).any(|at| {
-                    name_at(self.tokens, at) == Some(name) && is_behind_type(self.tokens, at)
-                })
-        })
+    /// Whether the name at a position is that of a field of some record of the module.
+    pub(crate) fn is_field(self, at: usize) -> bool {
+        for definition in self.defined {
+            if definition.known.kind == Kind::Record {
+                for other in definition.from..definition.to {
+                    if is_behind_type(self.tokens, other)
+                        && name_at(self.tokens, other) == name_at(self.tokens, at)
+                    {
+                        return true;
+                    }
+                }
+            }
+        }
+        false
     }
 
     /// Whether the token at a position names a field: behind a dot, or before `:=` in braces.
-    fn names_field(self, at: usize) -> bool {
+    pub(crate) fn names_field(self, at: usize) -> bool {
         let is_given = at > self.part.from
             && is_symbol(self.tokens, at.saturating_add(1), Symbol::Assign);
         is_name(self.tokens, at)
@@ -126,37 +104,18 @@ impl Scene<'_> {
             }
     }
 
-    /// Whether the token at a position names a field that no record has.
-    fn names_no_field(self, at: usize) -> bool {
-        self.names_field(at)
-            && match name_at(self.tokens, at) {
-                Some(name) => !self.is_field(name),
-                None => false,
-            }
-    }
-
     /// `C11`: a field that no record has, or else one that this record may not have, or the braces.
     pub(crate) fn fields(self) -> Result<Remark, AllocError> {
-        let at = self.first(|at| self.names_no_field(at));
-        if let (true, Some(name)) = (self.names_no_field(at), name_at(self.tokens, at)) {
-            let message = format!(in self.alloc; "no record has a field `{}`", Shown(name))?;
-            return Ok(self.remark(at, message));
+        if let Some(at) = self.find(Sought::NoField) {
+            return self.named(at, "no record has a field ", "");
         }
-        let at = self.first(|at| self.names_field(at));
-        if let (true, Some(name)) = (self.names_field(at), name_at(self.tokens, at)) {
-            let message = format!(in self.alloc;
-                "the field `{}`, or another one, doesn't fit here",
-                Shown(name)
-            )?;
-            return Ok(self.remark(at, message));
+        if let Some(at) = self.find(Sought::Field) {
+            return self.named(at, "the field ", ", or another one, doesn't fit here");
         }
-        let at = self.first(|at| {
-            is_symbol(self.tokens, at, Symbol::LeftBrace)
-                || matches!(
-                    word_at(self.tokens, at),
-                    Some(Word::Omit | Word::Ifpresent | Word::Ispresent)
-                )
-        });
+        let at = match self.find(Sought::Symbol(Symbol::LeftBrace)) {
+            Some(open) => open,
+            None => self.first_word(&[Word::Omit, Word::Ifpresent, Word::Ispresent]),
+        };
         let help = "a list has a value for each field; only an optional field may be omitted";
         self.helped(at, "these are not the fields of the record", help)
     }
@@ -180,15 +139,9 @@ impl Scene<'_> {
         } else {
             word
         };
-        let port = match before(word).and_then(before) {
-            Some(port) => name_at(self.tokens, port),
-            None => None,
-        };
-        let message = match port {
-            Some(name) => format!(in self.alloc;
-                "a message of this type doesn't pass at `{}`",
-                Shown(name)
-            )?,
+        let before = "a message of this type doesn't pass at ";
+        let message = match name_at(self.tokens, word.saturating_sub(2)) {
+            Some(port) => quoted(self.alloc, before, port, "")?,
             None => String::from_str(self.alloc, "a message of this type doesn't pass here")?,
         };
         self.remark(at, message)
