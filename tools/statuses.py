@@ -197,6 +197,8 @@ def help_rows():
         (["coarsen", "--help"], 0, stored("help_coarsen")),
         (["double", "--help"], 0, stored("help_double")),
         (["explain", "--help"], 0, stored("help_explain")),
+        (["lint", "--help"], 0, stored("help_lint")),
+        (["list", "--help"], 0, stored("help_list")),
         (["--version"], 0, b"ttcnx 0.1\n"),
         (["-V"], 0, b"ttcnx 0.1\n"),
     ]

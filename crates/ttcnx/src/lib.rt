@@ -25,6 +25,6 @@ pub use replay::replay_text;
 pub use report::{Outcome, Report, Standing, to_json, to_text};
 pub use run::{run_script, run_text};
 pub use stream::{StreamFault, run_stream};
-pub use ttcnx_command_line::{Format, Line, LineError, Wishes, read_line};
+pub use ttcnx_command_line::{Format, Line, LineError, LintFormat, Wishes, read_line};
 pub use ttcnx_streams::Counted;
 pub use until::{Until, run_until, stops_of};

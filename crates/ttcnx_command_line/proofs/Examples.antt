@@ -1,6 +1,6 @@
 -- What `ttcnx_app` makes of words that are written out.
 use Rattle.std.proofs.Common.{◌≡◌, refl, true, List, [], ◌∷◌, None, Some, Option, option_map, codes}
-use Rattle.clap.specs.Walk.{Row, Text, first_of, one_of}
+use Rattle.clap.specs.Walk.{Row, Text, all_of, first_of, one_of}
 use Rattle.clap.specs.Simple.{subcommand_of}
 use Rattle.clap.specs.Faults.{fault_of}
 use Rattle.clap.specs.Takes.{takes}
@@ -100,6 +100,10 @@ a-verdict-is-read = refl
 another-verdict : fault_of ttcnx_app (run_words (codes "--steps=8" ∷ codes "--first=red" ∷ [])) ≡ InvalidValue ∷ []
 unfolding clap_on_literals
 another-verdict = refl
+
+several-files-are-read : option_map (λ p. all_of (codes "FILE") p.1) (subcommand_of ttcnx_app (codes "lint" ∷ codes "a" ∷ codes "b" ∷ [])) ≡ Some (Some (codes "a" ∷ codes "b" ∷ []))
+unfolding clap_on_literals
+several-files-are-read = refl
 
 check-takes-no-script : fault_of ttcnx_app (codes "check" ∷ codes "x1.ttcn" ∷ codes "--script=s.json" ∷ []) ≡ UnknownArgument ∷ []
 unfolding clap_on_literals

@@ -96,12 +96,14 @@ run-gives None rows gives named is = absurd gives
 run-gives (Some p) rows gives named is = subst GivesRun (same_Some p.1 rows is) (of-run (same_Some p.0 (codes "run") named) gives)
   where
     of-run : p.0 ≡ codes "run" → GivesCommand (Some p) → GivesRun p.1
-    of-run name (inl check) = absurd (let no = sym name ∙ check.0 in cc)
+    of-run name (inl (inl check, file)) = absurd (let no = sym name ∙ check in cc)
+    of-run name (inl (inr listing, file)) = absurd (let no = sym name ∙ listing in cc)
     of-run name (inr (inl run)) = run.1
-    of-run name (inr (inr (inl (inl replay, file)))) = absurd (let no = sym name ∙ replay in cc)
-    of-run name (inr (inr (inl (inr (inl coarsen), file)))) = absurd (let no = sym name ∙ coarsen in cc)
-    of-run name (inr (inr (inl (inr (inr double), file)))) = absurd (let no = sym name ∙ double in cc)
-    of-run name (inr (inr (inr explain))) = absurd (let no = sym name ∙ explain.0 in cc)
+    of-run name (inr (inr (inl lint))) = absurd (let no = sym name ∙ lint.0 in cc)
+    of-run name (inr (inr (inr (inl (inl replay, file))))) = absurd (let no = sym name ∙ replay in cc)
+    of-run name (inr (inr (inr (inl (inr (inl coarsen), file))))) = absurd (let no = sym name ∙ coarsen in cc)
+    of-run name (inr (inr (inr (inl (inr (inr double), file))))) = absurd (let no = sym name ∙ double in cc)
+    of-run name (inr (inr (inr (inr explain)))) = absurd (let no = sym name ∙ explain.0 in cc)
 
 -- ---- the bound of a `run`
 

@@ -1,10 +1,10 @@
 -- What a command line asks for, and why it is refused.
 use Rattle.std.specs.Prelude.{◌≡◌, ◌⊎◌, ◌||◌, ℕ, Bool, true, false, List, [], ◌∷◌, Option, None, Some, codes, is_some}
-use Rattle.std.specs.Prelude.{if◌then◌else◌, option_map, string_bytes}
+use Rattle.std.specs.Prelude.{if◌then◌else◌, map, option_map, string_bytes}
 use Rattle.std.specs.Option.{option_map_or}
 use Rattle.std.specs.Str.{bytes_eq}
 use Rattle.std.specs.Str.Parse.{digits_value, without_leading_plus}
-use Rattle.clap.specs.Walk.{Row, Text, first_of, one_of}
+use Rattle.clap.specs.Walk.{Row, Text, all_of, first_of, one_of}
 use Rattle.clap.specs.Values.{bool_text}
 use Rattle.clap.specs.Kinds.{IsAmong, Kinds, or_else}
 use Rattle.clap.specs.Faults.{fault_of}
@@ -19,8 +19,11 @@ use Rattle.ttcn_syntax.specs.declared.tree.statement.Verdict.TheVariants as verd
 use Rattle.ttcnx_command_line.specs.App.{ttcnx_app}
 use Rattle.ttcnx_command_line.specs.declared.command.Format.{Format}
 use Rattle.ttcnx_command_line.specs.declared.command.Format.TheVariants as format
+use Rattle.ttcnx_command_line.specs.declared.command.LintFormat.{LintFormat}
+use Rattle.ttcnx_command_line.specs.declared.command.LintFormat.TheVariants as lint_format
 use Rattle.ttcnx_command_line.specs.declared.command.Line.{Line}
-use Rattle.ttcnx_command_line.specs.declared.command.Line.TheVariants.{Check, Run, Replay, Coarsen, Double, Explain}
+use Rattle.ttcnx_command_line.specs.declared.command.Line.TheVariants.{Check, Run, Replay, Coarsen, Double, Explain, Lint}
+use Rattle.ttcnx_command_line.specs.declared.command.Line.TheVariants as line
 use Rattle.ttcnx_command_line.specs.declared.command.Wishes.{Wishes}
 use Rattle.ttcnx_command_line.specs.declared.command.LineError.{LineError}
 use Rattle.ttcnx_command_line.specs.declared.command.LineError.TheVariants.{Help, Bad, Memory}
@@ -33,6 +36,8 @@ StaysWithinLimits (Replay file testcase script run) = Unit {0}
 StaysWithinLimits (Coarsen file testcase script run) = Unit {0}
 StaysWithinLimits (Double file testcase script run) = Unit {0}
 StaysWithinLimits (Explain file testcase script run format) = Unit {0}
+StaysWithinLimits (Lint files format) = Unit {0}
+StaysWithinLimits (line.List file) = Unit {0}
 
 -- the subcommand that asks for this line
 abbrev pub subcommand_for : Line → Text
@@ -42,6 +47,8 @@ subcommand_for (Replay file testcase script run) = codes "replay"
 subcommand_for (Coarsen file testcase script run) = codes "coarsen"
 subcommand_for (Double file testcase script run) = codes "double"
 subcommand_for (Explain file testcase script run format) = codes "explain"
+subcommand_for (Lint files format) = codes "lint"
+subcommand_for (line.List file) = codes "list"
 
 -- the word that names a format
 abbrev pub format_word : Format → Text
@@ -49,6 +56,11 @@ format_word format.Text = codes "text"
 format_word format.Json = codes "json"
 format_word format.Mermaid = codes "mermaid"
 format_word format.Svg = codes "svg"
+
+-- the word that names a format of findings
+abbrev pub lint_format_word : LintFormat → Text
+lint_format_word lint_format.Text = codes "text"
+lint_format_word lint_format.Json = codes "json"
 
 -- the word that names a verdict
 abbrev pub verdict_word : Verdict → Text
@@ -65,6 +77,10 @@ IsText matches id text = first_of id matches ≡ Some text
 -- `text` is the value that the matches have for the argument `id`, where they have one, and else it is none
 abbrev pub IsTextIfGiven : List Row → Text → Option Text → Type 0
 IsTextIfGiven matches id text = first_of id matches ≡ text
+
+-- the texts are the values that the matches have for the argument `id`
+abbrev pub AreTexts : List Row → Text → List Text → Type 0
+AreTexts matches id texts = all_of id matches ≡ Some texts
 
 -- `n` is the number that the value of the argument `id` writes in decimal digits
 abbrev pub IsNumber : List Row → Text → ℕ → Type 0
@@ -83,6 +99,10 @@ IsFlag matches id is_set = one_of id matches ≡ Some (bool_text is_set)
 -- the value of the option `--format` names the format
 abbrev pub IsFormat : List Row → Format → Type 0
 IsFormat matches format = IsText matches (codes "format") (format_word format)
+
+-- the value of the option `--format` names the format of findings
+abbrev pub IsLintFormat : List Row → LintFormat → Type 0
+IsLintFormat matches format = IsText matches (codes "format") (lint_format_word format)
 
 -- the value of the argument `id` names the verdict, where the matches have one, and else there is none
 abbrev pub IsVerdictIfGiven : List Row → Text → Option Verdict → Type 0
@@ -146,6 +166,9 @@ HasValues matches (Double file testcase script run) = HasRunFile matches
 HasValues matches (Explain file testcase script run format) = HasRunFile matches
     (string_bytes file) (string_bytes testcase) (option_map string_bytes script) (string_bytes run)
     × IsFormat matches format
+HasValues matches (Lint files format) = AreTexts matches (codes "FILE") (map string_bytes files.items)
+    × IsLintFormat matches format
+HasValues matches (line.List file) = IsText matches (codes "FILE") (string_bytes file)
 
 -- the faults of a `run` whose `--steps` and `--until-complete` are given or not: exactly one of them must be
 abbrev pub bound_fault : Bool → Bool → Kinds

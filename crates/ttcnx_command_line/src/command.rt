@@ -1,19 +1,19 @@
 //! The command that words give.
 ghost use Rattle.std.specs.Prelude.{◌≡◌, ◌≤◌, ℕ, [], true, Some, IfErr, IfOk, IsSomeAnd, MatchOption, codes, is_some};
-ghost use Rattle.std.specs.Prelude.{option_map, string_bytes};
+ghost use Rattle.std.specs.Prelude.{map, option_map, string_bytes};
 ghost use Rattle.clap.specs.Words.{Row, found_of, kind_of, rows_of, subcommand_of};
 ghost use Rattle.clap.specs.Words.{subcommand_rows_of, takes};
 ghost use Rattle.clap.specs.Walk.{texts};
 ghost use Rattle.search_layer.specs.Limits.{IsWithinLimits};
 ghost use Rattle.ttcnx_command_line.specs.App.{ttcnx_app};
-ghost use Rattle.ttcnx_command_line.specs.Command.{AreSteps, HasNumbers, HasRunFile, HasValues, HasWishes};
-ghost use Rattle.ttcnx_command_line.specs.Command.{IsExplained, IsFlag, IsFormat, IsMemory, IsNumber};
+ghost use Rattle.ttcnx_command_line.specs.Command.{AreSteps, AreTexts, HasNumbers, HasRunFile, HasValues, HasWishes};
+ghost use Rattle.ttcnx_command_line.specs.Command.{IsExplained, IsFlag, IsFormat, IsLintFormat, IsMemory, IsNumber};
 ghost use Rattle.ttcnx_command_line.specs.Command.{IsNumberIfGiven, IsText, IsTextIfGiven, IsVerdictIfGiven};
 ghost use Rattle.ttcnx_command_line.specs.Command.{StaysWithinLimits, aim_fault, fault_of_run, faults_of, is_about_report, most_steps, run_fault, subcommand_for, verdict_word};
 ghost use Rattle.ttcnx_command_line.specs.internal.Answer.{HasRefusal, IsAnswer, IsBoundError};
-ghost use Rattle.ttcnx_command_line.specs.internal.Given.{GivesCommand, GivesFlag, GivesFormat};
+ghost use Rattle.ttcnx_command_line.specs.internal.Given.{GivesCommand, GivesFlag, GivesFormat, GivesLintFormat};
 ghost use Rattle.ttcnx_command_line.specs.internal.Given.{GivesNumber, GivesPlan, GivesRun, GivesRunFile, GivesText};
-ghost use Rattle.ttcnx_command_line.specs.internal.Given.{GivesWishes, HasOneBound, MayGiveNumber};
+ghost use Rattle.ttcnx_command_line.specs.internal.Given.{GivesTexts, GivesWishes, HasOneBound, MayGiveNumber};
 ghost use Rattle.ttcnx_command_line.specs.internal.Given.{GivesAboutReport, GivesRunCommand, MayGiveVerdict, aim_of, bound_of};
 
 use crate::definition::command;
@@ -48,6 +48,13 @@ pub enum Format {
     Json,
     Mermaid,
     Svg,
+}
+
+/// How findings are shown.
+#[derive(Clone, Copy, Debug, PartialEq, Eq)]
+pub enum LintFormat {
+    Text,
+    Json,
 }
 
 /// What else is asked of the runs that are explored.
@@ -150,6 +157,15 @@ pub enum Line {
         /// The file of the run.
         run: String,
         format: Format,
+    },
+    /// To tell what is wrong with modules, and what looks wrong.
+    Lint {
+        files: Vec<String>,
+        format: LintFormat,
+    },
+    /// To list the test cases of a module.
+    List {
+        file: String,
     },
 }
 
@@ -336,8 +352,19 @@ fn line_of(alloc: Global, matches: &ArgMatches<'_>) -> Result<Line, AllocError>
             file: text_of(alloc, given, "FILE")?,
         });
     }
+    if let Some(given) = matches.subcommand_matches("list") {
+        return Ok(Line::List {
+            file: text_of(alloc, given, "FILE")?,
+        });
+    }
     if let Some(given) = matches.subcommand_matches("run") {
         return run_of(alloc, given);
+    }
+    if let Some(given) = matches.subcommand_matches("lint") {
+        return Ok(Line::Lint {
+            files: texts_of(alloc, given, "FILE")?,
+            format: lint_format_of(given),
+        });
     }
     run_file_line_of(alloc, matches)
 }
@@ -502,6 +529,18 @@ fn verdict_of(word: &str) -> Verdict
     }
 }
 
+/// The format of findings that is named, which `clap` has found to be one of the two.
+fn lint_format_of(given: &ArgMatches<'_>) -> LintFormat
+    requires { GivesLintFormat (rows_of (found_of given.now)) }
+    ensures { IsLintFormat (rows_of (found_of given.now)) result }
+{
+    if given.get_str("format").unwrap() == "json" {
+        LintFormat::Json
+    } else {
+        LintFormat::Text
+    }
+}
+
 /// The format that is named, which `clap` has found to be one of the four.
 fn format_of(given: &ArgMatches<'_>) -> Format
     requires { GivesFormat (rows_of (found_of given.now)) }
@@ -540,6 +579,19 @@ fn text_if_given(
         Some(text) => Ok(Some(String::from_str(alloc, text)?)),
         None => Ok(None),
     }
+}
+
+/// The texts of an argument that has one or more.
+fn texts_of(alloc: Global, given: &ArgMatches<'_>, id: &str) -> Result<Vec<String>, AllocError>
+    requires { GivesTexts (rows_of (found_of given.now)) id.now }
+    ensures { IfOk result (λ texts.
+        AreTexts (rows_of (found_of given.now)) id.now (map string_bytes texts.items)) }
+{
+    let mut texts = Vec::new(alloc);
+    for text in given.get_strs(id).unwrap() {
+        texts.push(String::from_str(alloc, text)?)?;
+    }
+    Ok(texts)
 }
 
 /// The number of an argument that may be left out.
