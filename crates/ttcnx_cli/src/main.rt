@@ -4,10 +4,8 @@
 mod program;
 mod run_command;
 
-use std::io::IsTerminal;
 use std::process::ExitCode;
 
 fn main(rt: HostRuntime) -> ExitCode {
-    let shows = rt.stderr().is_terminal();
-    ExitCode::from(program::run(&rt, shows))
+    ExitCode::from(program::run(&rt))
 }

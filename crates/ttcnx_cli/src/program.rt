@@ -2,7 +2,7 @@
 use crate::run_command::{self, Request, Telling};
 use std::alloc::{AllocError, Global};
 use std::io::{self, ErrorKind, Read};
-use std::rt::{Clock, Env, Files};
+use std::rt::{Env, Files};
 use std::thread::Threads;
 use std::{env, fs};
 use ttcn_syntax::LONGEST_TEXT;
@@ -40,12 +40,12 @@ impl From<Fault> for Stop {
 }
 
 /// Does what the words ask for, and gives the status to exit with. Nothing is written before the whole answer
-/// is there, but for a line that shows how far an exploration is, where that is to be shown.
-pub fn run<R>(rt: &R, shows: bool) -> u8
+/// is there.
+pub fn run<R>(rt: &R) -> u8
 where
-    R: Env + Clock + Files + Print + Eprint + AllocGlobal + Threads + Sync,
+    R: Env + Files + Print + Eprint + AllocGlobal + Threads + Sync,
 {
-    match answer(rt, shows) {
+    match answer(rt) {
         Ok(()) => 0,
         Err(Stop::Words(text)) => {
             let _ = rt.eprint(&text);
@@ -74,15 +74,15 @@ fn tell<R: Eprint + AllocGlobal>(rt: &R, fault: &Fault) -> u8 {
 }
 
 /// Answers the words of the command line.
-fn answer<R>(rt: &R, shows: bool) -> Result<(), Stop>
+fn answer<R>(rt: &R) -> Result<(), Stop>
 where
-    R: Env + Clock + Files + Print + Eprint + AllocGlobal + Threads + Sync,
+    R: Env + Files + Print + AllocGlobal + Threads + Sync,
 {
     let alloc = rt.alloc();
     let words = words(rt)?;
     let texts: Vec<&str> = words.iter().map(|word| word.as_str()).collect(alloc)?;
     match read_line(alloc, texts.get(1..).unwrap_or(&[])) {
-        Ok(line) => answer_line(rt, line, shows),
+        Ok(line) => answer_line(rt, line),
         Err(LineError::Help(text)) => Ok(print(rt, text.as_bytes())?),
         Err(LineError::Bad(text)) => Err(Stop::Words(text)),
         Err(LineError::Memory(_)) => Err(Stop::Fault(Fault::Memory)),
@@ -90,9 +90,9 @@ where
 }
 
 /// Answers a command.
-fn answer_line<R>(rt: &R, line: Line, shows: bool) -> Result<(), Stop>
+fn answer_line<R>(rt: &R, line: Line) -> Result<(), Stop>
 where
-    R: Clock + Files + Print + Eprint + AllocGlobal + Threads + Sync,
+    R: Files + Print + AllocGlobal + Threads + Sync,
 {
     match line {
         Line::Check { file } => {
@@ -115,7 +115,6 @@ where
                 plan,
                 telling: Telling { json, explain },
                 wishes,
-                shows,
             };
             run_command::run(rt, request)
         }

@@ -1,9 +1,9 @@
 //! The command `run`: the report on a test case, or the least run to a place.
 use crate::program::{ENOUGH, Stop, print, read_bytes, read_script, unread};
-use explore::{Ending, Plan, Stops};
+use explore::{Ending, NoGate, Plan, Stops};
 use report::PlaceText;
 use std::alloc::{AllocError, Global};
-use std::rt::{Clock, Files};
+use std::rt::Files;
 use std::thread::Threads;
 use std::{fs, io};
 use ttcn_syntax::Span;
@@ -11,7 +11,6 @@ use ttcnx::{
     Aim, Counted, Fault, Reaching, StreamFault, Until, Wishes, explain_report, run_explained,
     run_file, run_stream, run_to, run_until, stops_of, to_json, to_text,
 };
-use ttcnx_progress::{Behind, Progress};
 
 /// What a `run` is given.
 #[derive(Drop)]
@@ -22,8 +21,6 @@ pub(crate) struct Request {
     pub plan: Plan,
     pub telling: Telling,
     pub wishes: Wishes,
-    /// Whether a line shows how far the exploration is.
-    pub shows: bool,
 }
 
 /// How a report is told.
@@ -36,18 +33,7 @@ pub(crate) struct Telling {
 /// Explores the runs of a test case, and writes the report on them, or the run that is wanted in its place.
 pub(crate) fn run<R>(rt: &R, request: Request) -> Result<(), Stop>
 where
-    R: Clock + Files + Print + Eprint + AllocGlobal + Threads + Sync,
-{
-    let progress = Progress::new(rt, request.plan.piece, request.shows);
-    let answered = answer(rt, request, &progress);
-    progress.clear();
-    answered
-}
-
-/// Explores the runs of a test case, and writes what is wanted.
-fn answer<R>(rt: &R, request: Request, progress: &Progress<'_, R>) -> Result<(), Stop>
-where
-    R: Clock + Files + Print + Eprint + AllocGlobal + Threads + Sync,
+    R: Files + Print + AllocGlobal + Threads + Sync,
 {
     let Request {
         file,
@@ -56,37 +42,25 @@ where
         plan,
         telling,
         wishes,
-        shows: _shows,
     } = request;
     let name = testcase.as_str();
     let aim = aim_of(rt.alloc(), &wishes)?;
     let script = read_script(rt, script)?;
     if let Some(aim) = aim {
         let text = read_bytes(rt, file, ENOUGH)?;
-        let until_complete = wishes.until_complete;
-        return write_run(
-            rt,
-            &text,
-            &script,
-            name,
-            &plan,
-            until_complete,
-            aim,
-            progress,
-        );
+        return write_run(rt, &text, &script, name, &plan, wishes.until_complete, aim);
     }
     let stops = stops_of(&wishes);
     if stops == Stops::NOWHERE && !telling.explain {
-        return Ok(stream(rt, &script, file, name, &plan, telling.json, progress)?);
+        return Ok(stream(rt, &script, file, name, &plan, telling.json)?);
     }
     let text = read_bytes(rt, file, ENOUGH)?;
     if stops == Stops::NOWHERE {
         let (alloc, json) = (rt.alloc(), telling.json);
-        let told = run_explained(rt, alloc, &text, &script, name, &plan, progress, json)?;
-        progress.clear();
+        let told = run_explained(rt, alloc, &text, &script, name, &plan, &NoGate, json)?;
         return Ok(print(rt, &told)?);
     }
-    write_report(rt, &text, &script, name, &plan, &stops, telling, progress)
+    write_report(rt, &text, &script, name, &plan, &stops, telling)
 }
 
 /// Explores the runs of a test case of the module in a file under a script, and writes the report to the standard
@@ -98,16 +72,15 @@ fn stream<R>(
     testcase: &str,
     plan: &Plan,
     json: bool,
-    progress: &Progress<'_, R>,
 ) -> Result<(), Fault>
 where
-    R: Clock + Files + Print + Eprint + AllocGlobal + Threads + Sync,
+    R: Files + Print + AllocGlobal + Threads + Sync,
 {
     let mut reader = match fs::open(rt, file.as_str()) {
         Ok(opened) => Counted::new(opened),
         Err(error) => return Err(unread(file, &error)),
     };
-    let mut writer = Counted::new(Behind::new(progress, io::writer(rt)));
+    let mut writer = Counted::new(io::writer(rt));
     match run_stream(
         rt,
         rt.alloc(),
@@ -117,7 +90,7 @@ where
         testcase,
         plan,
         json,
-        progress,
+        &NoGate,
     ) {
         Ok(()) => Ok(()),
         Err(StreamFault::Read) => Err(Fault::CannotRead(file)),
@@ -138,13 +111,12 @@ fn write_report<R>(
     plan: &Plan,
     stops: &Stops,
     telling: Telling,
-    progress: &Progress<'_, R>,
 ) -> Result<(), Stop>
 where
-    R: Clock + Files + Print + Eprint + AllocGlobal + Threads + Sync,
+    R: Print + AllocGlobal + Threads + Sync,
 {
     let alloc = rt.alloc();
-    let until = run_until(rt, alloc, text, script, testcase, plan, stops, progress)?;
+    let until = run_until(rt, alloc, text, script, testcase, plan, stops, &NoGate)?;
     let report = &until.report;
     let told = if telling.explain {
         explain_report(alloc, text, script, testcase, report, telling.json)?
@@ -154,7 +126,6 @@ where
         to_text(alloc, report)?.into_bytes()
     };
     let shortfall = shortfall(alloc, &until, stops)?;
-    progress.clear();
     print(rt, &told)?;
     match shortfall {
         Some(line) => Err(Stop::Told(line, 3)),
@@ -185,10 +156,9 @@ fn write_run<R>(
     plan: &Plan,
     until_complete: bool,
     aim: Aim,
-    progress: &Progress<'_, R>,
 ) -> Result<(), Stop>
 where
-    R: Clock + Files + Print + Eprint + AllocGlobal + Threads + Sync,
+    R: Print + AllocGlobal + Threads + Sync,
 {
     let alloc = rt.alloc();
     // A run that is found within the limit is the least of all runs.
@@ -198,9 +168,8 @@ where
         at_mark: None,
     };
     let reaching = run_to(
-        rt, alloc, text, script, testcase, plan, &stops, aim, progress,
+        rt, alloc, text, script, testcase, plan, &stops, aim, &NoGate,
     )?;
-    progress.clear();
     match &reaching.run {
         Some(run) => Ok(print(rt, run_file(alloc, run.as_slice())?.as_bytes())?),
         None => Err(unreached(alloc, &reaching)?),
