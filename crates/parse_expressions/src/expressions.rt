@@ -140,7 +140,7 @@ fn links(
     ensures { Reads (spec.links_from (spec.operand_of (spec.inner depth) tighter None) level (spec.most_links level parser.old) [] parser.old) result parser.new }
 {
     let mut links = Seq::new(parser.alloc);
-    for _turn in 0..most_links(parser, level) {
+    for _turn in 0..parser.most_links(level) {
         let Some(operator) = take_operator(parser, level) else {
             return Ok(links);
         };
@@ -148,18 +148,6 @@ fn links(
         links.push(Link { operator, operand })?;
     }
     Ok(links)
-}
-
-/// How many links of a level may follow: one comparison by order at most, at any other level as many as tokens are left.
-#[tactic(auto, unfolding(parse_reader::specs::internal::Expressions::most_links, parse_reader::specs::internal::Reading::same_level))]
-fn most_links(parser: &Parser<'_>, level: Level) -> usize
-    ensures { result ≡ spec.most_links level parser.now }
-{
-    if level == Level::Order {
-        1
-    } else {
-        parser.left()
-    }
 }
 
 /// Takes the operator, if one of the level comes next.

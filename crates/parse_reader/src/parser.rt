@@ -1,12 +1,13 @@
 //! The parser's place in the list of tokens, and what it takes from there.
 ghost use Rattle.std.specs.Prelude.{◌≡◌, ◌∷◌, [], length, Some, None, Ok};
+ghost use Rattle.parse_reader.specs.internal.Expressions.{most_links};
 ghost use Rattle.parse_reader.specs.internal.Reading as spec;
 ghost use Rattle.parse_reader.specs.internal.Reading.{Reads};
 
 use crate::ParseError;
 use std::alloc::Global;
 use std::marker::Model;
-use ttcn_syntax::{Name, Span, Spanned, Symbol, Token, Word};
+use ttcn_syntax::{Level, Name, Span, Spanned, Symbol, Token, Word};
 
 /// What is left of the tokens, and where a fault at their end is shown. Contracts see the tokens that are left.
 #[derive(Drop)]
@@ -45,6 +46,19 @@ impl<'a> Parser<'a> {
         ensures { result ≡ length self.now }
     {
         self.rest.len()
+    }
+
+    /// How many links of a level may follow in a chain: one comparison by order at most, at any other level as many as tokens are
+    /// left.
+    #[tactic(auto, unfolding(crate::specs::internal::Expressions::most_links, crate::specs::internal::Reading::same_level))]
+    pub fn most_links(&self, level: Level) -> usize
+        ensures { result ≡ most_links level self.now }
+    {
+        if level == Level::Order {
+            1
+        } else {
+            self.left()
+        }
     }
 
     /// The tokens that are left.
