@@ -1,38 +1,32 @@
 -- What a search over live parts answers is true of the runs, on whole configurations.
-use Rattle.std.proofs.Common.{◌≡◌, ℕ, Option, None, true, false, true≢false, suc, ◌<◌, ◌≤◌, length, subst, sym, ap, ◌∙◌}
+use Rattle.std.proofs.Common.{◌≡◌, ℕ, None, false, true≢false, suc, ◌<◌, ◌≤◌, length, subst, sym, ap, ◌∙◌}
 use Rattle.std.specs.Prelude.{◌↔◌, IsTrue, Ok, Err}
 use Rattle.explore.specs.Best.{AreBest}
 use Rattle.search_layer.specs.Limits.{IsWithinLimits}
-use Rattle.explore.specs.declared.answer.Answer.{Answer}
 use Rattle.search_layer.specs.declared.plan.ExploreError.{ExploreError}
 use Rattle.search_layer.specs.declared.plan.ExploreError.TheVariants as refused
 use Rattle.search_layer.specs.declared.plan.Plan.{Plan}
 use Rattle.ttcnx_runs.proofs.Best.{best-run}
 use Rattle.ttcnx_runs.proofs.Longer.{best-later}
 use Rattle.ttcnx_runs.proofs.Sums.{blocked-found, branches-found}
-use Rattle.ttcnx_runs.specs.Found.{AreFound, place_cmp, run_kept, standing_cmp}
+use Rattle.ttcnx_runs.specs.Found.{AreFound, run_kept}
 use Rattle.ttcnx_runs.specs.declared.exploration.Exploration.{Exploration}
 use Rattle.explore.specs.Endings as ended
 use Rattle.explore.specs.Endings.{HasEnded}
 use Rattle.explore.specs.declared.ending.Ending.{Ending}
 use Rattle.explore.specs.declared.ending.Stops.{Stops}
 use Rattle.ttcnx_runs.specs.Endings.{HaveEnded, all_done, at_limit, at_mark, complete}
-use Rattle.ttcnx_runs.specs.declared.exploration.Extent.{Extent}
+use Rattle.ttcnx_runs.specs.Extents.{IsExtent}
 use Rattle.ttcnx_runs.specs.Answers.{IsMadeOf, Searched}
 use Rattle.ttcnx_runs.specs.internal.Explored.{IsExplored}
 use Rattle.ttcnx_runs.specs.Sums.{blocked_of, branches_of}
 use Rattle.laws_live.proofs.SameRuns.{same-complete, same-counts, same-marked}
 use Rattle.laws_live.specs.Parts.{CountsParts, IsCompleteByParts}
-use Rattle.summary.specs.Ascent.{Ascends}
-use Rattle.summary.specs.KeySet.{from_list}
 use Rattle.semantics.specs.Canonical.{canonical_graph}
 use Rattle.semantics.specs.Labels.{label_cmp}
 use Rattle.semantics.specs.Places.{blocked, branch_of}
 use Rattle.semantics.specs.Snapshots.{Test}
-use Rattle.semantics.specs.Steps.{Label}
 use Rattle.summary.specs.Exploration.{Counts, IsComplete}
-use Rattle.step_labels.specs.declared.standing.Standing.{Standing}
-use Rattle.ttcn_syntax.specs.declared.place.Span.{Span}
 
 -- the answer is that of the runs of at most n steps
 pub record AreSummed (test : Test) (n : ℕ) (answer : Searched) : Type 0 where
@@ -77,22 +71,18 @@ module _ (test : Test) where
       blocked = blocked-found test bound answer.summary.second.second.components summed.blocked found.blocked.items made.blocked made.in_order;
     }
 
-    -- what was found, as the answer of an exploration
-    pub found-explored : (plan : Plan) (stops : Stops) (n : ℕ) (why : Ending) → IsWithinLimits plan → n ≤ plan.steps
+    -- what was found is true of the runs that the search went through
+    pub extent-found : (plan : Plan) (stops : Stops) (n : ℕ) (why : Ending) → n ≤ plan.steps
         → HasEnded (canonical_graph test) plan stops n why
         → Counts (canonical_graph test) n answer.count × (answer.count ≤ plan.limit)
         → answer.summary.second.first.places ≡ branches_of (canonical_graph test) (branch_of test) n → answer.summary.second.second.components ≡ blocked_of (canonical_graph test) (blocked test) n
         → (IsTrue answer.complete ↔ IsComplete (canonical_graph test) n) → AreBest (canonical_graph test) label_cmp n answer.best.items
         → (IsTrue answer.complete → (bound : ℕ) → n ≤ bound → Counts (canonical_graph test) bound answer.count
         × (answer.summary.second.first.places ≡ branches_of (canonical_graph test) (branch_of test) bound) × (answer.summary.second.second.components ≡ blocked_of (canonical_graph test) (blocked test) bound))
-        → IsExplored test plan stops (Ok (record { steps = n; found = found; ending = why }))
-    found-explored plan stops n why fine low stopped count taken stands whole best later =
+        → IsExtent test plan stops (record { steps = n; found = found; ending = why })
+    extent-found plan stops n why low stopped count taken stands whole best later =
         let is = are-found n (record { counts = count.0; branches = taken; blocked = stands }) best in
         record {
-          bad_plan = (λ refused. let no = refused in cc, λ no. absurd (no fine));
-          planned = fine;
-          too_many = λ refused. let no = refused in cc;
-          limited = λ refused. let no = refused in cc;
           steps = low;
           ended = runs-ended plan stops n why stopped;
           found = is;
@@ -103,22 +93,28 @@ module _ (test : Test) where
               found-later n bound above is (record { counts = more.0; branches = more.1; blocked = more.2 });
         }
 
-  -- why nothing was found
-  pub refused-explored : (plan : Plan) (stops : Stops) (why : ExploreError) → ((why ≡ refused.BadPlan) → ¬ IsWithinLimits plan) → (¬ IsWithinLimits plan → why ≡ refused.BadPlan)
-      → (why ≡ refused.TooMany → (count : ℕ) × Counts (canonical_graph test) plan.steps count × (plan.limit < count))
-      → (why ≡ refused.TooMany → stops.at_limit ≡ false) → IsExplored test plan stops (Err why)
-  refused-explored plan stops why bad_plan beyond too_many limited = record {
-    bad_plan = (λ is. bad_plan (let same = is in cc), λ no. ap Err (beyond no));
-    planned = tt;
-    too_many = λ is. too-many-parts plan.steps plan.limit (too_many (let same = is in cc));
-    limited = λ is. limited (let same = is in cc);
-    steps = tt;
-    ended = tt;
-    found = tt;
-    within = tt;
-    complete = tt;
-    every_bound = tt;
-  }
+  module _ {A : Type 0} (plan : Plan) (stops : Stops) (is : A → Type 0) where
+    -- what was found, as the answer of an exploration
+    pub answer-explored : (a : A) → IsWithinLimits plan → is a → IsExplored test plan stops is (Ok a)
+    answer-explored a fine holds = record {
+      bad_plan = (λ refused. let no = refused in cc, λ no. absurd (no fine));
+      planned = fine;
+      too_many = λ refused. let no = refused in cc;
+      limited = λ refused. let no = refused in cc;
+      answer = holds;
+    }
+
+    -- why nothing was found
+    pub refused-explored : (why : ExploreError) → ((why ≡ refused.BadPlan) → ¬ IsWithinLimits plan) → (¬ IsWithinLimits plan → why ≡ refused.BadPlan)
+        → (why ≡ refused.TooMany → (count : ℕ) × Counts (canonical_graph test) plan.steps count × (plan.limit < count))
+        → (why ≡ refused.TooMany → stops.at_limit ≡ false) → IsExplored test plan stops is (Err why)
+    refused-explored why bad_plan beyond too_many limited = record {
+      bad_plan = (λ is. bad_plan (let same = is in cc), λ no. ap Err (beyond no));
+      planned = tt;
+      too_many = λ is. too-many-parts plan.steps plan.limit (too_many (let same = is in cc));
+      limited = λ is. limited (let same = is in cc);
+      answer = tt;
+    }
 
 -- an exploration without stops has done all steps
 pub all-steps : (test : Test) (plan : Plan) (stops : Stops) (n : ℕ) (why : Ending) → stops.at_limit ≡ false → stops.when_complete ≡ false → stops.at_mark ≡ None

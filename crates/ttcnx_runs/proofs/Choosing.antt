@@ -1,6 +1,6 @@
 -- What is known of the steps of a state without its configuration.
 use Rattle.std.specs.Prelude.{◌↔◌, IsTrue, not}
-use Rattle.std.proofs.Common.{◌≡◌, ℕ, Bool, true, false, true≢false, List, [], ◌∷◌, get_or, Option, Some, None, refl, sym, ap, subst, ◌∙◌}
+use Rattle.std.proofs.Common.{◌≡◌, ℕ, Bool, true, true≢false, List, [], ◌∷◌, get_or, Option, Some, None, refl, sym, ap, subst, ◌∙◌}
 use Rattle.std.specs.Option.{option_and_then}
 use Rattle.semantics.specs.Configurations.{Configuration, Ended, Goes}
 use Rattle.semantics.proofs.LiveTheorem.{labels_live}
@@ -14,7 +14,6 @@ use Rattle.config_packed.specs.Packs.{first_position, position_in}
 use Rattle.config_parts.specs.declared.component.Component.{Component}
 use Rattle.config_parts.specs.declared.config.Config.{Config}
 use Rattle.config_parts.specs.declared.config.Config.TheVariants as config
-use Rattle.config_parts.specs.declared.config.Going.{Going}
 use Rattle.config_parts.specs.declared.frame.Frame.{Frame}
 use Rattle.ttcn_step.proofs.Choosing.{TakesNoneAt, TakesNoneIn, none-of-path}
 use Rattle.ttcn_step.proofs.Found.{Searched}

@@ -5,10 +5,6 @@ use Rattle.summary.specs.Exploration.{Counts}
 use Rattle.ttcnx_runs.specs.Answers.{Shown}
 use Rattle.ttcnx_runs.specs.Sums.{blocked_of, branches_of}
 use Rattle.summary.specs.KeySet.{empty, from_list, from_option, union, union_join}
-use Rattle.summary.specs.declared.blocked.Blocked.{Blocked}
-use Rattle.summary.specs.declared.branches.Branches.{Branches}
-use Rattle.summary.specs.declared.both.Both.{Both}
-use Rattle.summary.specs.declared.verdicts.Verdicts.{Verdicts}
 use Rattle.summary.specs.NumberSet.{numbers_of}
 use Rattle.std.specs.FinSet as ordered
 use Rattle.summary.specs.Graph.{Graph}

@@ -10,16 +10,14 @@ use Rattle.semantics.proofs.CanonicalRuns.{ends_live}
 use Rattle.semantics.proofs.LiveSteps.{by-state, component-live, live-alive, live-over}
 use Rattle.semantics.proofs.LiveTheorem.{blocked_live, branch_live}
 use Rattle.semantics.specs.Canonical.{canonical_graph}
-use Rattle.semantics.specs.Configurations.{Component, Configuration, Created, Ended, Goes, Going, Running, State, Terminated, component_at, is_running_state, is_terminated_state}
-use Rattle.semantics.specs.LiveParts.{live_component, live_going, live_part}
-use Rattle.semantics.specs.Places.{blocked, branch_of, place_of, place_of_frames}
+use Rattle.semantics.specs.Configurations.{Component, Configuration, Created, Ended, Goes, Running, State, Terminated, component_at, is_running_state, is_terminated_state}
+use Rattle.semantics.specs.LiveParts.{live_component, live_part}
+use Rattle.semantics.specs.Places.{place_of, place_of_frames}
 use Rattle.semantics.specs.Runs.{graph_of}
 use Rattle.semantics.specs.Snapshots.{Test}
 use Rattle.semantics.specs.Steps.{Delivery, Expiry, Label, Statement}
 use Rattle.semantics.specs.Telling.{place_of_step}
-use Rattle.step_labels.specs.declared.standing.Standing.{Standing}
 use Rattle.summary.specs.Run.{Run, Start, Then, end_of, labels_of}
-use Rattle.ttcn_syntax.specs.declared.place.Span.{Span}
 use Rattle.ttcnx_runs.specs.Sights.{block_in, either_of, if_some, place_in_text}
 
 rests : (s : State) → is_terminated_state s ≡ true → is_running_state s ≡ false

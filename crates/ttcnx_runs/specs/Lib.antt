@@ -12,6 +12,7 @@ pub mod States
 pub mod Aims
 pub mod Answers
 pub mod Endings
+pub mod Extents
 pub mod Found
 pub mod Sums
 pub mod internal

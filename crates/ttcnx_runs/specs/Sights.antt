@@ -1,17 +1,21 @@
 -- What steps and configurations of a test case show, to which runs are wanted: where a step is, and which components are blocked.
-use Rattle.std.specs.Prelude.{◌≡◌, true, List, [], ◌∷◌, Option, None, Some}
+use Rattle.std.specs.Prelude.{◌≡◌, ℕ, true, List, [], ◌∷◌, Option, None, Some}
 use Rattle.std.proofs.Common.{refl, ap, ◌∙◌, ◌&&◌}
 use Rattle.std.specs.Cmp.{Equal-is, eq_by_cmp_equiv}
 use Rattle.std.specs.Cmp.Lexicographic.{pointwise}
 use Rattle.std.specs.FinSet.{IsAntisymmetric}
 use Rattle.std.specs.Ordering.{eq_by_cmp}
 use Rattle.std.specs.declared.cmp.Ordering.{Ordering}
+use Rattle.explore.specs.Sightings.{AreSighted, shown_at_end, shown_by_step}
+use Rattle.explore.specs.declared.sightings.Sighting.{Sighting}
 use Rattle.step_labels.specs.Standings.{place_cmp, place_one, place_total, standing_cmp, standing_one, standing_total}
 use Rattle.step_labels.specs.declared.standing.Standing.{Standing}
 use Rattle.syntax_equality.specs.Equality.{list_one}
 use Rattle.ttcn_syntax.specs.declared.place.Span.{Span}
 use Rattle.semantics.specs.Configurations.{Configuration}
+use Rattle.semantics.specs.Labels.{label_cmp}
 use Rattle.semantics.specs.Places.{blocked, branch_of}
+use Rattle.semantics.specs.Runs.{graph_of}
 use Rattle.semantics.specs.Snapshots.{Test}
 use Rattle.semantics.specs.Steps.{Label}
 use Rattle.semantics.specs.Telling.{place_of_step}
@@ -33,6 +37,14 @@ if_some (a ∷ others) = Some (a ∷ others)
 -- the components that are blocked, each with the place where it stands, where some are
 abbrev pub block_in : Test → Configuration → Option (List Standing)
 block_in test c = if_some (blocked test c)
+
+-- the places of the steps of runs of at most n steps, each with the least of the shortest runs whose last step is there
+abbrev pub ArePlaces : Test → ℕ → List (Sighting Span Label) → Type 0
+ArePlaces test n places = AreSighted (graph_of test) label_cmp n (shown_by_step (graph_of test) (place_in_text test)) places
+
+-- the blocks in which runs of at most n steps end, each with the least of the shortest runs that end so
+abbrev pub AreBlocks : Test → ℕ → List (Sighting (List Standing) Label) → Type 0
+AreBlocks test n blocks = AreSighted (graph_of test) label_cmp n (shown_at_end (graph_of test) (block_in test)) blocks
 
 -- ---- `==` on what is shown is true of a value and itself alone
 

@@ -2,8 +2,8 @@
 ghost use Rattle.std.specs.Prelude.{◌≡◌, ◌↔◌, ℕ, ◌<◌, ◌≤◌, false, IfOk, IsErrOf, IsTrue, OnOk};
 ghost use Rattle.search_layer.specs.Limits.{IsWithinLimits};
 ghost use Rattle.ttcnx_runs.specs.Found.{AreFound, place_cmp, standing_cmp};
-ghost use Rattle.ttcnx_runs.specs.Endings.{HaveEnded};
 ghost use Rattle.ttcnx_runs.specs.Answers.{IsMadeOf};
+ghost use Rattle.ttcnx_runs.specs.Extents.{IsExtent};
 ghost use Rattle.ttcnx_runs.specs.internal.Explored.{IsExplored};
 ghost use Rattle.summary.specs.Ascent.{Ascends};
 ghost use Rattle.summary.specs.KeySet.{from_list};
@@ -22,7 +22,7 @@ use ttcn_syntax::Span;
 
 /// What is summed up over all runs: the verdicts with which they end, the branches that are taken, and the components that
 /// are blocked.
-type Shown = Both<Verdicts, Both<Branches<BranchPlace>, Blocked<Standing>>>;
+pub(crate) type Shown = Both<Verdicts, Both<Branches<BranchPlace>, Blocked<Standing>>>;
 
 /// What was found.
 #[derive(Drop)]
@@ -85,17 +85,7 @@ pub fn explore_runs_until<G: Gate, R: Threads + Sync>(
     ensures planned { OnOk result (IsWithinLimits plan.now) }
     ensures too_many { IsErrOf result ExploreError.TooMany → (count : ℕ) × CountsParts machine.now.test plan.now.steps count × (plan.now.limit < count) }
     ensures limited { IsErrOf result ExploreError.TooMany → stops.now.at_limit ≡ false }
-
-    // What is found is of a bound within the plan's, and a stop says why it is less.
-    ensures steps { IfOk result (λ extent. extent.steps ≤ plan.now.steps) }
-    ensures ended { IfOk result (λ extent. HaveEnded machine.now.test plan.now stops.now extent.steps extent.ending) }
-
-    ensures found { IfOk result (λ extent. AreFound machine.now.test extent.steps extent.found) }
-    ensures within { IfOk result (λ extent. extent.found.configurations ≤ plan.now.limit) }
-    ensures complete { IfOk result (λ extent. IsTrue extent.found.complete ↔ IsCompleteByParts machine.now.test extent.steps) }
-
-    // Where no longer run reaches another configuration, the same is true of the runs of every greater bound.
-    ensures every_bound { IfOk result (λ extent. IsTrue extent.found.complete → (bound : ℕ) → extent.steps ≤ bound → AreFound machine.now.test bound extent.found) }
+    ensures extent { IfOk result (IsExtent machine.now.test plan.now stops.now) }
 {
     explore_within::<Brand, G, R>(rt, alloc, machine, plan, stops, gate)
 }
@@ -111,7 +101,7 @@ fn explore_within<K: Scheme + Send + Sync, G: Gate, R: Threads + Sync>(
     gate: &G,
 ) -> Result<Extent, ExploreError>
     requires { machine.now ≡ K.machine }
-    ensures { IsExplored K.machine.test plan.now stops.now result }
+    ensures { IsExplored K.machine.test plan.now stops.now (IsExtent K.machine.test plan.now stops.now) result }
 {
     let runs = Runs::<K>::new(machine);
     match search::<Runs<'_, '_, K>, G, R>(rt, alloc, &runs, plan, stops, gate) {

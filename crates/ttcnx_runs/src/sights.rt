@@ -1,30 +1,28 @@
 //! Runs to places of a test case, and to blocks.
-ghost use Rattle.std.specs.Prelude.{◌≡◌, ◌↔◌, ℕ, ◌<◌, ◌≤◌, [], false, IfOk, IsErrOf, OnOk};
-ghost use Rattle.explore.specs.Sightings.{AreSighted, shown_at_end, shown_by_step};
+ghost use Rattle.std.specs.Prelude.{◌≡◌, ◌↔◌, ℕ, ◌<◌, [], false, IfOk, IsErrOf, OnOk};
 ghost use Rattle.laws_live.specs.Parts.{CountsParts};
 ghost use Rattle.search_layer.specs.Limits.{IsWithinLimits};
-ghost use Rattle.semantics.specs.Labels.{label_cmp};
 ghost use Rattle.semantics.specs.Places as rules;
-ghost use Rattle.semantics.specs.Runs.{graph_of};
-ghost use Rattle.ttcnx_runs.specs.Sights.{block_in, if_some, place_in_text, place-itself, place-one, stands-itself, stands-one};
+ghost use Rattle.ttcnx_runs.specs.Sights.{AreBlocks, ArePlaces, block_in, if_some, place_in_text, place-itself, place-one, stands-itself, stands-one};
 ghost use Rattle.std.specs.List.{find};
 ghost use Rattle.std.specs.Option.{option_map};
 ghost use Rattle.ttcnx_runs.specs.Aims.{first_of, is_at, stands_at};
-ghost use Rattle.ttcnx_runs.specs.Endings.{HaveEnded};
-ghost use Rattle.ttcnx_runs.specs.internal.Watched.{IsWatched};
+ghost use Rattle.ttcnx_runs.specs.Answers.{IsMadeOf};
+ghost use Rattle.ttcnx_runs.specs.Extents.{IsExtent};
+ghost use Rattle.ttcnx_runs.specs.internal.Explored.{AreSights, IsExplored};
 
+use crate::exploration::{Extent, Shown, extent_of};
 use crate::keys::BranchPlace;
 use crate::runs::Runs;
 use crate::scheme::Scheme;
+use crate::search::search_watched;
 use crate::state::State;
-use explore::{
-    Ending, ExploreError, Gate, Plan, Sighted, Sighting, Stops, Watched, explore_watched,
-};
+use explore::{ExploreError, Gate, Plan, Sighted, Sighting, Stops, Watched};
 use std::alloc::{AllocError, Global};
 use std::marker::Brand;
 use std::thread::Threads;
 use step_labels::{Label, Standing};
-use summary::{Located, Verdicts};
+use summary::Located;
 use ttcn_config::unpack;
 use ttcn_step::Machine;
 use ttcn_syntax::{Seq, Span};
@@ -75,13 +73,12 @@ impl<'t, 'a, K: Scheme + Send + Sync> Watched for Runs<'t, 'a, K> {
     }
 }
 
-/// The least runs to places in the text, and to blocks, in the order of the runs.
+/// What was found of the runs of a test case, and the least runs to places in the text and to blocks, in the order of the
+/// runs.
 #[derive(Drop)]
 pub struct Sights {
-    /// The runs have at most so many steps.
-    pub steps: u64,
-    /// Why they have no more.
-    pub ending: Ending,
+    /// How far the runs were explored, and what was found of them.
+    pub extent: Extent,
     /// The places of steps: of the branch that a step takes, else of the statement that it begins with. The run ends with the
     /// step.
     pub places: Vec<Sighting<BranchPlace, Label>>,
@@ -89,7 +86,8 @@ pub struct Sights {
     pub blocks: Vec<Sighting<Seq<Standing>, Label>>,
 }
 
-/// Finds the least of the shortest runs, of at most the plan's steps, to each place in the text and to each block.
+/// Explores all runs of a machine's test case as `explore_runs_until` does, and finds the least of the shortest runs to each
+/// place in the text and to each block.
 pub fn sight_runs<G: Gate, R: Threads + Sync>(
     rt: &R,
     alloc: Global,
@@ -102,20 +100,14 @@ pub fn sight_runs<G: Gate, R: Threads + Sync>(
     ensures planned { OnOk result (IsWithinLimits plan.now) }
     ensures too_many { IsErrOf result ExploreError.TooMany → (count : ℕ) × CountsParts machine.now.test plan.now.steps count × (plan.now.limit < count) }
     ensures limited { IsErrOf result ExploreError.TooMany → stops.now.at_limit ≡ false }
-
-    // The runs are those of a bound within the plan's, and a stop says why it is less.
-    ensures steps { IfOk result (λ sights. sights.steps ≤ plan.now.steps) }
-    ensures ended { IfOk result (λ sights. HaveEnded machine.now.test plan.now stops.now sights.steps sights.ending) }
-
-    ensures places { IfOk result (λ sights. AreSighted (graph_of machine.now.test) label_cmp sights.steps
-        (shown_by_step (graph_of machine.now.test) (place_in_text machine.now.test)) sights.places.items) }
-    ensures blocks { IfOk result (λ sights. AreSighted (graph_of machine.now.test) label_cmp sights.steps
-        (shown_at_end (graph_of machine.now.test) (block_in machine.now.test)) sights.blocks.items) }
+    ensures extent { IfOk result (λ sights. IsExtent machine.now.test plan.now stops.now sights.extent) }
+    ensures places { IfOk result (λ sights. ArePlaces machine.now.test sights.extent.steps sights.places.items) }
+    ensures blocks { IfOk result (λ sights. AreBlocks machine.now.test sights.extent.steps sights.blocks.items) }
 {
     sight_within::<Brand, G, R>(rt, alloc, machine, plan, stops, gate)
 }
 
-/// Finds the least runs to places and blocks, where a type names the machine.
+/// Explores runs, and finds the least ones to places and blocks, where a type names the machine.
 fn sight_within<K: Scheme + Send + Sync, G: Gate, R: Threads + Sync>(
     rt: &R,
     alloc: Global,
@@ -125,25 +117,40 @@ fn sight_within<K: Scheme + Send + Sync, G: Gate, R: Threads + Sync>(
     gate: &G,
 ) -> Result<Sights, ExploreError>
     requires { machine.now ≡ K.machine }
-    ensures { IsWatched K.machine.test plan.now stops.now result }
+    ensures { IsExplored K.machine.test plan.now stops.now (AreSights K.machine.test plan.now stops.now) result }
 {
     let runs = Runs::<K>::new(machine);
-    match explore_watched::<Runs<'_, '_, K>, Verdicts, G, R>(rt, alloc, &runs, plan, stops, gate) {
-        Ok(sighted) => {
-            let Sighted {
-                reached,
-                events,
-                stands,
-            } = sighted;
-            Ok(Sights {
-                steps: reached.steps,
-                ending: reached.ending,
-                places: events,
-                blocks: stands,
-            })
-        }
+    match search_watched::<Runs<'_, '_, K>, G, R>(rt, alloc, &runs, plan, stops, gate) {
+        Ok(sighted) => match sights_of(alloc, sighted) {
+            Ok(sights) => Ok(sights),
+            Err(AllocError) => Err(ExploreError::Memory),
+        },
         Err(refused) => Err(refused),
     }
+}
+
+/// What an answer of the search tells, with the runs that were found.
+fn sights_of(
+    alloc: Global,
+    sighted: Sighted<Shown, Label, BranchPlace, Seq<Standing>>,
+) -> Result<Sights, AllocError>
+    ensures steps { IfOk result (λ sights. sights.extent.steps ≡ sighted.reached.steps) }
+    ensures ending { IfOk result (λ sights. sights.extent.ending ≡ sighted.reached.ending) }
+    ensures made { IfOk result (λ sights. IsMadeOf sights.extent.found sighted.reached.answer) }
+    ensures places { IfOk result (λ sights. sights.places.items ≡ sighted.events.items) }
+    ensures blocks { IfOk result (λ sights. sights.blocks.items ≡ sighted.stands.items) }
+{
+    let Sighted {
+        reached,
+        events,
+        stands,
+    } = sighted;
+    let extent = extent_of(alloc, reached)?;
+    Ok(Sights {
+        extent,
+        places: events,
+        blocks: stands,
+    })
 }
 
 /// Whether a place is this one.

@@ -8,15 +8,15 @@ use Rattle.ttcnx_runs.proofs.exploration.explore_runs.Goals as goal
 
 -- all of the plan's steps are done
 done : (g : Over) (c : goal.In_ok-extent g) → c.in_ok-extent.extent.steps ≡ c.args.plan.now.steps
-done g c = all-steps c.args.machine.now.test c.args.plan.now _ c.in_ok-extent.extent.steps c.in_ok-extent.extent.ending refl refl refl c.in_ok-extent.ensures.ended
+done g c = all-steps c.args.machine.now.test c.args.plan.now _ c.in_ok-extent.extent.steps c.in_ok-extent.extent.ending refl refl refl c.in_ok-extent.ensures.extent.ended
 
 pub returns-clause-found : goal.returns-clause-found
-returns-clause-found g c = subst (λ (n : ℕ). AreFound c.args.machine.now.test n c.in_ok-extent.extent.found) (done g c) c.in_ok-extent.ensures.found
+returns-clause-found g c = subst (λ (n : ℕ). AreFound c.args.machine.now.test n c.in_ok-extent.extent.found) (done g c) c.in_ok-extent.ensures.extent.found
 
 pub returns-clause-complete : goal.returns-clause-complete
 returns-clause-complete g c =
-    subst (λ (n : ℕ). IsTrue c.in_ok-extent.extent.found.complete ↔ IsCompleteByParts c.args.machine.now.test n) (done g c) c.in_ok-extent.ensures.complete
+    subst (λ (n : ℕ). IsTrue c.in_ok-extent.extent.found.complete ↔ IsCompleteByParts c.args.machine.now.test n) (done g c) c.in_ok-extent.ensures.extent.complete
 
 pub returns-clause-every_bound : goal.returns-clause-every_bound
 returns-clause-every_bound g c all bound above =
-    c.in_ok-extent.ensures.every_bound all bound (subst (λ (n : ℕ). n ≤ bound) (sym (done g c)) above)
+    c.in_ok-extent.ensures.extent.every_bound all bound (subst (λ (n : ℕ). n ≤ bound) (sym (done g c)) above)
