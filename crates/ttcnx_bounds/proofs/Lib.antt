@@ -1,0 +1,7 @@
+pub mod Assembly
+pub mod Bests
+pub mod Crossing
+pub mod FewExpiries
+pub mod Mapped
+pub mod Sums
+pub mod Unbounded

@@ -1,0 +1,22 @@
+-- Why the runs of a test case that keep a bound were explored no further than so many steps.
+use Rattle.std.specs.Prelude.{◌≡◌, ℕ, suc, ◌<◌, true, Some}
+use Rattle.explore.specs.declared.ending.Ending.{Ending}
+use Rattle.explore.specs.declared.ending.Ending.TheVariants as ending
+use Rattle.explore.specs.declared.ending.Stops.{Stops}
+use Rattle.laws_bounds.specs.BoundedParts.{CountsBounded, HasMarkBounded, IsCompleteBounded}
+use Rattle.search_bounds.specs.declared.bound.Bound.{Bound}
+use Rattle.search_layer.specs.declared.plan.Plan.{Plan}
+use Rattle.semantics.specs.Snapshots.{Test}
+use Rattle.semantics.specs.Steps.{Label}
+use Rattle.summary.specs.Run.{Run}
+
+-- the exploration of these runs of at most so many steps ended where it was to end
+pub data HaveEndedBounded (test : Test) (bound : Bound) (plan : Plan) (stops : Stops) (steps : ℕ) : Ending → Type 0 where
+  -- the plan's steps are done
+  all_done : steps ≡ plan.steps → HaveEndedBounded test bound plan stops steps ending.Steps
+  -- with one step more, these runs reach more pairs than the limit
+  at_limit : {count : ℕ} → stops.at_limit ≡ true → steps < plan.steps → CountsBounded test bound (suc steps) count → plan.limit < count → HaveEndedBounded test bound plan stops steps ending.Limit
+  -- no longer run within the bound reaches another pair
+  complete : stops.when_complete ≡ true → IsCompleteBounded test bound steps → HaveEndedBounded test bound plan stops steps ending.Complete
+  -- one of these runs ends with the mark, which is a verdict's number
+  at_mark : {mark : ℕ} {run : Run Label} → stops.at_mark ≡ Some mark → HasMarkBounded test bound steps mark run → HaveEndedBounded test bound plan stops steps ending.Mark

@@ -1,0 +1,4 @@
+pub mod BoundedEndings
+pub mod BoundedFound
+pub mod Fewest
+pub mod internal
