@@ -1,4 +1,4 @@
--- Words that have no fault give one of the six subcommands, with all that it takes.
+-- Words that have no fault give one of the eight subcommands, with all that it takes.
 use Rattle.std.proofs.Common.{◌≡◌, ◌∙◌, ◌⊎◌, ◌==◌, ◌-◌, ◌&&◌, ◌||◌, ℕ, Bool, cond, inl, inr, true, false, not, refl, sym, ap, subst, arith, List, [], ◌∷◌, Option, Some, None, is_some, option_map, codes, true≢false}
 use Rattle.std.specs.List.{find, list_any}
 use Rattle.std.specs.Prelude.{option_and_then, slice_get}
@@ -18,11 +18,13 @@ use Rattle.clap.specs.declared.builder.value_parser.ValueParser.TheVariants as v
 use Rattle.clap.proofs.ValueTestLemmas.{accepts-Accepts}
 use Rattle.ttcn_syntax.specs.declared.tree.statement.Verdict.{Verdict}
 use Rattle.ttcn_syntax.specs.declared.tree.statement.Verdict.TheVariants as verdict
-use Rattle.ttcnx_command_line.specs.App.{format_words, names_of_words, ttcnx_app, verdict_words}
-use Rattle.ttcnx_command_line.specs.Command.{format_word, verdict_word}
+use Rattle.ttcnx_command_line.specs.App.{format_words, lint_words, most_expiries, names_of_words, ttcnx_app, verdict_words}
+use Rattle.ttcnx_command_line.specs.Command.{format_word, lint_format_word, verdict_word}
 use Rattle.ttcnx_command_line.specs.declared.command.Format.{Format}
 use Rattle.ttcnx_command_line.specs.declared.command.Format.TheVariants as format
-use Rattle.ttcnx_command_line.specs.internal.Given.{GivesCommand, GivesFlag, GivesFormat, GivesNumber, GivesRun, GivesRunFile, GivesText, MayGiveNumber, MayGiveVerdict}
+use Rattle.ttcnx_command_line.specs.declared.command.LintFormat.{LintFormat}
+use Rattle.ttcnx_command_line.specs.declared.command.LintFormat.TheVariants as lint_format
+use Rattle.ttcnx_command_line.specs.internal.Given.{GivesCommand, GivesFlag, GivesFormat, GivesLintFormat, GivesNumber, GivesRun, GivesRunFile, GivesText, GivesTexts, MayGiveNumber, MayGiveVerdict}
 use Rattle.ttcnx_command_line.proofs.Walks.{IsNoHelp, none-of, walk-enters}
 use Rattle.ttcnx_command_line.proofs.Fills.{AllOf, Fills, FirstPasses, HasValue, IsWanted, MayHave, level-rows, level-values, no-check}
 
@@ -60,6 +62,10 @@ number-from rows a low high is v =
 flag-from : (rows : List Row) (a : Rule) → a.parser ≡ Some vp.Bool → HasValue rows a → GivesFlag rows a.id
 flag-from rows a is v = passed rows a vp.Bool is v
 
+-- the values of an argument
+texts-from : (rows : List Row) (a : Rule) → HasValue rows a → GivesTexts rows a.id
+texts-from rows a v = (v.row.values, ap (option_map (λ r. r.values)) v.is)
+
 -- ---- words that name something
 
 abbrev IsOneOf : List Text → Text → Type 0
@@ -88,6 +94,11 @@ named-format text (inr (inr (inl e))) = (format.Mermaid, e)
 named-format text (inr (inr (inr (inl e)))) = (format.Svg, e)
 named-format text (inr (inr (inr (inr none)))) = absurd none
 
+named-lint-format : (text : Text) → IsOneOf lint_words text → (f : LintFormat) × (text ≡ lint_format_word f)
+named-lint-format text (inl e) = (lint_format.Text, e)
+named-lint-format text (inr (inl e)) = (lint_format.Json, e)
+named-lint-format text (inr (inr none)) = absurd none
+
 named-verdict : (text : Text) → IsOneOf verdict_words text → (v : Verdict) × (text ≡ verdict_word v)
 named-verdict text (inl e) = (verdict.None, e)
 named-verdict text (inr (inl e)) = (verdict.Pass, e)
@@ -102,6 +113,13 @@ format-from rows a own as_written is v =
     let text = word-from rows a format_words as_written is v in
     let f = named-format text.0 text.2 in
     (f.0, subst (λ id. first_of id rows ≡ Some (format_word f.0)) own (text.1 ∙ ap Some f.1))
+
+lint-format-from : (rows : List Row) (a : Rule) → a.id ≡ codes "format" → a.ignore_case ≡ false → a.parser ≡ Some (vp.Names (names_of_words lint_words)) → HasValue rows a
+    → GivesLintFormat rows
+lint-format-from rows a own as_written is v =
+    let text = word-from rows a lint_words as_written is v in
+    let f = named-lint-format text.0 text.2 in
+    (f.0, subst (λ id. first_of id rows ≡ Some (lint_format_word f.0)) own (text.1 ∙ ap Some f.1))
 
 -- ---- what may be left out
 
@@ -156,6 +174,12 @@ double_built = at_nth app.subs 4
 abbrev explain_built : Shape
 explain_built = at_nth app.subs 5
 
+abbrev lint_built : Shape
+lint_built = at_nth app.subs 6
+
+abbrev list_built : Shape
+list_built = at_nth app.subs 7
+
 abbrev rule_at : Shape → ℕ → Rule
 rule_at s n = nth_rule s.rules n
 
@@ -190,16 +214,28 @@ run-fills = (
                   (
                     record { own = refl; action = refl; full = inr (inr tt); defaults = refl },
                     (
-                      record { own = refl; action = refl; full = inr (inr tt); defaults = refl },
+                      record { own = refl; action = refl; full = inr (inl (omega arith)); defaults = tt },
                       (
-                        record { own = refl; action = refl; full = inr (inl (omega arith)); defaults = tt },
+                        record { own = refl; action = refl; full = inr (inr tt); defaults = refl },
                         (
-                          record { own = refl; action = refl; full = inr (inl (omega arith)); defaults = tt },
+                          record { own = refl; action = refl; full = inr (inr tt); defaults = refl },
                           (
-                            record { own = refl; action = refl; full = inr (inl (omega arith)); defaults = tt },
+                            record { own = refl; action = refl; full = inr (inr tt); defaults = refl },
                             (
-                              record { own = refl; action = refl; full = inl refl; defaults = tt },
-                              tt,
+                              record { own = refl; action = refl; full = inr (inl (omega arith)); defaults = tt },
+                              (
+                                record { own = refl; action = refl; full = inr (inr tt); defaults = refl },
+                                (
+                                  record { own = refl; action = refl; full = inr (inl (omega arith)); defaults = tt },
+                                  (
+                                    record { own = refl; action = refl; full = inr (inl (omega arith)); defaults = tt },
+                                    (
+                                      record { own = refl; action = refl; full = inl refl; defaults = tt },
+                                      tt,
+                                    ),
+                                  ),
+                                ),
+                              ),
                             ),
                           ),
                         ),
@@ -259,11 +295,24 @@ explain-fills = (
   ),
 )
 
+lint-fills : AllOf (Fills lint_built.rules) lint_built.rules
+lint-fills = (
+  record { own = refl; action = refl; full = inr (inl (omega arith)); defaults = tt },
+  (
+    record { own = refl; action = refl; full = inr (inl (omega arith)); defaults = refl },
+    (
+      record { own = refl; action = refl; full = inl refl; defaults = tt },
+      tt,
+    ),
+  ),
+)
+
 -- ---- what one level gives
 
-check-given : (words : List Text) → level_fault check_built [] nothing_held words false [] ≡ [] → GivesText (rows_after check_built.rules [] words) (codes "FILE")
-check-given words e =
-    let v = level-values check_built words check-fills e in
+file-given : (s : Shape) → s.rules ≡ check_built.rules → (words : List Text) → level_fault s [] nothing_held words false [] ≡ [] → GivesText (rows_after s.rules [] words) (codes "FILE")
+file-given s is words e =
+    let fills = subst (λ rules. AllOf (Fills rules) rules) (sym is) check-fills in
+    let v = subst (AllOf (λ a. IsWanted a → HasValue (rows_after s.rules [] words) a)) is (level-values s words fills e) in
     text-from _ _ (v.0 (inl refl))
 
 run-given : (words : List Text) → level_fault run_built [] nothing_held words false [] ≡ [] → GivesRun (rows_after run_built.rules [] words)
@@ -283,8 +332,12 @@ run-given words e =
       explain = flag-from _ _ refl (v.1.1.1.1.1.1.1.1.1.0 (inr tt));
       wishes = record {
         until_complete = flag-from _ _ refl (v.1.1.1.1.0 (inr tt));
-        partial = flag-from _ _ refl (v.1.1.1.1.1.1.1.1.1.1.0 (inr tt));
-        first = verdict-if-there _ _ refl refl may.1.1.1.1.1.1.1.1.1.1.1.0;
+        expiries = number-if-there _ _ 0 most_expiries refl may.1.1.1.1.1.1.1.1.1.1.0;
+        patient_timers = flag-from _ _ refl (v.1.1.1.1.1.1.1.1.1.1.1.0 (inr tt));
+        few_expiries = flag-from _ _ refl (v.1.1.1.1.1.1.1.1.1.1.1.1.0 (inr tt));
+        partial = flag-from _ _ refl (v.1.1.1.1.1.1.1.1.1.1.1.1.1.0 (inr tt));
+        first = verdict-if-there _ _ refl refl may.1.1.1.1.1.1.1.1.1.1.1.1.1.1.0;
+        quiet = flag-from _ _ refl (v.1.1.1.1.1.1.1.1.1.1.1.1.1.1.1.0 (inr tt));
       };
     }
 
@@ -310,6 +363,12 @@ explain-given words e =
       },
       format-from _ _ refl refl refl (v.1.1.1.1.0 (inr tt)),
     )
+
+lint-given : (words : List Text) → level_fault lint_built [] nothing_held words false [] ≡ []
+    → GivesTexts (rows_after lint_built.rules [] words) (codes "FILE") × GivesLintFormat (rows_after lint_built.rules [] words)
+lint-given words e =
+    let v = level-values lint_built words lint-fills e in
+    (texts-from _ _ (v.0 (inl refl)), lint-format-from _ _ refl refl refl (v.1.0 (inr tt)))
 
 -- ---- the subcommand at which the walk stops
 
@@ -339,20 +398,26 @@ not-help name other hit = go (bytes_eq (codes "help") name) refl hit
 
 entered-given : (p : Text × List Text) → bytes_eq p.0 (codes "help") ≡ false → Gives p.1 (find (λ s. answers_to p.0 (label_of s)) app.subs)
 entered-given p other = chosen (Gives p.1) p.0 app.subs (
-  λ hit e some. inl (refl, check-given p.1 e),
+  λ hit e some. inl (inl refl, file-given check_built refl p.1 e),
   (
     λ hit e some. inr (inl (refl, run-given p.1 e)),
     (
-      λ hit e some. inr (inr (inl (inl refl, run-file-given replay_built refl p.1 e))),
+      λ hit e some. inr (inr (inr (inl (inl refl, run-file-given replay_built refl p.1 e)))),
       (
-        λ hit e some. inr (inr (inl (inr (inl refl), run-file-given coarsen_built refl p.1 e))),
+        λ hit e some. inr (inr (inr (inl (inr (inl refl), run-file-given coarsen_built refl p.1 e)))),
         (
-          λ hit e some. inr (inr (inl (inr (inr refl), run-file-given double_built refl p.1 e))),
+          λ hit e some. inr (inr (inr (inl (inr (inr refl), run-file-given double_built refl p.1 e)))),
           (
-            λ hit e some. let given = explain-given p.1 e in inr (inr (inr (refl, given.0, given.1))),
+            λ hit e some. let given = explain-given p.1 e in inr (inr (inr (inr (refl, given.0, given.1)))),
             (
-              λ hit e some. absurd (not-help p.0 other hit),
-              tt,
+              λ hit e some. let given = lint-given p.1 e in inr (inr (inl (refl, given.0, given.1))),
+              (
+                λ hit e some. inl (inr refl, file-given list_built refl p.1 e),
+                (
+                  λ hit e some. absurd (not-help p.0 other hit),
+                  tt,
+                ),
+              ),
             ),
           ),
         ),

@@ -1,6 +1,6 @@
 -- What `ttcnx_app` makes of words that are written out.
 use Rattle.std.proofs.Common.{◌≡◌, refl, true, List, [], ◌∷◌, None, Some, Option, option_map, codes}
-use Rattle.clap.specs.Walk.{Row, Text, first_of, one_of}
+use Rattle.clap.specs.Walk.{Row, Text, all_of, first_of, one_of}
 use Rattle.clap.specs.Simple.{subcommand_of}
 use Rattle.clap.specs.Faults.{fault_of}
 use Rattle.clap.specs.Takes.{takes}
@@ -100,6 +100,33 @@ a-verdict-is-read = refl
 another-verdict : fault_of ttcnx_app (run_words (codes "--steps=8" ∷ codes "--first=red" ∷ [])) ≡ InvalidValue ∷ []
 unfolding clap_on_literals
 another-verdict = refl
+
+a-number-of-expiries-is-read : (value_in (codes "expiries") (subcommand_of ttcnx_app (run_words (codes "--steps=8" ∷ codes "--expiries=2" ∷ []))) ≡ Some (Some (codes "2")))
+    × (value_in (codes "expiries") (subcommand_of ttcnx_app (run_words (codes "--steps=8" ∷ []))) ≡ Some None)
+unfolding clap_on_literals
+a-number-of-expiries-is-read = (refl, refl)
+
+expiries-have-a-most : fault_of ttcnx_app (run_words (codes "--steps=8" ∷ codes "--expiries=4294967296" ∷ [])) ≡ ValueValidation ∷ []
+unfolding clap_on_literals
+expiries-have-a-most = refl
+
+bounded-expiries-stand-beside-a-stop : faults_of (run_words (codes "--until-complete" ∷ codes "--expiries=2" ∷ codes "--patient-timers" ∷ codes "--quiet" ∷ [])) ≡ []
+unfolding clap_on_literals
+bounded-expiries-stand-beside-a-stop = refl
+
+all-runs-are-explained : (faults_of (run_words (codes "--steps=8" ∷ codes "--explain" ∷ codes "--expiries=2" ∷ [])) ≡ ArgumentConflict ∷ [])
+    × (faults_of (run_words (codes "--steps=8" ∷ codes "--patient-timers" ∷ codes "--explain" ∷ [])) ≡ ArgumentConflict ∷ [])
+unfolding clap_on_literals
+all-runs-are-explained = (refl, refl)
+
+a-run-to-a-place-is-one-of-all-runs : (faults_of (run_words (codes "--steps=8" ∷ codes "--run-to=1:1" ∷ codes "--patient-timers" ∷ [])) ≡ ArgumentConflict ∷ [])
+    × (faults_of (run_words (codes "--steps=8" ∷ codes "--expiries=2" ∷ codes "--run-to-block=1:1" ∷ [])) ≡ ArgumentConflict ∷ [])
+unfolding clap_on_literals
+a-run-to-a-place-is-one-of-all-runs = (refl, refl)
+
+several-files-are-read : option_map (λ p. all_of (codes "FILE") p.1) (subcommand_of ttcnx_app (codes "lint" ∷ codes "a" ∷ codes "b" ∷ [])) ≡ Some (Some (codes "a" ∷ codes "b" ∷ []))
+unfolding clap_on_literals
+several-files-are-read = refl
 
 check-takes-no-script : fault_of ttcnx_app (codes "check" ∷ codes "x1.ttcn" ∷ codes "--script=s.json" ∷ []) ≡ UnknownArgument ∷ []
 unfolding clap_on_literals

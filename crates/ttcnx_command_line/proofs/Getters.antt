@@ -1,5 +1,5 @@
 -- What the getters of clap's matches read, by the rows.
-use Rattle.std.proofs.Common.{◌≡◌, ◌∙◌, ◌≤◌, ◌||◌, ℕ, Bool, inl, inr, true, false, refl, sym, ap, subst, List, [], ◌∷◌, Option, Some, None, Result, Ok, Err, IsSome, is_some, codes, option_map}
+use Rattle.std.proofs.Common.{◌≡◌, ◌∙◌, ◌≤◌, ◌||◌, ℕ, Bool, inl, inr, true, false, refl, sym, ap, subst, List, [], ◌∷◌, Option, Some, None, Result, Ok, Err, IsSome, is_some, codes, map, option_map}
 use Rattle.std.specs.List.{find}
 use Rattle.std.specs.Option.{option_map_or}
 use Rattle.std.specs.Prelude.{option_and_then, slice_get}
@@ -7,17 +7,19 @@ use Rattle.std.specs.Borrow.{Bor}
 use Rattle.std.specs.Str.{bytes_eq}
 use Rattle.std.specs.Str.Parse.{ParsesUnsigned, digits_value, without_leading_plus}
 use Rattle.std.proofs.lemmas.Slice.Eq.{bytes_eq-Decides}
-use Rattle.clap.specs.Matches.{ReadsOne, first_value, one_text}
+use Rattle.clap.specs.Matches.{ReadsOne, first_value, matched_of, one_text, raw_values}
 use Rattle.clap.specs.Values.{IsUnsignedIn, bool_text, read_as}
 use Rattle.clap.specs.Walk.{Row, Text, first_of, one_of, row_text, rows_of}
 use Rattle.clap.specs.declared.parser.matches.Found.{Found}
-use Rattle.clap.proofs.WalkLemmas.{first_value-rows, one_text-rows}
+use Rattle.clap.proofs.WalkLemmas.{first_value-rows, one_text-rows, raw_values-rows}
 use Rattle.ttcn_syntax.specs.declared.tree.statement.Verdict.{Verdict}
 use Rattle.ttcn_syntax.specs.declared.tree.statement.Verdict.TheVariants as verdict
-use Rattle.ttcnx_command_line.specs.Command.{AreSteps, AreStepsIf, IsFlag, IsFormat, IsNumber, IsNumberIfGiven, IsText, IsTextIfGiven, IsVerdictIfGiven, bound_fault, format_word, is_set, most_steps, verdict_word}
+use Rattle.ttcnx_command_line.specs.Command.{AreSteps, AreStepsIf, AreTexts, IsFlag, IsFormat, IsLintFormat, IsNumber, IsNumberIfGiven, IsText, IsTextIfGiven, IsVerdictIfGiven, bound_fault, format_word, is_set, lint_format_word, most_steps, verdict_word}
+use Rattle.ttcnx_command_line.specs.declared.command.LintFormat.{LintFormat}
+use Rattle.ttcnx_command_line.specs.declared.command.LintFormat.TheVariants as lint_format
 use Rattle.ttcnx_command_line.specs.declared.command.Format.{Format}
 use Rattle.ttcnx_command_line.specs.declared.command.Format.TheVariants as format
-use Rattle.ttcnx_command_line.specs.internal.Given.{GivesFlag, GivesFormat, GivesNumber, GivesText, HasOneBound, MayGiveNumber, MayGiveVerdict}
+use Rattle.ttcnx_command_line.specs.internal.Given.{GivesFlag, GivesFormat, GivesLintFormat, GivesNumber, GivesText, GivesTexts, HasOneBound, MayGiveNumber, MayGiveVerdict}
 
 -- `get_str` has a text where the argument has one
 pub text-there : (f : Found) (id : Text) (o : Option (Bor Text)) → option_map (λ s. s.now) o ≡ first_value f id → GivesText (rows_of f) id → IsSome o
@@ -196,3 +198,34 @@ verdict-left word named none pass inconc fail = go named.0 named.1
     go verdict.Inconc is = absurd (inconc is)
     go verdict.Fail is = absurd (fail is)
     go verdict.Error is = is
+
+-- ---- formats of findings
+
+pub lint-format-there : (f : Found) (o : Option (Bor Text)) → option_map (λ s. s.now) o ≡ first_value f (codes "format") → GivesLintFormat (rows_of f) → IsSome o
+lint-format-there f o got given = text-there f (codes "format") o got (lint_format_word given.0, given.1)
+
+-- a format that is named by another word than `json` is the text
+pub lint-format-left : (matches : List Row) (word : Text) → IsText matches (codes "format") word → GivesLintFormat matches → (word ≡ codes "json" → ⊥)
+    → IsLintFormat matches lint_format.Text
+lint-format-left matches word is given json = go given.0 given.1
+  where
+    go : (f : LintFormat) → IsLintFormat matches f → IsLintFormat matches lint_format.Text
+    go lint_format.Text at = at
+    go lint_format.Json at =
+        let both : Some word ≡ Some (codes "json") = sym is ∙ at in
+        absurd (json cc)
+
+-- ---- arguments with several texts
+
+pub texts-there : (f : Found) (id : Text) (o : Option (Bor (List (Bor Text)))) → option_map (λ s. map (λ v. v.now) s.now) o ≡ option_map raw_values (matched_of f id)
+    → GivesTexts (rows_of f) id → IsSome o
+texts-there f id (Some s) got given = refl
+texts-there f id None got given =
+    let rows = raw_values-rows f id in
+    let is = given.1 in
+    cc
+
+pub texts-copied : (f : Found) (id : Text) (o : Option (Bor (List (Bor Text)))) (s : Bor (List (Bor Text))) (copies : List Text)
+    → option_map (λ x. map (λ v. v.now) x.now) o ≡ option_map raw_values (matched_of f id) → o ≡ Some s → copies ≡ map (λ v. v.now) s.now → AreTexts (rows_of f) id copies
+texts-copied f id o s copies got is same =
+    sym (raw_values-rows f id) ∙ sym got ∙ ap (option_map (λ (x : Bor (List (Bor Text))). map (λ v. v.now) x.now)) is ∙ ap Some (sym same)

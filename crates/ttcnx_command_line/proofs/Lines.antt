@@ -19,13 +19,13 @@ use Rattle.clap.specs.declared.parser.matches.ArgMatches.{ArgMatches}
 use Rattle.clap.specs.declared.parser.matches.ArgMatches.TheViews.{out-ArgMatches, out-SubCommand}
 use Rattle.clap.specs.declared.parser.matches.SubCommand.{SubCommand}
 use Rattle.ttcnx_command_line.specs.App.{ttcnx_app}
-use Rattle.ttcnx_command_line.specs.Command.{HasValues, IsExplained, IsFlag, IsMemory, IsRequest, aim_fault, bound_fault, fault_of_run, has_value, is_about_report, run_fault}
+use Rattle.ttcnx_command_line.specs.Command.{HasValues, IsExplained, IsFlag, IsMemory, IsRequest, aim_fault, bound_fault, bounds_expiries, explain_fault, fault_of_run, has_value, is_about_report, is_about_telling, run_fault}
 use Rattle.clap.specs.declared.error.Error.{Error}
 use Rattle.ttcnx_command_line.specs.declared.command.Line.{Line}
 use Rattle.ttcnx_command_line.specs.declared.command.LineError.{LineError}
 use Rattle.ttcnx_command_line.specs.declared.command.LineError.TheVariants.{Help, Bad, Memory}
 use Rattle.ttcnx_command_line.specs.internal.Answer.{HasRefusal, IsAnswer, IsBoundError}
-use Rattle.ttcnx_command_line.specs.internal.Given.{GivesCommand, GivesRun, aim_of, bound_of}
+use Rattle.ttcnx_command_line.specs.internal.Given.{GivesCommand, GivesRun, aim_of, bound_of, explain_of}
 use Rattle.ttcnx_command_line.proofs.Complete.{all-given}
 use Rattle.ttcnx_command_line.proofs.Getters.{flag-set, text-given}
 use Rattle.ttcnx_command_line.proofs.PlacesApps.{IsTtcnx, same-faults, same-subcommand, same-takes}
@@ -96,12 +96,14 @@ run-gives None rows gives named is = absurd gives
 run-gives (Some p) rows gives named is = subst GivesRun (same_Some p.1 rows is) (of-run (same_Some p.0 (codes "run") named) gives)
   where
     of-run : p.0 ≡ codes "run" → GivesCommand (Some p) → GivesRun p.1
-    of-run name (inl check) = absurd (let no = sym name ∙ check.0 in cc)
+    of-run name (inl (inl check, file)) = absurd (let no = sym name ∙ check in cc)
+    of-run name (inl (inr listing, file)) = absurd (let no = sym name ∙ listing in cc)
     of-run name (inr (inl run)) = run.1
-    of-run name (inr (inr (inl (inl replay, file)))) = absurd (let no = sym name ∙ replay in cc)
-    of-run name (inr (inr (inl (inr (inl coarsen), file)))) = absurd (let no = sym name ∙ coarsen in cc)
-    of-run name (inr (inr (inl (inr (inr double), file)))) = absurd (let no = sym name ∙ double in cc)
-    of-run name (inr (inr (inr explain))) = absurd (let no = sym name ∙ explain.0 in cc)
+    of-run name (inr (inr (inl lint))) = absurd (let no = sym name ∙ lint.0 in cc)
+    of-run name (inr (inr (inr (inl (inl replay, file))))) = absurd (let no = sym name ∙ replay in cc)
+    of-run name (inr (inr (inr (inl (inr (inl coarsen), file))))) = absurd (let no = sym name ∙ coarsen in cc)
+    of-run name (inr (inr (inr (inl (inr (inr double), file))))) = absurd (let no = sym name ∙ double in cc)
+    of-run name (inr (inr (inr (inr explain)))) = absurd (let no = sym name ∙ explain.0 in cc)
 
 -- ---- the bound of a `run`
 
@@ -193,11 +195,17 @@ aim-refused to_place to_block about is = subst HasRefusal (sym is) (ArgumentConf
 pub value-is : (f : Found) (id : Text) (o : Option (Bor Text)) (has : Bool) → option_map (λ s. s.now) o ≡ first_value f id → has ≡ is_some o → has_value id (rows_of f) ≡ has
 value-is f id o has got same = sym (text-given f id o got) ∙ sym same
 
-pub about-is : (f : Found) (json explain partial first : Bool) → IsFlag (rows_of f) (codes "json") json → IsFlag (rows_of f) (codes "explain") explain
-    → IsFlag (rows_of f) (codes "partial") partial → has_value (codes "first") (rows_of f) ≡ first → is_about_report (rows_of f) ≡ (json || explain || partial || first)
-about-is f json explain partial first is_json is_explain is_partial is_first =
-    ap₂ (λ a b. a || b) (ap₂ (λ a b. a || b) (ap₂ (λ a b. a || b) (flag-set (rows_of f) (codes "json") json is_json) (flag-set (rows_of f) (codes "explain") explain is_explain))
-    (flag-set (rows_of f) (codes "partial") partial is_partial)) is_first
+pub about-is : (f : Found) (json explain partial first expiries : Bool) → IsFlag (rows_of f) (codes "json") json → IsFlag (rows_of f) (codes "explain") explain
+    → IsFlag (rows_of f) (codes "partial") partial → has_value (codes "first") (rows_of f) ≡ first → bounds_expiries (rows_of f) ≡ expiries
+    → is_about_telling (rows_of f) ≡ (json || explain || partial || first || expiries)
+about-is f json explain partial first expiries is_json is_explain is_partial is_first is_expiries =
+    ap₂ (λ a b. a || b) (ap₂ (λ a b. a || b) (ap₂ (λ a b. a || b) (ap₂ (λ a b. a || b) (flag-set (rows_of f) (codes "json") json is_json) (flag-set (rows_of f) (codes "explain") explain is_explain))
+    (flag-set (rows_of f) (codes "partial") partial is_partial)) is_first) is_expiries
+
+-- an option that bounds expiries, by its tests
+pub expiries-is : (f : Found) (expiries patient : Bool) → has_value (codes "expiries") (rows_of f) ≡ expiries → IsFlag (rows_of f) (codes "patient-timers") patient
+    → bounds_expiries (rows_of f) ≡ (expiries || patient)
+expiries-is f expiries patient is_expiries is_patient = ap₂ (λ a b. a || b) is_expiries (flag-set (rows_of f) (codes "patient-timers") patient is_patient)
 
 pub aim-is : (matches : List Row) (to_place to_block about : Bool) → has_value (codes "run-to") matches ≡ to_place → has_value (codes "run-to-block") matches ≡ to_block
     → is_about_report matches ≡ about → aim_of matches ≡ aim_fault to_place to_block about
@@ -208,5 +216,20 @@ pub place-conflict : (to_block : Bool) → aim_fault true to_block true ≡ Argu
 place-conflict true = refl
 place-conflict false = refl
 
-pub last-of-four : (a b c d e : Bool) → a ≡ false → b ≡ false → c ≡ false → d ≡ e → (a || b || c || d) ≡ e
-last-of-four a b c d e p q r same = ap₂ (λ x y. x || y) (ap₂ (λ x y. x || y) (ap₂ (λ x y. x || y) p q) r) same
+pub fourth-of-five : (a b c d e : Bool) → a ≡ false → b ≡ false → c ≡ false → d ≡ true → (a || b || c || d || e) ≡ true
+fourth-of-five a b c d e p q r s = ap (λ x. x || e) (ap₂ (λ x y. x || y) (ap₂ (λ x y. x || y) (ap₂ (λ x y. x || y) p q) r) s)
+
+pub last-of-five : (a b c d e : Bool) → a ≡ false → b ≡ false → c ≡ false → d ≡ false → (a || b || c || d || e) ≡ e
+last-of-five a b c d e p q r s = ap (λ x. x || e) (ap₂ (λ x y. x || y) (ap₂ (λ x y. x || y) (ap₂ (λ x y. x || y) p q) r) s)
+
+-- runs that are to be explained, by their tests
+pub explain-is : (f : Found) (explain bounded : Bool) → IsFlag (rows_of f) (codes "explain") explain → bounds_expiries (rows_of f) ≡ bounded
+    → explain_of (rows_of f) ≡ explain_fault explain bounded
+explain-is f explain bounded is_explain is_bounded = ap₂ explain_fault (flag-set (rows_of f) (codes "explain") explain is_explain) is_bounded
+
+pub explain-refused : (explain bounded : Bool) → explain ≡ true → bounded ≡ true → HasRefusal (explain_fault explain bounded)
+explain-refused explain bounded is_explain is_bounded = subst HasRefusal (sym (ap₂ explain_fault is_explain is_bounded)) (ArgumentConflict, inl refl, no-conflict-request)
+
+pub nothing-bounded : (explain : Bool) → explain_fault explain false ≡ []
+nothing-bounded true = refl
+nothing-bounded false = refl

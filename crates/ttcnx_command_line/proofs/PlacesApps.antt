@@ -7,7 +7,7 @@ use Rattle.clap.specs.Walk.{Held, Names, Text, Walk, answers_to, nothing_held, s
 use Rattle.clap.specs.Simple.{App, Shape, built, entered, label_of, names_of, rows_at, subcommand_of}
 use Rattle.clap.specs.Faults.{fault_of, built_fault, entered_fault, level_fault}
 use Rattle.clap.specs.Takes.{takes, built_takes, entered_passes, level_passes}
-use Rattle.ttcnx_command_line.specs.App.{Lists, app_with, format_words, lists_of, ttcnx_app, verdict_words}
+use Rattle.ttcnx_command_line.specs.App.{Lists, app_with, format_words, lint_words, lists_of, ttcnx_app, verdict_words}
 use Rattle.ttcnx_command_line.specs.internal.Named.{HasWords}
 use Rattle.ttcnx_command_line.proofs.Places.{moved_shape, rows-same, walks-same}
 use Rattle.ttcnx_command_line.proofs.PlacesFaults.{level-fault-same}
@@ -92,8 +92,11 @@ takes-same a h words = ap₂ (λ stop names. takes_from h words (moved_app a) st
 abbrev pub IsTtcnx : App → Type 0
 IsTtcnx a = (lists : Lists) × HasWords lists × (a ≡ app_with lists)
 
-lists-same : (lists : Lists) → HasWords lists → lists_of format_words verdict_words ≡ lists_of (texts lists.formats.now) (texts lists.verdicts.now)
-lists-same lists h = ap₂ lists_of (sym h.formats) (sym h.verdicts)
+lists-same : (lists : Lists) → HasWords lists → lists_of format_words lint_words verdict_words
+    ≡ lists_of (texts lists.formats.now) (texts lists.lint_formats.now) (texts lists.verdicts.now)
+lists-same lists h = ap (λ words. lists_of words lint_words verdict_words) (sym h.formats)
+    ∙ ap (λ words. lists_of (texts lists.formats.now) words verdict_words) (sym h.lint_formats)
+    ∙ ap (λ words. lists_of (texts lists.formats.now) (texts lists.lint_formats.now) words) (sym h.verdicts)
 
 moved-built : (lists : Lists) → HasWords lists → built ttcnx_app ≡ moved_app (built (app_with lists))
 moved-built lists words = ap (λ l. built (app_with l)) (lists-same lists words)

@@ -1,6 +1,7 @@
 -- The commands of `ttcnx` with what they take, as clap's specification has a command.
 use Rattle.std.specs.Prelude.{ℕ, true, List, ◌∷◌, [], Some, codes, map}
 use Rattle.std.specs.Borrow.{Bor}
+use Rattle.clap.specs.Lexer.{usize_max}
 use Rattle.clap.specs.Walk.{Rule, Text}
 use Rattle.clap.specs.Simple.{App, new_app, new_rule, on_top, with_rule, with_subcommand}
 use Rattle.clap.specs.declared.builder.action.ArgAction.TheVariants.{SetTrue}
@@ -18,9 +19,17 @@ value_option name = record (new_rule name) { long = Some name; value_names = 1 }
 abbrev pub needed_option : Text → Rule
 needed_option name = record (value_option name) { required = true }
 
+-- `FILE..`, one word or more
+abbrev pub files_word : Rule
+files_word = record file_word { range = Some (record { start_inclusive = 1; end_inclusive = usize_max }) }
+
 -- a number from 0 to `most`, which may be left out
 abbrev pub range_option : Text → ℕ → Rule
 range_option name most = record (value_option name) { parser = Some (Unsigned 0 most) }
+
+-- how many timers may be said to expire at most
+abbrev pub most_expiries : ℕ
+most_expiries = 4294967295
 
 -- a number from 1 to `most`, which is `default` where it is left out
 abbrev pub number_option : Text → ℕ → Text → Rule
@@ -43,6 +52,10 @@ names_of_words words = lent (map lent words)
 abbrev pub format_words : List Text
 format_words = codes "text" ∷ codes "json" ∷ codes "mermaid" ∷ codes "svg" ∷ []
 
+-- the words that name a format of findings
+abbrev pub lint_words : List Text
+lint_words = codes "text" ∷ codes "json" ∷ []
+
 -- the words that name a verdict
 abbrev pub verdict_words : List Text
 verdict_words = codes "none" ∷ codes "pass" ∷ codes "inconc" ∷ codes "fail" ∷ codes "error" ∷ []
@@ -59,6 +72,10 @@ format_option names =
 -- a command about a module: `name FILE`
 abbrev pub file_app : Text → App
 file_app name = with_rule (new_app name) file_word
+
+-- `lint FILE..`, with the option `--format FORMAT`, one of the names
+abbrev pub lint_app : Bor (List (Bor Text)) → App
+lint_app names = with_rule (with_rule (new_app (codes "lint")) files_word) (format_option names)
 
 -- a command about a test case: `name FILE --testcase NAME`, with the option `--script FILE`
 abbrev pub testcase_app : Text → App
@@ -81,9 +98,13 @@ plan_app = with_rule (with_rule (with_rule (with_rule (with_rule (with_rule (wit
 
 -- and with what else is asked of the runs, where a verdict is one of the names
 abbrev pub run_app : Bor (List (Bor Text)) → App
-run_app names = with_rule (with_rule (with_rule (with_rule plan_app
+run_app names = with_rule (with_rule (with_rule (with_rule (with_rule (with_rule (with_rule (with_rule plan_app
+    (range_option (codes "expiries") most_expiries))
+    (flag (codes "patient-timers")))
+    (flag (codes "few-expiries")))
     (flag (codes "partial")))
     (verdict_option (codes "first") names))
+    (flag (codes "quiet")))
     (value_option (codes "run-to")))
     (value_option (codes "run-to-block"))
 
@@ -100,29 +121,33 @@ abbrev pub bare_app : App
 bare_app = on_top (λ s. record s { has_version = true; no_binary_name = true; subcommand_required = true })
     (new_app (codes "ttcnx"))
 
--- the lists of names with which the values of two options are compared
+-- the lists of names with which the values of three options are compared
 pub record Lists : Type 0 where
   pub formats : Bor (List (Bor Text))
+  pub lint_formats : Bor (List (Bor Text))
   pub verdicts : Bor (List (Bor Text))
 
--- `ttcnx` with its six commands, where a format or a verdict is one of the names
+-- `ttcnx` with its eight commands, where a format or a verdict is one of the names
 abbrev pub app_with : Lists → App
-app_with lists = with_subcommand (with_subcommand (with_subcommand (with_subcommand
-    (with_subcommand (with_subcommand bare_app
+app_with lists = with_subcommand (with_subcommand (with_subcommand (with_subcommand (with_subcommand
+    (with_subcommand (with_subcommand (with_subcommand bare_app
     (file_app (codes "check")).top)
     (run_app lists.verdicts).top)
     (run_file_app (codes "replay")).top)
     (run_file_app (codes "coarsen")).top)
     (run_file_app (codes "double")).top)
-    (explain_app lists.formats).top
+    (explain_app lists.formats).top)
+    (lint_app lists.lint_formats).top)
+    (file_app (codes "list")).top
 
 -- the lists of these words
-abbrev pub lists_of : List Text → List Text → Lists
-lists_of formats verdicts = record {
+abbrev pub lists_of : List Text → List Text → List Text → Lists
+lists_of formats lint_formats verdicts = record {
   formats = names_of_words formats;
+  lint_formats = names_of_words lint_formats;
   verdicts = names_of_words verdicts;
 }
 
--- `ttcnx` with its six commands, four formats and five verdicts
+-- `ttcnx` with its eight commands, four formats of a run, two of findings and five verdicts
 abbrev pub ttcnx_app : App
-ttcnx_app = app_with (lists_of format_words verdict_words)
+ttcnx_app = app_with (lists_of format_words lint_words verdict_words)

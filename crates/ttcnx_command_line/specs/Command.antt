@@ -1,10 +1,10 @@
 -- What a command line asks for, and why it is refused.
 use Rattle.std.specs.Prelude.{◌≡◌, ◌⊎◌, ◌||◌, ℕ, Bool, true, false, List, [], ◌∷◌, Option, None, Some, codes, is_some}
-use Rattle.std.specs.Prelude.{if◌then◌else◌, option_map, string_bytes}
+use Rattle.std.specs.Prelude.{if◌then◌else◌, map, option_map, string_bytes}
 use Rattle.std.specs.Option.{option_map_or}
 use Rattle.std.specs.Str.{bytes_eq}
 use Rattle.std.specs.Str.Parse.{digits_value, without_leading_plus}
-use Rattle.clap.specs.Walk.{Row, Text, first_of, one_of}
+use Rattle.clap.specs.Walk.{Row, Text, all_of, first_of, one_of}
 use Rattle.clap.specs.Values.{bool_text}
 use Rattle.clap.specs.Kinds.{IsAmong, Kinds, or_else}
 use Rattle.clap.specs.Faults.{fault_of}
@@ -19,8 +19,11 @@ use Rattle.ttcn_syntax.specs.declared.tree.statement.Verdict.TheVariants as verd
 use Rattle.ttcnx_command_line.specs.App.{ttcnx_app}
 use Rattle.ttcnx_command_line.specs.declared.command.Format.{Format}
 use Rattle.ttcnx_command_line.specs.declared.command.Format.TheVariants as format
+use Rattle.ttcnx_command_line.specs.declared.command.LintFormat.{LintFormat}
+use Rattle.ttcnx_command_line.specs.declared.command.LintFormat.TheVariants as lint_format
 use Rattle.ttcnx_command_line.specs.declared.command.Line.{Line}
-use Rattle.ttcnx_command_line.specs.declared.command.Line.TheVariants.{Check, Run, Replay, Coarsen, Double, Explain}
+use Rattle.ttcnx_command_line.specs.declared.command.Line.TheVariants.{Check, Run, Replay, Coarsen, Double, Explain, Lint}
+use Rattle.ttcnx_command_line.specs.declared.command.Line.TheVariants as line
 use Rattle.ttcnx_command_line.specs.declared.command.Wishes.{Wishes}
 use Rattle.ttcnx_command_line.specs.declared.command.LineError.{LineError}
 use Rattle.ttcnx_command_line.specs.declared.command.LineError.TheVariants.{Help, Bad, Memory}
@@ -33,6 +36,8 @@ StaysWithinLimits (Replay file testcase script run) = Unit {0}
 StaysWithinLimits (Coarsen file testcase script run) = Unit {0}
 StaysWithinLimits (Double file testcase script run) = Unit {0}
 StaysWithinLimits (Explain file testcase script run format) = Unit {0}
+StaysWithinLimits (Lint files format) = Unit {0}
+StaysWithinLimits (line.List file) = Unit {0}
 
 -- the subcommand that asks for this line
 abbrev pub subcommand_for : Line → Text
@@ -42,6 +47,8 @@ subcommand_for (Replay file testcase script run) = codes "replay"
 subcommand_for (Coarsen file testcase script run) = codes "coarsen"
 subcommand_for (Double file testcase script run) = codes "double"
 subcommand_for (Explain file testcase script run format) = codes "explain"
+subcommand_for (Lint files format) = codes "lint"
+subcommand_for (line.List file) = codes "list"
 
 -- the word that names a format
 abbrev pub format_word : Format → Text
@@ -49,6 +56,11 @@ format_word format.Text = codes "text"
 format_word format.Json = codes "json"
 format_word format.Mermaid = codes "mermaid"
 format_word format.Svg = codes "svg"
+
+-- the word that names a format of findings
+abbrev pub lint_format_word : LintFormat → Text
+lint_format_word lint_format.Text = codes "text"
+lint_format_word lint_format.Json = codes "json"
 
 -- the word that names a verdict
 abbrev pub verdict_word : Verdict → Text
@@ -65,6 +77,10 @@ IsText matches id text = first_of id matches ≡ Some text
 -- `text` is the value that the matches have for the argument `id`, where they have one, and else it is none
 abbrev pub IsTextIfGiven : List Row → Text → Option Text → Type 0
 IsTextIfGiven matches id text = first_of id matches ≡ text
+
+-- the texts are the values that the matches have for the argument `id`
+abbrev pub AreTexts : List Row → Text → List Text → Type 0
+AreTexts matches id texts = all_of id matches ≡ Some texts
 
 -- `n` is the number that the value of the argument `id` writes in decimal digits
 abbrev pub IsNumber : List Row → Text → ℕ → Type 0
@@ -83,6 +99,10 @@ IsFlag matches id is_set = one_of id matches ≡ Some (bool_text is_set)
 -- the value of the option `--format` names the format
 abbrev pub IsFormat : List Row → Format → Type 0
 IsFormat matches format = IsText matches (codes "format") (format_word format)
+
+-- the value of the option `--format` names the format of findings
+abbrev pub IsLintFormat : List Row → LintFormat → Type 0
+IsLintFormat matches format = IsText matches (codes "format") (lint_format_word format)
 
 -- the value of the argument `id` names the verdict, where the matches have one, and else there is none
 abbrev pub IsVerdictIfGiven : List Row → Text → Option Verdict → Type 0
@@ -114,8 +134,12 @@ pub record HasNumbers (matches : List Row) (plan : Plan) : Type 0 where
 -- what else is asked of the runs is what the options say
 pub record HasWishes (matches : List Row) (wishes : Wishes) : Type 0 where
   pub until_complete : IsFlag matches (codes "until-complete") wishes.until_complete
+  pub expiries : IsNumberIfGiven matches (codes "expiries") wishes.expiries
+  pub patient_timers : IsFlag matches (codes "patient-timers") wishes.patient_timers
+  pub few_expiries : IsFlag matches (codes "few-expiries") wishes.few_expiries
   pub partial : IsFlag matches (codes "partial") wishes.partial
   pub first : IsVerdictIfGiven matches (codes "first") wishes.first
+  pub quiet : IsFlag matches (codes "quiet") wishes.quiet
   pub run_to : IsTextIfGiven matches (codes "run-to") (option_map string_bytes wishes.run_to)
   pub run_to_block : IsTextIfGiven matches (codes "run-to-block") (option_map string_bytes wishes.run_to_block)
 
@@ -146,6 +170,9 @@ HasValues matches (Double file testcase script run) = HasRunFile matches
 HasValues matches (Explain file testcase script run format) = HasRunFile matches
     (string_bytes file) (string_bytes testcase) (option_map string_bytes script) (string_bytes run)
     × IsFormat matches format
+HasValues matches (Lint files format) = AreTexts matches (codes "FILE") (map string_bytes files.items)
+    × IsLintFormat matches format
+HasValues matches (line.List file) = IsText matches (codes "FILE") (string_bytes file)
 
 -- the faults of a `run` whose `--steps` and `--until-complete` are given or not: exactly one of them must be
 abbrev pub bound_fault : Bool → Bool → Kinds
@@ -158,10 +185,18 @@ bound_fault false false = MissingRequiredArgument ∷ []
 abbrev pub has_value : Text → List Row → Bool
 has_value id matches = is_some (first_of id matches)
 
--- some option says how the report is told, or which one it is
+-- some option bounds the expiries of timers in the runs of the report
+abbrev pub bounds_expiries : List Row → Bool
+bounds_expiries matches = has_value (codes "expiries") matches || is_set (codes "patient-timers") matches
+
+-- some option says how the report is told, which one it is, or on which runs
+abbrev pub is_about_telling : List Row → Bool
+is_about_telling matches = is_set (codes "json") matches || is_set (codes "explain") matches || is_set (codes "partial") matches
+    || has_value (codes "first") matches || bounds_expiries matches
+
+-- some option is about the report: it says so, or which runs to its verdicts are told
 abbrev pub is_about_report : List Row → Bool
-is_about_report matches = is_set (codes "json") matches || is_set (codes "explain") matches || is_set (codes "partial") matches
-    || has_value (codes "first") matches
+is_about_report matches = is_set (codes "few-expiries") matches || is_about_telling matches
 
 -- the faults of a `run` whose `--run-to` and `--run-to-block` are given or not, and whose options are about the report or not:
 -- a run is wanted in place of the report, and one run
@@ -173,10 +208,18 @@ aim_fault false true true = ArgumentConflict ∷ []
 aim_fault false true false = []
 aim_fault false false about_report = []
 
--- the faults of a `run` that clap doesn't find: those of its bound, and where there are none those of its aim
+-- the faults of a `run` whose `--explain` is given or not, and whose options bound expiries or not: all runs are explained
+abbrev pub explain_fault : Bool → Bool → Kinds
+explain_fault true true = ArgumentConflict ∷ []
+explain_fault true false = []
+explain_fault false bounded = []
+
+-- the faults of a `run` that clap doesn't find: those of its bound, where there are none those of its aim, and where there are
+-- none of these either that runs are explained whose expiries are bounded
 abbrev pub fault_of_run : List Row → Kinds
 fault_of_run matches = or_else (bound_fault (has_value (codes "steps") matches) (is_set (codes "until-complete") matches))
-    (aim_fault (has_value (codes "run-to") matches) (has_value (codes "run-to-block") matches) (is_about_report matches))
+    (or_else (aim_fault (has_value (codes "run-to") matches) (has_value (codes "run-to-block") matches) (is_about_report matches))
+    (explain_fault (is_set (codes "explain") matches) (bounds_expiries matches)))
 
 -- the same, of the subcommand that is given with its matches: any other one has no such fault
 abbrev pub run_fault : Option (Text × List Row) → Kinds

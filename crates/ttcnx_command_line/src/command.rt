@@ -1,20 +1,22 @@
 //! The command that words give.
 ghost use Rattle.std.specs.Prelude.{◌≡◌, ◌≤◌, ℕ, [], true, Some, IfErr, IfOk, IsSomeAnd, MatchOption, codes, is_some};
-ghost use Rattle.std.specs.Prelude.{option_map, string_bytes};
+ghost use Rattle.std.specs.Prelude.{map, option_map, string_bytes};
 ghost use Rattle.clap.specs.Words.{Row, found_of, kind_of, rows_of, subcommand_of};
 ghost use Rattle.clap.specs.Words.{subcommand_rows_of, takes};
 ghost use Rattle.clap.specs.Walk.{texts};
 ghost use Rattle.search_layer.specs.Limits.{IsWithinLimits};
-ghost use Rattle.ttcnx_command_line.specs.App.{ttcnx_app};
-ghost use Rattle.ttcnx_command_line.specs.Command.{AreSteps, HasNumbers, HasRunFile, HasValues, HasWishes};
-ghost use Rattle.ttcnx_command_line.specs.Command.{IsExplained, IsFlag, IsFormat, IsMemory, IsNumber};
+ghost use Rattle.ttcnx_command_line.specs.App.{most_expiries, ttcnx_app};
+ghost use Rattle.ttcnx_command_line.specs.Command.{AreSteps, AreTexts, HasNumbers, HasRunFile, HasValues, HasWishes};
+ghost use Rattle.ttcnx_command_line.specs.Command.{IsExplained, IsFlag, IsFormat, IsLintFormat, IsMemory, IsNumber};
 ghost use Rattle.ttcnx_command_line.specs.Command.{IsNumberIfGiven, IsText, IsTextIfGiven, IsVerdictIfGiven};
-ghost use Rattle.ttcnx_command_line.specs.Command.{StaysWithinLimits, aim_fault, fault_of_run, faults_of, is_about_report, most_steps, run_fault, subcommand_for, verdict_word};
+ghost use Rattle.ttcnx_command_line.specs.Command.{StaysWithinLimits, aim_fault, bounds_expiries, explain_fault, fault_of_run};
+ghost use Rattle.ttcnx_command_line.specs.Command.{faults_of, is_about_report, is_about_telling, most_steps, run_fault, subcommand_for, verdict_word};
 ghost use Rattle.ttcnx_command_line.specs.internal.Answer.{HasRefusal, IsAnswer, IsBoundError};
-ghost use Rattle.ttcnx_command_line.specs.internal.Given.{GivesCommand, GivesFlag, GivesFormat};
+ghost use Rattle.ttcnx_command_line.specs.internal.Given.{GivesCommand, GivesFlag, GivesFormat, GivesLintFormat};
 ghost use Rattle.ttcnx_command_line.specs.internal.Given.{GivesNumber, GivesPlan, GivesRun, GivesRunFile, GivesText};
-ghost use Rattle.ttcnx_command_line.specs.internal.Given.{GivesWishes, HasOneBound, MayGiveNumber};
+ghost use Rattle.ttcnx_command_line.specs.internal.Given.{GivesTexts, GivesWishes, HasOneBound, MayGiveNumber};
 ghost use Rattle.ttcnx_command_line.specs.internal.Given.{GivesAboutReport, GivesRunCommand, MayGiveVerdict, aim_of, bound_of};
+ghost use Rattle.ttcnx_command_line.specs.internal.Given.{explain_of, report_of};
 
 use crate::definition::command;
 use clap::error::ErrorKind;
@@ -41,6 +43,8 @@ const RUN_TO: &str = "--run-to <LINE:COL>";
 
 const RUN_TO_BLOCK: &str = "--run-to-block <LINE:COL>";
 
+const EXPLAIN: &str = "--explain";
+
 /// How a chart is drawn.
 #[derive(Clone, Copy, Debug, PartialEq, Eq)]
 pub enum Format {
@@ -50,15 +54,30 @@ pub enum Format {
     Svg,
 }
 
+/// How findings are shown.
+#[derive(Clone, Copy, Debug, PartialEq, Eq)]
+pub enum LintFormat {
+    Text,
+    Json,
+}
+
 /// What else is asked of the runs that are explored.
 #[derive(Debug, Drop)]
 pub struct Wishes {
     /// As many steps as the report needs to be complete, in place of a number.
     pub until_complete: bool,
+    /// The report on the runs in which at most so many timers expire.
+    pub expiries: Option<u32>,
+    /// The report on the runs in which a timer expires only where no statement has a step.
+    pub patient_timers: bool,
+    /// The report with runs in which the fewest timers expire.
+    pub few_expiries: bool,
     /// Above the limit, the report of the greatest bound that stays within it.
     pub partial: bool,
     /// The report of the first bound at which some run ends with this verdict.
     pub first: Option<Verdict>,
+    /// No line of progress.
+    pub quiet: bool,
     /// A place `LINE:COL`: the least of the shortest runs whose last step takes the branch there, or begins with the
     /// statement there, is written as a run file in place of the report.
     pub run_to: Option<String>,
@@ -151,6 +170,15 @@ pub enum Line {
         run: String,
         format: Format,
     },
+    /// To tell what is wrong with modules, and what looks wrong.
+    Lint {
+        files: Vec<String>,
+        format: LintFormat,
+    },
+    /// To list the test cases of a module.
+    List {
+        file: String,
+    },
 }
 
 /// Why the words tell no command.
@@ -232,7 +260,19 @@ fn wrong_run_of(given: &ArgMatches<'_>) -> Option<WrongRun>
 {
     match wrong_bound_of(given) {
         Some(wrong) => Some(wrong),
-        None => wrong_aim_of(given),
+        None => wrong_report_of(given),
+    }
+}
+
+/// What is wrong with what a `run` is to write.
+fn wrong_report_of(given: &ArgMatches<'_>) -> Option<WrongRun>
+    requires { GivesAboutReport (rows_of (found_of given.now)) }
+    ensures { MatchOption result (report_of (rows_of (found_of given.now)) ≡ [])
+        (λ wrong. HasRefusal (report_of (rows_of (found_of given.now)))) }
+{
+    match wrong_aim_of(given) {
+        Some(wrong) => Some(wrong),
+        None => wrong_explain_of(given),
     }
 }
 
@@ -274,20 +314,73 @@ fn about_report_of(given: &ArgMatches<'_>) -> Option<&'static str>
     requires { GivesAboutReport (rows_of (found_of given.now)) }
     ensures { is_some result ≡ is_about_report (rows_of (found_of given.now)) }
 {
+    let few_expiries = flag_of(given, "few-expiries");
+    let about_telling = about_telling_of(given);
+    if few_expiries {
+        Some("--few-expiries")
+    } else {
+        about_telling
+    }
+}
+
+/// An option that says how the report is told, which one it is, or on which runs.
+fn about_telling_of(given: &ArgMatches<'_>) -> Option<&'static str>
+    requires { GivesAboutReport (rows_of (found_of given.now)) }
+    ensures { is_some result ≡ is_about_telling (rows_of (found_of given.now)) }
+{
     let json = flag_of(given, "json");
     let explain = flag_of(given, "explain");
     let partial = flag_of(given, "partial");
     let first = given.get_str("first").is_some();
+    let about_expiries = about_expiries_of(given);
     if json {
         Some("--json")
     } else if explain {
-        Some("--explain")
+        Some(EXPLAIN)
     } else if partial {
         Some("--partial")
     } else if first {
         Some("--first <VERDICT>")
     } else {
+        about_expiries
+    }
+}
+
+/// An option that bounds the expiries of timers in the runs of the report.
+fn about_expiries_of(given: &ArgMatches<'_>) -> Option<&'static str>
+    requires { GivesFlag (rows_of (found_of given.now)) (codes "patient-timers") }
+    ensures { is_some result ≡ bounds_expiries (rows_of (found_of given.now)) }
+{
+    let expiries = given.get_str("expiries").is_some();
+    let patient_timers = flag_of(given, "patient-timers");
+    if expiries {
+        Some("--expiries <N>")
+    } else if patient_timers {
+        Some("--patient-timers")
+    } else {
         None
+    }
+}
+
+/// What is wrong with runs that are to be explained: their expiries are bounded.
+fn wrong_explain_of(given: &ArgMatches<'_>) -> Option<WrongRun>
+    requires { GivesAboutReport (rows_of (found_of given.now)) }
+    ensures { MatchOption result (explain_of (rows_of (found_of given.now)) ≡ [])
+        (λ wrong. HasRefusal (explain_of (rows_of (found_of given.now)))) }
+{
+    let explain = flag_of(given, "explain");
+    let about_expiries = about_expiries_of(given);
+    explain_conflict_of(explain, about_expiries)
+}
+
+/// Whether explained runs and an option that bounds expiries stand together, which they can't.
+fn explain_conflict_of(explain: bool, about_expiries: Option<&'static str>) -> Option<WrongRun>
+    ensures { MatchOption result (explain_fault explain (is_some about_expiries.entry) ≡ [])
+        (λ wrong. HasRefusal (explain_fault explain (is_some about_expiries.entry))) }
+{
+    match about_expiries {
+        Some(other) if explain => Some(WrongRun::Conflict(EXPLAIN, other)),
+        _ => None,
     }
 }
 
@@ -336,8 +429,19 @@ fn line_of(alloc: Global, matches: &ArgMatches<'_>) -> Result<Line, AllocError>
             file: text_of(alloc, given, "FILE")?,
         });
     }
+    if let Some(given) = matches.subcommand_matches("list") {
+        return Ok(Line::List {
+            file: text_of(alloc, given, "FILE")?,
+        });
+    }
     if let Some(given) = matches.subcommand_matches("run") {
         return run_of(alloc, given);
+    }
+    if let Some(given) = matches.subcommand_matches("lint") {
+        return Ok(Line::Lint {
+            files: texts_of(alloc, given, "FILE")?,
+            format: lint_format_of(given),
+        });
     }
     run_file_line_of(alloc, matches)
 }
@@ -415,11 +519,26 @@ fn wishes_of(alloc: Global, given: &ArgMatches<'_>) -> Result<Wishes, AllocError
 {
     Ok(Wishes {
         until_complete: flag_of(given, "until-complete"),
+        expiries: expiries_of(given),
+        patient_timers: flag_of(given, "patient-timers"),
+        few_expiries: flag_of(given, "few-expiries"),
         partial: flag_of(given, "partial"),
         first: verdict_if_given(given, "first"),
+        quiet: flag_of(given, "quiet"),
         run_to: text_if_given(alloc, given, "run-to")?,
         run_to_block: text_if_given(alloc, given, "run-to-block")?,
     })
+}
+
+/// How many timers may expire, where that is given.
+fn expiries_of(given: &ArgMatches<'_>) -> Option<u32>
+    requires { MayGiveNumber (rows_of (found_of given.now)) (codes "expiries") 0 most_expiries }
+    ensures { IsNumberIfGiven (rows_of (found_of given.now)) (codes "expiries") result }
+{
+    match number_if_given(given, "expiries") {
+        Some(number) => Some(number as u32),
+        None => None,
+    }
 }
 
 /// What a command about a run is given.
@@ -502,6 +621,18 @@ fn verdict_of(word: &str) -> Verdict
     }
 }
 
+/// The format of findings that is named, which `clap` has found to be one of the two.
+fn lint_format_of(given: &ArgMatches<'_>) -> LintFormat
+    requires { GivesLintFormat (rows_of (found_of given.now)) }
+    ensures { IsLintFormat (rows_of (found_of given.now)) result }
+{
+    if given.get_str("format").unwrap() == "json" {
+        LintFormat::Json
+    } else {
+        LintFormat::Text
+    }
+}
+
 /// The format that is named, which `clap` has found to be one of the four.
 fn format_of(given: &ArgMatches<'_>) -> Format
     requires { GivesFormat (rows_of (found_of given.now)) }
@@ -540,6 +671,19 @@ fn text_if_given(
         Some(text) => Ok(Some(String::from_str(alloc, text)?)),
         None => Ok(None),
     }
+}
+
+/// The texts of an argument that has one or more.
+fn texts_of(alloc: Global, given: &ArgMatches<'_>, id: &str) -> Result<Vec<String>, AllocError>
+    requires { GivesTexts (rows_of (found_of given.now)) id.now }
+    ensures { IfOk result (λ texts.
+        AreTexts (rows_of (found_of given.now)) id.now (map string_bytes texts.items)) }
+{
+    let mut texts = Vec::new(alloc);
+    for text in given.get_strs(id).unwrap() {
+        texts.push(String::from_str(alloc, text)?)?;
+    }
+    Ok(texts)
 }
 
 /// The number of an argument that may be left out.

@@ -2,8 +2,8 @@
 ghost use Rattle.std.specs.Prelude.{◌≡◌, IfOk, codes, false};
 ghost use Rattle.clap.specs.Words.{app_of, rule_of};
 ghost use Rattle.clap.specs.declared.builder.command.Command.TheViews.{out-Command as fields_of};
-ghost use Rattle.ttcnx_command_line.specs.App.{app_with, explain_app, file_app, file_word};
-ghost use Rattle.ttcnx_command_line.specs.App.{flag, format_option, format_words};
+ghost use Rattle.ttcnx_command_line.specs.App.{app_with, explain_app, file_app, file_word, files_word};
+ghost use Rattle.ttcnx_command_line.specs.App.{flag, format_option, format_words, lint_app, lint_words};
 ghost use Rattle.ttcnx_command_line.specs.App.{needed_option, number_option, range_option, run_app, run_file_app};
 ghost use Rattle.ttcnx_command_line.specs.App.{plan_app, value_option, verdict_option, verdict_words};
 ghost use Rattle.ttcnx_command_line.specs.internal.Named.{HasWords, HoldsAtNames};
@@ -20,6 +20,9 @@ const RUN_USAGE: &str =
 
 /// The words that name a format.
 static FORMATS: [&str; 4] = ["text", "json", "mermaid", "svg"];
+
+/// The words that name a format of findings.
+static LINT_FORMATS: [&str; 2] = ["text", "json"];
 
 /// The words that name a verdict.
 static VERDICTS: [&str; 5] = ["none", "pass", "inconc", "fail", "error"];
@@ -62,7 +65,14 @@ pub(crate) fn command<'a>(alloc: Global) -> Result<Command<'a>, AllocError>
             "The file of the run, with a label a line",
             "Example: ttcnx double examples/x2.ttcn --testcase T --run examples/x2.pass.run",
         )?)?
-        .subcommand(explain_command(alloc)?)
+        .subcommand(explain_command(alloc)?)?
+        .subcommand(lint_command(alloc)?)?
+        .subcommand(file_command(
+            alloc,
+            "list",
+            "Lists the test cases of a module, one a line",
+            "Example: ttcnx list examples/x2.ttcn",
+        )?)
 }
 
 /// A command about a module, which stands in a file.
@@ -86,6 +96,12 @@ fn run_command<'a>(alloc: Global) -> Result<Command<'a>, AllocError>
     ensures app { IfOk result (λ c. HoldsAtNames verdict_words (λ names. app_of c ≡ run_app names)) }
     ensures local { IfOk result (λ c. (fields_of c).has_globals ≡ false) }
 {
+    let expiries =
+        "Writes the report on the runs in which at most so many timers expire: 0 to 4294967295";
+    let patient_timers =
+        "Writes the report on the runs in which a timer expires only where no statement has a step";
+    let few_expiries =
+        "Writes the report with other runs to its verdicts: those in which the fewest timers expire";
     let partial = "Above the limit, writes the report of the greatest bound that stays within it";
     let first =
         "Writes the report of the first bound at which some run ends with this verdict: none, pass, inconc, fail or error";
@@ -94,8 +110,12 @@ fn run_command<'a>(alloc: Global) -> Result<Command<'a>, AllocError>
     let run_to_block =
         "Writes a run file in place of the report: the least of the shortest runs that end where some component is blocked at this place";
     plan_command(alloc)?
+        .arg(range(alloc, "expiries", u32::MAX, expiries))?
+        .arg(flag(alloc, "patient-timers", patient_timers))?
+        .arg(flag(alloc, "few-expiries", few_expiries))?
         .arg(flag(alloc, "partial", partial))?
         .arg(verdict(alloc, "first", first))?
+        .arg(flag(alloc, "quiet", "Writes no line of progress to the terminal"))?
         .arg(place(alloc, "run-to", run_to))?
         .arg(place(alloc, "run-to-block", run_to_block))
 }
@@ -183,6 +203,18 @@ fn explain_command<'a>(alloc: Global) -> Result<Command<'a>, AllocError>
     .arg(format(alloc))
 }
 
+/// The command that tells what is wrong with modules.
+fn lint_command<'a>(alloc: Global) -> Result<Command<'a>, AllocError>
+    ensures app { IfOk result (λ c. HoldsAtNames lint_words (λ names. app_of c ≡ lint_app names)) }
+    ensures local { IfOk result (λ c. (fields_of c).has_globals ≡ false) }
+{
+    Command::new(alloc, "lint")
+        .about("Tells all that is wrong with modules, and what looks wrong")
+        .after_help("Example: ttcnx lint examples/x1.ttcn examples/x2.ttcn --format json")
+        .arg(files(alloc))?
+        .arg(lint_format(alloc))
+}
+
 /// The file that a command reads.
 fn file<'a>(alloc: Global) -> Arg<'a>
     ensures rule { rule_of result ≡ file_word }
@@ -191,6 +223,17 @@ fn file<'a>(alloc: Global) -> Arg<'a>
     Arg::new(alloc, "FILE")
         .required(true)
         .help("The text of the module")
+}
+
+/// The files that a command reads, one or more.
+fn files<'a>(alloc: Global) -> Arg<'a>
+    ensures rule { rule_of result ≡ files_word }
+    ensures local { result.global ≡ false }
+{
+    Arg::new(alloc, "FILE")
+        .required(true)
+        .num_args(1..)
+        .help("The texts of the modules")
 }
 
 /// The test case that a command is about.
@@ -252,6 +295,20 @@ fn format<'a>(alloc: Global) -> Arg<'a>
         .hide_possible_values(true)
         .default_value("text")
         .help("How the run is shown: text, json, mermaid or svg")
+}
+
+/// The format of findings, one of two words.
+fn lint_format<'a>(alloc: Global) -> Arg<'a>
+    ensures rule { HoldsAtNames lint_words (λ names. rule_of result ≡ format_option names) }
+    ensures local { result.global ≡ false }
+{
+    Arg::new(alloc, "format")
+        .long("format")
+        .value_name("FORMAT")
+        .value_parser(LINT_FORMATS.as_slice())
+        .hide_possible_values(true)
+        .default_value("text")
+        .help("How the findings are shown: text or json")
 }
 
 /// A verdict that may be left out, one of five words.

@@ -4,4 +4,4 @@
 mod command;
 mod definition;
 
-pub use command::{Format, Line, LineError, Wishes, read_line};
+pub use command::{Format, Line, LineError, LintFormat, Wishes, read_line};

@@ -2,7 +2,7 @@ use Rattle.std.proofs.Common.{refl, ap, codes, true}
 use Rattle.std.proofs.lemmas.Result.{IfOk-weaker}
 use Rattle.clap.specs.Words.{App, new_app}
 use Rattle.clap.specs.Simple.{on_top}
-use Rattle.ttcnx_command_line.specs.App.{Lists, bare_app, explain_app, file_app, run_app, run_file_app}
+use Rattle.ttcnx_command_line.specs.App.{Lists, bare_app, explain_app, file_app, lint_app, run_app, run_file_app}
 use Rattle.ttcnx_command_line.specs.internal.Named.{HasWords}
 use Rattle.ttcnx_command_line.proofs.Builds.{IsApp, fields-set, subcommand-added}
 use Rattle.ttcnx_command_line.proofs.definition.command.Goals as goal
@@ -33,6 +33,11 @@ returns c =
     let five = subcommand-added _ (run_file_app (codes "double")) _ _ _ c.in_ok-subcommand-5.ensures four (c.in_ok-run_file_command-3.ensures.app, c.in_ok-run_file_command-3.ensures.local) in
     let explain = c.in_ok-explain_command.ensures.app in
     let explain_is : IsApp (explain_app explain.0) _ = (explain.2, c.in_ok-explain_command.ensures.local) in
-    let lists : Lists = record { formats = explain.0; verdicts = run.0 } in
-    let words : HasWords lists = record { formats = explain.1; verdicts = run.1 } in
-    IfOk-weaker c.subcommand-6.result _ _ (λ m h. (lists, words, (subcommand-added _ (explain_app explain.0) _ _ m h five explain_is).0)) c.subcommand-6.ensures
+    let six = subcommand-added _ (explain_app explain.0) _ _ _ c.in_ok-subcommand-6.ensures five explain_is in
+    let lint = c.in_ok-lint_command.ensures.app in
+    let lint_is : IsApp (lint_app lint.0) _ = (lint.2, c.in_ok-lint_command.ensures.local) in
+    let seven = subcommand-added _ (lint_app lint.0) _ _ _ c.in_ok-subcommand-7.ensures six lint_is in
+    let listing = c.in_ok-file_command-2.ensures in
+    let lists : Lists = record { formats = explain.0; lint_formats = lint.0; verdicts = run.0 } in
+    let words : HasWords lists = record { formats = explain.1; lint_formats = lint.1; verdicts = run.1 } in
+    IfOk-weaker c.subcommand-8.result _ _ (λ m h. (lists, words, (subcommand-added _ (file_app (codes "list")) _ _ m h seven (listing.app, listing.local)).0)) c.subcommand-8.ensures
