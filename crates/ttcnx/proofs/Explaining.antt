@@ -1,11 +1,11 @@
 -- What the stages of an explanation answer.
-use Rattle.std.proofs.Common.{◌≡◌, ◌++◌, ℕ, Bool, List, refl, ap, inl, inr}
-use Rattle.std.specs.Prelude.{◌⊎◌, Ok, Err}
+use Rattle.std.proofs.Common.{◌≡◌, ◌++◌, ℕ, Bool, None, false, List, refl, ap, inl, inr}
+use Rattle.std.specs.Prelude.{◌⊎◌, Ok, Err, Result}
 use Rattle.std.specs.declared.alloc.Global.{Global}
 use Rattle.std.specs.declared.vec.Vec.{Vec}
+use Rattle.explore.specs.declared.ending.Stops.{Stops}
 use Rattle.chart_steps.specs.Stories.{Refuses}
 use Rattle.report.specs.Runs.{ReadsRun, TellsError, lines_of}
-use Rattle.report.specs.declared.report.Report.{Report}
 use Rattle.report.specs.declared.run.RunError.{RunError}
 use Rattle.report.specs.declared.run.RunError.TheVariants as listing
 use Rattle.search_layer.specs.declared.plan.Plan.{Plan}
@@ -18,15 +18,17 @@ use Rattle.ttcn_step.specs.declared.error.ReplayError.{ReplayError}
 use Rattle.ttcn_step.specs.declared.error.ReplayError.TheVariants as replaying
 use Rattle.ttcnx.proofs.Conversions.{Answers}
 use Rattle.ttcnx.proofs.OneReplay.{err-is}
-use Rattle.ttcnx.specs.Answer.{IsAnswer, Answer as Reported}
+use Rattle.ttcnx.proofs.Untils.{sighted-refusal, sighted-report}
 use Rattle.ttcnx.specs.Converted.{with_test}
 use Rattle.ttcnx.specs.Explained.{IsExplained, IsExplainedAnswer, bad_line, charted, not_followed, reported, unreported}
 use Rattle.ttcnx.specs.Fault.{listing_fault, replay_fault}
 use Rattle.ttcnx.specs.Named.{IsTestOf, Source}
 use Rattle.ttcnx.specs.Replayed.{Answer}
+use Rattle.ttcnx.specs.Sighted.{IsAnswerSighted}
 use Rattle.ttcnx.specs.Streamed.{told_as}
 use Rattle.ttcnx.specs.declared.fault.Fault.{Fault}
 use Rattle.ttcnx.specs.declared.fault.Fault.TheVariants as fault
+use Rattle.ttcnx.specs.declared.until.Sighted.{Sighted}
 
 pub explained-listing : (given : Source) (name run : List ℕ) (test : Test) (e : RunError) → IsTestOf given name test → TellsError (lines_of run) e → Answers (IsExplained given name run) (Err (listing_fault e))
 explained-listing given name run test (listing.BadLabel number) is bad = inr (with_test is (bad_line bad))
@@ -43,17 +45,14 @@ chart-answers given name run machine labels c bytes is reads leads = inr (with_t
 
 -- ---- reports
 
--- a fault is that memory was refused, as one answer or as another
-err-memory : (why : Fault) → (◌≡◌ {A = Reported} (Err why) (Err fault.Memory)) → (◌≡◌ {A = Answer} (Err why) (Err fault.Memory))
-err-memory why is = ap Err (err-is is)
+module _ (given : Source) (name : List ℕ) (plan : Plan) (json : Bool) (stops : Stops) (no_limit : stops.at_limit ≡ false) (no_complete : stops.when_complete ≡ false)
+    (no_mark : stops.at_mark ≡ None) where
+  pub unsighted-answers : (why : Fault) → (◌≡◌ {A = Result Sighted Fault} (Err why) (Err fault.Memory)) ⊎ IsAnswerSighted given name plan stops (Err why)
+      → Answers (IsExplainedAnswer given name plan json) (Err why)
+  unsighted-answers why (inl memory) = inl (ap Err (err-is memory))
+  unsighted-answers why (inr is) = inr (unreported (sighted-refusal given name plan stops no_limit no_complete no_mark why is))
 
-pub unreported-answers : (given : Source) (name : List ℕ) (plan : Plan) (json : Bool) (why : Fault) → (◌≡◌ {A = Reported} (Err why) (Err fault.Memory)) ⊎ IsAnswer given name plan (Err why)
-    → Answers (IsExplainedAnswer given name plan json) (Err why)
-unreported-answers given name plan json why (inl memory) = inl (err-memory why memory)
-unreported-answers given name plan json why (inr is) = inr (unreported is)
-
-pub report-answers : (given : Source) (name : List ℕ) (plan : Plan) (json : Bool) (report : Report) (more : List ℕ) (bytes : Vec ℕ Global)
-    → (◌≡◌ {A = Reported} (Ok report) (Err fault.Memory)) ⊎ IsAnswer given name plan (Ok report) → bytes.items ≡ told_as json report ++ more
-    → Answers (IsExplainedAnswer given name plan json) (Ok bytes)
-report-answers given name plan json report more bytes (inl memory) told = absurd (let no = memory in cc)
-report-answers given name plan json report more bytes (inr is) told = inr (reported more is told)
+  pub sighted-answers : (sights : Sighted) (more : List ℕ) (bytes : Vec ℕ Global) → (◌≡◌ {A = Result Sighted Fault} (Ok sights) (Err fault.Memory)) ⊎ IsAnswerSighted given name plan stops (Ok sights)
+      → bytes.items ≡ told_as json sights.until.report ++ more → Answers (IsExplainedAnswer given name plan json) (Ok bytes)
+  sighted-answers sights more bytes (inl memory) told = absurd (let no = memory in cc)
+  sighted-answers sights more bytes (inr is) told = inr (reported more (sighted-report given name plan stops no_limit no_complete no_mark sights is) told)

@@ -1,3 +1,4 @@
+pub mod BoundedTold
 pub mod Checks
 pub mod Conversions
 pub mod Explaining

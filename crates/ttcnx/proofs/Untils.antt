@@ -1,18 +1,30 @@
 -- Answers of explorations that end where they are to end.
-use Rattle.std.proofs.Common.{◌≡◌, ◌<◌, ◌≤◌, ℕ, false, List, ap, inl, inr, refl, arith}
-use Rattle.std.specs.Prelude.{◌⊎◌, Err, Result}
+use Rattle.std.proofs.Common.{◌≡◌, ◌<◌, ◌≤◌, ℕ, None, false, List, ap, inl, inr, refl, subst, sym, arith}
+use Rattle.std.specs.Prelude.{◌⊎◌, Err, Ok, Result, string_bytes}
 use Rattle.explore.specs.declared.ending.Stops.{Stops}
+use Rattle.report.specs.declared.report.Report.{Report}
 use Rattle.search_layer.specs.Limits.{IsWithinLimits}
 use Rattle.laws_live.specs.Parts.{CountsParts}
 use Rattle.search_layer.specs.declared.plan.ExploreError.{ExploreError}
 use Rattle.search_layer.specs.declared.plan.ExploreError.TheVariants as searching
 use Rattle.search_layer.specs.declared.plan.Plan.{Plan}
 use Rattle.semantics.specs.Snapshots.{Test}
+use Rattle.ttcnx.proofs.Told.{IsMadeOf, tells}
+use Rattle.ttcnx.specs.Answer as answer
+use Rattle.ttcnx.specs.Answer.{IsAnswer}
 use Rattle.ttcnx.specs.Fault.{explore_fault}
 use Rattle.ttcnx.specs.Named.{HasNoTest, IsTestOf, Source}
-use Rattle.ttcnx.specs.Until.{IsRefusedUntil, lacking, too_many, with_steps}
+use Rattle.ttcnx.specs.Sighted.{IsAnswerSighted}
+use Rattle.ttcnx.specs.Sighted as sighted
+use Rattle.ttcnx.specs.Until.{IsAnswerUntil, IsRefusedUntil, beyond, lacking, reached, too_many, with_steps}
 use Rattle.ttcnx.specs.declared.fault.Fault.{Fault}
 use Rattle.ttcnx.specs.declared.fault.Fault.TheVariants as fault
+use Rattle.ttcnx.specs.declared.until.Sighted.{Sighted}
+use Rattle.ttcnx.specs.declared.until.Until.{Until}
+use Rattle.ttcnx_runs.proofs.Assembly.{all-steps}
+use Rattle.ttcnx_runs.specs.Endings.{HaveEnded}
+use Rattle.ttcnx_runs.specs.Extents.{IsExtent}
+use Rattle.ttcnx_runs.specs.declared.exploration.Extent.{Extent}
 
 -- a plan of fewer steps is within the limits, too
 pub within-limits : (plan : Plan) (steps : ℕ) → IsWithinLimits plan → steps ≤ plan.steps → IsWithinLimits (with_steps plan steps)
@@ -45,3 +57,33 @@ module _ (given : Source) (name : List ℕ) (plan : Plan) (stops : Stops) (fine 
   no-answer test searching.BadPlan is out many limited = absurd (out refl fine)
   no-answer test searching.TooMany is out many limited = let more = many refl in inr (too_many fine is (limited refl) more.1 more.2)
   no-answer test searching.Memory is out many limited = inl refl
+
+  -- the report on what was found, and why it is of no more steps
+  pub until-answers : (test : Test) (extent : Extent) (report : Report) → IsTestOf given name test → IsExtent test plan stops extent → IsMadeOf extent.found report
+      → string_bytes report.testcase ≡ name → report.steps ≡ extent.steps → IsAnswerUntil given name plan stops (Ok (record { report = report; ending = extent.ending }))
+  until-answers test extent report is of made called same =
+      let back : extent.steps ≡ report.steps = sym same in
+      let told : IsAnswer given name (with_steps plan extent.steps) (Ok report) =
+      answer.named (within-limits plan extent.steps fine of.steps) is (answer.told (tells test name (with_steps plan extent.steps) extent.found report made called same of.found of.within of.complete)) in
+      reached is (subst (λ (n : ℕ). n ≤ plan.steps) back of.steps)
+      (subst (λ (n : ℕ). IsAnswer given name (with_steps plan n) (Ok report)) back told)
+      (subst (λ (n : ℕ). HaveEnded test plan stops n extent.ending) back of.ended)
+
+-- ---- without stops, all of the plan's steps are done
+
+module _ (given : Source) (name : List ℕ) (plan : Plan) (stops : Stops) (no_limit : stops.at_limit ≡ false) (no_complete : stops.when_complete ≡ false) (no_mark : stops.at_mark ≡ None) where
+  unstopped-report : (until : Until) → IsAnswerUntil given name plan stops (Ok until) → IsAnswer given name plan (Ok until.report)
+  unstopped-report until (reached {test = test} is low told ended) =
+      subst (λ (n : ℕ). IsAnswer given name (with_steps plan n) (Ok until.report)) (all-steps test plan stops until.report.steps until.ending no_limit no_complete no_mark ended) told
+
+  unstopped-refusal : (why : Fault) → IsRefusedUntil given name plan stops why → IsAnswer given name plan (Err why)
+  unstopped-refusal why (beyond out) = answer.beyond out
+  unstopped-refusal why (lacking fine lacks) = answer.lacking fine lacks
+  unstopped-refusal why (too_many fine is limited counts more) = answer.named fine is (answer.too_many counts more)
+
+  -- the report beside which the least runs stand
+  pub sighted-report : (sights : Sighted) → IsAnswerSighted given name plan stops (Ok sights) → IsAnswer given name plan (Ok sights.until.report)
+  sighted-report sights (sighted.sighted until is places blocks) = unstopped-report sights.until until
+
+  pub sighted-refusal : (why : Fault) → IsAnswerSighted given name plan stops (Err why) → IsAnswer given name plan (Err why)
+  sighted-refusal why (sighted.refused refusal) = unstopped-refusal why refusal

@@ -1,11 +1,15 @@
 pub mod Aims
 pub mod Answer
+pub mod Bounded
 pub mod Checked
 pub mod Converted
 pub mod Explained
 pub mod Fault
+pub mod Few
+pub mod Listing
 pub mod Named
 pub mod Replayed
+pub mod Sighted
 pub mod Streamed
 pub mod Tells
 pub mod Until

@@ -63,7 +63,7 @@ pub fn run_to<G: Gate, R: Threads + Sync>(
     let (program, testcase, script) = test_of(alloc, text, name, script)?;
     let machine = Machine::with_script(alloc, &program, testcase, &script)?;
     let sights = sight_runs(rt, alloc, &machine, plan, stops, gate)?;
-    let (steps, ending) = (sights.steps, sights.ending);
+    let (steps, ending) = (sights.extent.steps, sights.extent.ending);
     let run = reach(sights, aim);
     Ok(Reaching { steps, ending, run })
 }

@@ -4,47 +4,27 @@ ghost use Rattle.ttcnx.specs.Explained.{IsExplainedAnswer};
 ghost use Rattle.ttcnx.specs.Named.{source};
 ghost use Rattle.ttcnx.specs.Streamed.{told_as};
 
-use crate::explain::{chart, drawn};
+use crate::explain::drawn;
+use crate::explain_words::in_words;
+use crate::explained::{Case, Explanation, verdict_runs};
 use crate::fault::Fault;
-use crate::run::run_script;
+use crate::sights::{Block, Setting, blocks_of, settings_of};
 use crate::stream::told_as;
 use crate::testcase::test_of;
-use chart_formats::{Chart, Row};
-use chart_steps::{Story, tell};
-use chart_words::{Course, Names, UntakenBranch, order_of, untaken_branches};
-use check_rules::Program;
-use explore::{Gate, Plan};
-use report::{LabelText, Outcome, PlaceText, Report, word_of};
+use crate::until::{Sighted, run_sighted};
+use chart_words::{Passage, untaken_branches};
+use explore::{Gate, Plan, Stops};
+use report::{LabelText, PathText, PlaceText};
 use serde_json::{Value, json};
 use std::alloc::{AllocError, Global};
-use std::fmt::Write;
 use std::thread::Threads;
-use step_labels::Label;
-use ttcn_step::{Machine, ReplayError};
-use ttcn_syntax::Verdict;
+use step_labels::{Label, Standing};
+use ttcn_step::Machine;
 use ttcnx_command_line::Format;
 
-/// A run to a verdict: what its steps do, and its chart.
-#[derive(Drop)]
-struct Explained<'a> {
-    verdict: Verdict,
-    run: &'a [Label],
-    story: Story,
-    chart: Chart,
-}
-
-/// What is told behind a report.
-#[derive(Drop)]
-struct Explanation<'a, 'n> {
-    report: &'a Report,
-    names: Names<'n>,
-    runs: Vec<Explained<'a>>,
-    /// The branches that no run takes.
-    untaken: Vec<UntakenBranch>,
-}
-
 /// What the command `run --explain` prints: the report that `run_script` gives, as text or as JSON, and behind it the chart of
-/// each of its runs and the branches that no run takes. As text it says of each two runs at which step they part.
+/// each of its runs, the branches that no run takes, the statements that set a verdict, and the runs to these and to blocks. As
+/// text it says of each two runs to verdicts at which step they part.
 pub fn run_explained<G: Gate, R: Threads + Sync>(
     rt: &R,
     alloc: Global,
@@ -57,8 +37,8 @@ pub fn run_explained<G: Gate, R: Threads + Sync>(
 ) -> Result<Vec<u8>, Fault>
     ensures { (result ≡ Err Fault.Memory) ⊎ IsExplainedAnswer (source text.now script.now) name.now plan.now json result }
 {
-    let report = run_script(rt, alloc, text, script, name, plan, gate)?;
-    Ok(explain_report(alloc, text, script, name, &report, json)?)
+    let sighted = run_sighted(rt, alloc, text, script, name, plan, &Stops::NOWHERE, gate)?;
+    Ok(explain_report(alloc, text, script, name, &sighted, json)?)
 }
 
 /// A report on a test case, as text or as JSON, and behind it what `run_explained` prints of its runs.
@@ -67,13 +47,13 @@ pub fn explain_report(
     text: &[u8],
     script: &[u8],
     name: &str,
-    report: &Report,
+    sighted: &Sighted,
     json: bool,
 ) -> Result<Vec<u8>, AllocError>
-    ensures { IfOk result (λ told. (more : List ℕ) × (told.items ≡ told_as json report.now ++ more)) }
+    ensures { IfOk result (λ told. (more : List ℕ) × (told.items ≡ told_as json sighted.now.until.report ++ more)) }
 {
-    let told = told_as(alloc, report, json)?;
-    let more = explanations(alloc, text, script, name, report, json)?;
+    let told = told_as(alloc, &sighted.until.report, json)?;
+    let more = explanations(alloc, text, script, name, sighted, json)?;
     let mut bytes = told.into_bytes();
     bytes.extend_from_slice(more.as_bytes())?;
     Ok(bytes)
@@ -85,7 +65,7 @@ fn explanations(
     text: &[u8],
     script: &[u8],
     name: &str,
-    report: &Report,
+    sighted: &Sighted,
     json: bool,
 ) -> Result<String, AllocError> {
     let (program, testcase, script) = match test_of(alloc, text, name, script) {
@@ -94,73 +74,65 @@ fn explanations(
         Err(_) => return Ok(String::new(alloc)),
     };
     let machine = Machine::with_script(alloc, &program, testcase, &script)?;
-    let definitions = program.module().definitions.as_slice();
-    let mut runs = Vec::new(alloc);
-    for outcome in &report.outcomes {
-        if let Some(run) = explained_run(alloc, &machine, &program, text, name, outcome)? {
-            runs.push(run)?;
-        }
-    }
-    let explanation = Explanation {
-        report,
-        names: Names {
-            definitions,
-            slots: machine.names(),
-        },
-        runs,
-        untaken: untaken_branches(alloc, text, definitions, name, report.branches.as_slice())?,
+    let case = Case {
+        machine: &machine,
+        program: &program,
+        text,
+        name,
     };
+    let explanation = explanation_of(alloc, case, sighted)?;
     if json {
         in_lines(alloc, &explanation)
     } else {
-        in_words(alloc, &explanation)
+        in_words(alloc, case, &explanation)
     }
 }
 
-/// The run to a verdict, explained.
-fn explained_run<'a>(
+/// What is told of a test case behind a report.
+fn explanation_of<'a>(
     alloc: Global,
-    machine: &Machine<'_>,
-    program: &Program,
-    text: &[u8],
-    name: &str,
-    outcome: &'a Outcome,
-) -> Result<Option<Explained<'a>>, AllocError> {
-    let (verdict, run) = (outcome.verdict, outcome.run.as_slice());
-    match tell(alloc, machine, run) {
-        Ok(story) => {
-            let chart = chart(alloc, machine, program, text, name, run, &story)?;
-            Ok(Some(Explained {
-                verdict,
-                run,
-                story,
-                chart,
-            }))
-        }
-        Err(ReplayError::NotEnabled(_)) => Ok(None),
-        Err(ReplayError::Memory) => Err(AllocError),
-    }
+    case: Case<'_, '_>,
+    sighted: &'a Sighted,
+) -> Result<Explanation<'a>, AllocError> {
+    let report = &sighted.until.report;
+    let definitions = case.program.module().definitions.as_slice();
+    let taken = report.branches.as_slice();
+    Ok(Explanation {
+        report,
+        runs: verdict_runs(alloc, case, report)?,
+        untaken: untaken_branches(alloc, case.text, definitions, case.name, taken)?,
+        settings: settings_of(alloc, case.text, definitions, case.name, sighted)?,
+        blocks: blocks_of(alloc, sighted)?,
+    })
 }
 
 // ---- as JSON
 
-/// Charts as JSON, a line each, and a line for the branches that no run takes.
-fn in_lines(alloc: Global, explanation: &Explanation<'_, '_>) -> Result<String, AllocError> {
+/// Charts as JSON, a line each, and a line each for the branches that no run takes, for the statements that set a verdict and
+/// for the blocks.
+fn in_lines(alloc: Global, explanation: &Explanation<'_>) -> Result<String, AllocError> {
     let mut out = String::new(alloc);
     for run in &explanation.runs {
         out.push_str(drawn(alloc, &run.chart, Format::Json)?.as_str())?;
     }
-    out.push_str(
-        untaken_value(alloc, explanation.untaken.as_slice())?
-            .to_string(alloc)?
-            .as_str(),
-    )?;
-    out.push('\n')?;
+    let untaken = untaken_value(alloc, explanation.untaken.as_slice())?;
+    push_line(alloc, &mut out, &untaken)?;
+    let settings = settings_value(alloc, explanation.settings.as_slice())?;
+    push_line(alloc, &mut out, &settings)?;
+    let blocks = blocks_value(alloc, explanation.blocks.as_slice())?;
+    push_line(alloc, &mut out, &blocks)?;
     Ok(out)
 }
 
+/// Writes a value on a line.
+fn push_line(alloc: Global, out: &mut String, value: &Value) -> Result<(), AllocError> {
+    out.push_str(value.to_string(alloc)?.as_str())?;
+    out.push('\n')?;
+    Ok(())
+}
+
 /// The branches that no run takes.
-fn untaken_value(alloc: Global, branches: &[UntakenBranch]) -> Result<Value, AllocError> {
+fn untaken_value(alloc: Global, branches: &[Passage]) -> Result<Value, AllocError> {
     let mut values = Vec::new(alloc);
     for branch in branches {
         let place = PlaceText(branch.place).to_string(alloc)?;
@@ -171,118 +143,49 @@ fn untaken_value(alloc: Global, branches: &[UntakenBranch]) -> Result<Value, All
     json!(in alloc; {"untaken": values})
 }
 
-// ---- as text
-
-/// What is told behind a report as text, a section behind the other.
-fn in_words(alloc: Global, explanation: &Explanation<'_, '_>) -> Result<String, AllocError> {
-    let mut out = String::new(alloc);
-    write_runs(alloc, &mut out, explanation)?;
-    write_partings(alloc, &mut out, explanation)?;
-    write_untaken(&mut out, explanation)?;
-    Ok(out)
+/// The labels of a run, as in a report.
+fn run_value(alloc: Global, run: &[Label]) -> Result<Value, AllocError> {
+    let mut labels = Vec::new(alloc);
+    for label in run {
+        labels.push(Value::String(LabelText(label).to_string(alloc)?))?;
+    }
+    Ok(Value::Array(labels))
 }
 
-/// Writes the chart of each run.
-fn write_runs(
-    alloc: Global,
-    out: &mut String,
-    explanation: &Explanation<'_, '_>,
-) -> Result<(), AllocError> {
-    for run in &explanation.runs {
-        write!(out, "\nHow it ends with {}:\n\n", word_of(run.verdict))?;
-        out.push_str(drawn(alloc, &run.chart, Format::Text)?.as_str())?;
+/// The statements that set a verdict, each with the least run to it.
+fn settings_value(alloc: Global, settings: &[Setting<'_>]) -> Result<Value, AllocError> {
+    let mut values = Vec::new(alloc);
+    for setting in settings {
+        let place = PlaceText(setting.passage.place).to_string(alloc)?;
+        let (behaviour, text) = (&setting.passage.behaviour, &setting.passage.text);
+        let run = run_value(alloc, setting.run)?;
+        values.push(
+            json!(in alloc; {"behaviour": behaviour, "place": place, "run": run, "text": text})?,
+        )?;
     }
-    Ok(())
+    let values = Value::Array(values);
+    json!(in alloc; {"settings": values})
 }
 
-/// Writes of each two runs where they part.
-fn write_partings(
-    alloc: Global,
-    out: &mut String,
-    explanation: &Explanation<'_, '_>,
-) -> Result<(), AllocError> {
-    let runs = explanation.runs.as_slice();
-    for one in 0..runs.len() {
-        for other in one + 1..runs.len() {
-            write_parting(alloc, out, explanation.names, &runs[one], &runs[other])?;
-        }
+/// Components that are blocked, each with its place, as in a report.
+fn standings_value(alloc: Global, standings: &[&Standing]) -> Result<Value, AllocError> {
+    let mut values = Vec::new(alloc);
+    for standing in standings {
+        let component = PathText(standing.component.numbers.as_slice()).to_string(alloc)?;
+        let place = PlaceText(standing.place).to_string(alloc)?;
+        values.push(json!(in alloc; {"component": component, "place": place})?)?;
     }
-    Ok(())
+    Ok(Value::Array(values))
 }
 
-/// Writes the branches that no run takes.
-fn write_untaken(out: &mut String, explanation: &Explanation<'_, '_>) -> Result<(), AllocError> {
-    if explanation.untaken.is_empty() {
-        return Ok(());
+/// The components that are blocked, with the least runs to there.
+fn blocks_value(alloc: Global, blocks: &[Block<'_>]) -> Result<Value, AllocError> {
+    let mut values = Vec::new(alloc);
+    for block in blocks {
+        let blocked = standings_value(alloc, block.standings.as_slice())?;
+        let run = run_value(alloc, block.run)?;
+        values.push(json!(in alloc; {"blocked": blocked, "run": run})?)?;
     }
-    if explanation.report.complete {
-        out.push_str("\nbranches that no run takes:\n")?;
-    } else {
-        let steps = explanation.report.steps;
-        writeln!(out, "\nbranches that no run within {steps} steps takes:")?;
-    }
-    for branch in &explanation.untaken {
-        let (place, behaviour) = (PlaceText(branch.place), &branch.behaviour);
-        writeln!(out, "  {place} in {behaviour}: {}", branch.text)?;
-    }
-    Ok(())
-}
-
-/// The number of labels with which both runs begin.
-fn common(one: &[Label], other: &[Label]) -> usize {
-    let mut count: usize = 0;
-    for (label, its) in one.iter().zip(other) {
-        if *label != *its {
-            return count;
-        }
-        count = count.saturating_add(1);
-    }
-    count
-}
-
-/// The row of a step.
-fn row_of(chart: &Chart, number: usize) -> Option<&Row> {
-    chart
-        .rows
-        .iter()
-        .find(|row| row.first <= number && number <= row.last)
-}
-
-/// A run as what comes to components is told of it.
-fn course<'a>(run: &'a Explained<'_>) -> Course<'a> {
-    Course {
-        name: word_of(run.verdict),
-        labels: run.run,
-        story: &run.story,
-    }
-}
-
-/// Writes what a run does in a step.
-fn write_step(out: &mut String, one: &Explained<'_>, place: usize) -> Result<(), AllocError> {
-    let number = place.saturating_add(1);
-    if let (Some(label), Some(row)) = (one.run.get(place), row_of(&one.chart, number)) {
-        let (verdict, label) = (word_of(one.verdict), LabelText(label));
-        writeln!(out, "  {verdict}: {label}: {}", row.text)?;
-    }
-    Ok(())
-}
-
-/// Writes where two runs part, what each does there, and what first comes otherwise to a component behind it.
-fn write_parting(
-    alloc: Global,
-    out: &mut String,
-    names: Names<'_>,
-    one: &Explained<'_>,
-    other: &Explained<'_>,
-) -> Result<(), AllocError> {
-    let place = common(one.run, other.run);
-    let (first, second) = (word_of(one.verdict), word_of(other.verdict));
-    let number = place.saturating_add(1);
-    writeln!(out, "\n{first} and {second} part at step {number}:")?;
-    write_step(out, one, place)?;
-    write_step(out, other, place)?;
-    match order_of(alloc, names, course(one), course(other), place)? {
-        Some(order) => writeln!(out, "  {order}"),
-        None => Ok(()),
-    }
+    let values = Value::Array(values);
+    json!(in alloc; {"blocks": values})
 }

@@ -4,19 +4,21 @@ ghost use Rattle.search_layer.specs.Limits.{IsWithinLimits};
 ghost use Rattle.ttcn_syntax.specs.Limits.{longest_text};
 ghost use Rattle.ttcnx.specs.Fault.{lexical_fault};
 ghost use Rattle.ttcnx.specs.Named.{source};
+ghost use Rattle.ttcnx.specs.Sighted.{IsAnswerSighted};
 ghost use Rattle.ttcnx.specs.Until.{IsAnswerUntil, stops_of};
 
 use crate::fault::Fault;
 use crate::run::report_of;
 use crate::testcase::test_of;
-use explore::{Ending, Gate, Plan, Stops};
+use explore::{Ending, Gate, Plan, Sighting, Stops};
 use report::Report;
 use std::alloc::Global;
 use std::thread::Threads;
+use step_labels::{Label, Standing};
 use ttcn_step::Machine;
-use ttcn_syntax::LexError;
+use ttcn_syntax::{LexError, Seq};
 use ttcnx_command_line::Wishes;
-use ttcnx_runs::{Extent, explore_runs_until, mark_of};
+use ttcnx_runs::{BranchPlace, Extent, Sights, explore_runs_until, mark_of, sight_runs};
 
 /// Where an exploration ends by what is wished.
 pub fn stops_of(wishes: &Wishes) -> Stops
@@ -72,4 +74,58 @@ pub fn run_until<G: Gate, R: Threads + Sync>(
     } = extent;
     let report = report_of(alloc, name, steps, found)?;
     Ok(Until { report, ending })
+}
+
+/// A report, and the least runs to what its runs show, in the order of the runs.
+#[derive(Drop)]
+pub struct Sighted {
+    pub until: Until,
+    /// The places of steps: of the branch that a step takes, else of the statement that it begins with.
+    pub places: Vec<Sighting<BranchPlace, Label>>,
+    /// The components that are blocked where a run ends, each with the place where it stands.
+    pub blocks: Vec<Sighting<Seq<Standing>, Label>>,
+}
+
+/// Explores the runs of the test case of this name as `run_until` does, and finds the least of the shortest runs to each place
+/// in the text and to each block.
+pub fn run_sighted<G: Gate, R: Threads + Sync>(
+    rt: &R,
+    alloc: Global,
+    text: &[u8],
+    script: &[u8],
+    name: &str,
+    plan: &Plan,
+    stops: &Stops,
+    gate: &G,
+) -> Result<Sighted, Fault>
+    ensures answer { (result ≡ Err Fault.Memory) ⊎ IsAnswerSighted (source text.now script.now) name.now plan.now stops.now result }
+
+    // These two are decided before memory is asked for.
+    ensures bad_plan { IsErrOf result Fault.BadPlan ↔ (IsWithinLimits plan.now → ⊥) }
+    ensures too_long { IsWithinLimits plan.now → longest_text < length text.now
+        → result ≡ Err (lexical_fault LexError.TextTooLong) }
+{
+    if !plan.is_within_limits() {
+        return Err(Fault::BadPlan);
+    }
+    let (program, testcase, script) = test_of(alloc, text, name, script)?;
+    let machine = Machine::with_script(alloc, &program, testcase, &script)?;
+    let sights = sight_runs(rt, alloc, &machine, plan, stops, gate)?;
+    let Sights {
+        extent,
+        places,
+        blocks,
+    } = sights;
+    let Extent {
+        steps,
+        found,
+        ending,
+    } = extent;
+    let report = report_of(alloc, name, steps, found)?;
+    let until = Until { report, ending };
+    Ok(Sighted {
+        until,
+        places,
+        blocks,
+    })
 }

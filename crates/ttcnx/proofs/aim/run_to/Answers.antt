@@ -42,5 +42,5 @@ returns-clause-answer g c =
     let fine = c.if-not-is_within_limits.ensures.0 refl in
     let machine = c.in_ok-machine.machine in
     let is = subst (λ (t : Test). IsTestOf (source c.args.text.now c.args.script.now) c.args.name.now t) (sym c.in_ok-machine.ensures) c.in_ok-program.ensures.named in
-    inr (reached fine is c.in_ok-sights.ensures.steps c.in_ok-sights.ensures.ended
+    inr (reached fine is c.in_ok-sights.ensures.extent.steps c.in_ok-sights.ensures.extent.ended
     (found-is-least {test = machine.test} c.in_ok-sights.sights c.args.aim refl c.reach-run.ensures c.in_ok-sights.ensures.places c.in_ok-sights.ensures.blocks))

@@ -1,15 +1,13 @@
-use Rattle.std.proofs.Common.{◌≡◌, ◌≤◌, ℕ, inl, inr, refl, sym, ap, subst}
-use Rattle.std.specs.Prelude.{◌⊎◌, Err, Ok}
+use Rattle.std.proofs.Common.{◌≡◌, inl, inr, refl, sym, ap, subst}
+use Rattle.std.specs.Prelude.{◌⊎◌, Err}
 use Rattle.semantics.specs.Snapshots.{Test}
 use Rattle.ttcnx.proofs.Stages.{as-error}
-use Rattle.ttcnx.proofs.Told.{IsMadeOf, tells}
-use Rattle.ttcnx.proofs.Untils.{no-answer, no-test, refusal-answers, within-limits}
+use Rattle.ttcnx.proofs.Told.{IsMadeOf}
+use Rattle.ttcnx.proofs.Untils.{no-answer, no-test, refusal-answers, until-answers}
 use Rattle.ttcnx.proofs.until.run_until.Goals as goal
-use Rattle.ttcnx.specs.Answer.{IsAnswer, named, told}
 use Rattle.ttcnx.specs.Fault.{explore_fault}
 use Rattle.ttcnx.specs.Named.{IsTestOf, source}
-use Rattle.ttcnx.specs.Until.{IsAnswerUntil, beyond, reached, refused, with_steps}
-use Rattle.ttcnx_runs.specs.Endings.{HaveEnded}
+use Rattle.ttcnx.specs.Until.{IsAnswerUntil, beyond, refused}
 use Rattle.ttcnx.specs.declared.fault.Fault.TheVariants.{Memory}
 
 pub returns-then-not-is_within_limits-clause-answer : goal.returns-then-not-is_within_limits-clause-answer
@@ -46,21 +44,13 @@ returns-clause-answer g c =
     let machine = c.in_ok-machine.machine in
     let is = subst (λ (t : Test). IsTestOf (source c.args.text.now c.args.script.now) c.args.name.now t) (sym c.in_ok-machine.ensures) c.in_ok-program.ensures.named in
     let extent = c.in_ok-extent.extent in
-    let found = extent.found in
     let report = c.in_ok-report.report in
-    let plan = c.args.plan.now in
-    let low = c.in_ok-extent.ensures.steps in
-    let made : IsMadeOf found report = record {
+    let made : IsMadeOf extent.found report = record {
       configurations = c.in_ok-report.ensures.configurations;
       complete = c.in_ok-report.ensures.complete;
       outcomes = c.in_ok-report.ensures.outcomes;
       branches = c.in_ok-report.ensures.branches;
       blocked = c.in_ok-report.ensures.blocked;
     } in
-    let same : extent.steps ≡ report.steps = sym c.in_ok-report.ensures.steps in
-    let answer : IsAnswer (source c.args.text.now c.args.script.now) c.args.name.now (with_steps plan extent.steps) (Ok report) =
-    named (within-limits plan extent.steps fine low) is (told (tells machine.test c.args.name.now (with_steps plan extent.steps) found report made c.in_ok-report.ensures.testcase c.in_ok-report.ensures.steps
-    c.in_ok-extent.ensures.found c.in_ok-extent.ensures.within c.in_ok-extent.ensures.complete)) in
-    inr (reached is (subst (λ (n : ℕ). n ≤ plan.steps) same low)
-    (subst (λ (n : ℕ). IsAnswer (source c.args.text.now c.args.script.now) c.args.name.now (with_steps plan n) (Ok report)) same answer)
-    (subst (λ (n : ℕ). HaveEnded machine.test plan c.args.stops.now n extent.ending) same c.in_ok-extent.ensures.ended))
+    inr (until-answers (source c.args.text.now c.args.script.now) c.args.name.now c.args.plan.now c.args.stops.now fine machine.test extent report is c.in_ok-extent.ensures.extent made
+    c.in_ok-report.ensures.testcase c.in_ok-report.ensures.steps)

@@ -1,0 +1,223 @@
+//! What is told behind a report, in words.
+use crate::explain::drawn;
+use crate::explained::{
+    Case, Explained, Explanation, block_runs, common, nearest, seen_in, setting_runs,
+};
+use chart_formats::{Chart, Row};
+use chart_words::{Course, Names, Passage, order_of};
+use report::{LabelText, PlaceText};
+use std::alloc::{AllocError, Global};
+use std::fmt::Write;
+use step_labels::Label;
+use ttcn_syntax::Span;
+use ttcnx_command_line::Format;
+
+/// What is told behind a report as text, a section behind the other.
+pub(crate) fn in_words(
+    alloc: Global,
+    case: Case<'_, '_>,
+    explanation: &Explanation<'_>,
+) -> Result<String, AllocError> {
+    let names = Names {
+        definitions: case.program.module().definitions.as_slice(),
+        slots: case.machine.names(),
+    };
+    let runs = explanation.runs.as_slice();
+    let blocks = block_runs(alloc, case, explanation)?;
+    let settings = setting_runs(alloc, case, explanation, blocks.as_slice())?;
+    let mut out = String::new(alloc);
+    write_runs(alloc, &mut out, runs)?;
+    write_partings(alloc, &mut out, names, runs)?;
+    write_untaken(&mut out, explanation)?;
+    write_settings(
+        &mut out,
+        explanation,
+        settings.as_slice(),
+        blocks.as_slice(),
+    )?;
+    write_beside(alloc, &mut out, names, runs, settings.as_slice())?;
+    write_beside(alloc, &mut out, names, runs, blocks.as_slice())?;
+    Ok(out)
+}
+
+/// Writes the chart of a run.
+fn write_run(alloc: Global, out: &mut String, run: &Explained<'_>) -> Result<(), AllocError> {
+    write!(out, "\n{}:\n\n", run.naming.heading)?;
+    if let Some(words) = &run.left_out {
+        write!(out, "{words}\n\n")?;
+    }
+    out.push_str(drawn(alloc, &run.chart, Format::Text)?.as_str())?;
+    Ok(())
+}
+
+/// Writes the chart of each run.
+fn write_runs(alloc: Global, out: &mut String, runs: &[Explained<'_>]) -> Result<(), AllocError> {
+    for run in runs {
+        write_run(alloc, out, run)?;
+    }
+    Ok(())
+}
+
+/// Writes the chart of each run, and where it parts from that run to a verdict with which it goes the longest.
+fn write_beside(
+    alloc: Global,
+    out: &mut String,
+    names: Names<'_>,
+    runs: &[Explained<'_>],
+    others: &[Explained<'_>],
+) -> Result<(), AllocError> {
+    for other in others {
+        write_run(alloc, out, other)?;
+        if let Some((_, run)) = nearest(runs, other.run) {
+            write_parting(alloc, out, names, run, other)?;
+        }
+    }
+    Ok(())
+}
+
+/// Writes of each two runs where they part.
+fn write_partings(
+    alloc: Global,
+    out: &mut String,
+    names: Names<'_>,
+    runs: &[Explained<'_>],
+) -> Result<(), AllocError> {
+    for one in 0..runs.len() {
+        for other in one + 1..runs.len() {
+            write_parting(alloc, out, names, &runs[one], &runs[other])?;
+        }
+    }
+    Ok(())
+}
+
+/// Writes the branches that no run takes.
+fn write_untaken(out: &mut String, explanation: &Explanation<'_>) -> Result<(), AllocError> {
+    if explanation.untaken.is_empty() {
+        return Ok(());
+    }
+    if explanation.report.complete {
+        out.push_str("\nbranches that no run takes:\n")?;
+    } else {
+        let steps = explanation.report.steps;
+        writeln!(out, "\nbranches that no run within {steps} steps takes:")?;
+    }
+    for branch in &explanation.untaken {
+        write_passage(out, branch)?;
+        out.push('\n')?;
+    }
+    Ok(())
+}
+
+/// Writes what stands at a place.
+fn write_passage(out: &mut String, passage: &Passage) -> Result<(), AllocError> {
+    let (place, behaviour) = (PlaceText(passage.place), &passage.behaviour);
+    write!(out, "  {place} in {behaviour}: {}", passage.text)
+}
+
+/// Writes the statements that set a verdict in some run, each with the step of a run that is shown.
+fn write_settings(
+    out: &mut String,
+    explanation: &Explanation<'_>,
+    settings: &[Explained<'_>],
+    blocks: &[Explained<'_>],
+) -> Result<(), AllocError> {
+    if explanation.settings.is_empty() {
+        return Ok(());
+    }
+    if explanation.report.complete {
+        out.push_str("\nstatements that set a verdict:\n")?;
+    } else {
+        let steps = explanation.report.steps;
+        writeln!(out, "\nstatements that set a verdict within {steps} steps:")?;
+    }
+    let runs = explanation.runs.as_slice();
+    for setting in &explanation.settings {
+        write_passage(out, &setting.passage)?;
+        write_step_of(out, runs, settings, blocks, setting.passage.place)?;
+        out.push('\n')?;
+    }
+    Ok(())
+}
+
+/// Writes which step of one of these runs is that of the statement at a place. Gives whether one is.
+fn write_step_in(
+    out: &mut String,
+    runs: &[Explained<'_>],
+    place: Span,
+    changing: bool,
+) -> Result<bool, AllocError> {
+    match seen_in(runs, place, changing) {
+        Some((number, run)) => {
+            write!(out, ": step {number} of {}", run.naming.title)?;
+            Ok(true)
+        }
+        None => Ok(false),
+    }
+}
+
+/// Writes which step of a run that is shown is that of the statement at a place: the first one that changes the verdict, if
+/// there is one.
+fn write_step_of(
+    out: &mut String,
+    runs: &[Explained<'_>],
+    settings: &[Explained<'_>],
+    blocks: &[Explained<'_>],
+    place: Span,
+) -> Result<(), AllocError> {
+    for changing in [true, false] {
+        if write_step_in(out, runs, place, changing)?
+            || write_step_in(out, settings, place, changing)?
+            || write_step_in(out, blocks, place, changing)?
+        {
+            return Ok(());
+        }
+    }
+    Ok(())
+}
+
+/// The row of a step.
+fn row_of(chart: &Chart, number: usize) -> Option<&Row> {
+    chart
+        .rows
+        .iter()
+        .find(|row| row.first <= number && number <= row.last)
+}
+
+/// A run as what comes to components is told of it.
+fn course<'a>(run: &'a Explained<'_>) -> Course<'a> {
+    Course {
+        name: run.naming.name.as_str(),
+        labels: run.run,
+        story: &run.story,
+    }
+}
+
+/// Writes what a run does in a step.
+fn write_step(out: &mut String, one: &Explained<'_>, place: usize) -> Result<(), AllocError> {
+    let number = place.saturating_add(1);
+    if let (Some(label), Some(row)) = (one.run.get(place), row_of(&one.chart, number)) {
+        let (name, label) = (&one.naming.name, LabelText(label));
+        writeln!(out, "  {name}: {label}: {}", row.text)?;
+    }
+    Ok(())
+}
+
+/// Writes where two runs part, what each does there, and what first comes otherwise to a component behind it.
+fn write_parting(
+    alloc: Global,
+    out: &mut String,
+    names: Names<'_>,
+    one: &Explained<'_>,
+    other: &Explained<'_>,
+) -> Result<(), AllocError> {
+    let place = common(one.run, other.run);
+    let (first, second) = (&one.naming.name, &other.naming.name);
+    let number = place.saturating_add(1);
+    writeln!(out, "\n{first} and {second} part at step {number}:")?;
+    write_step(out, one, place)?;
+    write_step(out, other, place)?;
+    match order_of(alloc, names, course(one), course(other), place)? {
+        Some(order) => writeln!(out, "  {order}"),
+        None => Ok(()),
+    }
+}
