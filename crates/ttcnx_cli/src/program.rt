@@ -1,4 +1,5 @@
 //! What the program does: from its words to what it writes and the status that it exits with.
+use crate::lint_command;
 use crate::run_command::{self, Request, Telling};
 use std::alloc::{AllocError, Global};
 use std::io::{self, ErrorKind, Read};
@@ -8,8 +9,9 @@ use std::{env, fs};
 use ttcn_syntax::LONGEST_TEXT;
 use ttcnx::{
     Fault, Line, LineError, check_answer, coarsen_text, double_text, explain_text, fault_line,
-    read_line, replay_text, status,
+    list_answer, read_line, replay_text, status,
 };
+use ttcnx_progress::Showing;
 
 /// How many bytes of a module or a script are read: a text that has them all is refused as too long.
 pub(crate) const ENOUGH: u64 = LONGEST_TEXT as u64 + 1;
@@ -25,6 +27,8 @@ pub(crate) enum Stop {
     Fault(Fault),
     /// A line tells it, and there is a status to exit with.
     Told(String, u8),
+    /// What is written tells it, and there is a status to exit with.
+    Written(u8),
 }
 
 impl From<AllocError> for Stop {
@@ -40,12 +44,13 @@ impl From<Fault> for Stop {
 }
 
 /// Does what the words ask for, and gives the status to exit with. Nothing is written before the whole answer
-/// is there.
-pub fn run<R>(rt: &R) -> u8
+/// is there, but for what the gate shows of an exploration.
+pub fn run<R, G>(rt: &R, gate: &G) -> u8
 where
     R: Env + Files + Print + Eprint + AllocGlobal + Threads + Sync,
+    G: Showing,
 {
-    match answer(rt) {
+    match answer(rt, gate) {
         Ok(()) => 0,
         Err(Stop::Words(text)) => {
             let _ = rt.eprint(&text);
@@ -56,6 +61,7 @@ where
             let _ = rt.eprintln(&line);
             status
         }
+        Err(Stop::Written(status)) => status,
     }
 }
 
@@ -74,15 +80,16 @@ fn tell<R: Eprint + AllocGlobal>(rt: &R, fault: &Fault) -> u8 {
 }
 
 /// Answers the words of the command line.
-fn answer<R>(rt: &R) -> Result<(), Stop>
+fn answer<R, G>(rt: &R, gate: &G) -> Result<(), Stop>
 where
     R: Env + Files + Print + AllocGlobal + Threads + Sync,
+    G: Showing,
 {
     let alloc = rt.alloc();
     let words = words(rt)?;
     let texts: Vec<&str> = words.iter().map(|word| word.as_str()).collect(alloc)?;
     match read_line(alloc, texts.get(1..).unwrap_or(&[])) {
-        Ok(line) => answer_line(rt, line),
+        Ok(line) => answer_line(rt, line, gate),
         Err(LineError::Help(text)) => Ok(print(rt, text.as_bytes())?),
         Err(LineError::Bad(text)) => Err(Stop::Words(text)),
         Err(LineError::Memory(_)) => Err(Stop::Fault(Fault::Memory)),
@@ -90,14 +97,20 @@ where
 }
 
 /// Answers a command.
-fn answer_line<R>(rt: &R, line: Line) -> Result<(), Stop>
+fn answer_line<R, G>(rt: &R, line: Line, gate: &G) -> Result<(), Stop>
 where
     R: Files + Print + AllocGlobal + Threads + Sync,
+    G: Showing,
 {
     match line {
         Line::Check { file } => {
             let text = read_bytes(rt, file, ENOUGH)?;
             Ok(print(rt, check_answer(rt.alloc(), &text)?.as_bytes())?)
+        }
+        Line::Lint { files, format } => lint_command::run(rt, files, format),
+        Line::List { file } => {
+            let text = read_bytes(rt, file, ENOUGH)?;
+            Ok(print(rt, &list_answer(rt.alloc(), &text)?)?)
         }
         Line::Run {
             file,
@@ -116,7 +129,7 @@ where
                 telling: Telling { json, explain },
                 wishes,
             };
-            run_command::run(rt, request)
+            run_command::run(rt, request, gate)
         }
         Line::Replay {
             file,
@@ -267,7 +280,12 @@ pub(crate) fn unread(file: String, error: &io::Error) -> Fault {
     }
 }
 
-fn bytes_of<R: Files + AllocGlobal>(rt: &R, file: &str, most: u64) -> io::Result<Vec<u8>> {
+/// The first bytes of a file, as many as are wanted at most.
+pub(crate) fn bytes_of<R: Files + AllocGlobal>(
+    rt: &R,
+    file: &str,
+    most: u64,
+) -> io::Result<Vec<u8>> {
     let mut bytes = Vec::new(rt.alloc());
     fs::open(rt, file)?.take(most).read_to_end(&mut bytes)?;
     Ok(bytes)

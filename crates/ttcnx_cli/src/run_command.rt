@@ -1,16 +1,19 @@
 //! The command `run`: the report on a test case, or the least run to a place.
 use crate::program::{ENOUGH, Stop, print, read_bytes, read_script, unread};
-use explore::{Ending, NoGate, Plan, Stops};
+use explore::{Ending, Plan, Stops};
 use report::PlaceText;
+use report_bounds::{bounded_json, bounded_text};
 use std::alloc::{AllocError, Global};
 use std::rt::Files;
 use std::thread::Threads;
 use std::{fs, io};
 use ttcn_syntax::Span;
 use ttcnx::{
-    Aim, Counted, Fault, Reaching, StreamFault, Until, Wishes, explain_report, run_explained,
-    run_file, run_stream, run_to, run_until, stops_of, to_json, to_text,
+    Aim, Bound, Counted, Fault, Reaching, Report, Sighted, StreamFault, Until, Wishes, bound_of,
+    explain_report, run_bounded, run_explained, run_file, run_sighted, run_stream, run_to,
+    run_until, stops_of, to_json, to_text, with_few_expiries,
 };
+use ttcnx_progress::{Behind, Showing};
 
 /// What a `run` is given.
 #[derive(Drop)]
@@ -30,10 +33,49 @@ pub(crate) struct Telling {
     pub explain: bool,
 }
 
-/// Explores the runs of a test case, and writes the report on them, or the run that is wanted in its place.
-pub(crate) fn run<R>(rt: &R, request: Request) -> Result<(), Stop>
+/// A test case, and how far its runs are explored.
+#[derive(Clone, Copy)]
+struct Subject<'a> {
+    text: &'a [u8],
+    script: &'a [u8],
+    testcase: &'a str,
+    plan: &'a Plan,
+}
+
+/// What is written to the standard output, and the line that tells where it is of fewer steps than are wished.
+#[derive(Drop)]
+struct Told {
+    bytes: Vec<u8>,
+    shortfall: Option<String>,
+}
+
+/// Explores the runs of a test case, and writes the report on them, or the run that is wanted in its place. The gate shows how
+/// far the exploration is, where it is not to be quiet.
+pub(crate) fn run<R, G>(rt: &R, request: Request, gate: &G) -> Result<(), Stop>
 where
     R: Files + Print + AllocGlobal + Threads + Sync,
+    G: Showing,
+{
+    if !request.wishes.quiet {
+        gate.begin(request.plan.piece);
+    }
+    let answered = answer(rt, request, gate);
+    gate.clear();
+    let Some(Told { bytes, shortfall }) = answered? else {
+        return Ok(());
+    };
+    print(rt, &bytes)?;
+    match shortfall {
+        Some(line) => Err(Stop::Told(line, 3)),
+        None => Ok(()),
+    }
+}
+
+/// Explores the runs of a test case, and gives what is to be written, unless it is written already.
+fn answer<R, G>(rt: &R, request: Request, gate: &G) -> Result<Option<Told>, Stop>
+where
+    R: Files + Print + AllocGlobal + Threads + Sync,
+    G: Showing,
 {
     let Request {
         file,
@@ -43,44 +85,61 @@ where
         telling,
         wishes,
     } = request;
-    let name = testcase.as_str();
     let aim = aim_of(rt.alloc(), &wishes)?;
     let script = read_script(rt, script)?;
-    if let Some(aim) = aim {
-        let text = read_bytes(rt, file, ENOUGH)?;
-        return write_run(rt, &text, &script, name, &plan, wishes.until_complete, aim);
-    }
-    let stops = stops_of(&wishes);
-    if stops == Stops::NOWHERE && !telling.explain {
-        return Ok(stream(rt, &script, file, name, &plan, telling.json)?);
+    if aim.is_none() && is_plain(&wishes, telling) {
+        stream(
+            rt,
+            &script,
+            file,
+            testcase.as_str(),
+            &plan,
+            telling.json,
+            gate,
+        )?;
+        return Ok(None);
     }
     let text = read_bytes(rt, file, ENOUGH)?;
-    if stops == Stops::NOWHERE {
-        let (alloc, json) = (rt.alloc(), telling.json);
-        let told = run_explained(rt, alloc, &text, &script, name, &plan, &NoGate, json)?;
-        return Ok(print(rt, &told)?);
-    }
-    write_report(rt, &text, &script, name, &plan, &stops, telling)
+    let subject = Subject {
+        text: &text,
+        script: &script,
+        testcase: testcase.as_str(),
+        plan: &plan,
+    };
+    let told = match aim {
+        Some(aim) => run_in_file(rt, subject, wishes.until_complete, aim, gate)?,
+        None if telling.explain => told_explained(rt, subject, &wishes, telling.json, gate)?,
+        None => told_report(rt, subject, &wishes, telling.json, gate)?,
+    };
+    Ok(Some(told))
+}
+
+/// Whether nothing else is wanted than the report on all runs of at most the plan's steps.
+fn is_plain(wishes: &Wishes, telling: Telling) -> bool {
+    let is_whole = stops_of(wishes) == Stops::NOWHERE && bound_of(wishes).is_none();
+    is_whole && !telling.explain && !wishes.few_expiries
 }
 
 /// Explores the runs of a test case of the module in a file under a script, and writes the report to the standard
 /// output.
-fn stream<R>(
+fn stream<R, G>(
     rt: &R,
     script: &[u8],
     file: String,
     testcase: &str,
     plan: &Plan,
     json: bool,
+    gate: &G,
 ) -> Result<(), Fault>
 where
     R: Files + Print + AllocGlobal + Threads + Sync,
+    G: Showing,
 {
     let mut reader = match fs::open(rt, file.as_str()) {
         Ok(opened) => Counted::new(opened),
         Err(error) => return Err(unread(file, &error)),
     };
-    let mut writer = Counted::new(io::writer(rt));
+    let mut writer = Counted::new(Behind::new(gate, io::writer(rt)));
     match run_stream(
         rt,
         rt.alloc(),
@@ -90,7 +149,7 @@ where
         testcase,
         plan,
         json,
-        &NoGate,
+        gate,
     ) {
         Ok(()) => Ok(()),
         Err(StreamFault::Read) => Err(Fault::CannotRead(file)),
@@ -99,38 +158,133 @@ where
     }
 }
 
-// ---- a report up to a stop
+// ---- a report up to a stop, within a bound, with other runs, or explained
 
-/// Explores the runs of a test case up to a stop, and writes the report on them. A line tells where it is of fewer steps
-/// than are wished.
-fn write_report<R>(
+/// Explores the runs of a test case that are asked for up to a stop, and tells the report on them.
+fn told_report<R, G>(
     rt: &R,
-    text: &[u8],
-    script: &[u8],
-    testcase: &str,
-    plan: &Plan,
-    stops: &Stops,
-    telling: Telling,
-) -> Result<(), Stop>
+    subject: Subject<'_>,
+    wishes: &Wishes,
+    json: bool,
+    gate: &G,
+) -> Result<Told, Stop>
 where
-    R: Print + AllocGlobal + Threads + Sync,
+    R: AllocGlobal + Threads + Sync,
+    G: Showing,
 {
     let alloc = rt.alloc();
-    let until = run_until(rt, alloc, text, script, testcase, plan, stops, &NoGate)?;
-    let report = &until.report;
-    let told = if telling.explain {
-        explain_report(alloc, text, script, testcase, report, telling.json)?
-    } else if telling.json {
-        to_json(alloc, report)?.into_bytes()
-    } else {
-        to_text(alloc, report)?.into_bytes()
+    let (stops, bound) = (stops_of(wishes), bound_of(wishes));
+    let until = explored(rt, subject, bound, &stops, gate)?;
+    let shortfall = shortfall(alloc, &until, &stops)?;
+    let report = with_chosen_runs(rt, subject, until.report, wishes, gate)?;
+    let bytes = match (bound, json) {
+        (None, true) => to_json(alloc, &report)?.into_bytes(),
+        (None, false) => to_text(alloc, &report)?.into_bytes(),
+        (Some(bound), true) => bounded_json(alloc, &report, bound)?,
+        (Some(bound), false) => bounded_text(alloc, &report, bound)?,
     };
-    let shortfall = shortfall(alloc, &until, stops)?;
-    print(rt, &told)?;
-    match shortfall {
-        Some(line) => Err(Stop::Told(line, 3)),
-        None => Ok(()),
+    Ok(Told { bytes, shortfall })
+}
+
+/// Explores the runs of a test case up to a stop, or those that keep a bound.
+fn explored<R, G>(
+    rt: &R,
+    subject: Subject<'_>,
+    bound: Option<Bound>,
+    stops: &Stops,
+    gate: &G,
+) -> Result<Until, Fault>
+where
+    R: AllocGlobal + Threads + Sync,
+    G: Showing,
+{
+    let alloc = rt.alloc();
+    let Subject {
+        text,
+        script,
+        testcase,
+        plan,
+    } = subject;
+    match bound {
+        None => run_until(rt, alloc, text, script, testcase, plan, stops, gate),
+        Some(bound) => run_bounded(rt, alloc, text, script, testcase, bound, plan, stops, gate),
     }
+}
+
+/// A report, with the runs to its verdicts in which the fewest timers expire where these are wanted.
+fn with_chosen_runs<R, G>(
+    rt: &R,
+    subject: Subject<'_>,
+    report: Report,
+    wishes: &Wishes,
+    gate: &G,
+) -> Result<Report, Fault>
+where
+    R: AllocGlobal + Threads + Sync,
+    G: Showing,
+{
+    if !wishes.few_expiries {
+        return Ok(report);
+    }
+    let plan = Plan {
+        steps: report.steps,
+        ..*subject.plan
+    };
+    with_few_expiries(
+        rt,
+        rt.alloc(),
+        subject.text,
+        subject.script,
+        subject.testcase,
+        report,
+        wishes.patient_timers,
+        &plan,
+        gate,
+    )
+}
+
+/// Explores the runs of a test case up to a stop, and tells the report on them with its runs explained.
+fn told_explained<R, G>(
+    rt: &R,
+    subject: Subject<'_>,
+    wishes: &Wishes,
+    json: bool,
+    gate: &G,
+) -> Result<Told, Stop>
+where
+    R: AllocGlobal + Threads + Sync,
+    G: Showing,
+{
+    let alloc = rt.alloc();
+    let Subject {
+        text,
+        script,
+        testcase,
+        plan,
+    } = subject;
+    let stops = stops_of(wishes);
+    if stops == Stops::NOWHERE && !wishes.few_expiries {
+        return Ok(Told {
+            bytes: run_explained(rt, alloc, text, script, testcase, plan, gate, json)?,
+            shortfall: None,
+        });
+    }
+    let sighted = run_sighted(rt, alloc, text, script, testcase, plan, &stops, gate)?;
+    let shortfall = shortfall(alloc, &sighted.until, &stops)?;
+    let Sighted {
+        until,
+        places,
+        blocks,
+    } = sighted;
+    let Until { report, ending } = until;
+    let report = with_chosen_runs(rt, subject, report, wishes, gate)?;
+    let sighted = Sighted {
+        until: Until { report, ending },
+        places,
+        blocks,
+    };
+    let bytes = explain_report(alloc, text, script, testcase, &sighted, json)?;
+    Ok(Told { bytes, shortfall })
 }
 
 /// What tells that a report is of fewer steps than are wished: it ended at the limit, or isn't complete though it should be.
@@ -147,18 +301,17 @@ fn shortfall(alloc: Global, until: &Until, stops: &Stops) -> Result<Option<Strin
 
 // ---- a run to a place
 
-/// Explores the runs of a test case, and writes the least of the shortest runs to an aim as a run file.
-fn write_run<R>(
+/// Explores the runs of a test case, and gives the least of the shortest runs to an aim as a run file.
+fn run_in_file<R, G>(
     rt: &R,
-    text: &[u8],
-    script: &[u8],
-    testcase: &str,
-    plan: &Plan,
+    subject: Subject<'_>,
     until_complete: bool,
     aim: Aim,
-) -> Result<(), Stop>
+    gate: &G,
+) -> Result<Told, Stop>
 where
-    R: Print + AllocGlobal + Threads + Sync,
+    R: AllocGlobal + Threads + Sync,
+    G: Showing,
 {
     let alloc = rt.alloc();
     // A run that is found within the limit is the least of all runs.
@@ -167,11 +320,18 @@ where
         when_complete: until_complete,
         at_mark: None,
     };
-    let reaching = run_to(
-        rt, alloc, text, script, testcase, plan, &stops, aim, &NoGate,
-    )?;
+    let Subject {
+        text,
+        script,
+        testcase,
+        plan,
+    } = subject;
+    let reaching = run_to(rt, alloc, text, script, testcase, plan, &stops, aim, gate)?;
     match &reaching.run {
-        Some(run) => Ok(print(rt, run_file(alloc, run.as_slice())?.as_bytes())?),
+        Some(run) => Ok(Told {
+            bytes: run_file(alloc, run.as_slice())?.into_bytes(),
+            shortfall: None,
+        }),
         None => Err(unreached(alloc, &reaching)?),
     }
 }
