@@ -23,9 +23,9 @@ SECONDS = 1800
 # The status where there is no answer, as where a build fails. The program has no such status.
 NO_ANSWER = 70
 
-COMMANDS = {"check", "run", "replay", "explain", "coarsen", "double"}
+COMMANDS = {"check", "run", "replay", "explain", "coarsen", "double", "lint", "list"}
 # The options that have a value, and those of them whose value is a file. What is neither option nor value is a file.
-VALUES = {"--testcase", "--steps", "--limit", "--workers", "--piece", "--run", "--script", "--format", "--first", "--run-to", "--run-to-block"}
+VALUES = {"--testcase", "--steps", "--limit", "--workers", "--piece", "--run", "--script", "--format", "--first", "--expiries", "--run-to", "--run-to-block"}
 FILES = {"--run", "--script"}
 
 # What the toolchain writes before and behind the program's own error: notes, and how the program ended or why it has no answer.

@@ -4,7 +4,7 @@ Usage: statuses.py PROGRAM. The last line tells how many were answered otherwise
 
 The texts of help, and one of each kind of refusal of a command line, stand in the folder statuses/, byte for byte. They are
 mostly words of `clap`, so they are what the program wrote once, read and found right: a change of them is to be read again.
-statuses/causes.ttcn has runs beside what their explanations must say.
+statuses/causes.ttcn has runs beside what their explanations must say; statuses/faults.ttcn has two faults, and how it comes to them.
 """
 import os
 import re
@@ -53,6 +53,16 @@ FEW_IN_JSON = b'{"blocked":[],"branches":[],"complete":false,"configurations":8,
 COUNTING = b"module L {\ntype component C {}\ntestcase T() runs on C {\nvar integer n := 0;\nwhile (true) { n := n + 1 }\n}\n}\n"
 
 COUNTED = b"testcase T\nsteps 100000\nconfigurations 100001\ncomplete no\n"
+
+# reports within a bound on a component that waits for a message or for a timer: its run without an expiry, and with one
+MESSAGE_RUN = b"verdict pass 9\n" + b"  mtc\n" * 4 + b"  mtc.1\n" + b"  mtc\n" * 4
+TIMEOUT_RUN = b"verdict inconc 8\n" + b"  mtc\n" * 4 + b"  mtc/0.t\n" + b"  mtc\n" * 3
+IN_TIME = b"testcase T\nsteps 10\n%sconfigurations 16\ncomplete yes\n" + MESSAGE_RUN + b"branch 12:1\n"
+ONE_EXPIRY = b"testcase T\nsteps 11\nexpiries 1\nconfigurations 33\ncomplete yes\n" + MESSAGE_RUN + TIMEOUT_RUN + b"branch 12:1\nbranch 13:1\n"
+FIRST_EXPIRY = b"testcase T\nsteps 8\nexpiries 1\nconfigurations 26\ncomplete no\n" + TIMEOUT_RUN + b"branch 12:1\nbranch 13:1\n"
+FEW_EXPIRIES = b"testcase T\nsteps 5\nexpiries 1\nconfigurations 9\ncomplete no\n"
+MESSAGE_IN_JSON = (b'{"blocked":[],"branches":["12:1"],"complete":true,"configurations":16,"steps":30,"testcase":"T",'
+                   b'"verdicts":[{"run":["mtc","mtc","mtc","mtc","mtc.1","mtc","mtc","mtc","mtc"],"verdict":"pass"}],"within":%s}\n')
 
 # words that are no places
 NO_PLACES = ["", "14", "14:", ":1", "14:1:1", "14: 1", "+14:1", "014:1", "14:01", "x:1", "4294967296:1", "14.1"]
@@ -108,6 +118,7 @@ def explained_rows(folder):
     """Returns command lines that explain runs, each with its status, and what its text is or begins with, or how lines of it end."""
     test = ["--testcase", "T", "--run", f"{EXAMPLES}/x2.fail.run"]
     wrong = file_in(folder, "wrong.run", b"mtc\nmtc.1\n")
+    lock = ["run", f"{EXAMPLES}/lock.ttcn", "--testcase", "two_clients", "--steps", "60"]
     return [
         *(explained(name) for name in EXPLAINED if not name.startswith("unit")),
         explained("unit.fail", "unit.json"),
@@ -118,6 +129,9 @@ def explained_rows(folder):
         (["explain", X2, *test, "--format", "svg"], 0, stored("explained_svg")),
         (["run", X2, "--testcase", "T", "--steps", "13", "--explain"], 0, stored("explained_report")),
         (["run", X2, "--testcase", "T", "--steps", "13", "--explain", "--json"], 0, stored("explained_report_json")),
+        (["run", f"{TOOLS}/statuses/faults.ttcn", "--testcase", "T", "--until-complete", "--explain"], 0, stored("explained_faults")),
+        ([*lock, "--explain"], 0, stored("explained_lock")),
+        ([*lock, "--explain", "--json"], 0, stored("explained_lock_json").decode().splitlines()),
         (["explain", X1, *test], 1, b"refused N2 NotEnabled at label 3\n"),
         (["explain", X2, "--testcase", "T", "--run", wrong], 1, b"refused N2 NotEnabled at label 2\n"),
         (["run", X1, "--testcase", "T", "--steps", "2", "--limit", "2", "--explain"], 3, b"refused E1 TooMany\n"),
@@ -158,6 +172,27 @@ def until_rows(folder):
     ]
 
 
+def bound_rows():
+    """Returns command lines with a bound on expiries, each with its status and its text."""
+    run = ["run", f"{TOOLS}/statuses/timeout.ttcn", "--testcase", "T"]
+    complete = [*run, "--until-complete"]
+    race = ["run", X2, "--testcase", "T", "--steps", "13"]
+    return [
+        ([*complete, "--expiries", "0"], 0, IN_TIME % b"expiries 0\n"),
+        ([*complete, "--patient-timers", "--workers", "4", "--piece", "1"], 0, IN_TIME % b"patient-timers\n"),
+        ([*complete, "--patient-timers", "--expiries=1", "--quiet"], 0, IN_TIME % b"expiries 1\npatient-timers\n"),
+        ([*run, "--steps", "30", "--expiries", "0", "--json"], 0, MESSAGE_IN_JSON % b'{"expiries":0}'),
+        ([*run, "--steps", "30", "--expiries", "1", "--patient-timers", "--json"], 0, MESSAGE_IN_JSON % b'{"expiries":1,"patient_timers":true}'),
+        ([*complete, "--expiries", "1"], 0, ONE_EXPIRY),
+        ([*complete, "--expiries", "1", "--first", "inconc"], 0, FIRST_EXPIRY),
+        ([*complete, "--expiries", "1", "--limit", "32"], 3, b"refused E1 TooMany\n"),
+        ([*complete, "--expiries", "1", "--limit", "12", "--partial"], 3, (FEW_EXPIRIES, b"stopped E1 TooMany behind 5 steps\n")),
+        ([*race, "--patient-timers"], 0, RACE.replace(b"steps 13\n", b"steps 13\npatient-timers\n")),
+        ([*race, "--expiries", "4294967295", "--limit", "46"], 3, b"refused E1 TooMany\n"),
+        ([*run[:3], "t", "--until-complete", "--expiries", "1"], 1, b"refused U1 NoSuchTestCase\n"),
+    ]
+
+
 def aim_rows(folder):
     """Returns command lines with runs to places, each with its status and what its text is."""
     run = ["run", X2, "--testcase", "T", "--steps", "13"]
@@ -167,6 +202,8 @@ def aim_rows(folder):
     return [
         ([*run, "--run-to", "15:1"], 0, TO_RACE + b"mtc.2\nmtc\n"),
         ([*complete, "--run-to=14:1", "--workers", "4", "--piece", "1"], 0, TO_RACE + b"mtc.1\nmtc\n"),
+        ([*run, "--run-to", "7:1"], 0, b"mtc\n"),
+        ([*run, "--run-to", "5:35"], 0, b"mtc\n" * 5 + b"mtc.1\n"),
         ([*run, "--run-to", "15:16"], 0, TO_RACE + b"mtc.2\nmtc\nmtc\n"),
         ([*run, "--limit", "46", "--run-to", "15:1"], 0, TO_RACE + b"mtc.2\nmtc\n"),
         ([*run, "--limit", "7", "--run-to", "15:1"], 3, b"refused E1 TooMany\n"),
@@ -184,6 +221,115 @@ def aim_rows(folder):
     ]
 
 
+# a module whose shortest run to a verdict has an expiry that it doesn't need: without it a message comes, and a timer is stopped
+EARLY = b"""module E {
+type port P message { inout integer }
+type component M { port P p; timer t := 1.0 }
+type component W { port P q }
+function f() runs on W { q.send(1) }
+testcase T() runs on M {
+var W a := W.create;
+connect(self:p, a:q);
+a.start(f());
+t.start;
+alt {
+[] p.receive(1) { t.stop; setverdict(fail) }
+[] t.timeout { setverdict(fail) }
+}
+}
+}
+"""
+EARLY_REPORT = b"testcase T\nsteps 100\nconfigurations 27\ncomplete yes\nverdict fail %s\nbranch 12:1\nbranch 13:1\n"
+WITH_EXPIRY = b"8\n" + b"  mtc\n" * 4 + b"  mtc/0.t\n" + b"  mtc\n" * 2 + b"  mtc"
+WITHOUT_EXPIRY = b"9\n" + b"  mtc\n" * 4 + b"  mtc.1\n" + b"  mtc\n" * 3 + b"  mtc"
+
+
+def within(report, *lines):
+    """Returns a report with the lines that tell of a bound behind that of the steps."""
+    head, steps, rest = re.fullmatch(rb"(testcase .*\n)(steps .*\n)((?s:.*))", report).groups()
+    return head + steps + b"".join(lines) + rest
+
+
+def within_in_json(report, bound):
+    """Returns a report in JSON with what tells of a bound behind its other members."""
+    return report[:-2] + b',"within":' + bound + b"}\n"
+
+
+def bounded_rows(folder):
+    """Returns command lines with reports on the runs that keep a bound on expiries, each with its status and what its text is."""
+    run = ["run", X2, "--testcase", "T", "--steps", "13"]
+    few = [*run, "--limit", "10", "--partial"]
+    stopped = b"stopped E1 TooMany behind 6 steps\n"
+    none, patient = b"expiries 0\n", b"patient-timers\n"
+    script = ["--script", file_in(folder, "bounded.json", b'{"p":[{"integer":1},{"integer":2}]}')]
+    explore = ["run", Y1, "--testcase", "T", "--until-complete", *script]
+    early = ["run", file_in(folder, "early.ttcn", EARLY), "--testcase", "T"]
+    return [
+        ([*run, "--expiries", "0"], 0, within(RACE, none)),
+        ([*run, "--patient-timers", "--workers", "3", "--piece", "1"], 0, within(RACE, patient)),
+        ([*run, "--expiries=4294967295", "--patient-timers"], 0, within(RACE, b"expiries 4294967295\n", patient)),
+        ([*few, "--expiries", "0"], 3, (within(FEW, none), stopped)),
+        ([*few, "--json", "--expiries", "0"], 3, (within_in_json(FEW_IN_JSON, b'{"expiries":0}'), stopped)),
+        ([*few, "--json", "--patient-timers"], 3, (within_in_json(FEW_IN_JSON, b'{"patient_timers":true}'), stopped)),
+        ([*run, "--limit", "46", "--expiries", "1"], 3, b"refused E1 TooMany\n"),
+        ([*run, "--expiries", "0", "--first", "fail"], 0, within(stored("first_fail"), none)),
+        ([*explore, "--expiries", "0", "--first", "pass"], 0, within(b"testcase T\nsteps 7\n", none).decode()),
+        ([*run[:3], "t", "--steps", "13", "--expiries", "0"], 1, b"refused U1 NoSuchTestCase\n"),
+        ([*early, "--steps", "100"], 0, EARLY_REPORT % WITH_EXPIRY),
+        ([*early, "--steps", "100", "--few-expiries"], 0, EARLY_REPORT % WITHOUT_EXPIRY),
+        ([*early, "--steps", "8", "--few-expiries"], 0, "testcase T\nsteps 8\nconfigurations "),
+        ([*early, "--until-complete", "--few-expiries"], 0, ["verdict fail 9", "  mtc.1"]),
+        ([*early, "--until-complete", "--few-expiries", "--explain"], 0, ["How it ends with fail:", "[] p ? 1 from mtc.1"]),
+        ([*early, "--until-complete", "--few-expiries", "--patient-timers"], 0, ["patient-timers", "verdict fail 9"]),
+        ([*run, "--few-expiries"], 0, RACE),
+        ([*run, "--limit", "46", "--few-expiries"], 3, b"refused E1 TooMany\n"),
+        ([*run, "--few-expiries", "--run-to", "15:1"], 2, "error: the argument '--run-to <LINE:COL>' cannot be used with '--few-expiries'\n"),
+        ([*run, "--quiet"], 0, RACE),
+        ([*run, "--quiet", "--expiries", "0"], 0, within(RACE, none)),
+    ]
+
+
+def large_module():
+    """Returns a module of 2,000 lines, whose test case calls 60 functions of 32 lines, and how many steps its run has before two messages race."""
+    lines = ["module Large {", "type port P message { inout integer }", "type component C { port P p; var integer n := 0 }", "type component W { port P q }"]
+    for number in range(60):
+        lines += [f"function f_{number}() runs on C {{", *(f"    n := n + {added};" for added in range(31)), "}"]
+    lines += ["function g(integer x) runs on W { q.send(x) }", "testcase T() runs on C {", "var W a := W.create;", "var W b := W.create;", "connect(self:p, a:q);", "connect(self:p, b:q);"]
+    lines += [*(f"f_{number}();" for number in range(0, 60, 6)), "a.start(g(1));", "b.start(g(2));", "alt {", "[] p.receive(1) { setverdict(pass) }", "[] p.receive { setverdict(fail) }", "}", "}", "}"]
+    return "\n".join(lines).encode() + b"\n"
+
+
+def large_rows(folder):
+    """Returns command lines with a module of 2,000 lines, each with its status, and what its text is or how lines of it end."""
+    module = file_in(folder, "large.ttcn", large_module())
+    test = [module, "--testcase", "T"]
+    place = large_module().split(b"\n").index(b"[] p.receive { setverdict(fail) }") + 1
+    return [
+        (["check", module], 0, b"ok\n"),
+        (["list", module], 0, b"T\n"),
+        (["run", *test, "--until-complete"], 0, ["complete yes", f"branch {place}:1"]),
+        (["run", *test, "--until-complete", "--explain"], 0, ["How it ends with pass:", "How it ends with fail:"]),
+        (["run", *test, "--until-complete", "--patient-timers", "--json"], 0, '{"blocked":[],"branches":['),
+    ]
+
+
+def lint_rows():
+    """Returns command lines whose modules are linted, in the folder of the modules, each with its status and what is printed."""
+    texts = ["mark.ttcn", "equals.ttcn", "name.ttcn", "semicolon.ttcn", "word.ttcn", "brace.ttcn", "end.ttcn"]
+    return [
+        (["lint", X1, X2, Y1], 0, b""),
+        (["lint", "lock.ttcn"], 1, (stored("lint/lock"), b"")),
+        (["lint", "lock.ttcn", "--format", "json"], 1, (stored("lint/lock_json"), b"")),
+        (["lint", "warnings.ttcn"], 0, stored("lint/warnings")),
+        (["lint", "kinds.ttcn"], 1, (stored("lint/kinds"), b"")),
+        (["lint", *texts], 1, (stored("lint/unread"), b"")),
+        (["lint", "lock.ttcn", "missing.ttcn"], 5, b"cannot read missing.ttcn\n"),
+        (["list", X2], 0, b"T\n"),
+        (["list", "lock.ttcn"], 1, "refused C2 UnknownName at 24:"),
+        (["list", "missing.ttcn"], 5, b"cannot read missing.ttcn\n"),
+    ]
+
+
 def help_rows():
     """Returns the command lines that ask for help, each with its status and the whole text that is wanted."""
     return [
@@ -197,6 +343,8 @@ def help_rows():
         (["coarsen", "--help"], 0, stored("help_coarsen")),
         (["double", "--help"], 0, stored("help_double")),
         (["explain", "--help"], 0, stored("help_explain")),
+        (["lint", "--help"], 0, stored("help_lint")),
+        (["list", "--help"], 0, stored("help_list")),
         (["--version"], 0, b"ttcnx 0.1\n"),
         (["-V"], 0, b"ttcnx 0.1\n"),
     ]
@@ -205,7 +353,12 @@ def help_rows():
 def refused_rows():
     """Returns command lines that are refused, one of each kind, each with its status and the whole text that is wanted."""
     run = ["run", "f", "--testcase", "T"]
+    values = [("limit", "0"), ("limit", "10000001"), ("workers", "0"), ("workers", "65"), ("piece", "0"), ("piece", "65537"), ("steps", "1.0"), ("expiries", "4294967296"), ("expiries", "-1"), ("first", "PASS"), ("first", "")]
     return [
+        *(([*run, "--until-complete", f"--{name}={value}"], 2, f"error: {'a value is required' if value == '' else f'invalid value {value!r}'} for '--{name} <") for name, value in values),
+        *((["explain", "f", "--testcase", "T", "--run", "g", f"--format={value}"], 2, f"error: invalid value '{value}' for '--format <FORMAT>'\n") for value in ["SVG", "tex"]),
+        *(([command, "f", "--testcase", "T"], 2, stored("missing_option").replace(b"replay", command.encode()).decode()) for command in ["coarsen", "double", "explain"]),
+        *(([*words, "f", "--other"], 2, "error: unexpected argument '--other' found\n") for words in [["check"], ["lint"], ["list"], ["replay"], ["explain"]]),
         ([], 2, stored("no_command")),
         (["walk"], 2, stored("unknown_command")),
         (["chek"], 2, stored("similar_command")),
@@ -222,6 +375,11 @@ def refused_rows():
         ([*run, "--steps", "1", "--json", "--run-to-block=1:1"], 2, stored("run_to_block_and_json")),
         ([*run, "--steps", "1", "--run-to", "1:1", "--partial"], 2, "error: the argument '--run-to <LINE:COL>' cannot be used with '--partial'\n"),
         ([*run, "--steps", "1", "--run-to", "1:1", "--first", "fail"], 2, "error: the argument '--run-to <LINE:COL>' cannot be used with '--first <VERDICT>'\n"),
+        ([*run, "--steps", "1", "--run-to", "1:1", "--expiries", "2"], 2, "error: the argument '--run-to <LINE:COL>' cannot be used with '--expiries <N>'\n"),
+        ([*run, "--steps", "1", "--run-to-block", "1:1", "--patient-timers"], 2, "error: the argument '--run-to-block <LINE:COL>' cannot be used with '--patient-timers'\n"),
+        ([*run, "--steps", "1", "--explain", "--expiries", "2"], 2, stored("explain_and_expiries")),
+        ([*run, "--steps", "1", "--patient-timers", "--explain"], 2, "error: the argument '--explain' cannot be used with '--patient-timers'\n"),
+        ([*run, "--steps", "1", "--expiries", "4294967296"], 2, "error: invalid value '4294967296' for '--expiries <N>': 4294967296 is not in 0..=4294967295\n"),
         ([*run, "--steps", "1", "--first", "failed"], 2, stored("unknown_verdict")),
         ([*run, "--steps", "1", "--run-to", "14"], 2, stored("no_place")),
         ([*run, "--steps"], 2, stored("missing_value")),
@@ -233,6 +391,9 @@ def refused_rows():
         ([*run, "--testcase", "U", "--steps", "1"], 2, stored("option_twice")),
         (["check", b"\xff"], 2, stored("not_utf8")),
         (["explain", "f", "--testcase", "T", "--run", "g", "--format", "png"], 2, stored("unknown_format")),
+        (["lint"], 2, stored("missing_files")),
+        (["lint", "f", "--format", "svg"], 2, "error: invalid value 'svg' for '--format <FORMAT>'\n"),
+        (["list", "f", "g"], 2, "error: unexpected argument 'g' found\n"),
     ]
 
 
@@ -360,7 +521,11 @@ def rows(folder):
         *script_rows(folder),
         *explained_rows(folder),
         *until_rows(folder),
+        *bound_rows(),
         *aim_rows(folder),
+        *bounded_rows(folder),
+        *large_rows(folder),
+        *lint_rows(),
         *help_rows(),
         *refused_rows(),
     ]
@@ -382,11 +547,12 @@ def is_as_wanted(ran, status, wanted):
 
 
 def main(program):
+    program = os.path.abspath(program)
     otherwise = 0
     with tempfile.TemporaryDirectory() as folder:
         wanted_rows = rows(folder)
         for words, status, wanted in wanted_rows:
-            ran = subprocess.run([program, *words], capture_output=True, stdin=subprocess.DEVNULL)
+            ran = subprocess.run([program, *words], capture_output=True, stdin=subprocess.DEVNULL, cwd=f"{TOOLS}/statuses/lint")
             if not is_as_wanted(ran, status, wanted):
                 otherwise += 1
                 print(f"statuses: {words}: {ran.returncode}, {ran.stdout[:500]!r}, {ran.stderr[:500]!r}", file=sys.stderr)

@@ -4,6 +4,7 @@ Usage: streams.py PROGRAM. The last line tells how many runs went otherwise than
 must end by itself with the status and the line that are wanted, and never by a signal. It wants a C compiler, cc.
 """
 import os
+import pty
 import subprocess
 import sys
 import tempfile
@@ -21,6 +22,27 @@ LONGEST = 1 << 20
 # the report on examples/x1.ttcn
 REPORT = b"testcase T\nsteps 2\nconfigurations 3\ncomplete yes\nverdict pass 2\n  mtc\n  mtc\n"
 
+# a test case of a few hundred thousand configurations: three components send three messages each to the main one
+CROWD = """module C {
+type port P message { inout integer }
+type component M { port P p }
+type component W { port P q }
+function f() runs on W { q.send(1); q.send(2); q.send(3) }
+testcase T() runs on M {
+var integer n := 0;
+var W a := W.create; var W b := W.create; var W c := W.create;
+connect(self:p, a:q); connect(self:p, b:q); connect(self:p, c:q);
+a.start(f()); b.start(f()); c.start(f());
+while (n < 9) { p.receive; n := n + 1 }
+setverdict(pass)
+}
+}
+"""
+
+# what takes a line of progress away, and how one begins
+CLEAR = b"\r\x1b[K"
+LINE = CLEAR + b"layer "
+
 # Stands before the C library's own read: behind the first one of more than a byte the file SHRINKING has 77 bytes.
 SHRINKING = r"""
 #define _GNU_SOURCE
@@ -34,6 +56,13 @@ ssize_t read(int file, void *bytes, size_t count) {
     return given;
 }
 """
+
+
+def file_in(folder, name, text):
+    """Writes a file, and returns its path."""
+    with open(f"{folder}/{name}", "wb") as file:
+        file.write(text)
+    return f"{folder}/{name}"
 
 
 def bytes_of(path):
@@ -138,6 +167,35 @@ def without(program, words, number):
     return run(program, words, capture_output=True, preexec_fn=lambda: os.close(number))
 
 
+def on_terminal(program, words):
+    """Returns the answer of a run whose standard error is a terminal."""
+    ours, theirs = pty.openpty()
+    shown = []
+
+    def read():
+        try:
+            while piece := os.read(ours, 4096):
+                shown.append(piece)
+        except OSError:
+            pass  # the terminal's other end is closed
+
+    reader = threading.Thread(target=read)
+    reader.start()
+    status, out, _ = run(program, words, stdout=subprocess.PIPE, stderr=theirs)
+    os.close(theirs)
+    reader.join()
+    os.close(ours)
+    return status, out, b"".join(shown)
+
+
+def progress(program, folder):
+    """Returns what a run of some seconds answers on a terminal, and whether a line of progress comes and goes there."""
+    path = file_in(folder, "crowd.ttcn", CROWD.encode())
+    words = ["run", path, *TEST, "100"]
+    status, out, shown = on_terminal(program, words)
+    return (status, out, shown.startswith(LINE), shown.endswith(CLEAR)), (*run(program, words, capture_output=True)[:2], True, True)
+
+
 def shrinking(program, folder):
     """Returns the answer of a run whose module loses blanks at its end behind the first read of it, and how long it is then."""
     path, library = f"{folder}/shrinking", f"{folder}/shrink.so"
@@ -176,6 +234,8 @@ def rows(program, folder):
         yield f"{words[0]} to a full device", to_file(program, words, "/dev/full"), unwritten
         yield f"{words[0]} without standard output", without(program, words, 1), unwritten
     yield "a fault without standard error", without(program, ["check", folder], 2), (5, b"", b"")
+    yield "a short run on a terminal", on_terminal(program, ["run", X1, *TEST, "2"]), report
+    yield "a run of some seconds on a terminal", *progress(program, folder)
     yield "a file that shrinks while it is read", shrinking(program, folder), (report, len(module))
 
 

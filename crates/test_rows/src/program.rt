@@ -1,9 +1,11 @@
 //! What the commands print, and their faults.
+mod bounds;
 mod doubling;
 mod folding;
 mod plans;
 mod run_file;
 
+use bounds::{bound_of, printed_within, report_within};
 use doubling::lost_run;
 use explore::{NoGate, Plan};
 use folding::folded;
@@ -122,7 +124,11 @@ fn answer_under<R: Threads + Sync>(
     plan: &Plan,
 ) -> Result<String, AllocError> {
     let (name, script) = (testcase(settings), script(settings));
-    match run_script(rt, alloc, text, script, name, plan, &NoGate) {
+    let answer = match bound_of(settings) {
+        Some(bound) => report_within(rt, alloc, text, script, name, bound, plan),
+        None => run_script(rt, alloc, text, script, name, plan, &NoGate),
+    };
+    match answer {
         Ok(report) => match lost_run(alloc, text, name, script, &report)? {
             None => shown(alloc, &report, settings),
             Some(verdict) => format!(in alloc; "the run to {verdict} is lost by its doubling"),
@@ -133,12 +139,13 @@ fn answer_under<R: Threads + Sync>(
 
 /// A report in the row's format.
 fn shown(alloc: Global, report: &Report, settings: &Settings<'_>) -> Result<String, AllocError> {
-    let printed = match settings.get("format") {
-        Some("json") => to_json(alloc, report)?,
-        Some("folded") => folded(alloc, to_text(alloc, report)?.as_str())?,
-        _ => to_text(alloc, report)?,
+    let json = settings.get("format") == Some("json");
+    let printed = match bound_of(settings) {
+        Some(bound) => printed_within(alloc, report, bound, json)?,
+        None if json => to_json(alloc, report)?,
+        None => to_text(alloc, report)?,
     };
-    without_last_end(alloc, printed.as_str())
+    shown_lines(alloc, printed.as_str(), settings)
 }
 
 /// The name of the test case.

@@ -2,20 +2,8 @@
 #![tactic(auto)]
 
 #[cfg(test)]
-mod calls;
-#[cfg(test)]
 mod devices;
-#[cfg(test)]
-mod ending;
 #[cfg(test)]
 mod faults;
 #[cfg(test)]
 mod gate;
-#[cfg(test)]
-mod lines;
-#[cfg(test)]
-mod plans;
-#[cfg(test)]
-mod sights;
-#[cfg(test)]
-mod texts;
