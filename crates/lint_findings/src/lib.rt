@@ -6,11 +6,9 @@ mod finding;
 mod lost;
 mod parts;
 mod search;
-mod testcases;
 mod text;
 
 pub use finding::{Finding, Findings, Reason};
 pub use lint_names::Remark;
 pub use lint_remarks::{Oddity, Warning};
-pub use testcases::testcase_lines;
 pub use text::findings;
