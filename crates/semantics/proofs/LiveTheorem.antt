@@ -15,6 +15,7 @@ use Rattle.semantics.specs.Runs.{mark_of}
 use Rattle.semantics.specs.Snapshots.{Test, mtc_of, snapshot_of}
 use Rattle.semantics.specs.Statements.{Act, Connects, Continues, Creates, Errs, Maps, Removes, Request, Requests, Sends, Starts, Stops, Unmaps, Waits, Worsens, act}
 use Rattle.semantics.specs.Steps.{Delivery, Expiry, Label, Statement, addressed, apply, at_queue, begin, come_in, connect, connection, deliver, ending, exchanged, expired, expiry_step, if_running, is_connected, is_double, is_kept_apart, is_kept_unmapped, is_mapped, is_terminated_at, is_terminated_component, map_port, maps_otherwise, next, next_message, opposite, peers, perform, put_behind, send, send_out, send_to_peer, settle, settled, start_component, start_created, start_in, statement_step, step, step_in, terminate, touch, unmap_port, with_connection, with_data, with_mappings, with_new, with_verdict, without_first}
+use Rattle.semantics.specs.Telling.{Lost, Reaches, Sent, Way, lone, mapped_to, only_peer, request_in, sent_by, sent_going, sent_of, sent_of_component, way_mapped, way_to}
 use Rattle.value_types.specs.Frames.{entry}
 use Rattle.value_types.specs.Outcomes.{Fails, Outcome, Yields, dynamic_error, outcome_map}
 use Rattle.value_types.specs.declared.path.Path.{Path}
@@ -483,6 +484,75 @@ blocked_live test (Ended v) = refl
 blocked_live test (Goes c) =
     ap (λ ls. if_none ls (standings (live_going c))) (labels_live test (Goes c))
     ∙ ap (if_none (labels test (Goes c))) (flat-twice (λ x. with_place x (place_of x)) live_component (λ x. with_place x (place_of x)) place-live c.components)
+
+-- ---- messages
+
+way-to-live : (c : Going) (e : End) → way_to (live_going c) e ≡ way_to c e
+way-to-live c e = ap (λ b. if b then Lost e else Reaches e) (over-live c e.component)
+
+ways-live : (c : Going) (o : Option End) → option_map (way_to (live_going c)) o ≡ option_map (way_to c) o
+ways-live c None = refl
+ways-live c (Some e) = ap Some (way-to-live c e)
+
+way-mapped-live : (c : Going) (d : End) → is_terminated_at c d.component ≡ false → (to : Option Path) (o : Option Identifier) → way_mapped (live_going c) d to o ≡ way_mapped c d to o
+way-mapped-live c d alive to (Some q) = refl
+way-mapped-live c d alive to None = ap (λ ends. option_map (way_to (live_going c)) (lone (filter (addressed to) ends))) (peers-live c d alive) ∙ ways-live c (only_peer c d to)
+
+abbrev message-on : Option End → Value → Way → Sent
+message-on from v way = record { from = from; value = v; way = way }
+
+sent-by-live : (c : Going) (itself : ComponentId) → is_terminated_at c itself.path ≡ false → (request : Request) → sent_by (live_going c) itself request ≡ sent_by c itself request
+sent-by-live c itself alive Continues = refl
+sent-by-live c itself alive (Worsens v) = refl
+sent-by-live c itself alive (Removes port) = refl
+sent-by-live c itself alive (Sends port to v) =
+    let from : End = record { component = itself.path; port = port } in
+    ap (option_map (message-on (Some from) v)) (way-mapped-live c from alive to (mapped_to c from))
+sent-by-live c itself alive (Creates new) = refl
+sent-by-live c itself alive (Starts path frame) = refl
+sent-by-live c itself alive (Stops path) = refl
+sent-by-live c itself alive (Connects one other) = refl
+sent-by-live c itself alive (Maps e q) = refl
+sent-by-live c itself alive (Unmaps e q) = refl
+
+requests-live : (c : Going) (itself : ComponentId) → is_terminated_at c itself.path ≡ false → (o : Option Request) → option_and_then (sent_by (live_going c) itself) o ≡ option_and_then (sent_by c itself) o
+requests-live c itself alive None = refl
+requests-live c itself alive (Some request) = sent-by-live c itself alive request
+
+sent-of-live : (test : Test) (c : Going) (p : Path) (x : Component) → component_at c p ≡ Some x → path_of x ≡ p
+    → sent_of_component test (live_going c) (live_component x) ≡ sent_of_component test c x
+sent-of-live test c p x found same = by-state (λ y. component_at c p ≡ Some y → path_of y ≡ p → sent_of_component test (live_going c) (live_component y) ≡ sent_of_component test c y) x
+    (λ e i j. ap (sent_of_component test (live_going c)) (live-over x e)
+    ∙ sym (ap (λ b. option_and_then (sent_by c x.itself) (if b then request_in (act test (snapshot_of c x) x.own) else None)) (over-rests x e)))
+    (λ e i j. ap (sent_of_component test (live_going c)) (live-alive x e)
+    ∙ ap (λ s. option_and_then (sent_by (live_going c) x.itself) (if_running x (request_in (act test s x.own)))) (snapshot-live c x)
+    ∙ requests-live c x.itself (found-alive c p x i j e) (if_running x (request_in (act test (snapshot_of c x) x.own))))
+    found same
+
+sent-statement-live : (test : Test) (c : Going) (p : Path) (o : Option Component) → component_at c p ≡ o
+    → option_and_then (sent_of_component test (live_going c)) (option_map live_component o) ≡ option_and_then (sent_of_component test c) o
+sent-statement-live test c p None found = refl
+sent-statement-live test c p (Some x) found = sent-of-live test c p x found (found-path c.components p x found)
+
+brought-live : (c : Going) (e : End) (o : Option Value)
+    → option_map (λ v. message-on None v (way_to (live_going c) e)) o ≡ option_map (λ v. message-on None v (way_to c e)) o
+brought-live c e None = refl
+brought-live c e (Some v) = ap (λ way. Some (message-on None v way)) (way-to-live c e)
+
+sent-in-live : (test : Test) (c : Going) (name : Identifier) (o : Option End)
+    → option_and_then (λ e. option_map (λ v. message-on None v (way_to (live_going c) e)) (next_message test (live_going c) name)) o
+    ≡ option_and_then (λ e. option_map (λ v. message-on None v (way_to c e)) (next_message test c name)) o
+sent-in-live test c name None = refl
+sent-in-live test c name (Some e) = brought-live c e (next_message test c name)
+
+sent-live : (test : Test) (c : Going) (label : Label) → sent_going test (live_going c) label ≡ sent_going test c label
+sent-live test c (Statement p) = ap (option_and_then (sent_of_component test (live_going c))) (component-live c p) ∙ sent-statement-live test c p (component_at c p) refl
+sent-live test c (Expiry p number name) = refl
+sent-live test c (Delivery name) = sent-in-live test c name (entry c.mappings name)
+
+pub sent_live : (test : Test) (c : Configuration) (label : Label) → sent_of test (live_part c) label ≡ sent_of test c label
+sent_live test (Ended v) label = refl
+sent_live test (Goes c) label = sent-live test c label
 
 pub live_twice : (c : Configuration) → live_part (live_part c) ≡ live_part c
 live_twice (Ended v) = refl

@@ -72,12 +72,12 @@ sent_by c itself (Sends port to v) =
     option_map (λ way. record { from = Some from; value = v; way = way }) (way_from c from to)
 sent_by c itself _ = None
 
--- what a component asks for in a step that does not fail
+-- what a component asks for, where nothing fails before it asks
 abbrev pub request_in : Act → Option Request
 request_in (Requests request own) = Some request
 request_in _ = None
 
--- what a component's statement asks for, where it has a step that does not fail
+-- what a component's statement asks for, where it has a step and nothing fails before it asks: to do it may still fail
 abbrev pub request_of_component : Test → Going → Component → Option Request
 request_of_component test c component = if_running component (request_in (act test (snapshot_of c component) component.own))
 
@@ -102,7 +102,7 @@ maker c (Delivery system_port) = None
 abbrev pub request_going : Test → Going → Label → Option Request
 request_going test c label = option_and_then (request_of_component test c) (maker c label)
 
--- what the step of a label asks for, where it is that of a statement and does not fail
+-- what the step of a label asks for, where it is that of a statement and nothing fails before it asks
 abbrev pub request_of : Test → Configuration → Label → Option Request
 request_of test (Ended v) label = None
 request_of test (Goes c) label = request_going test c label

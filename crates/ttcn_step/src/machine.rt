@@ -192,7 +192,7 @@ impl<'a> Machine<'a> {
         telling::place(&self.test, config, label)
     }
 
-    /// What the step of a label asks for, where it is that of a statement and does not fail.
+    /// What the step of a label asks for, where it is that of a statement and nothing fails before it asks.
     pub fn request(
         &self,
         alloc: Global,

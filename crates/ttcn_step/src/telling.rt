@@ -22,7 +22,7 @@ use ttcn_syntax::{Name, Span};
 use value_types::{ComponentId, Fault, Slot, Value};
 
 /// A message that a step sends, or that comes in at a system port.
-#[derive(Debug, Drop)]
+#[derive(Drop)]
 pub struct Sent {
     /// The port from which it is sent. A message that comes in has none.
     pub from: Option<End>,
@@ -44,7 +44,7 @@ fn maker<'b>(going: &'b Going, label: &Label) -> Option<&'b Component>
     }
 }
 
-/// What a component's statement asks for, where it has a step that does not fail.
+/// What a component's statement asks for, where it has a step and nothing fails before it asks: to do it may still fail.
 fn request_of_component(
     alloc: Global,
     test: &TestCase<'_>,
@@ -176,7 +176,7 @@ fn request_going(
     }
 }
 
-/// What the step of a label asks for, where it is that of a statement and does not fail.
+/// What the step of a label asks for, where it is that of a statement and nothing fails before it asks.
 pub(crate) fn request(
     alloc: Global,
     test: &TestCase<'_>,
