@@ -5,7 +5,7 @@ use ttcn_syntax::{
 };
 
 /// A branch with an event, an `[else]`, or a statement that is an event.
-#[derive(Clone, Copy, Debug)]
+#[derive(Clone, Copy)]
 pub struct Branching {
     pub place: Span,
     /// The position of the behaviour in which it stands among the definitions.

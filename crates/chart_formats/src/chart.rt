@@ -1,7 +1,7 @@
 //! What a chart shows.
 
 /// A run of a test case as a sequence chart.
-#[derive(Debug, Drop)]
+#[derive(Drop)]
 pub struct Chart {
     /// The name of the test case.
     pub testcase: String,
@@ -14,7 +14,7 @@ pub struct Chart {
 }
 
 /// A component.
-#[derive(Debug, Drop)]
+#[derive(Drop)]
 pub struct Column {
     /// `mtc`, `mtc.1`
     pub name: String,
@@ -25,7 +25,7 @@ pub struct Column {
 }
 
 /// A step, or several of one component that only compute.
-#[derive(Debug, Drop)]
+#[derive(Drop)]
 pub struct Row {
     /// The numbers of its first and its last step, counted from 1.
     pub first: usize,
@@ -41,7 +41,7 @@ pub struct Row {
 }
 
 /// A message that goes from one component to another.
-#[derive(Clone, Copy, Debug)]
+#[derive(Clone, Copy)]
 pub struct Arrow {
     /// Columns; none stands for what is outside the test system.
     pub from: Option<usize>,

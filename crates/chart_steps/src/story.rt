@@ -12,7 +12,7 @@ use ttcn_step::{Machine, ReplayError, Sent, StepError};
 use ttcn_syntax::Span;
 
 /// What a step does.
-#[derive(Debug, Drop)]
+#[derive(Drop)]
 pub struct Told {
     /// The place of the statement that the step begins with, where it is that of a statement.
     pub place: Option<Span>,
@@ -27,7 +27,7 @@ pub struct Told {
 }
 
 /// A run: where it starts, and what its steps do.
-#[derive(Debug, Drop)]
+#[derive(Drop)]
 pub struct Story {
     pub start: Config,
     pub steps: Vec<Told>,

@@ -17,7 +17,6 @@ use ttcn_syntax::{Seq, Verdict};
 const ROOM: usize = 512;
 
 /// A configuration as bytes. Contracts see the configuration.
-#[derive(Debug)]
 pub struct Packed {
     bytes: Vec<u8>,
 }

@@ -22,7 +22,7 @@ use ttcn_syntax::Verdict;
 use value_types::{ComponentId, Fault, Path, Slot, Value};
 
 /// What a component asks for among all components, beside the change of its own data.
-#[derive(Debug, Drop)]
+#[derive(Drop)]
 pub enum Request {
     /// Nothing more.
     Continues,
@@ -47,7 +47,7 @@ pub enum Request {
 }
 
 /// What a component does in its step.
-#[derive(Debug, Drop)]
+#[derive(Drop)]
 pub struct Act {
     pub request: Request,
     /// The component's own data behind the step.

@@ -37,21 +37,21 @@ impl State {
 }
 
 /// A message, and the component that sent it: none did where it came in at a system port.
-#[derive(Debug, Drop, PartialEq, Eq, Hash)]
+#[derive(Drop, PartialEq, Eq, Hash)]
 pub struct Message {
     pub value: Value,
     pub sender: Option<ComponentId>,
 }
 
 /// The messages that wait at a port, the one that came first in front (ES 201 873-1, 22.1).
-#[derive(Debug, Drop, PartialEq, Eq, Hash)]
+#[derive(Drop, PartialEq, Eq, Hash)]
 pub struct Queue {
     pub port: Slot,
     pub messages: Seq<Message>,
 }
 
 /// A component. Configurations share what a step leaves as it was.
-#[derive(Debug, Drop, PartialEq, Eq, Hash)]
+#[derive(Drop, PartialEq, Eq, Hash)]
 pub struct Component {
     /// The component's path, with its type.
     pub itself: ComponentId,

@@ -3,21 +3,21 @@ use ttcn_syntax::Seq;
 use value_types::{Path, Slot};
 
 /// A component's port.
-#[derive(Debug, Drop, PartialEq, Eq, Hash)]
+#[derive(Drop, PartialEq, Eq, Hash)]
 pub struct End {
     pub component: Path,
     pub port: Slot,
 }
 
 /// Two ports that are connected, the lesser one first.
-#[derive(Debug, Drop, PartialEq, Eq, Hash)]
+#[derive(Drop, PartialEq, Eq, Hash)]
 pub struct Connection {
     pub one: End,
     pub other: End,
 }
 
 /// How ports are linked: with each other, and with system ports; and what came in there.
-#[derive(Debug, Drop, PartialEq, Eq, Hash)]
+#[derive(Drop, PartialEq, Eq, Hash)]
 pub struct Links {
     /// Ascending.
     pub connections: Seq<Connection>,

@@ -4,21 +4,21 @@ use value_types::{Slot, TimerState, Value};
 
 /// The values of names and the states of timers, each in the order of the slots. A name without value has no entry among
 /// the values.
-#[derive(Debug, Drop, PartialEq, Eq, Hash)]
+#[derive(Drop, PartialEq, Eq, Hash)]
 pub struct Cells {
     pub values: Seq<(Slot, Value)>,
     pub timers: Seq<(Slot, TimerState)>,
 }
 
 /// The position of what remains to be done in a frame, and the frame's names.
-#[derive(Debug, Drop, PartialEq, Eq, Hash)]
+#[derive(Drop, PartialEq, Eq, Hash)]
 pub struct Frame {
     pub remaining: usize,
     pub cells: Cells,
 }
 
 /// An activated default: the number of the activation, the altstep, and its arguments (ES 201 873-1, 20.5).
-#[derive(Debug, Drop, PartialEq, Eq, Hash)]
+#[derive(Drop, PartialEq, Eq, Hash)]
 pub struct ActiveDefault {
     pub number: u32,
     pub altstep: usize,
@@ -26,7 +26,7 @@ pub struct ActiveDefault {
 }
 
 /// What the statements of a component read and change of its own, beside its state, its verdict and the messages that wait.
-#[derive(Debug, Drop, PartialEq, Eq, Hash)]
+#[derive(Drop, PartialEq, Eq, Hash)]
 pub struct Data {
     /// Frame 0: the variables, constants and timers of its type.
     pub members: Cells,

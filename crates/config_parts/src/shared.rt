@@ -8,7 +8,6 @@ use std::ops::Deref;
 use std::sync::Arc;
 
 /// A value with several owners, none of which changes it. Contracts see the value.
-#[derive(Debug)]
 pub struct Shared<T> {
     inner: Arc<T, Global>,
 }

@@ -16,7 +16,7 @@ use std::alloc::{AllocError, Global};
 use value_types::{Path, Slot};
 
 /// Where a message goes.
-#[derive(Debug, Drop)]
+#[derive(Drop)]
 pub enum Way {
     /// Behind those that wait at a port.
     Reaches(End),
