@@ -11,6 +11,9 @@ use std::thread;
 use std::thread::Threads;
 use summary::System;
 
+/// The fewest states that a thread of their own expands: a step of a test case takes longer than most items of a list do.
+const FEWEST: usize = 32;
+
 /// The state at a place, by the labels that lead on from it and the states that they lead to.
 #[derive(Drop)]
 pub struct Expanded<S, L> {
@@ -78,6 +81,7 @@ pub fn expand_layer<Y: System, R: Threads + Sync>(
 {
     let candidates = (from..states.len())
         .into_par_iter()
+        .with_min_len(FEWEST)
         .map(
             |place: usize| -> Result<Expanded<Y::State, Y::Label>, AllocError>
                 requires { (place < length states.now.keys) × All (Y.fits system.now) states.now.keys }
