@@ -1,9 +1,13 @@
 -- The canonical form of a configuration stands for its live part.
-use Rattle.std.proofs.Common.{◌≡◌, ◌<◌, Bool, true, false, ◌&&◌, ◌||◌, not, true≢false, List, [], ◌∷◌, map, Some, refl, sym, ap, ◌∙◌, if◌then◌else◌}
+use Rattle.std.proofs.Common.{◌≡◌, ◌<◌, Bool, true, false, ◌&&◌, ◌||◌, not, true≢false, List, [], ◌∷◌, length, map, Some, refl, sym, ap, ◌∙◌, if◌then◌else◌}
+use Rattle.std.specs.Prelude.{nat_eq}
+use Rattle.std.proofs.lemmas.Bool.{and_parts, eqb-true}
 use Rattle.std.proofs.lemmas.List.Elements.{All-cons, All-head, All-nil, All-tail}
 use Rattle.std.specs.List.{filter, find, fold, list_any}
 use Rattle.ttcn_syntax.specs.declared.tree.statement.Verdict.{Verdict}
-use Rattle.config_canonical.specs.internal.Husks.{forgotten, husk, is_dead, is_live, is_over, is_over_if_any, is_terminated, is_terminated_at, live_component, live_components, live_connections, live_going, live_links}
+use Rattle.ttcn_syntax.specs.declared.tree.statement.Verdict.TheVariants as verdict
+use Rattle.config_canonical.specs.internal.Husks.{forget, forgotten, has_remains, husk, is_bare, is_dead, is_live, is_new, is_none, is_over, is_over_if_any, is_terminated, is_terminated_at, live_component, live_components, live_connections, live_going, live_links}
+use Rattle.semantics.proofs.Verdicts.{worse-none}
 use Rattle.semantics.specs.Configurations as rules
 use Rattle.semantics.specs.Configurations.{same_path}
 use Rattle.semantics.specs.LiveParts as live
@@ -18,6 +22,7 @@ use Rattle.config_parts.specs.declared.config.Config.TheVariants as config
 use Rattle.config_parts.specs.declared.config.Going.{Going}
 use Rattle.config_parts.specs.declared.connection.Connection.{Connection}
 use Rattle.config_parts.specs.declared.connection.Links.{Links}
+use Rattle.config_parts.specs.declared.frame.Data.{Data}
 use Rattle.value_types.specs.declared.path.Path.{Path}
 
 state-over : (s : State) → rules.is_terminated_state (state_by s) ≡ is_terminated s
@@ -142,6 +147,90 @@ none-dead xs (k ∷ ks) none =
 
 pub links-stay : (xs : List Component) (links : Links) → list_any (is_dead xs) links.connections ≡ false → links ≡ live_links xs links
 links-stay xs links none = λ i. record { connections = sym (none-dead xs links.connections none) i; mappings = links.mappings; delivered = links.delivered }
+
+-- ---- where nothing but paths is left of terminated components
+
+nil-of : {A : Type 0} (xs : List A) → nat_eq (length xs) 0 ≡ true → xs ≡ []
+nil-of [] h = refl
+nil-of (x ∷ xs) h = absurd (let no = eqb-true (length (x ∷ xs)) 0 h in cc)
+
+none-of : (v : Verdict) → is_none v ≡ true → v ≡ verdict.None
+none-of verdict.None h = refl
+none-of verdict.Pass h = absurd (true≢false (sym h))
+none-of verdict.Inconc h = absurd (true≢false (sym h))
+none-of verdict.Fail h = absurd (true≢false (sym h))
+none-of verdict.Error h = absurd (true≢false (sym h))
+
+over-of : (s : State) → is_terminated s ≡ true → s ≡ state.Terminated
+over-of state.Created h = absurd (true≢false (sym h))
+over-of state.Running h = absurd (true≢false (sym h))
+over-of state.Terminated h = refl
+
+new-is : (own : Data) → is_new own ≡ true → own ≡ record { members = record { values = []; timers = [] }; calls = []; defaults = []; activations = 0; children = 0 }
+new-is own h =
+    let p = and_parts _ _ h in
+    let q = and_parts _ _ p.0 in
+    let r = and_parts _ _ q.0 in
+    let s = and_parts _ _ r.0 in
+    let t = and_parts _ _ s.0 in
+    λ i. record {
+      members = record { values = nil-of own.members.values t.0 i; timers = nil-of own.members.timers t.1 i };
+      calls = nil-of own.calls s.1 i;
+      defaults = nil-of own.defaults r.1 i;
+      activations = eqb-true own.activations 0 q.1 i;
+      children = eqb-true own.children 0 p.1 i;
+    }
+
+bare-is-husk : (c : Component) → is_over c ≡ true → is_bare c ≡ true → husk c.itself.path ≡ c
+bare-is-husk c over bare =
+    let p = and_parts _ _ bare in
+    let q = and_parts _ _ p.0 in
+    let r = and_parts _ _ q.0 in
+    sym (λ i. record {
+      itself = record { path = c.itself.path; component_type = eqb-true c.itself.component_type 0 r.0 i };
+      own = new-is c.own p.1 i;
+      state = over-of c.state over i;
+      verdict = none-of c.verdict r.1 i;
+      queues = nil-of c.queues q.1 i;
+    })
+
+-- a component that is not to be changed
+pub component-stays : (c : Component) → has_remains c ≡ false → live_component c ≡ c
+component-stays c none = by (is_over c) refl (is_bare c) refl
+  where
+    by : (b : Bool) → is_over c ≡ b → (d : Bool) → is_bare c ≡ d → live_component c ≡ c
+    by false alive d bare = ap (λ x. if x then husk c.itself.path else c) alive
+    by true over true bare = ap (λ x. if x then husk c.itself.path else c) over ∙ bare-is-husk c over bare
+    by true over false bare = absurd (true≢false (sym (ap (λ x. x && not (is_bare c)) over ∙ ap not bare) ∙ none))
+
+bares-stay : (cs : List Component) → list_any has_remains cs ≡ false → live_components cs ≡ cs
+bares-stay [] none = refl
+bares-stay (c ∷ cs) none =
+    let p = or-parts (has_remains c) (list_any has_remains cs) none in
+    ap (λ x. x ∷ live_components cs) (component-stays c p.0) ∙ ap (λ rest. c ∷ rest) (bares-stay cs p.1)
+
+forgets-none : (v : Verdict) (c : Component) → has_remains c ≡ false → forget v c ≡ v
+forgets-none v c none = by (is_over c) refl
+  where
+    by : (b : Bool) → is_over c ≡ b → forget v c ≡ v
+    by false alive = ap (λ x. if x then rules.worse v c.verdict else v) alive
+    by true over =
+        ap (λ x. if x then rules.worse v c.verdict else v) over
+        ∙ ap (rules.worse v) (sym (ap (λ x. x.verdict) (component-stays c none)) ∙ ap (λ x. (if x then husk c.itself.path else c).verdict) over)
+        ∙ worse-none v
+
+forgets-nothing : (v : Verdict) (cs : List Component) → list_any has_remains cs ≡ false → forgotten v cs ≡ v
+forgets-nothing v [] none = refl
+forgets-nothing v (c ∷ cs) none =
+    let p = or-parts (has_remains c) (list_any has_remains cs) none in
+    ap (λ w. forgotten w cs) (forgets-none v c p.0) ∙ forgets-nothing v cs p.1
+
+pub going-bare : (g : Going) → list_any has_remains g.components ≡ false → list_any (is_dead g.components) g.links.connections ≡ false → g ≡ live_going g
+going-bare g none stay = λ i. record {
+  components = sym (bares-stay g.components none) i;
+  links = record { connections = sym (none-dead g.components g.links.connections stay) i; mappings = g.links.mappings; delivered = g.links.delivered };
+  forgotten = sym (forgets-nothing g.forgotten g.components none) i;
+}
 
 -- ---- what remains has positions still
 

@@ -146,6 +146,44 @@ fn forgotten(components: &[Component], forgotten: Verdict) -> Verdict
     worst
 }
 
+fn is_none(verdict: Verdict) -> bool
+    ensures { result ≡ spec.is_none verdict }
+{
+    match verdict {
+        Verdict::None => true,
+        Verdict::Pass | Verdict::Inconc | Verdict::Fail | Verdict::Error => false,
+    }
+}
+
+/// Whether nothing is left of what a component has of its own.
+fn is_new(own: &Data) -> bool
+    ensures { result ≡ spec.is_new own.now }
+{
+    own.members.values.len() == 0
+        && own.members.timers.len() == 0
+        && own.calls.len() == 0
+        && own.defaults.len() == 0
+        && own.activations == 0
+        && own.children == 0
+}
+
+/// Whether nothing but its path and its state are left of a component.
+fn is_bare(component: &Component) -> bool
+    ensures { result ≡ spec.is_bare component.now }
+{
+    component.itself.component_type == 0
+        && is_none(component.verdict)
+        && component.queues.get().len() == 0
+        && is_new(component.own.get())
+}
+
+/// Whether some component is terminated of which more than its path is left.
+fn has_remains(components: &[Component]) -> bool
+    ensures { result ≡ list_any spec.has_remains components.now }
+{
+    components.iter().any(|component| is_terminated(component.state) && !is_bare(component))
+}
+
 /// A terminated component of which only the path is left.
 fn husk(alloc: Global, path: Path) -> Result<Component, AllocError>
     ensures { IfOk result (λ left. left ≡ spec.husk path) }
@@ -172,7 +210,7 @@ fn husk(alloc: Global, path: Path) -> Result<Component, AllocError>
 fn live_component(alloc: Global, component: Component) -> Result<Component, AllocError>
     ensures { IfOk result (λ live. live ≡ spec.live_component component) }
 {
-    if is_terminated(component.state) {
+    if is_terminated(component.state) && !is_bare(&component) {
         husk(alloc, component.itself.path)
     } else {
         Ok(component)
@@ -189,11 +227,26 @@ fn live_components(alloc: Global, components: Seq<Component>) -> Result<Seq<Comp
     Ok(Seq::from_vec(live))
 }
 
+/// Whether nothing is left in a test case that doesn't matter: of each terminated component only its path is left, and every
+/// connection stays.
+fn is_live_already(going: &Going) -> bool
+    ensures { result ≡ true → going.now ≡ spec.live_going going.now }
+{
+    let components = going.components.as_slice();
+    if has_remains(components) {
+        return false;
+    }
+    !has_dead(components, going.links.connections.as_slice())
+}
+
 /// What matters of a test case that goes on. Where no component is terminated, all of it does.
 fn live_going(alloc: Global, going: Going) -> Result<Going, AllocError>
     ensures { IfOk result (λ live. live ≡ spec.live_going going) }
 {
     if !has_terminated(going.components.as_slice()) {
+        return Ok(going);
+    }
+    if is_live_already(&going) {
         return Ok(going);
     }
     let Going {

@@ -1,5 +1,5 @@
 -- The canonical form of a configuration, as the private functions make it.
-use Rattle.std.specs.Prelude.{ℕ, Bool, true, false, ◌&&◌, not, List, [], map, Option, Some, None, if◌then◌else◌}
+use Rattle.std.specs.Prelude.{ℕ, Bool, true, false, ◌&&◌, not, nat_eq, List, [], length, map, Option, Some, None, if◌then◌else◌}
 use Rattle.std.specs.List.{filter, find, fold}
 use Rattle.ttcn_syntax.specs.declared.tree.statement.Verdict.{Verdict}
 use Rattle.ttcn_syntax.specs.declared.tree.statement.Verdict.TheVariants as verdict
@@ -11,6 +11,7 @@ use Rattle.config_parts.specs.declared.component.State.TheVariants as state
 use Rattle.config_parts.specs.declared.config.Going.{Going}
 use Rattle.config_parts.specs.declared.connection.Connection.{Connection}
 use Rattle.config_parts.specs.declared.connection.Links.{Links}
+use Rattle.config_parts.specs.declared.frame.Data.{Data}
 use Rattle.value_types.specs.declared.path.Path.{Path}
 
 abbrev pub badness : Verdict → ℕ
@@ -61,6 +62,25 @@ husk path = record {
   verdict = verdict.None;
   queues = [];
 }
+
+abbrev pub is_none : Verdict → Bool
+is_none verdict.None = true
+is_none verdict.Pass = false
+is_none verdict.Inconc = false
+is_none verdict.Fail = false
+is_none verdict.Error = false
+
+-- nothing is left of what a component has of its own
+abbrev pub is_new : Data → Bool
+is_new own = nat_eq (length own.members.values) 0 && nat_eq (length own.members.timers) 0 && nat_eq (length own.calls) 0 && nat_eq (length own.defaults) 0 && nat_eq own.activations 0 && nat_eq own.children 0
+
+-- nothing but its path and its state are left of a component
+abbrev pub is_bare : Component → Bool
+is_bare component = nat_eq component.itself.component_type 0 && is_none component.verdict && nat_eq (length component.queues) 0 && is_new component.own
+
+-- a component is terminated, and more than its path is left
+abbrev pub has_remains : Component → Bool
+has_remains component = is_over component && not (is_bare component)
 
 abbrev pub live_component : Component → Component
 live_component component = if is_over component then husk component.itself.path else component
