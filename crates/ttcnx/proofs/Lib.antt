@@ -2,6 +2,7 @@ pub mod BoundedTold
 pub mod Checks
 pub mod Conversions
 pub mod Explaining
+pub mod FewTold
 pub mod Following
 pub mod Listed
 pub mod OneAnswer

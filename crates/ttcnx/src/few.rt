@@ -1,8 +1,10 @@
 //! A report with runs in which few timers expire.
-ghost use Rattle.std.specs.Prelude.{◌≡◌, All, IfOk, map};
-ghost use Rattle.semantics.specs.Snapshots.{Test};
-ghost use Rattle.ttcnx.specs.Few.{HasFewExpiries, IsFewestOutcome};
-ghost use Rattle.ttcnx.specs.Named.{IsTestOf, source};
+ghost use Rattle.std.specs.Prelude.{◌≡◌, ◌≢◌, ◌↔◌, ◌⊎◌, ◌<◌, ℕ, All, Err, IfOk, IsErrOf, map};
+ghost use Rattle.laws_bounds.specs.BoundedParts.{CountsBounded};
+ghost use Rattle.search_layer.specs.Limits.{IsWithinLimits};
+ghost use Rattle.ttcnx.specs.Few.{IsAnswerFew, IsFewestOutcome};
+ghost use Rattle.ttcnx.specs.Named.{source};
+ghost use Rattle.ttcnx_bounds.specs.Fewest.{at_most};
 
 use crate::fault::Fault;
 use crate::testcase::test_of;
@@ -26,8 +28,14 @@ pub fn with_few_expiries<G: Gate, R: Threads + Sync>(
     plan: &Plan,
     gate: &G,
 ) -> Result<Report, Fault>
-    ensures { IfOk result (λ told. (test : Test) → IsTestOf (source text.now script.now) name.now test → HasFewExpiries test patient plan.now.steps report told) }
+    ensures answer { (result ≡ Err Fault.Memory) ⊎ IsAnswerFew (source text.now script.now) name.now patient plan.now report result }
+
+    // This is decided before memory is asked for.
+    ensures bad_plan { IsErrOf result Fault.BadPlan ↔ (IsWithinLimits plan.now → ⊥) }
 {
+    if !plan.is_within_limits() {
+        return Err(Fault::BadPlan);
+    }
     let (program, case, script) = test_of(alloc, text, name, script)?;
     let machine = Machine::with_script(alloc, &program, case, &script)?;
     let Report {
@@ -63,6 +71,8 @@ fn fewest_outcomes<G: Gate, R: Threads + Sync>(
 ) -> Result<Vec<Outcome>, ExploreError>
     ensures verdicts { IfOk result (λ fewest. map (λ outcome. outcome.verdict) fewest.items ≡ map (λ outcome. outcome.verdict) outcomes.items) }
     ensures runs { IfOk result (λ fewest. All (IsFewestOutcome machine.now.test patient plan.now.steps) fewest.items) }
+    ensures too_many { IsErrOf result ExploreError.TooMany → (expiries : ℕ) × (count : ℕ) × CountsBounded machine.now.test (at_most patient expiries) plan.now.steps count × (plan.now.limit < count) }
+    ensures planned { IsWithinLimits plan.now → result ≢ Err ExploreError.BadPlan }
 {
     let mut fewest = Vec::new(alloc);
     for outcome in outcomes {
@@ -83,6 +93,8 @@ fn fewest_outcome<G: Gate, R: Threads + Sync>(
 ) -> Result<Outcome, ExploreError>
     ensures verdict { IfOk result (λ fewest. fewest.verdict ≡ outcome.verdict) }
     ensures run { IfOk result (IsFewestOutcome machine.now.test patient plan.now.steps) }
+    ensures too_many { IsErrOf result ExploreError.TooMany → (expiries : ℕ) × (count : ℕ) × CountsBounded machine.now.test (at_most patient expiries) plan.now.steps count × (plan.now.limit < count) }
+    ensures planned { IsWithinLimits plan.now → result ≢ Err ExploreError.BadPlan }
 {
     let Outcome { verdict, run } = outcome;
     match fewest_expiries(rt, alloc, machine, patient, verdict, plan, gate)? {

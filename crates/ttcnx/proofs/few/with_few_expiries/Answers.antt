@@ -1,26 +1,39 @@
-use Rattle.std.proofs.Common.{◌≡◌, refl, subst, sym}
+use Rattle.std.proofs.Common.{◌≡◌, ap, inl, inr, refl, subst, sym}
+use Rattle.std.specs.Prelude.{◌⊎◌, Err}
 use Rattle.report.specs.declared.report.Report.{Report}
 use Rattle.semantics.specs.Snapshots.{Test}
-use Rattle.ttcnx.proofs.OneAnswer.{one-test}
+use Rattle.ttcnx.proofs.FewTold.{no-answer, no-test}
+use Rattle.ttcnx.proofs.Stages.{as-error}
 use Rattle.ttcnx.proofs.few.with_few_expiries.Goals as goal
-use Rattle.ttcnx.specs.Few.{HasFewExpiries}
+use Rattle.ttcnx.specs.Fault.{explore_fault}
+use Rattle.ttcnx.specs.Few.{IsAnswerFew, beyond, told}
 use Rattle.ttcnx.specs.Named.{IsTestOf, source}
+use Rattle.ttcnx.specs.declared.fault.Fault.TheVariants.{Memory}
 
-pub returns : goal.returns
-returns g c =
-    let given = source c.args.text.now c.args.script.now in
-    let name = c.args.name.now in
+pub returns-then-not-is_within_limits-clause-answer : goal.returns-then-not-is_within_limits-clause-answer
+returns-then-not-is_within_limits-clause-answer g c = inr (beyond (λ fine. let off = c.if-not-is_within_limits.ensures.1 fine in cc))
+
+pub returns-in_err-program-clause-answer : goal.returns-in_err-program-clause-answer
+returns-in_err-program-clause-answer g c =
+    let why = c.in_err-program.field-0.0 in
+    let fine = c.if-not-is_within_limits.ensures.0 refl in
+    as-error c.from_residual.result why (λ r. (r ≡ Err Memory) ⊎ IsAnswerFew (source c.args.text.now c.args.script.now) c.args.name.now c.args.patient c.args.plan.now c.args.report r)
+    c.from_residual.ensures.0 c.from_residual.ensures.1 (no-test (source c.args.text.now c.args.script.now) c.args.name.now c.args.patient c.args.plan.now c.args.report fine why c.in_err-program.ensures.lacking)
+
+pub returns-in_err-outcomes-clause-answer : goal.returns-in_err-outcomes-clause-answer
+returns-in_err-outcomes-clause-answer g c =
+    let error = c.in_err-outcomes.field-0.0 in
+    let fine = c.if-not-is_within_limits.ensures.0 refl in
     let machine = c.in_ok-machine.machine in
-    let is = subst (λ (t : Test). IsTestOf given name t) (sym c.in_ok-machine.ensures) c.in_ok-program.ensures.named in
-    let told : Report = record {
-      testcase = c.args.report.testcase;
-      steps = c.args.report.steps;
-      configurations = c.args.report.configurations;
-      complete = c.args.report.complete;
-      outcomes = c.in_ok-outcomes.outcomes;
-      branches = c.args.report.branches;
-      blocked = c.args.report.blocked;
-    } in
-    λ test is_test.
-    subst (λ (t : Test). HasFewExpiries t c.args.patient c.args.plan.now.steps c.args.report told) (one-test given name machine.test test is is_test)
-    (record { others = refl; verdicts = c.in_ok-outcomes.ensures.verdicts; runs = c.in_ok-outcomes.ensures.runs })
+    let is = subst (λ (t : Test). IsTestOf (source c.args.text.now c.args.script.now) c.args.name.now t) (sym c.in_ok-machine.ensures) c.in_ok-program.ensures.named in
+    as-error c.from_residual-in_err-outcomes.result (explore_fault error) (λ r. (r ≡ Err Memory) ⊎ IsAnswerFew (source c.args.text.now c.args.script.now) c.args.name.now c.args.patient c.args.plan.now c.args.report r)
+    c.from_residual-in_err-outcomes.ensures.0 c.from_residual-in_err-outcomes.ensures.1
+    (no-answer (source c.args.text.now c.args.script.now) c.args.name.now c.args.patient c.args.plan.now c.args.report fine machine.test error is (λ same. c.in_err-outcomes.ensures.planned fine (ap Err same))
+    (λ same. c.in_err-outcomes.ensures.too_many (ap Err same)))
+
+pub returns-clause-answer : goal.returns-clause-answer
+returns-clause-answer g c =
+    let fine = c.if-not-is_within_limits.ensures.0 refl in
+    let machine = c.in_ok-machine.machine in
+    let is = subst (λ (t : Test). IsTestOf (source c.args.text.now c.args.script.now) c.args.name.now t) (sym c.in_ok-machine.ensures) c.in_ok-program.ensures.named in
+    inr (told fine is (record { others = refl; verdicts = c.in_ok-outcomes.ensures.verdicts; runs = c.in_ok-outcomes.ensures.runs }))
