@@ -130,6 +130,7 @@ def explained_rows(folder):
         (["run", X2, "--testcase", "T", "--steps", "13", "--explain"], 0, stored("explained_report")),
         (["run", X2, "--testcase", "T", "--steps", "13", "--explain", "--json"], 0, stored("explained_report_json")),
         (["run", f"{TOOLS}/statuses/faults.ttcn", "--testcase", "T", "--until-complete", "--explain"], 0, stored("explained_faults")),
+        (["run", f"{TOOLS}/statuses/lost.ttcn", "--testcase", "T", "--until-complete", "--explain"], 0, stored("explained_lost")),
         ([*lock, "--explain"], 0, stored("explained_lock")),
         ([*lock, "--explain", "--json"], 0, stored("explained_lock_json").decode().splitlines()),
         (["explain", X1, *test], 1, b"refused N2 NotEnabled at label 3\n"),

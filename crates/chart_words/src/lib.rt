@@ -18,6 +18,6 @@ mod waiting;
 pub use chart::{Run, chart_of};
 pub use chart_causes::Names;
 pub use parting::{Course, order_of};
-pub use passage::Passage;
+pub use passage::{Passage, passages_at};
 pub use settings::verdict_settings;
 pub use untaken::untaken_branches;

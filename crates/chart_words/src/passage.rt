@@ -2,10 +2,10 @@
 use crate::source::Source;
 use chart_causes::Names;
 use std::alloc::{AllocError, Global};
-use ttcn_syntax::{DefinitionKind, Span};
+use ttcn_syntax::{Definition, DefinitionKind, Span};
 
 /// What stands at a place.
-#[derive(Debug, Drop)]
+#[derive(Drop)]
 pub struct Passage {
     pub place: Span,
     /// The behaviour in which it stands: `altstep lending`.
@@ -49,4 +49,35 @@ impl Passage {
             text: source.phrase(alloc, place)?,
         })
     }
+}
+
+/// The definition in which a place stands: the last one that begins no later.
+fn definition_of(definitions: &[Definition], place: Span) -> usize {
+    let mut found = 0;
+    for (at, definition) in definitions.iter().enumerate() {
+        if definition.place.cmp(&place).is_le() {
+            found = at;
+        }
+    }
+    found
+}
+
+/// What stands at places, in their order.
+pub fn passages_at(
+    alloc: Global,
+    text: &[u8],
+    definitions: &[Definition],
+    places: &[Span],
+) -> Result<Vec<Passage>, AllocError> {
+    let source = Source::new(alloc, text)?;
+    let names = Names {
+        definitions,
+        slots: &[],
+    };
+    let mut passages = Vec::new(alloc);
+    for place in places {
+        let behaviour = definition_of(definitions, *place);
+        passages.push(Passage::new(alloc, &source, names, behaviour, *place)?)?;
+    }
+    Ok(passages)
 }

@@ -12,15 +12,18 @@ use Rattle.ttcnx.specs.declared.aim.Aim.{Aim}
 use Rattle.ttcnx.specs.declared.aim.Aim.TheVariants as aim
 use Rattle.ttcnx.specs.internal.Reaches.{reach_by}
 use Rattle.ttcnx_runs.proofs.FirstSights.{first-is-least}
+use Rattle.ttcnx_runs.proofs.StepPlaces.{least-there}
 use Rattle.ttcnx_runs.specs.Aims.{is_at, stands_at}
-use Rattle.ttcnx_runs.specs.Sights.{AreBlocks, ArePlaces, block_in, place_in_text}
+use Rattle.ttcnx_runs.specs.Sights.{AreBlocks, ArePlaces, block_in, step_place}
 use Rattle.ttcnx_runs.specs.declared.sights.Sights.{Sights}
+use Rattle.ttcnx_runs.specs.declared.sights.StepPlace.{StepPlace}
 
 pub reached-is-least : (test : Test) (sights : Sights) (a : Aim)
     → ArePlaces test sights.extent.steps sights.places.items → AreBlocks test sights.extent.steps sights.blocks.items
     → IsLeastToAim test sights.extent.steps a (reach_by sights a)
 reached-is-least test sights (aim.Step place) places blocks =
-    first-is-least (graph_of test) label_cmp label_total sights.extent.steps (shown_by_step (graph_of test) (place_in_text test)) (is_at place) sights.places.items places
+    least-there test sights.extent.steps place (reach_by sights (aim.Step place))
+    (first-is-least (graph_of test) label_cmp label_total sights.extent.steps (shown_by_step (graph_of test) (step_place test)) (λ (e : StepPlace). is_at place e.place) sights.places.items places)
 reached-is-least test sights (aim.Block place) places blocks =
     first-is-least (graph_of test) label_cmp label_total sights.extent.steps (shown_at_end (graph_of test) (block_in test)) (stands_at place) sights.blocks.items blocks
 

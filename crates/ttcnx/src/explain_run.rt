@@ -8,7 +8,7 @@ use crate::explain::drawn;
 use crate::explain_words::in_words;
 use crate::explained::{Case, Explanation, verdict_runs};
 use crate::fault::Fault;
-use crate::sights::{Block, Setting, blocks_of, settings_of};
+use crate::sights::{Block, Visit, blocks_of, losses_of, settings_of};
 use crate::stream::told_as;
 use crate::testcase::test_of;
 use crate::until::{Sighted, run_sighted};
@@ -102,14 +102,15 @@ fn explanation_of<'a>(
         runs: verdict_runs(alloc, case, report)?,
         untaken: untaken_branches(alloc, case.text, definitions, case.name, taken)?,
         settings: settings_of(alloc, case.text, definitions, case.name, sighted)?,
+        losses: losses_of(alloc, case.text, definitions, sighted)?,
         blocks: blocks_of(alloc, sighted)?,
     })
 }
 
 // ---- as JSON
 
-/// Charts as JSON, a line each, and a line each for the branches that no run takes, for the statements that set a verdict and
-/// for the blocks.
+/// Charts as JSON, a line each, and a line each for the branches that no run takes, for the statements that set a verdict, for
+/// those whose message is lost, and for the blocks.
 fn in_lines(alloc: Global, explanation: &Explanation<'_>) -> Result<String, AllocError> {
     let mut out = String::new(alloc);
     for run in &explanation.runs {
@@ -117,8 +118,10 @@ fn in_lines(alloc: Global, explanation: &Explanation<'_>) -> Result<String, Allo
     }
     let untaken = untaken_value(alloc, explanation.untaken.as_slice())?;
     push_line(alloc, &mut out, &untaken)?;
-    let settings = settings_value(alloc, explanation.settings.as_slice())?;
-    push_line(alloc, &mut out, &settings)?;
+    let settings = visits_value(alloc, explanation.settings.as_slice())?;
+    push_line(alloc, &mut out, &json!(in alloc; {"settings": settings})?)?;
+    let losses = visits_value(alloc, explanation.losses.as_slice())?;
+    push_line(alloc, &mut out, &json!(in alloc; {"lost": losses})?)?;
     let blocks = blocks_value(alloc, explanation.blocks.as_slice())?;
     push_line(alloc, &mut out, &blocks)?;
     Ok(out)
@@ -152,19 +155,18 @@ fn run_value(alloc: Global, run: &[Label]) -> Result<Value, AllocError> {
     Ok(Value::Array(labels))
 }
 
-/// The statements that set a verdict, each with the least run to it.
-fn settings_value(alloc: Global, settings: &[Setting<'_>]) -> Result<Value, AllocError> {
+/// Statements, each with the least run to it.
+fn visits_value(alloc: Global, visits: &[Visit<'_>]) -> Result<Value, AllocError> {
     let mut values = Vec::new(alloc);
-    for setting in settings {
-        let place = PlaceText(setting.passage.place).to_string(alloc)?;
-        let (behaviour, text) = (&setting.passage.behaviour, &setting.passage.text);
-        let run = run_value(alloc, setting.run)?;
+    for visit in visits {
+        let place = PlaceText(visit.passage.place).to_string(alloc)?;
+        let (behaviour, text) = (&visit.passage.behaviour, &visit.passage.text);
+        let run = run_value(alloc, visit.run)?;
         values.push(
             json!(in alloc; {"behaviour": behaviour, "place": place, "run": run, "text": text})?,
         )?;
     }
-    let values = Value::Array(values);
-    json!(in alloc; {"settings": values})
+    Ok(Value::Array(values))
 }
 
 /// Components that are blocked, each with its place, as in a report.

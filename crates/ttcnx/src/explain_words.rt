@@ -1,7 +1,8 @@
 //! What is told behind a report, in words.
 use crate::explain::drawn;
 use crate::explained::{
-    Case, Explained, Explanation, block_runs, common, nearest, seen_in, setting_runs,
+    Case, Explained, Explanation, Sought, block_runs, common, loss_runs, nearest, seen_in,
+    setting_runs,
 };
 use chart_formats::{Chart, Row};
 use chart_words::{Course, Names, Passage, order_of};
@@ -25,6 +26,13 @@ pub(crate) fn in_words(
     let runs = explanation.runs.as_slice();
     let blocks = block_runs(alloc, case, explanation)?;
     let settings = setting_runs(alloc, case, explanation, blocks.as_slice())?;
+    let losses = loss_runs(
+        alloc,
+        case,
+        explanation,
+        settings.as_slice(),
+        blocks.as_slice(),
+    )?;
     let mut out = String::new(alloc);
     write_runs(alloc, &mut out, runs)?;
     write_partings(alloc, &mut out, names, runs)?;
@@ -33,9 +41,18 @@ pub(crate) fn in_words(
         &mut out,
         explanation,
         settings.as_slice(),
+        losses.as_slice(),
+        blocks.as_slice(),
+    )?;
+    write_losses(
+        &mut out,
+        explanation,
+        settings.as_slice(),
+        losses.as_slice(),
         blocks.as_slice(),
     )?;
     write_beside(alloc, &mut out, names, runs, settings.as_slice())?;
+    write_beside(alloc, &mut out, names, runs, losses.as_slice())?;
     write_beside(alloc, &mut out, names, runs, blocks.as_slice())?;
     Ok(out)
 }
@@ -119,6 +136,7 @@ fn write_settings(
     out: &mut String,
     explanation: &Explanation<'_>,
     settings: &[Explained<'_>],
+    losses: &[Explained<'_>],
     blocks: &[Explained<'_>],
 ) -> Result<(), AllocError> {
     if explanation.settings.is_empty() {
@@ -132,8 +150,35 @@ fn write_settings(
     }
     let runs = explanation.runs.as_slice();
     for setting in &explanation.settings {
+        let place = setting.passage.place;
         write_passage(out, &setting.passage)?;
-        write_step_of(out, runs, settings, blocks, setting.passage.place)?;
+        if !write_step_of(out, runs, settings, losses, blocks, place, Sought::Change)? {
+            write_step_of(out, runs, settings, losses, blocks, place, Sought::Step)?;
+        }
+        out.push('\n')?;
+    }
+    Ok(())
+}
+
+/// Writes the statements whose message is lost in some run, each with the step of a run that is shown.
+fn write_losses(
+    out: &mut String,
+    explanation: &Explanation<'_>,
+    settings: &[Explained<'_>],
+    losses: &[Explained<'_>],
+    blocks: &[Explained<'_>],
+) -> Result<(), AllocError> {
+    if explanation.losses.is_empty() {
+        return Ok(());
+    }
+    out.push_str(
+        "\nmessages that are lost, since the component that they are meant for has ended:\n",
+    )?;
+    let runs = explanation.runs.as_slice();
+    for loss in &explanation.losses {
+        let place = loss.passage.place;
+        write_passage(out, &loss.passage)?;
+        write_step_of(out, runs, settings, losses, blocks, place, Sought::Loss)?;
         out.push('\n')?;
     }
     Ok(())
@@ -144,9 +189,9 @@ fn write_step_in(
     out: &mut String,
     runs: &[Explained<'_>],
     place: Span,
-    changing: bool,
+    sought: Sought,
 ) -> Result<bool, AllocError> {
-    match seen_in(runs, place, changing) {
+    match seen_in(runs, place, sought) {
         Some((number, run)) => {
             write!(out, ": step {number} of {}", run.naming.title)?;
             Ok(true)
@@ -155,24 +200,22 @@ fn write_step_in(
     }
 }
 
-/// Writes which step of a run that is shown is that of the statement at a place: the first one that changes the verdict, if
-/// there is one.
+/// Writes which step of a run that is shown is that of the statement at a place. Gives whether one is.
 fn write_step_of(
     out: &mut String,
     runs: &[Explained<'_>],
     settings: &[Explained<'_>],
+    losses: &[Explained<'_>],
     blocks: &[Explained<'_>],
     place: Span,
-) -> Result<(), AllocError> {
-    for changing in [true, false] {
-        if write_step_in(out, runs, place, changing)?
-            || write_step_in(out, settings, place, changing)?
-            || write_step_in(out, blocks, place, changing)?
-        {
-            return Ok(());
-        }
-    }
-    Ok(())
+    sought: Sought,
+) -> Result<bool, AllocError> {
+    Ok(
+        write_step_in(out, runs, place, sought)?
+            || write_step_in(out, settings, place, sought)?
+            || write_step_in(out, losses, place, sought)?
+            || write_step_in(out, blocks, place, sought)?,
+    )
 }
 
 /// The row of a step.

@@ -1,11 +1,11 @@
 //! The runs that are shown behind a report: what their steps do, and their charts.
 use crate::explain::chart;
-use crate::sights::{Block, Setting};
+use crate::sights::{Block, Visit};
 use chart_formats::{Chart, Row};
-use chart_steps::{Story, tell, verdict_at};
+use chart_steps::{Story, Told, tell, verdict_at};
 use chart_words::Passage;
 use check_rules::Program;
-use config_parts::Config;
+use config_parts::{Config, Way};
 use report::{PathText, PlaceText, Report, word_of};
 use std::alloc::{AllocError, Global};
 use std::fmt::Write;
@@ -53,7 +53,9 @@ pub(crate) struct Explanation<'a> {
     /// The branches that no run takes.
     pub untaken: Vec<Passage>,
     /// The statements that set a verdict in some run.
-    pub settings: Vec<Setting<'a>>,
+    pub settings: Vec<Visit<'a>>,
+    /// The statements whose message is lost in some run.
+    pub losses: Vec<Visit<'a>>,
     pub blocks: Vec<Block<'a>>,
 }
 
@@ -268,16 +270,43 @@ fn changes_verdict(label: &Label, before: &Config, behind: &Config) -> bool {
     }
 }
 
-/// The number of the first step of a run that is that of the statement at a place, where it is to change the verdict such a
-/// one.
-fn step_at(run: &[Label], story: &Story, place: Span, changing: bool) -> Option<usize> {
+/// Whether the message that a step sends is lost.
+fn is_lost(told: &Told) -> bool {
+    match &told.sent {
+        Some(sent) => match sent.way {
+            Way::Lost(_) => true,
+            Way::Reaches(_) | Way::Leaves(_) => false,
+        },
+        None => false,
+    }
+}
+
+/// What is looked for in runs: any step of a statement, one that changes the verdict, or one whose message is lost.
+#[derive(Clone, Copy, PartialEq, Eq)]
+pub(crate) enum Sought {
+    Step,
+    Change,
+    Loss,
+}
+
+impl Sought {
+    fn is_found(self, label: &Label, before: &Config, told: &Told) -> bool {
+        match self {
+            Sought::Step => true,
+            Sought::Change => changes_verdict(label, before, &told.behind),
+            Sought::Loss => is_lost(told),
+        }
+    }
+}
+
+/// The number of the first step of a run that is that of the statement at a place, and is sought.
+fn step_at(run: &[Label], story: &Story, place: Span, sought: Sought) -> Option<usize> {
     let mut before = &story.start;
     for (at, (label, told)) in run.iter().zip(&story.steps).enumerate() {
-        let behind = &told.behind;
-        if told.place == Some(place) && (!changing || changes_verdict(label, before, behind)) {
+        if told.place == Some(place) && sought.is_found(label, before, told) {
             return Some(at.saturating_add(1));
         }
-        before = behind;
+        before = &told.behind;
     }
     None
 }
@@ -286,10 +315,10 @@ fn step_at(run: &[Label], story: &Story, place: Span, changing: bool) -> Option<
 pub(crate) fn seen_in<'e, 'a>(
     runs: &'e [Explained<'a>],
     place: Span,
-    changing: bool,
+    sought: Sought,
 ) -> Option<(usize, &'e Explained<'a>)> {
     for run in runs {
-        if let Some(number) = step_at(run.run, &run.story, place, changing) {
+        if let Some(number) = step_at(run.run, &run.story, place, sought) {
             return Some((number, run));
         }
     }
@@ -304,7 +333,7 @@ fn is_change(
     run: &[Label],
 ) -> Result<bool, AllocError> {
     match tell(alloc, case.machine, run) {
-        Ok(story) => Ok(step_at(run, &story, place, true).is_some()),
+        Ok(story) => Ok(step_at(run, &story, place, Sought::Change).is_some()),
         Err(ReplayError::NotEnabled(_)) => Ok(false),
         Err(ReplayError::Memory) => Err(AllocError),
     }
@@ -317,22 +346,26 @@ struct Unseen<'a> {
     run: &'a [Label],
 }
 
+/// Whether a step of one of these runs is that of the statement at a place.
+fn is_seen(runs: &[Explained<'_>], blocks: &[Explained<'_>], place: Span, sought: Sought) -> bool {
+    seen_in(runs, place, sought).is_some() || seen_in(blocks, place, sought).is_some()
+}
+
 /// The statements that change the verdict in none of these runs, though the least run to them does, and those that are in none
 /// of them.
 fn not_shown<'a>(
     alloc: Global,
     case: Case<'_, '_>,
-    settings: &[Setting<'a>],
+    settings: &[Visit<'a>],
     runs: &[Explained<'_>],
     blocks: &[Explained<'_>],
 ) -> Result<Vec<Unseen<'a>>, AllocError> {
     let mut found = Vec::new(alloc);
     for setting in settings {
         let (place, run) = (setting.passage.place, setting.run);
-        if seen_in(runs, place, true).is_none() && seen_in(blocks, place, true).is_none() {
-            let is_seen = seen_in(runs, place, false).is_some()
-                || seen_in(blocks, place, false).is_some();
-            if !is_seen || is_change(alloc, case, place, run)? {
+        if !is_seen(runs, blocks, place, Sought::Change) {
+            let is_there = is_seen(runs, blocks, place, Sought::Step);
+            if !is_there || is_change(alloc, case, place, run)? {
                 found.push(Unseen { place, run })?;
             }
         }
@@ -364,6 +397,39 @@ pub(crate) fn setting_runs<'a>(
         if !is_beginning(wanted.as_slice(), one.run) {
             let naming = setting_naming(alloc, one.place)?;
             if let Some(run) = explain_beside(alloc, case, naming, one.run, others, false)? {
+                runs.push(run)?;
+            }
+        }
+    }
+    Ok(runs)
+}
+
+/// How the run to a lost message is called.
+fn loss_naming(alloc: Global, place: Span) -> Result<Naming, AllocError> {
+    let place = PlaceText(place);
+    Ok(Naming {
+        heading: format!(in alloc; "How the message of {place} is lost")?,
+        title: format!(in alloc; "the run that loses the message of {place}")?,
+        name: place.to_string(alloc)?,
+    })
+}
+
+/// The least runs to lost messages, where no other run shows that they are lost. Their charts say nothing of where they end.
+pub(crate) fn loss_runs<'a>(
+    alloc: Global,
+    case: Case<'_, '_>,
+    explanation: &Explanation<'a>,
+    settings: &[Explained<'_>],
+    blocks: &[Explained<'_>],
+) -> Result<Vec<Explained<'a>>, AllocError> {
+    let others = explanation.runs.as_slice();
+    let mut runs = Vec::new(alloc);
+    for loss in &explanation.losses {
+        let place = loss.passage.place;
+        let is_there = is_seen(others, blocks, place, Sought::Loss);
+        if !is_there && seen_in(settings, place, Sought::Loss).is_none() {
+            let naming = loss_naming(alloc, place)?;
+            if let Some(run) = explain_beside(alloc, case, naming, loss.run, others, false)? {
                 runs.push(run)?;
             }
         }

@@ -1,15 +1,15 @@
-//! The statements that set a verdict in some run, and the blocks, each with the least run to it.
+//! The statements that set a verdict or whose message is lost in some run, and the blocks, each with the least run to it.
 use crate::until::Sighted;
-use chart_words::{Passage, verdict_settings};
+use chart_words::{Passage, passages_at, verdict_settings};
 use explore::Sighting;
 use std::alloc::{AllocError, Global};
 use step_labels::{Label, Standing};
 use ttcn_syntax::{Definition, Span};
-use ttcnx_runs::BranchPlace;
+use ttcnx_runs::StepPlace;
 
-/// A statement that sets a verdict, and the least of the shortest runs whose last step is that of this statement.
+/// A statement, and the least of the shortest runs whose last step is that of this statement.
 #[derive(Drop)]
-pub(crate) struct Setting<'a> {
+pub(crate) struct Visit<'a> {
     pub passage: Passage,
     pub run: &'a [Label],
 }
@@ -22,8 +22,10 @@ pub(crate) struct Block<'a> {
 }
 
 /// The least run to a place, if there is one.
-fn run_to(places: &[Sighting<BranchPlace, Label>], place: Span) -> Option<&[Label]> {
-    let found = places.iter().find(|seen| seen.event.place() == place)?;
+fn run_to(places: &[Sighting<StepPlace, Label>], place: Span) -> Option<&[Label]> {
+    let found = places
+        .iter()
+        .find(|seen| seen.event.place.place() == place)?;
     Some(found.run.as_slice())
 }
 
@@ -34,14 +36,36 @@ pub(crate) fn settings_of<'a>(
     definitions: &[Definition],
     testcase: &str,
     sighted: &'a Sighted,
-) -> Result<Vec<Setting<'a>>, AllocError> {
+) -> Result<Vec<Visit<'a>>, AllocError> {
     let mut settings = Vec::new(alloc);
     for passage in verdict_settings(alloc, text, definitions, testcase)? {
         if let Some(run) = run_to(sighted.places.as_slice(), passage.place) {
-            settings.push(Setting { passage, run })?;
+            settings.push(Visit { passage, run })?;
         }
     }
     Ok(settings)
+}
+
+/// The statements whose message is lost in some run, in the order of the least runs in which it is.
+pub(crate) fn losses_of<'a>(
+    alloc: Global,
+    text: &[u8],
+    definitions: &[Definition],
+    sighted: &'a Sighted,
+) -> Result<Vec<Visit<'a>>, AllocError> {
+    let (mut places, mut runs) = (Vec::new(alloc), Vec::new(alloc));
+    for seen in &sighted.places {
+        if seen.event.lost {
+            places.push(seen.event.place.place())?;
+            runs.push(seen.run.as_slice())?;
+        }
+    }
+    let passages = passages_at(alloc, text, definitions, places.as_slice())?;
+    let mut losses = Vec::new(alloc);
+    for (passage, run) in passages.into_iter().zip(runs) {
+        losses.push(Visit { passage, run })?;
+    }
+    Ok(losses)
 }
 
 /// Whether a block has a component at a place.

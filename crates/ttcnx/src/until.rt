@@ -18,7 +18,7 @@ use step_labels::{Label, Standing};
 use ttcn_step::Machine;
 use ttcn_syntax::{LexError, Seq};
 use ttcnx_command_line::Wishes;
-use ttcnx_runs::{BranchPlace, Extent, Sights, explore_runs_until, mark_of, sight_runs};
+use ttcnx_runs::{Extent, Sights, StepPlace, explore_runs_until, mark_of, sight_runs};
 
 /// Where an exploration ends by what is wished.
 pub fn stops_of(wishes: &Wishes) -> Stops
@@ -80,8 +80,8 @@ pub fn run_until<G: Gate, R: Threads + Sync>(
 #[derive(Drop)]
 pub struct Sighted {
     pub until: Until,
-    /// The places of steps: of the branch that a step takes, else of the statement that it begins with.
-    pub places: Vec<Sighting<BranchPlace, Label>>,
+    /// The places of steps, those where a message is lost apart.
+    pub places: Vec<Sighting<StepPlace, Label>>,
     /// The components that are blocked where a run ends, each with the place where it stands.
     pub blocks: Vec<Sighting<Seq<Standing>, Label>>,
 }

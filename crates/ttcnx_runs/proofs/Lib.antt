@@ -8,5 +8,6 @@ pub mod FirstSights
 pub mod Longer
 pub mod Parts
 pub mod SightsAlike
+pub mod StepPlaces
 pub mod Sums
 pub mod crossing

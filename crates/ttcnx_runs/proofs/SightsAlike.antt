@@ -8,7 +8,7 @@ use Rattle.explore.specs.declared.sightings.Sighting.{Sighting}
 use Rattle.laws_live.proofs.SameRuns.{same-runs}
 use Rattle.semantics.proofs.CanonicalRuns.{ends_live}
 use Rattle.semantics.proofs.LiveSteps.{by-state, component-live, live-alive, live-over}
-use Rattle.semantics.proofs.LiveTheorem.{blocked_live, branch_live}
+use Rattle.semantics.proofs.LiveTheorem.{blocked_live, branch_live, sent_live}
 use Rattle.semantics.specs.Canonical.{canonical_graph}
 use Rattle.semantics.specs.Configurations.{Component, Configuration, Created, Ended, Goes, Running, State, Terminated, component_at, is_running_state, is_terminated_state}
 use Rattle.semantics.specs.LiveParts.{live_component, live_part}
@@ -16,9 +16,11 @@ use Rattle.semantics.specs.Places.{place_of, place_of_frames}
 use Rattle.semantics.specs.Runs.{graph_of}
 use Rattle.semantics.specs.Snapshots.{Test}
 use Rattle.semantics.specs.Steps.{Delivery, Expiry, Label, Statement}
-use Rattle.semantics.specs.Telling.{place_of_step}
+use Rattle.semantics.specs.Telling.{Sent, place_of_step}
 use Rattle.summary.specs.Run.{Run, Start, Then, end_of, labels_of}
-use Rattle.ttcnx_runs.specs.Sights.{block_in, either_of, if_some, place_in_text}
+use Rattle.ttcn_syntax.specs.declared.place.Span.{Span}
+use Rattle.ttcnx_runs.specs.Sights.{block_in, either_of, if_some, is_lost, place_in_text, step_place}
+use Rattle.ttcnx_runs.specs.declared.sights.StepPlace.{StepPlace}
 
 rests : (s : State) → is_terminated_state s ≡ true → is_running_state s ≡ false
 rests Created e = refl
@@ -43,13 +45,19 @@ step-live (Goes c) (Delivery name) = refl
 place-in-text-live : (test : Test) (c : Configuration) (label : Label) → place_in_text test (live_part c) label ≡ place_in_text test c label
 place-in-text-live test c label = λ i. either_of (branch_live test c label i) (step-live c label i)
 
+abbrev placed : Option Sent → Span → StepPlace
+placed sent place = record { place = place; lost = is_lost sent }
+
+step-place-live : (test : Test) (c : Configuration) (label : Label) → step_place test (live_part c) label ≡ step_place test c label
+step-place-live test c label = λ i. option_map (placed (sent_live test c label i)) (place-in-text-live test c label i)
+
 block-live : (test : Test) (c : Configuration) → block_in test (live_part c) ≡ block_in test c
 block-live test c = ap if_some (blocked_live test c)
 
 module _ (test : Test) where
-  pub places-alike : (run : Run Label) → shown_by_step (canonical_graph test) (place_in_text test) run ≡ shown_by_step (graph_of test) (place_in_text test) run
+  pub places-alike : (run : Run Label) → shown_by_step (canonical_graph test) (step_place test) run ≡ shown_by_step (graph_of test) (step_place test) run
   places-alike Start = refl
-  places-alike (Then run label) = ap (λ c. place_in_text test c label) (ends_live test run) ∙ place-in-text-live test (end_of (graph_of test) run) label
+  places-alike (Then run label) = ap (λ c. step_place test c label) (ends_live test run) ∙ step-place-live test (end_of (graph_of test) run) label
 
   pub blocks-alike : (run : Run Label) → shown_at_end (canonical_graph test) (block_in test) run ≡ shown_at_end (graph_of test) (block_in test) run
   blocks-alike run = ap (block_in test) (ends_live test run) ∙ block-live test (end_of (graph_of test) run)

@@ -18,5 +18,5 @@ pub use keys::BranchPlace;
 pub use laws::canonical_forms_are_equal_for_equal_live_parts;
 pub use runs::{Runs, mark_of};
 pub use scheme::Scheme;
-pub use sights::{Sights, sight_runs};
+pub use sights::{Sights, StepPlace, sight_runs};
 pub use state::State;

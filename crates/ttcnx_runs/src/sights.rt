@@ -3,7 +3,9 @@ ghost use Rattle.std.specs.Prelude.{◌≡◌, ◌↔◌, ℕ, ◌<◌, [], fals
 ghost use Rattle.laws_live.specs.Parts.{CountsParts};
 ghost use Rattle.search_layer.specs.Limits.{IsWithinLimits};
 ghost use Rattle.semantics.specs.Places as rules;
-ghost use Rattle.ttcnx_runs.specs.Sights.{AreBlocks, ArePlaces, block_in, if_some, place_in_text, place-itself, place-one, stands-itself, stands-one};
+ghost use Rattle.ttcnx_runs.specs.Sights.{AreBlocks, ArePlaces, block_in, if_some, is_lost, stands-itself, stands-one, step_place, step-place-itself, step-place-one};
+ghost use Rattle.ttcn_step.specs.Telling.{sent_by};
+ghost use Rattle.config_parts.specs.Legend.{Legend};
 ghost use Rattle.std.specs.List.{find};
 ghost use Rattle.std.specs.Option.{option_map};
 ghost use Rattle.ttcnx_runs.specs.Aims.{first_of, is_at, stands_at};
@@ -17,6 +19,7 @@ use crate::runs::Runs;
 use crate::scheme::Scheme;
 use crate::search::search_watched;
 use crate::state::State;
+use config_parts::Way;
 use explore::{ExploreError, Gate, Plan, Sighted, Sighting, Stops, Watched};
 use std::alloc::{AllocError, Global};
 use std::marker::Brand;
@@ -24,8 +27,29 @@ use std::thread::Threads;
 use step_labels::{Label, Standing};
 use summary::Located;
 use ttcn_config::unpack;
-use ttcn_step::Machine;
+use ttcn_step::{Machine, Sent};
 use ttcn_syntax::{Seq, Span};
+
+/// Where a step is, and whether the message that it sends is lost, since the component that it is meant for has ended.
+#[derive(Drop, PartialEq, Eq)]
+pub struct StepPlace {
+    /// The place of the branch that the step takes, else of the statement that it begins with.
+    pub place: BranchPlace,
+    pub lost: bool,
+}
+
+/// Whether there is a message, and it is lost.
+fn is_lost(sent: &Option<Sent>) -> bool
+    ensures { (legend : Legend) → result ≡ is_lost (option_map (sent_by legend) sent.now) }
+{
+    match sent {
+        None => false,
+        Some(sent) => match sent.way {
+            Way::Lost(_) => true,
+            Way::Reaches(_) | Way::Leaves(_) => false,
+        },
+    }
+}
 
 /// Some, where there are some.
 fn if_some(standings: Vec<Standing>) -> Option<Seq<Standing>>
@@ -39,19 +63,19 @@ fn if_some(standings: Vec<Standing>) -> Option<Seq<Standing>>
 }
 
 impl<'t, 'a, K: Scheme + Send + Sync> Watched for Runs<'t, 'a, K> {
-    type Event = BranchPlace;
+    type Event = StepPlace;
 
     type Stand = Seq<Standing>;
 
-    ghost event = { λ _ state label. place_in_text K.machine.test state label };
+    ghost event = { λ _ state label. step_place K.machine.test state label };
 
     ghost stand = { λ _ state. block_in K.machine.test state };
 
-    ghost one_event = { place-one };
+    ghost one_event = { step-place-one };
 
     ghost one_stand = { stands-one };
 
-    ghost same_event = { place-itself };
+    ghost same_event = { step-place-itself };
 
     ghost same_stand = { stands-itself };
 
@@ -60,12 +84,19 @@ impl<'t, 'a, K: Scheme + Send + Sync> Watched for Runs<'t, 'a, K> {
         alloc: Global,
         state: &State<K>,
         label: &Label,
-    ) -> Result<Option<BranchPlace>, AllocError> {
-        if let Some(place) = self.branch(alloc, state, label)? {
-            return Ok(Some(place));
-        }
+    ) -> Result<Option<StepPlace>, AllocError> {
         let config = unpack(alloc, &state.packed)?;
-        Ok(self.machine.place(&config, label).map(BranchPlace::new))
+        let place = match self.branch(alloc, state, label)? {
+            Some(place) => Some(place),
+            None => self.machine.place(&config, label).map(BranchPlace::new),
+        };
+        match place {
+            Some(place) => {
+                let lost = is_lost(&self.machine.sent(alloc, &config, label)?);
+                Ok(Some(StepPlace { place, lost }))
+            }
+            None => Ok(None),
+        }
     }
 
     fn stand(&self, alloc: Global, state: &State<K>) -> Result<Option<Seq<Standing>>, AllocError> {
@@ -79,9 +110,8 @@ impl<'t, 'a, K: Scheme + Send + Sync> Watched for Runs<'t, 'a, K> {
 pub struct Sights {
     /// How far the runs were explored, and what was found of them.
     pub extent: Extent,
-    /// The places of steps: of the branch that a step takes, else of the statement that it begins with. The run ends with the
-    /// step.
-    pub places: Vec<Sighting<BranchPlace, Label>>,
+    /// The places of steps, those where a message is lost apart. The run ends with the step.
+    pub places: Vec<Sighting<StepPlace, Label>>,
     /// The components that are blocked where the run ends, each with the place where it stands.
     pub blocks: Vec<Sighting<Seq<Standing>, Label>>,
 }
@@ -132,7 +162,7 @@ fn sight_within<K: Scheme + Send + Sync, G: Gate, R: Threads + Sync>(
 /// What an answer of the search tells, with the runs that were found.
 fn sights_of(
     alloc: Global,
-    sighted: Sighted<Shown, Label, BranchPlace, Seq<Standing>>,
+    sighted: Sighted<Shown, Label, StepPlace, Seq<Standing>>,
 ) -> Result<Sights, AllocError>
     ensures steps { IfOk result (λ sights. sights.extent.steps ≡ sighted.reached.steps) }
     ensures ending { IfOk result (λ sights. sights.extent.ending ≡ sighted.reached.ending) }
@@ -184,12 +214,12 @@ fn first_of(found: Option<Vec<Label>>, fits: bool, run: Vec<Label>) -> Option<Ve
 impl Sights {
     /// The labels of the least of the shortest runs whose last step is at a place.
     pub fn to_place(self, place: Span) -> Option<Vec<Label>>
-        ensures { option_map (λ run. run.items) result ≡ option_map (λ s. s.run.items) (find (λ s. is_at place s.event) self.places.items) }
+        ensures { option_map (λ run. run.items) result ≡ option_map (λ s. s.run.items) (find (λ s. is_at place s.event.place) self.places.items) }
     {
         let mut found = None;
         for one in self.places {
             let Sighting { event, run } = one;
-            found = first_of(found, is_at(&event, place), run);
+            found = first_of(found, is_at(&event.place, place), run);
         }
         found
     }

@@ -10,5 +10,5 @@ use Rattle.ttcnx_runs.specs.declared.sights.Sights.{Sights}
 
 -- the first that gets there
 abbrev pub reach_by : Sights → Aim → Option (List Label)
-reach_by sights (aim.Step place) = option_map (λ s. s.run.items) (find (λ s. is_at place s.event) sights.places.items)
+reach_by sights (aim.Step place) = option_map (λ s. s.run.items) (find (λ s. is_at place s.event.place) sights.places.items)
 reach_by sights (aim.Block place) = option_map (λ s. s.run.items) (find (λ s. stands_at place s.event) sights.blocks.items)

@@ -8,14 +8,14 @@ use Rattle.semantics.specs.Labels.{label_cmp}
 use Rattle.semantics.specs.Runs.{graph_of}
 use Rattle.semantics.specs.Steps.{Label}
 use Rattle.step_labels.specs.declared.standing.Standing.{Standing}
-use Rattle.ttcn_syntax.specs.declared.place.Span.{Span}
 use Rattle.ttcnx_runs.proofs.Assembly.{answer-explored, extent-found, refused-explored}
 use Rattle.ttcnx_runs.proofs.SightsAlike.{blocks-alike, places-alike, sighted-alike}
 use Rattle.ttcnx_runs.proofs.crossing.Systems.{runs-sync}
 use Rattle.ttcnx_runs.proofs.sights.sight_within.Goals as goal
 use Rattle.ttcnx_runs.specs.Extents.{IsExtent}
-use Rattle.ttcnx_runs.specs.Sights.{AreBlocks, ArePlaces, block_in, place_in_text}
+use Rattle.ttcnx_runs.specs.Sights.{AreBlocks, ArePlaces, block_in, step_place}
 use Rattle.ttcnx_runs.specs.declared.exploration.Extent.{Extent}
+use Rattle.ttcnx_runs.specs.declared.sights.StepPlace.{StepPlace}
 use Rattle.ttcnx_runs.specs.internal.Explored.{AreSights}
 
 pub search_watched-requires-sync-Y : goal.search_watched-requires-sync-Y
@@ -37,8 +37,8 @@ returns-in-Ok-sights_of g c =
           (λ i. record { steps = sym same.steps i; found = sights.extent.found; ending = sym same.ending i })
           (extent-found test sights.extent.found reached.answer same.made c.args.plan.now c.args.stops.now n reached.ending is.steps is.ended is.count
           is.branches is.blocked is.complete is.best is.every_bound);
-      places = subst (λ (m : ℕ). ArePlaces test m sights.places.items) (sym same.steps) (subst (λ (l : List (Sighting Span Label)). ArePlaces test n l) (sym same.places)
-          (sighted-alike test label_cmp n (shown_by_step live (place_in_text test)) (shown_by_step (graph_of test) (place_in_text test)) (places-alike test) sighted.events.items is.events));
+      places = subst (λ (m : ℕ). ArePlaces test m sights.places.items) (sym same.steps) (subst (λ (l : List (Sighting StepPlace Label)). ArePlaces test n l) (sym same.places)
+          (sighted-alike test label_cmp n (shown_by_step live (step_place test)) (shown_by_step (graph_of test) (step_place test)) (places-alike test) sighted.events.items is.events));
       blocks = subst (λ (m : ℕ). AreBlocks test m sights.blocks.items) (sym same.steps) (subst (λ (l : List (Sighting (List Standing) Label)). AreBlocks test n l) (sym same.blocks)
           (sighted-alike test label_cmp n (shown_at_end live (block_in test)) (shown_at_end (graph_of test) (block_in test)) (blocks-alike test) sighted.stands.items is.stands));
     })

@@ -10,4 +10,4 @@ pub loop-one-preserved : goal.loop-one-preserved
 loop-one-preserved c =
     c.first_of-found.ensures
     ∙ ap (λ fits. first_of (option_map (λ (v : Vec _ _). v.items) c.loop-one.found) fits c.in-Some.one.run.items) c.is_at.ensures
-    ∙ find-push (λ (s : Sighting _ _). s.run.items) (λ (s : Sighting _ _). is_at c.args.place s.event) c.loop-one.yielded c.in-Some.one (option_map (λ (v : Vec _ _). v.items) c.loop-one.found) c.loop-one.invariant
+    ∙ find-push (λ (s : Sighting _ _). s.run.items) (λ (s : Sighting _ _). is_at c.args.place s.event.place) c.loop-one.yielded c.in-Some.one (option_map (λ (v : Vec _ _). v.items) c.loop-one.found) c.loop-one.invariant
