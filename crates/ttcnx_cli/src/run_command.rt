@@ -199,15 +199,22 @@ where
     G: Showing,
 {
     let alloc = rt.alloc();
-    let Subject {
-        text,
-        script,
-        testcase,
-        plan,
-    } = subject;
+    let (text, script, name) = (subject.text, subject.script, subject.testcase);
     match bound {
-        None => run_until(rt, alloc, text, script, testcase, plan, stops, gate),
-        Some(bound) => run_bounded(rt, alloc, text, script, testcase, bound, plan, stops, gate),
+        None => run_until(rt, alloc, text, script, name, subject.plan, stops, gate),
+        Some(bound) => {
+            run_bounded(
+                rt,
+                alloc,
+                text,
+                script,
+                name,
+                bound,
+                subject.plan,
+                stops,
+                gate,
+            )
+        }
     }
 }
 
@@ -256,20 +263,15 @@ where
     G: Showing,
 {
     let alloc = rt.alloc();
-    let Subject {
-        text,
-        script,
-        testcase,
-        plan,
-    } = subject;
+    let (text, script, name, plan) = (subject.text, subject.script, subject.testcase, subject.plan);
     let stops = stops_of(wishes);
     if stops == Stops::NOWHERE && !wishes.few_expiries {
         return Ok(Told {
-            bytes: run_explained(rt, alloc, text, script, testcase, plan, gate, json)?,
+            bytes: run_explained(rt, alloc, text, script, name, plan, gate, json)?,
             shortfall: None,
         });
     }
-    let sighted = run_sighted(rt, alloc, text, script, testcase, plan, &stops, gate)?;
+    let sighted = run_sighted(rt, alloc, text, script, name, plan, &stops, gate)?;
     let shortfall = shortfall(alloc, &sighted.until, &stops)?;
     let Sighted {
         until,
@@ -283,7 +285,7 @@ where
         places,
         blocks,
     };
-    let bytes = explain_report(alloc, text, script, testcase, &sighted, json)?;
+    let bytes = explain_report(alloc, text, script, name, &sighted, json)?;
     Ok(Told { bytes, shortfall })
 }
 
@@ -320,13 +322,18 @@ where
         when_complete: until_complete,
         at_mark: None,
     };
-    let Subject {
+    let (text, script, name) = (subject.text, subject.script, subject.testcase);
+    let reaching = run_to(
+        rt,
+        alloc,
         text,
         script,
-        testcase,
-        plan,
-    } = subject;
-    let reaching = run_to(rt, alloc, text, script, testcase, plan, &stops, aim, gate)?;
+        name,
+        subject.plan,
+        &stops,
+        aim,
+        gate,
+    )?;
     match &reaching.run {
         Some(run) => Ok(Told {
             bytes: run_file(alloc, run.as_slice())?.into_bytes(),
