@@ -21,6 +21,8 @@ mod memory;
 #[cfg(test)]
 mod numbers;
 #[cfg(test)]
+mod ordinals;
+#[cfg(test)]
 mod places;
 #[cfg(test)]
 mod rings;

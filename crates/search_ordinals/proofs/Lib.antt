@@ -1,0 +1,7 @@
+pub mod Numbers
+pub mod Runs
+pub mod Order
+pub mod Explored
+pub mod Sums
+pub mod Walks
+pub mod Answered

@@ -1,0 +1,4 @@
+pub mod Ordinals
+pub mod OrdinalOrder
+pub mod OrdinalLaws
+pub mod Told

@@ -1,0 +1,37 @@
+ghost use Rattle.std.specs.Prelude.{◌≡◌, IfOk};
+ghost use Rattle.search_ordinals.specs.Ordinals.{with_branch};
+
+use search_bounds::{BoundedSystem, Timed};
+use std::alloc::{AllocError, Global};
+use summary::Located;
+
+/// A system that tells the branches of all steps from a state at once.
+pub trait Branched: Located {
+    /// For each enabled label, from the least to the greatest, the branch that its step takes, if it takes one, and the
+    /// state that it leads to.
+    fn branched_successors(
+        &self,
+        alloc: Global,
+        state: &Self::State,
+    ) -> Result<Vec<(Option<Self::Branch>, Self::State)>, AllocError>
+        requires { Self.fits self.now state.now }
+        ensures { IfOk result (λ pairs. pairs.items ≡ with_branch (Self.branch self.now) (Self.graph self.now) state.now ((Self.graph self.now).enabled state.now)) }
+    {
+        let mut pairs = Vec::new(alloc);
+        for (label, after) in self.successors(alloc, state)? {
+            let branch = self.branch(alloc, state, &label)?;
+            pairs.push((branch, after))?;
+        }
+        Ok(pairs)
+    }
+
+    /// An equal place of a branch. Takes no memory.
+    fn copy_branch(branch: &Self::Branch) -> Self::Branch
+        ensures { result ≡ branch.now };
+}
+
+impl<'a, Y: Timed + Branched> Branched for BoundedSystem<'a, Y> {
+    fn copy_branch(branch: &Y::Branch) -> Y::Branch {
+        Y::copy_branch(branch)
+    }
+}

@@ -1,0 +1,17 @@
+//! Systems whose steps are told by how many enabled labels come before theirs, and explorations by them.
+#![tactic(auto)]
+
+mod branched;
+mod exploration;
+mod following;
+mod laws;
+mod ordinal;
+mod places;
+mod steps;
+mod system;
+
+pub use branched::Branched;
+pub use exploration::explore_by_ordinals;
+pub use laws::{ordinals_are_explored_alike, ordinals_tell_runs};
+pub use ordinal::Ordinal;
+pub use system::OrdinalSystem;
