@@ -1,6 +1,7 @@
 //! A test case as a system whose states are canonical configurations, and what is found of it by all its runs up to a bound.
 #![tactic(auto)]
 
+mod branched;
 pub mod equality;
 mod exploration;
 mod keys;

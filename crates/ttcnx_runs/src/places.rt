@@ -13,7 +13,7 @@ use ttcn_config::unpack;
 use ttcn_step::Machine;
 
 /// Whether a step may take a branch, as far as the place tells where its component stands.
-fn may_take_branch<K: Scheme>(
+pub fn may_take_branch<K: Scheme>(
     alloc: Global,
     machine: &Machine<'_>,
     state: &State<K>,

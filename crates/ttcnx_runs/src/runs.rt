@@ -55,7 +55,7 @@ pub fn mark_of(verdict: Verdict) -> u8
 }
 
 /// The state of the canonical form of a configuration.
-fn state_of<K: Scheme>(
+pub fn state_of<K: Scheme>(
     alloc: Global,
     machine: &Machine<'_>,
     config: Config,

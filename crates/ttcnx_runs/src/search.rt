@@ -7,15 +7,14 @@ ghost use Rattle.explore.specs.Sightings.{AreSighted, shown_at_end, shown_by_ste
 ghost use Rattle.search_layer.specs.Limits.{IsWithinLimits};
 ghost use Rattle.summary.specs.Exploration.{Counts, IsComplete};
 
-use explore::{
-    ExploreError, Gate, Plan, Reached, Sighted, Stops, Watched, explore_until, explore_watched,
-};
+use explore::{ExploreError, Gate, Plan, Reached, Sighted, Stops, Watched, explore_watched};
+use search_ordinals::{Branched, explore_by_ordinals};
 use std::alloc::Global;
 use std::thread::Threads;
 use summary::{Blocked, Both, Branches, Located, Verdicts};
 
 /// Explores all runs of a system of at most the plan's steps, or of fewer where a stop comes first.
-pub fn search<Y: Located, G: Gate, R: Threads + Sync>(
+pub fn search<Y: Branched, G: Gate, R: Threads + Sync>(
     rt: &R,
     alloc: Global,
     system: &Y,
@@ -45,9 +44,7 @@ pub fn search<Y: Located, G: Gate, R: Threads + Sync>(
         × (reached.answer.summary.second.first.places ≡ branches_of (Y.graph system.now) (Y.branch system.now) bound)
         × (reached.answer.summary.second.second.components ≡ blocked_of (Y.graph system.now) (Y.blocked system.now) bound)) }
 {
-    explore_until::<Y, Both<Verdicts, Both<Branches<Y::Branch>, Blocked<Y::Standing>>>, G, R>(
-        rt, alloc, system, plan, stops, gate,
-    )
+    explore_by_ordinals::<Y, G, R>(rt, alloc, system, plan, stops, gate)
 }
 
 /// Explores all runs of a system as `search` does, and finds for all that steps and states show the least of the shortest runs
