@@ -40,6 +40,7 @@ COMMANDS = [
     "run examples/x6.ttcn --testcase T --until-complete --expiries 1 --json",
     "run examples/y1.ttcn --testcase T --steps 9 --script examples/y1.json --patient-timers",
     "run examples/x6.ttcn --testcase T --until-complete --few-expiries --explain",
+    "run tools/statuses/lost.ttcn --testcase T --until-complete --explain",
     "lint examples/x2.ttcn tools/statuses/lint/lock.ttcn",
     "lint tools/statuses/lint/warnings.ttcn --format json",
     "list examples/lock.ttcn",
