@@ -1,38 +1,87 @@
 -- Why an exploration went no further, from why the search did.
-use Rattle.std.proofs.Common.{◌≡◌, ℕ, suc, ◌<◌, Bool, List, length, Option, None, false, true≢false, ◌∙◌, sym}
+use Rattle.std.proofs.Common.{◌≡◌, ℕ, suc, ◌<◌, ◌≤◌, Bool, List, length, take, Option, None, true, false, true≢false, ◌∙◌, refl, sym, arith}
 use Rattle.std.specs.declared.cmp.Ordering.{Ordering}
-use Rattle.explore.proofs.Outcome.{complete-is, marked-is, too_many}
+use mathlib.Core.Logic.{dite}
+use native.Mathlib.Decide.{dec_le}
+use Rattle.explore.proofs.Counting.{counts-grow}
+use Rattle.explore.proofs.Outcome.{best-is, complete-is, count-is, marked-is, no-shorter-marked, not-complete, too_many}
 use Rattle.explore.proofs.Visits.{IsLawful}
 use Rattle.explore.specs.Endings as told
-use Rattle.explore.specs.Endings.{HasEnded}
+use Rattle.explore.specs.Endings.{AreTooMany, HasEnded, MayEnd}
 use Rattle.explore.specs.declared.ending.Ending.{Ending}
-use Rattle.explore.specs.declared.ending.Ending.TheVariants as ending
 use Rattle.explore.specs.declared.ending.Stops.{Stops}
-use Rattle.explore.specs.internal.Stopped.{HasStopped, all_done, at_limit, at_mark, complete}
+use Rattle.explore.specs.declared.layers.Explored.{Explored}
+use Rattle.explore.specs.internal.Stopped.{HasNoRoom, HasStopped, IsEnd, IsQuiet, IsUnmarked, all_done, at_limit, at_mark, complete}
 use Rattle.search_layer.specs.declared.plan.Plan.{Plan}
 use Rattle.search_layer.specs.declared.visited.Step.{Step}
+use Rattle.search_layer.proofs.SearchSteps.{found-grows}
 use Rattle.search_layer.specs.internal.Search.{as_found, found_after}
+use Rattle.summary.specs.Exploration.{Counts}
 use Rattle.summary.specs.Graph.{Graph}
 use Rattle.summary.specs.Sums.{IsSemilattice, Join, Observation}
 
 module _ {C L S : Type 0} (g : Graph C L) (cmp : L → L → Ordering) (eq : C → C → Bool) (F : C → Type 0) (lawful : IsLawful g cmp eq F)
-    (j : Join S) (r : Observation C L S) (laws : IsSemilattice j) (plan : Plan) (stops : Stops) (steps : ℕ) where
-  pub ends : (states : List C) (lasts : List (Option (Step L))) (from : ℕ) (summary : S) → as_found states lasts from summary ≡ found_after g j r eq steps
-      → (why : Ending) → HasStopped g j r eq plan stops states from steps why → HasEnded g plan stops steps why
-  ends states lasts from summary is why (all_done done) = told.all_done done
-  ends states lasts from summary is why (at_limit stop below many) =
+    (j : Join S) (r : Observation C L S) (laws : IsSemilattice j) (plan : Plan) (stops : Stops) where
+  may-end : (steps : ℕ) (states : List C) (lasts : List (Option (Step L))) (from : ℕ) (summary : S) → as_found states lasts from summary ≡ found_after g j r eq steps
+      → (why : Ending) → HasStopped g j r eq plan stops states from steps why → MayEnd g plan stops steps why
+  may-end steps states lasts from summary is why (all_done done) = told.all_done done
+  may-end steps states lasts from summary is why (at_limit stop below many) =
       let more = too_many g cmp eq F lawful j r laws (suc steps) plan.limit many in
       told.at_limit stop below more.1 more.2
-  ends states lasts from summary is why (complete stop quiet) =
+  may-end steps states lasts from summary is why (complete stop quiet) =
       told.complete stop ((complete-is g cmp eq F lawful j r laws steps states lasts from summary is).0 quiet)
-  ends states lasts from summary is why (at_mark m) =
+  may-end steps states lasts from summary is why (at_mark m) =
       let found = marked-is g cmp eq F lawful j r laws steps states lasts from summary is m.number m.place m.within m.marked in
       told.at_mark m.is found.1
 
+  -- a search that led on up to its last layer may not end with fewer steps
+  no-sooner : (steps : ℕ) (states : List C) (lasts : List (Option (Step L))) (from : ℕ) (summary : S) → as_found states lasts from summary ≡ found_after g j r eq steps
+      → length states ≤ plan.limit → steps ≤ plan.steps → (stops.when_complete ≡ true → (layer : ℕ) → layer < steps → ¬ IsQuiet g (found_after g j r eq layer))
+      → IsUnmarked g (take from states) stops.at_mark → (fewer : ℕ) (other : Ending) → fewer < steps → ¬ MayEnd g plan stops fewer other
+  no-sooner steps states lasts from summary is within below led unmarked fewer other low (told.all_done done) = absurd (omega arith)
+  no-sooner steps states lasts from summary is within below led unmarked fewer other low (told.at_limit {count} stop early counts many) =
+      let fits : count ≤ length states = counts-grow g (suc fewer) steps count (length states) (omega arith) counts (count-is g cmp eq F lawful j r laws steps states lasts from summary is) in
+      absurd (omega arith)
+  no-sooner steps states lasts from summary is within below led unmarked fewer other low (told.complete stop all) =
+      absurd (not-complete g cmp eq F lawful j r laws fewer (led stop fewer low) all)
+  no-sooner steps states lasts from summary is within below led unmarked fewer other low (told.at_mark {mark} {run} wanted has) =
+      absurd (no-shorter-marked g cmp eq F lawful j r laws steps states lasts from summary is mark (unmarked mark wanted) fewer low run has)
+
+  pub ends : (e : Explored C L S) → IsEnd g j r eq F plan stops e → HasEnded g plan stops e.steps e.ending
+  ends e is = record {
+    may = may-end e.steps e.visited.states.keys e.visited.steps.items e.from e.summary is.found e.ending is.stopped;
+    least = no-sooner e.steps e.visited.states.keys e.visited.steps.items e.from e.summary is.found is.within is.steps is.led_on is.unmarked;
+  }
+
+  -- where a search has no room, each number of steps with which it may end has none
+  pub no-room-left : HasNoRoom g j r eq plan stops → stops.at_limit ≡ false → AreTooMany g plan stops
+  no-room-left no_room limited = each
+    where
+      beyond : (steps : ℕ) → no_room.layer < steps → (count : ℕ) × Counts g steps count × (plan.limit < count)
+      beyond steps more =
+          let grown = found-grows g j r eq (suc no_room.layer) steps (omega arith) in
+          too_many g cmp eq F lawful j r laws steps plan.limit (let many = no_room.many in omega arith)
+
+      unless : (steps : ℕ) → (steps ≤ no_room.layer → ⊥) → (count : ℕ) × Counts g steps count × (plan.limit < count)
+      unless steps beside = dite (dec_le steps no_room.layer) (λ low. absurd (beside low)) (λ high. beyond steps (omega arith))
+
+      each : (steps : ℕ) (why : Ending) → MayEnd g plan stops steps why → (count : ℕ) × Counts g steps count × (plan.limit < count)
+      each steps why (told.all_done done) = beyond steps (let below = no_room.below in omega arith)
+      each steps why (told.at_limit stop below counts many) = absurd (true≢false (sym stop ∙ limited))
+      each steps why (told.complete stop all) = unless steps (λ low. not-complete g cmp eq F lawful j r laws steps (no_room.led_on steps (omega arith)) all)
+      each steps why (told.at_mark {mark} {run} wanted has) = unless steps (λ low.
+          let found = found_after g j r eq no_room.layer in
+          best-is g cmp eq F lawful j r laws no_room.layer found.states found.steps found.from found.summary refl mark None (no_room.unmarked mark wanted) run
+          (record { is_run = has.is_run; short = (let short = has.short in omega arith); marked = has.marked }))
+
 -- an exploration without stops has done all steps
+done-without-stops : {C L : Type 0} (g : Graph C L) (plan : Plan) (stops : Stops) (steps : ℕ) (why : Ending) → stops.at_limit ≡ false → stops.when_complete ≡ false → stops.at_mark ≡ None
+    → MayEnd g plan stops steps why → steps ≡ plan.steps
+done-without-stops g plan stops steps why no_limit no_complete no_mark (told.all_done done) = done
+done-without-stops g plan stops steps why no_limit no_complete no_mark (told.at_limit stop below counts many) = absurd (true≢false (sym stop ∙ no_limit))
+done-without-stops g plan stops steps why no_limit no_complete no_mark (told.complete stop is) = absurd (true≢false (sym stop ∙ no_complete))
+done-without-stops g plan stops steps why no_limit no_complete no_mark (told.at_mark is has) = cc
+
 pub without-stops : {C L : Type 0} (g : Graph C L) (plan : Plan) (stops : Stops) (steps : ℕ) (why : Ending) → stops.at_limit ≡ false → stops.when_complete ≡ false → stops.at_mark ≡ None
     → HasEnded g plan stops steps why → steps ≡ plan.steps
-without-stops g plan stops steps why no_limit no_complete no_mark (told.all_done done) = done
-without-stops g plan stops steps why no_limit no_complete no_mark (told.at_limit stop below counts many) = absurd (true≢false (sym stop ∙ no_limit))
-without-stops g plan stops steps why no_limit no_complete no_mark (told.complete stop is) = absurd (true≢false (sym stop ∙ no_complete))
-without-stops g plan stops steps why no_limit no_complete no_mark (told.at_mark is has) = cc
+without-stops g plan stops steps why no_limit no_complete no_mark ended = done-without-stops g plan stops steps why no_limit no_complete no_mark ended.may

@@ -1,4 +1,5 @@
 pub mod Conclusions
+pub mod Counting
 pub mod Covering
 pub mod Endings
 pub mod Expanding

@@ -4,7 +4,7 @@ use Rattle.std.specs.Prelude.{◌≢◌, ◌↔◌, All, Option, None, Some}
 use Rattle.std.specs.declared.cmp.Ordering.{Ordering}
 use Rattle.std.specs.declared.alloc.Global.{Global}
 use Rattle.std.specs.declared.vec.Vec.{Vec}
-use Rattle.std.proofs.lemmas.List.{length-map}
+use Rattle.std.proofs.lemmas.List.{length-map, map-append, take-append-le, take_all}
 use Rattle.summary.specs.Graph.{Graph}
 use Rattle.summary.specs.Run.{IsRun, Run, Start, steps_of, end_of}
 use Rattle.summary.specs.Sums.{Join, IsSemilattice, Observation, sum_of}
@@ -12,11 +12,13 @@ use Rattle.summary.specs.Exploration.{Counts, HasMark, IsComplete}
 use Rattle.search_layer.specs.declared.visited.Step.{Step}
 use Rattle.explore.specs.Best.{IsBestOf}
 use Rattle.search_layer.specs.internal.Search.{Found, found_after, as_found}
+use Rattle.explore.specs.internal.Stopped.{IsQuiet}
 use Rattle.explore.specs.internal.Tied.{run_at, GoBack, AreLastSteps, IsFirstMarked, IsKept}
 use Rattle.explore.proofs.Lists.{Each, In, each-in, each-from-in, each-all, each-get, all-each, in-left, in-cases, in-map, from-map}
 use Rattle.explore.proofs.Visits.{IsLawful, visits}
-use Rattle.explore.proofs.Covering.{AreVisited, are-visited, Covers, covers, covers-more}
+use Rattle.explore.proofs.Covering.{AreVisited, are-visited, Covers, cover, covers, covers-more}
 use Rattle.explore.proofs.Conclusions.{counts, complete-if, quiet-if, best, none-best}
+use Rattle.explore.proofs.RunOrder.{later-short}
 use Rattle.explore.proofs.Sums.{IsLeast, sum-is}
 use Rattle.explore.proofs.Ties.{IsLeastAbove, Part, IsTiedAfter, tied-after, least-is, drop-front}
 
@@ -82,6 +84,26 @@ module _ {C L S : Type 0} (g : Graph C L) (cmp : L → L → Ordering) (eq : C �
           let v = from-map (end_of g) (visits g eq n).layer c i in
           subst (λ d. g.enabled d ≡ []) v.2 (each-in (λ w. g.enabled (end_of g w) ≡ []) (visits g eq n).layer quiet v.0 v.1)))),
     )
+
+    -- the states before the last layer are where the runs end that were visited before it
+    before-is : take from states ≡ map (end_of g) (visits g eq n).old
+    before-is =
+        let ends = map (end_of g) (visits g eq n).old in
+        let all : states ≡ ends ++ map (end_of g) (visits g eq n).layer = states_are ∙ map-append (end_of g) (visits g eq n).old (visits g eq n).layer in
+        let count : from ≡ length ends = from-is ∙ sym (length-map (visits g eq n).old (end_of g)) in
+        (λ i. take (count i) (all i)) ∙ take-append-le (length ends) ends (map (end_of g) (visits g eq n).layer) (omega arith) ∙ take_all (length ends) ends (omega arith)
+
+    -- where no state before the last layer has the mark, no shorter run ends with it
+    pub no-shorter-marked : (mark : ℕ) → All (λ c. g.mark c ≢ Some mark) (take from states) → (m : ℕ) → m < n → (run : Run L) → HasMark g m mark run → ⊥
+    no-shorter-marked mark none m low run o =
+        let each = all-each (λ c. g.mark c ≢ Some mark) (map (end_of g) (visits g eq n).old) (subst (All (λ c. g.mark c ≢ Some mark)) before-is none) in
+        let w = cover g cmp eq F lawful n ((visits g eq n).old ++ (visits g eq n).layer) covered run o.is_run (let short = o.short in omega arith) in
+        let marked : g.mark (end_of g w.0) ≡ Some mark = ap g.mark w.2 ∙ o.marked in
+        let less : steps_of w.0 < n = (let no_longer = later-short cmp lawful.total w.0 run w.3 in let short = o.short in omega arith) in
+        elim (in-cases (visits g eq n).old (visits g eq n).layer w.0 w.1) [
+          | inl a ↦ each-in (λ c. g.mark c ≢ Some mark) (map (end_of g) (visits g eq n).old) each (end_of g w.0) (in-map (end_of g) (visits g eq n).old w.0 a) marked
+          | inr b ↦ let long : steps_of w.0 ≡ n = each-in (λ v. steps_of v ≡ n) (visits g eq n).layer visited.layer_long w.0 b in absurd (omega arith)
+        ]
 
     least : IsLeast g j r laws ((visits g eq n).old ++ (visits g eq n).layer) (visits g eq n).old summary
     least = least-is j r laws g ((visits g eq n).old ++ (visits g eq n).layer) (visits g eq n).old summary
@@ -157,3 +179,9 @@ module _ {C L S : Type 0} (g : Graph C L) (cmp : L → L → Ordering) (eq : C �
             marked = sym (ap g.mark (ap (λ xs. get_or xs place g.first) states_are ∙ state-at runs place g.first within)) ∙ marked;
           },
         )
+
+  -- where a state of the last layer has a label, longer runs reach more
+  pub not-complete : ¬ IsQuiet g (found_after g j r eq n) → ¬ IsComplete g n
+  not-complete loud all =
+      let found = found_after g j r eq n in
+      loud ((complete-is found.states found.steps found.from found.summary refl).1 all)

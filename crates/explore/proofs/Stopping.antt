@@ -1,11 +1,9 @@
 -- Where a search stops before the plan's steps: what has no room, and what has no labels.
-use Rattle.std.proofs.Common.{◌≡◌, ◌≢◌, ℕ, zero, suc, ◌+◌, ◌-◌, ◌<◌, ◌≤◌, Bool, true, false, if◌then◌else◌, List, [], ◌∷◌, ◌++◌, length, get_or, drop, map, sym, refl, ap, subst, ◌∙◌, append_assoc, append-nil, length-append, arith}
-use Rattle.std.specs.Prelude.{All, Option, slice_get, Some}
+use Rattle.std.proofs.Common.{◌≡◌, ◌≢◌, ℕ, zero, suc, ◌+◌, ◌-◌, ◌<◌, ◌≤◌, Bool, true, false, true≢false, if◌then◌else◌, List, [], ◌∷◌, ◌++◌, length, get_or, take, drop, map, sym, refl, ap, subst, ◌∙◌, append_assoc, append-nil, length-append, arith}
+use Rattle.std.specs.Prelude.{All, Option, Some}
 use Rattle.std.specs.Cmp.{IsEquivalence}
-use Rattle.std.specs.List.{list_any}
-use Rattle.std.specs.List.Sorted.{IsStrictlyIncreasing}
-use Rattle.std.proofs.lemmas.List.{length-map}
-use Rattle.std.proofs.lemmas.List.Elements.{All-nil, All-cons, All-get_or}
+use Rattle.std.proofs.lemmas.List.{length-map, take-append-drop, take-append-le, take_all}
+use Rattle.std.proofs.lemmas.List.Elements.{All-nil, All-cons, All-append, All-get_or, All-head, All-tail}
 use mathlib.Core.Logic.{dite}
 use native.Mathlib.Decide.{dec_le, ℕ_discrete}
 use Rattle.search_layer.proofs.Drawing.{stands-at}
@@ -24,7 +22,7 @@ use Rattle.explore.specs.declared.ending.Ending.{Ending}
 use Rattle.explore.specs.declared.ending.Ending.TheVariants as ending
 use Rattle.explore.specs.declared.ending.Stops.{Stops}
 use Rattle.explore.specs.declared.layers.Explored.{Explored}
-use Rattle.explore.specs.internal.Stopped.{HasStopped, IsEnd, complete, all_done, finished_by}
+use Rattle.explore.specs.internal.Stopped.{HasStopped, IsEnd, IsQuiet, IsUnmarked, complete, all_done, finished_by}
 use Rattle.search_layer.specs.declared.plan.Plan.{Plan}
 
 -- ---- there are as many first candidates as new states
@@ -105,6 +103,19 @@ module _ {C L : Type 0} (g : Graph C L) where
       let parts = front-empty (candidates_of g place c (g.enabled c)) (layer_candidates g (place + 1) cs) e in
       All-cons (λ c. g.enabled c ≡ []) c cs (no-labels place c (g.enabled c) parts.0) (quiet-layer (place + 1) cs parts.1)
 
+  -- a layer whose states have no labels has no candidates
+  none-of-quiet : (place : ℕ) (states : List C) → All (λ c. g.enabled c ≡ []) states → layer_candidates g place states ≡ []
+  none-of-quiet place [] all = refl
+  none-of-quiet place (c ∷ cs) all =
+      ap (λ labels. candidates_of g place c labels ++ layer_candidates g (place + 1) cs) (All-head (λ c. g.enabled c ≡ []) c cs all)
+      ∙ none-of-quiet (place + 1) cs (All-tail (λ c. g.enabled c ≡ []) c cs all)
+
+  -- states without a mark, before a place and from it on
+  pub unmarked-both : (states : List C) (from : ℕ) (mark : Option ℕ) → IsUnmarked g (take from states) mark → IsUnmarked g (drop from states) mark → IsUnmarked g states mark
+  unmarked-both states from mark before behind number is =
+      subst (All (λ c. g.mark c ≢ Some number)) (take-append-drop from states)
+      (All-append (λ c. g.mark c ≢ Some number) (take from states) (drop from states) (before number is) (behind number is))
+
   drop-all : {A : Type 0} (xs : List A) → drop (length xs) xs ≡ []
   drop-all [] = refl
   drop-all (x ∷ xs) = drop-all xs
@@ -141,27 +152,53 @@ module _ {C L : Type 0} (g : Graph C L) where
         let far : (m - (n + 1)) + (n + 1) ≡ m = omega arith in
         one ∙ sym (stays (n + 1) (m - (n + 1)) at) ∙ ap (found_after g j r eq) far
 
+    -- where a layer has candidates, the search leads on
+    pub leads-on : (layer from : ℕ) (states : List C) (steps : List (Option (Step L))) (summary : S) (cs : List (Candidate C L))
+        → as_found states steps from summary ≡ found_after g j r eq layer → cs ≡ layer_candidates g from (drop from states) → cs ≢ []
+        → ((k : ℕ) → k < layer → ¬ IsQuiet g (found_after g j r eq k)) → (k : ℕ) → k < layer + 1 → ¬ IsQuiet g (found_after g j r eq k)
+    leads-on layer from states steps summary cs is cs_are some before k low quiet = dite (dec_le (suc k) layer)
+        (λ less. before k less quiet)
+        (λ more.
+        let here : k ≡ layer = omega arith in
+        let last : All (λ c. g.enabled c ≡ []) (drop from states) = subst (λ (f : Found C L S). IsQuiet g f) (ap (found_after g j r eq) here ∙ sym is) quiet in
+        some (cs_are ∙ none-of-quiet from (drop from states) last))
+
+    -- where no state of a layer has a mark, either, none does before the next
+    pub still-unmarked : (mark : Option ℕ) (from from' : ℕ) (states states' : List C) (shown summary' : S) (steps steps' : List (Option (Step L))) (cs : List (Candidate C L))
+        → IsUnmarked g (take from states) mark → IsUnmarked g (drop from states) mark → from' ≡ length states
+        → as_found states' steps' 0 summary' ≡ place_all j r eq (as_found states steps 0 shown) cs → IsUnmarked g (take from' states') mark
+    still-unmarked mark from from' states states' shown summary' steps steps' cs before behind count placed =
+        let more : states' ≡ states ++ map state_of (newly eq states cs) =
+        ap (λ (f : Found C L S). f.states) (placed ∙ all-placed j r eq (as_found states steps 0 shown) cs) in
+        let front : take from' states' ≡ states =
+        (λ i. take (count i) (more i)) ∙ take-append-le (length states) states (map state_of (newly eq states cs)) (omega arith) ∙ take_all (length states) states (omega arith) in
+        subst (λ xs. IsUnmarked g xs mark) (sym front) (unmarked-both states from mark before behind)
+
     module _ (F : C → Type 0) (plan : Plan) (stops : Stops) where
       -- the search ends with what it found, for a reason
       pub ended-here : (e d : Explored C L S) (layer : ℕ) (why : Ending) → d ≡ record e { ending = why }
           → as_found e.visited.states.keys e.visited.steps.items e.from e.summary ≡ found_after g j r eq layer
           → All F e.visited.states.keys → length e.visited.states.keys ≤ plan.limit → e.from ≤ length e.visited.states.keys → e.steps ≡ layer → layer ≤ plan.steps
+          → ((k : ℕ) → k < layer → ¬ IsQuiet g (found_after g j r eq k)) → IsUnmarked g (take e.from e.visited.states.keys) stops.at_mark
           → HasStopped g j r eq plan stops e.visited.states.keys e.from layer why → IsEnd g j r eq F plan stops d
-      ended-here e d layer why same is fits within from steps below stop = subst (IsEnd g j r eq F plan stops) (sym same) (record {
+      ended-here e d layer why same is fits within from steps below led unmarked stop = subst (IsEnd g j r eq F plan stops) (sym same) (record {
         found = is ∙ ap (found_after g j r eq) (sym steps);
         fits = fits;
         within = within;
         from = from;
         steps = omega arith;
         stopped = subst (λ k. HasStopped g j r eq plan stops e.visited.states.keys e.from k why) (sym steps) stop;
+        led_on = λ wanted k low. led k (subst (λ n. k < n) steps low);
+        unmarked = unmarked;
       })
 
       -- behind a layer without candidates the search ends as it is to end
       pub finishes : (e : Explored C L S) (layer : ℕ) (cs : List (Candidate C L)) → layer < plan.steps
           → as_found e.visited.states.keys e.visited.steps.items e.from e.summary ≡ found_after g j r eq layer
           → All F e.visited.states.keys → length e.visited.states.keys ≤ plan.limit → e.from ≤ length e.visited.states.keys → e.steps ≡ layer → e.ending ≡ ending.Steps
+          → ((k : ℕ) → k < layer → ¬ IsQuiet g (found_after g j r eq k)) → IsUnmarked g (take e.from e.visited.states.keys) stops.at_mark → IsUnmarked g (drop e.from e.visited.states.keys) stops.at_mark
           → cs ≡ layer_candidates g e.from (drop e.from e.visited.states.keys) → cs ≡ [] → IsEnd g j r eq F plan stops (finished_by plan stops e)
-      finishes e layer cs below is fits within from steps going cs_are none = by-case stops.when_complete refl
+      finishes e layer cs below is fits within from steps going led before behind cs_are none = by-case stops.when_complete refl
         where
           by-case : (b : Bool) → stops.when_complete ≡ b
               → IsEnd g j r eq F plan stops (if b then record e { ending = ending.Complete } else record e { from = length e.visited.states.keys; steps = plan.steps })
@@ -172,6 +209,8 @@ module _ {C L : Type 0} (g : Graph C L) where
             from = from;
             steps = omega arith;
             stopped = complete stop (quiet-layer e.from (drop e.from e.visited.states.keys) (sym cs_are ∙ none));
+            led_on = λ wanted k low. led k (subst (λ n. k < n) steps low);
+            unmarked = before;
           }
           by-case false go = record {
             found = nothing-more layer plan.steps e.from e.visited.states.keys e.visited.steps.items e.summary cs below is cs_are none;
@@ -180,6 +219,10 @@ module _ {C L : Type 0} (g : Graph C L) where
             from = omega arith;
             steps = omega arith;
             stopped = subst (HasStopped g j r eq plan stops e.visited.states.keys (length e.visited.states.keys) plan.steps) (sym going) (all_done refl);
+            led_on = λ wanted. absurd (true≢false (sym wanted ∙ go));
+            unmarked =
+                let all : take (length e.visited.states.keys) e.visited.states.keys ≡ e.visited.states.keys = take_all (length e.visited.states.keys) e.visited.states.keys (omega arith) in
+                subst (λ xs. IsUnmarked g xs stops.at_mark) (sym all) (unmarked-both e.visited.states.keys e.from stops.at_mark before behind);
           }
 
     -- where the new states have no room, this layer and each later one have more states than the limit

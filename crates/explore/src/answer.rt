@@ -2,7 +2,7 @@ ghost use Rattle.std.specs.Prelude.{◌≡◌, ◌↔◌, ℕ, ◌<◌, ◌≤�
 ghost use Rattle.summary.specs.Exploration.{Counts, IsComplete};
 ghost use Rattle.summary.specs.Sums.{sum_of};
 ghost use Rattle.explore.specs.Best.{AreBest};
-ghost use Rattle.explore.specs.Endings.{HasEnded};
+ghost use Rattle.explore.specs.Endings.{AreTooMany, HasEnded};
 ghost use Rattle.search_layer.specs.Limits.{IsWithinLimits};
 ghost use Rattle.explore.specs.Sightings.{AreSighted, shown_at_end, shown_by_step};
 ghost use Rattle.explore.specs.internal.Stopped.{IsEnd, IsSearched};
@@ -75,7 +75,8 @@ pub fn explore<Y: System, U: Summary<Y>, G: Gate, R: Threads + Sync>(
 
 /// Explores every run of at most the plan's steps, or of fewer steps where one of the stops comes first.
 ///
-/// Refusals are those of `explore`. `TooMany` is no refusal where the exploration is to end at the limit.
+/// Refusals are those of `explore`, but for `TooMany`: it comes only where the exploration isn't to end at the limit, and
+/// where no other stop comes before more states than the limit are reached.
 pub fn explore_until<Y: System, U: Summary<Y>, G: Gate, R: Threads + Sync>(
     rt: &R,
     alloc: Global,
@@ -87,12 +88,11 @@ pub fn explore_until<Y: System, U: Summary<Y>, G: Gate, R: Threads + Sync>(
     ensures bad_plan { IsErrOf result ExploreError.BadPlan ↔ ¬ IsWithinLimits plan.now }
     ensures planned { OnOk result (IsWithinLimits plan.now) }
 
-    // More states than the limit are reached.
-    ensures too_many { IsErrOf result ExploreError.TooMany
-        → (count : ℕ) × Counts (Y.graph system.now) plan.now.steps count × (plan.now.limit < count) }
+    // More states than the limit are reached, with each number of steps with which it may end.
+    ensures too_many { IsErrOf result ExploreError.TooMany → AreTooMany (Y.graph system.now) plan.now stops.now }
     ensures limited { IsErrOf result ExploreError.TooMany → stops.now.at_limit ≡ false }
 
-    // The answer is of a bound within the plan's, and a stop says why it is less.
+    // The answer is of a bound within the plan's, the least with which it may end.
     ensures steps { IfOk result (λ reached. reached.steps ≤ plan.now.steps) }
     ensures ended { IfOk result (λ reached. HasEnded (Y.graph system.now) plan.now stops.now reached.steps reached.ending) }
 
@@ -135,12 +135,11 @@ pub fn explore_watched<Y: Watched, U: Summary<Y>, G: Gate, R: Threads + Sync>(
     ensures bad_plan { IsErrOf result ExploreError.BadPlan ↔ ¬ IsWithinLimits plan.now }
     ensures planned { OnOk result (IsWithinLimits plan.now) }
 
-    // More states than the limit are reached.
-    ensures too_many { IsErrOf result ExploreError.TooMany
-        → (count : ℕ) × Counts (Y.graph system.now) plan.now.steps count × (plan.now.limit < count) }
+    // More states than the limit are reached, with each number of steps with which it may end.
+    ensures too_many { IsErrOf result ExploreError.TooMany → AreTooMany (Y.graph system.now) plan.now stops.now }
     ensures limited { IsErrOf result ExploreError.TooMany → stops.now.at_limit ≡ false }
 
-    // The answer is of a bound within the plan's, and a stop says why it is less.
+    // The answer is of a bound within the plan's, the least with which it may end.
     ensures steps { IfOk result (λ s. s.reached.steps ≤ plan.now.steps) }
     ensures ended { IfOk result (λ s. HasEnded (Y.graph system.now) plan.now stops.now s.reached.steps s.reached.ending) }
 

@@ -1,8 +1,8 @@
-ghost use Rattle.std.specs.Prelude.{◌≡◌, ◌≢◌, ◌↔◌, ◌+◌, ◌^◌, ◌<◌, ◌≤◌, ℕ, [], ◌∷◌, ◌++◌, suc, length, None, Some, false, All, IfOk, OnOk, IsErrOf, IsTrue};
+ghost use Rattle.std.specs.Prelude.{◌≡◌, ◌≢◌, ◌↔◌, ◌+◌, ◌^◌, ◌<◌, ◌≤◌, ℕ, [], ◌∷◌, ◌++◌, suc, length, drop, None, Some, false, All, IfOk, OnOk, IsErrOf, IsTrue};
 ghost use Rattle.search_layer.specs.Limits.{IsWithinLimits};
-ghost use Rattle.search_layer.specs.internal.Search.{with_steps, place_all, found_after, as_found};
+ghost use Rattle.search_layer.specs.internal.Search.{with_steps, place_all, as_found};
 ghost use Rattle.search_layer.specs.internal.Work.{AreFirst};
-ghost use Rattle.explore.specs.internal.Stopped.{IsEnd, IsMarked, finished_by};
+ghost use Rattle.explore.specs.internal.Stopped.{HasNoRoom, IsEnd, IsMarked, IsUnmarked, finished_by};
 
 use crate::ending::{Ending, Stops};
 use crate::expand::expand_and_drop;
@@ -112,7 +112,7 @@ fn are_too_many(plan: &Plan, states: usize, new: usize) -> bool
 /// Whether a state has a mark.
 fn has_mark<Y: System>(system: &Y, state: &Y::State, mark: u8) -> bool
     requires { Y.fits system.now state.now }
-    ensures { IsTrue result → (Y.graph system.now).mark state.now ≡ Some mark }
+    ensures { IsTrue result ↔ ((Y.graph system.now).mark state.now ≡ Some mark) }
 {
     system.mark(state) == Some(mark)
 }
@@ -125,7 +125,8 @@ fn is_marked<Y: System>(
     mark: Option<u8>,
 ) -> bool
     requires { All (Y.fits system.now) states.now.keys }
-    ensures { IsTrue result → IsMarked (Y.graph system.now) states.now.keys mark }
+    ensures some { IsTrue result → IsMarked (Y.graph system.now) states.now.keys mark }
+    ensures none { result ≡ false → IsUnmarked (Y.graph system.now) (drop from states.now.keys) mark }
 {
     let Some(mark) = mark else {
         return false;
@@ -197,8 +198,7 @@ pub fn search<Y: System, U: Summary<Y>, G: Gate, R: Threads + Sync>(
 ) -> Result<Explored<Y::State, Y::Label, U>, ExploreError>
     requires plan { IsWithinLimits plan.now }
     ensures end { IfOk result (IsEnd (Y.graph system.now) U.joins (U.observation system.now) Y.State.eq (Y.fits system.now) plan.now stops.now) }
-    ensures too_many { IsErrOf result ExploreError.TooMany → plan.now.limit
-        < length (found_after (Y.graph system.now) U.joins (U.observation system.now) Y.State.eq plan.now.steps).states }
+    ensures too_many { IsErrOf result ExploreError.TooMany → HasNoRoom (Y.graph system.now) U.joins (U.observation system.now) Y.State.eq plan.now stops.now }
     ensures limited { IsErrOf result ExploreError.TooMany → stops.now.at_limit ≡ false }
     ensures planned { result ≢ Err ExploreError.BadPlan }
 {

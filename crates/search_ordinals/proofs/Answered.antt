@@ -8,11 +8,11 @@ use Rattle.std.specs.declared.cmp.Ordering.{Ordering}
 use Rattle.std.specs.declared.cmp.Ordering.TheVariants.{Less}
 use Rattle.std.specs.declared.vec.Vec.{Vec}
 use Rattle.explore.specs.Best.{AreBest, IsBestOf}
-use Rattle.explore.specs.Endings.{HasEnded, all_done, at_limit, at_mark, complete}
+use Rattle.explore.specs.Endings.{AreTooMany, HasEnded, MayEnd, all_done, at_limit, at_mark, complete}
 use Rattle.explore.specs.declared.ending.Ending.{Ending}
 use Rattle.explore.specs.declared.ending.Stops.{Stops}
 use Rattle.search_layer.specs.declared.plan.Plan.{Plan}
-use Rattle.search_ordinals.proofs.Explored.{best-told, complete-told, counts-told, marked-told, told-marked}
+use Rattle.search_ordinals.proofs.Explored.{best-told, complete-told, counts-told, marked-told, told-counts, told-marked}
 use Rattle.search_ordinals.proofs.Runs.{run-of, told-of}
 use Rattle.search_ordinals.proofs.Sums.{sums-told}
 use Rattle.search_ordinals.specs.OrdinalOrder.{ordinal_cmp}
@@ -33,12 +33,28 @@ module _ {C L B : Type 0} (branch : C → L → Option B) (g : Graph C L) where
   abbrev h : Graph C (Ordinal B)
   h = ordinal_graph branch g
 
-  pub ended-told : (plan : Plan) (stops : Stops) (steps : ℕ) (end : Ending) → HasEnded h plan stops steps end → HasEnded g plan stops steps end
-  ended-told plan stops steps end (all_done same) = all_done same
-  ended-told plan stops steps end (at_limit wanted below counts more) = at_limit wanted below (counts-told branch g _ _ counts) more
-  ended-told plan stops steps end (complete wanted is) = complete wanted ((complete-told branch g steps).0 is)
-  ended-told plan stops steps end (at_mark wanted has) =
+  may-told : (plan : Plan) (stops : Stops) (steps : ℕ) (end : Ending) → MayEnd h plan stops steps end → MayEnd g plan stops steps end
+  may-told plan stops steps end (all_done same) = all_done same
+  may-told plan stops steps end (at_limit wanted below counts more) = at_limit wanted below (counts-told branch g _ _ counts) more
+  may-told plan stops steps end (complete wanted is) = complete wanted ((complete-told branch g steps).0 is)
+  may-told plan stops steps end (at_mark wanted has) =
       let found = run-of branch g _ has.is_run in at_mark wanted (marked-told branch g steps _ found.0 _ found.1 has)
+
+  told-may : (plan : Plan) (stops : Stops) (steps : ℕ) (end : Ending) → MayEnd g plan stops steps end → MayEnd h plan stops steps end
+  told-may plan stops steps end (all_done same) = all_done same
+  told-may plan stops steps end (at_limit wanted below counts more) = at_limit wanted below (told-counts branch g _ _ counts) more
+  told-may plan stops steps end (complete wanted is) = complete wanted ((complete-told branch g steps).1 is)
+  told-may plan stops steps end (at_mark wanted has) =
+      let found = told-of branch g _ has.is_run in at_mark wanted (told-marked branch g steps _ _ found.0 found.1 has)
+
+  pub ended-told : (plan : Plan) (stops : Stops) (steps : ℕ) (end : Ending) → HasEnded h plan stops steps end → HasEnded g plan stops steps end
+  ended-told plan stops steps end ended = record {
+    may = may-told plan stops steps end ended.may;
+    least = λ fewer other low may. ended.least fewer other low (told-may plan stops fewer other may);
+  }
+
+  pub too-many-told : (plan : Plan) (stops : Stops) → AreTooMany h plan stops → AreTooMany g plan stops
+  too-many-told plan stops many steps why may = let more = many steps why (told-may plan stops steps why may) in (more.0, counts-told branch g steps more.0 more.1, more.2)
 
   module _ (cmp : L → L → Ordering) (n : ℕ) where
     -- where a run of ordinals is best, some run is told by it

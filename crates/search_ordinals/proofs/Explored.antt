@@ -49,6 +49,15 @@ module _ {C L B : Type 0} (branch : C → L → Option B) (g : Graph C L) where
     number = counts.number;
   }
 
+  pub told-counts : (n count : ℕ) → Counts g n count → Counts h n count
+  told-counts n count counts = record {
+    configurations = counts.configurations;
+    different = counts.different;
+    reached = λ c found. to-reached n c (counts.reached c found);
+    all = λ c is. counts.all c (from-reached n c is);
+    number = counts.number;
+  }
+
   -- ---- whether longer runs reach more
 
   none-told : (c : C) → g.enabled c ≡ [] → h.enabled c ≡ []

@@ -1,9 +1,9 @@
 //! Explorations that keep of each step its ordinal and its branch.
-ghost use Rattle.std.specs.Prelude.{◌≡◌, ◌↔◌, ℕ, ◌<◌, ◌≤◌, false, IfOk, OnOk, IsTrue, IsErrOf};
+ghost use Rattle.std.specs.Prelude.{◌≡◌, ◌↔◌, ℕ, ◌≤◌, false, IfOk, OnOk, IsTrue, IsErrOf};
 ghost use Rattle.summary.specs.Exploration.{Counts, IsComplete};
 ghost use Rattle.summary.specs.Sums.{sum_of};
 ghost use Rattle.explore.specs.Best.{AreBest};
-ghost use Rattle.explore.specs.Endings.{HasEnded};
+ghost use Rattle.explore.specs.Endings.{AreTooMany, HasEnded};
 ghost use Rattle.search_layer.specs.Limits.{IsWithinLimits};
 
 use crate::branched::Branched;
@@ -29,12 +29,11 @@ pub fn explore_by_ordinals<Y: Branched, G: Gate, R: Threads + Sync>(
     ensures bad_plan { IsErrOf result ExploreError.BadPlan ↔ ¬ IsWithinLimits plan.now }
     ensures planned { OnOk result (IsWithinLimits plan.now) }
 
-    // More states than the limit are reached.
-    ensures too_many { IsErrOf result ExploreError.TooMany
-        → (count : ℕ) × Counts (Y.graph system.now) plan.now.steps count × (plan.now.limit < count) }
+    // More states than the limit are reached, with each number of steps with which it may end.
+    ensures too_many { IsErrOf result ExploreError.TooMany → AreTooMany (Y.graph system.now) plan.now stops.now }
     ensures limited { IsErrOf result ExploreError.TooMany → stops.now.at_limit ≡ false }
 
-    // The answer is of a bound within the plan's, and a stop says why it is less.
+    // The answer is of a bound within the plan's, the least with which it may end.
     ensures steps { IfOk result (λ reached. reached.steps ≤ plan.now.steps) }
     ensures ended { IfOk result (λ reached. HasEnded (Y.graph system.now) plan.now stops.now reached.steps reached.ending) }
 

@@ -26,7 +26,7 @@ pub fn ordinals_tell_runs<C, L, B>()
 /// What is counted, summed up, complete or best of the runs of ordinals is so of the runs that they tell. What is summed up
 /// may read of a step the branch that it takes, and nothing else.
 pub fn ordinals_are_explored_alike<C, L, B, S>()
-    ensures counts { (branch : C → L → Option B) (g : Graph C L) (n count : ℕ) → Counts (ordinal_graph branch g) n count → Counts g n count }
+    ensures counts { (branch : C → L → Option B) (g : Graph C L) (n count : ℕ) → Counts (ordinal_graph branch g) n count ↔ Counts g n count }
     ensures complete { (branch : C → L → Option B) (g : Graph C L) (n : ℕ) → IsComplete (ordinal_graph branch g) n ↔ IsComplete g n }
     ensures marked { (branch : C → L → Option B) (g : Graph C L) (n mark : ℕ) (run : Run L) (told : Run (Ordinal B)) → IsTold branch g run told → HasMark (ordinal_graph branch g) n mark told ↔ HasMark g n mark run }
     ensures sums { (branch : C → L → Option B) (g : Graph C L) (j : Join S) (r : Observation C L S) (t : Observation C (Ordinal B) S)

@@ -1,5 +1,5 @@
 -- What a report tells of the runs that keep a bound, from what was found, and why there is none.
-use Rattle.std.proofs.Common.{◌≡◌, ◌<◌, ◌≤◌, ℕ, Bool, List, false, ap, inl, inr, refl, sym, subst, ◌∙◌}
+use Rattle.std.proofs.Common.{◌≡◌, ◌≤◌, ℕ, Bool, List, false, ap, inl, inr, refl, sym, subst, ◌∙◌}
 use Rattle.std.specs.Prelude.{◌⊎◌, ◌↔◌, Err, IsTrue, Result, string_bytes}
 use Rattle.explore.specs.declared.ending.Stops.{Stops}
 use Rattle.laws_bounds.specs.BoundedParts.{CountsBounded, IsCompleteBounded}
@@ -20,6 +20,7 @@ use Rattle.ttcnx.specs.Named.{HasNoTest, IsTestOf, Source}
 use Rattle.ttcnx.specs.declared.fault.Fault.{Fault}
 use Rattle.ttcnx.specs.declared.fault.Fault.TheVariants as fault
 use Rattle.ttcnx.specs.declared.until.Until.{Until}
+use Rattle.ttcnx_bounds.specs.BoundedEndings.{AreTooManyBounded}
 use Rattle.ttcnx_bounds.specs.BoundedFound.{AreBlockedBounded, AreBranchesBounded, AreFoundBounded}
 use Rattle.ttcnx_runs.specs.declared.exploration.Exploration.{Exploration}
 
@@ -53,8 +54,8 @@ module _ (given : Source) (name : List ℕ) (bound : Bound) (plan : Plan) (stops
 
   -- the search gives no answer
   pub no-answer : (test : Test) (e : ExploreError) → IsTestOf given name test → (e ≡ searching.BadPlan → IsWithinLimits plan → ⊥)
-      → (e ≡ searching.TooMany → (count : ℕ) × CountsBounded test bound plan.steps count × (plan.limit < count)) → (e ≡ searching.TooMany → stops.at_limit ≡ false)
+      → (e ≡ searching.TooMany → AreTooManyBounded test bound plan stops) → (e ≡ searching.TooMany → stops.at_limit ≡ false)
       → (◌≡◌ {A = Result Until Fault} (Err (explore_fault e)) (Err fault.Memory)) ⊎ IsAnswerBounded given name bound plan stops (Err (explore_fault e))
   no-answer test searching.BadPlan is out many limited = absurd (out refl fine)
-  no-answer test searching.TooMany is out many limited = let more = many refl in inr (too_many fine is (limited refl) more.1 more.2)
+  no-answer test searching.TooMany is out many limited = inr (too_many fine is (limited refl) (many refl))
   no-answer test searching.Memory is out many limited = inl refl

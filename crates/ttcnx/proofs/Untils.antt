@@ -1,10 +1,10 @@
 -- Answers of explorations that end where they are to end.
-use Rattle.std.proofs.Common.{◌≡◌, ◌<◌, ◌≤◌, ℕ, None, false, List, ap, inl, inr, refl, subst, sym, arith}
+use Rattle.std.proofs.Common.{◌≡◌, ◌≤◌, ℕ, None, false, List, ap, inl, inr, refl, subst, sym, arith}
 use Rattle.std.specs.Prelude.{◌⊎◌, Err, Ok, Result, string_bytes}
+use Rattle.explore.specs.declared.ending.Ending.TheVariants as ending
 use Rattle.explore.specs.declared.ending.Stops.{Stops}
 use Rattle.report.specs.declared.report.Report.{Report}
 use Rattle.search_layer.specs.Limits.{IsWithinLimits}
-use Rattle.laws_live.specs.Parts.{CountsParts}
 use Rattle.search_layer.specs.declared.plan.ExploreError.{ExploreError}
 use Rattle.search_layer.specs.declared.plan.ExploreError.TheVariants as searching
 use Rattle.search_layer.specs.declared.plan.Plan.{Plan}
@@ -22,7 +22,7 @@ use Rattle.ttcnx.specs.declared.fault.Fault.TheVariants as fault
 use Rattle.ttcnx.specs.declared.until.Sighted.{Sighted}
 use Rattle.ttcnx.specs.declared.until.Until.{Until}
 use Rattle.ttcnx_runs.proofs.Assembly.{all-steps}
-use Rattle.ttcnx_runs.specs.Endings.{HaveEnded}
+use Rattle.ttcnx_runs.specs.Endings.{AreTooMany, HaveEnded, all_done}
 use Rattle.ttcnx_runs.specs.Extents.{IsExtent}
 use Rattle.ttcnx_runs.specs.declared.exploration.Extent.{Extent}
 
@@ -52,10 +52,10 @@ module _ (given : Source) (name : List ℕ) (plan : Plan) (stops : Stops) (fine 
 
   -- the search gives no answer
   pub no-answer : (test : Test) (e : ExploreError) → IsTestOf given name test → (e ≡ searching.BadPlan → IsWithinLimits plan → ⊥)
-      → (e ≡ searching.TooMany → (count : ℕ) × CountsParts test plan.steps count × (plan.limit < count)) → (e ≡ searching.TooMany → stops.at_limit ≡ false)
+      → (e ≡ searching.TooMany → AreTooMany test plan stops) → (e ≡ searching.TooMany → stops.at_limit ≡ false)
       → (explore_fault e ≡ fault.Memory) ⊎ IsRefusedUntil given name plan stops (explore_fault e)
   no-answer test searching.BadPlan is out many limited = absurd (out refl fine)
-  no-answer test searching.TooMany is out many limited = let more = many refl in inr (too_many fine is (limited refl) more.1 more.2)
+  no-answer test searching.TooMany is out many limited = inr (too_many fine is (limited refl) (many refl))
   no-answer test searching.Memory is out many limited = inl refl
 
   -- the report on what was found, and why it is of no more steps
@@ -79,7 +79,7 @@ module _ (given : Source) (name : List ℕ) (plan : Plan) (stops : Stops) (no_li
   unstopped-refusal : (why : Fault) → IsRefusedUntil given name plan stops why → IsAnswer given name plan (Err why)
   unstopped-refusal why (beyond out) = answer.beyond out
   unstopped-refusal why (lacking fine lacks) = answer.lacking fine lacks
-  unstopped-refusal why (too_many fine is limited counts more) = answer.named fine is (answer.too_many counts more)
+  unstopped-refusal why (too_many fine is limited many) = let more = many plan.steps ending.Steps (all_done refl) in answer.named fine is (answer.too_many more.1 more.2)
 
   -- the report beside which the least runs stand
   pub sighted-report : (sights : Sighted) → IsAnswerSighted given name plan stops (Ok sights) → IsAnswer given name plan (Ok sights.until.report)

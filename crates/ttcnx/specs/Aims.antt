@@ -28,7 +28,7 @@ IsLeastToAim test n (aim.Block place) = IsLeastTo (graph_of test) label_cmp n (s
 pub data IsAnswerTo (given : Source) (name : List ℕ) (plan : Plan) (stops : Stops) (aim : Aim) : Result Reaching Fault → Type 0 where
   -- there is no answer for the test case: why, as where a report is wanted
   refused : {why : Fault} → IsRefusedUntil given name plan stops why → IsAnswerTo given name plan stops aim (Err why)
-  -- the least run to the aim, if there is one, of a bound within the plan's, and why it is no greater
+  -- the least run to the aim, if there is one, of a bound within the plan's: the least with which the exploration may end
   reached : {reaching : Reaching} {test : Test} → IsWithinLimits plan → IsTestOf given name test → reaching.steps ≤ plan.steps
       → HaveEnded test plan stops reaching.steps reaching.ending
       → IsLeastToAim test reaching.steps aim (option_map (λ run. run.items) reaching.run) → IsAnswerTo given name plan stops aim (Ok reaching)

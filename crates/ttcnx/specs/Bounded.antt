@@ -1,5 +1,5 @@
 -- What is answered where the runs of a test case that keep a bound on expiries of timers are explored, unless an allocation fails.
-use Rattle.std.specs.Prelude.{◌≡◌, ◌<◌, ◌≤◌, ◌↔◌, ◌||◌, ℕ, false, List, Option, None, Some, Result, Ok, Err, IsTrue, if◌then◌else◌, is_some, string_bytes}
+use Rattle.std.specs.Prelude.{◌≡◌, ◌≤◌, ◌↔◌, ◌||◌, ℕ, false, List, Option, None, Some, Result, Ok, Err, IsTrue, if◌then◌else◌, is_some, string_bytes}
 use Rattle.std.specs.declared.alloc.Global.{Global}
 use Rattle.std.specs.declared.vec.Vec.{Vec}
 use Rattle.explore.specs.declared.ending.Stops.{Stops}
@@ -17,7 +17,7 @@ use Rattle.ttcnx.specs.declared.fault.Fault.{Fault}
 use Rattle.ttcnx.specs.declared.fault.Fault.TheVariants as fault
 use Rattle.ttcnx.specs.declared.until.Until.{Until}
 use Rattle.ttcnx_command_line.specs.declared.command.Wishes.{Wishes}
-use Rattle.ttcnx_bounds.specs.BoundedEndings.{HaveEndedBounded}
+use Rattle.ttcnx_bounds.specs.BoundedEndings.{AreTooManyBounded, HaveEndedBounded}
 use Rattle.ttcnx_bounds.specs.BoundedFound.{AreBlockedBounded, AreBranchesBounded, IsBestRunBounded}
 
 -- the bound on expiries that is wished, where there is one
@@ -52,9 +52,10 @@ pub data IsAnswerBounded (given : Source) (name : List ℕ) (bound : Bound) (pla
   beyond : (IsWithinLimits plan → ⊥) → IsAnswerBounded given name bound plan stops (Err fault.BadPlan)
   -- the plan is within its limits, and there is no test case of the name with the script: why
   lacking : {why : Fault} → IsWithinLimits plan → HasNoTest given name why → IsAnswerBounded given name bound plan stops (Err why)
-  -- there is one, its runs that keep the bound reach more pairs than the limit, and the exploration is not to end there
-  too_many : {test : Test} {count : ℕ} → IsWithinLimits plan → IsTestOf given name test → stops.at_limit ≡ false → CountsBounded test bound plan.steps count → plan.limit < count
+  -- there is one, the exploration is not to end at the limit, and wherever it may end the runs that keep the bound reach more pairs
+  -- than that
+  too_many : {test : Test} → IsWithinLimits plan → IsTestOf given name test → stops.at_limit ≡ false → AreTooManyBounded test bound plan stops
       → IsAnswerBounded given name bound plan stops (Err fault.TooMany)
-  -- there is one: the report on those of its runs that keep the bound, and why it is of no longer ones
+  -- there is one: the report on those of its runs that keep the bound, of the fewest steps with which the exploration may end
   told : {until : Until} {test : Test} → IsWithinLimits plan → IsTestOf given name test → TellsBounded test name bound plan until.report
       → HaveEndedBounded test bound plan stops until.report.steps until.ending → IsAnswerBounded given name bound plan stops (Ok until)

@@ -1,8 +1,7 @@
 -- What is answered where the runs of a test case are explored until a stop, unless an allocation fails.
-use Rattle.std.specs.Prelude.{◌≡◌, ◌<◌, ◌≤◌, ℕ, false, List, Result, Ok, Err}
+use Rattle.std.specs.Prelude.{◌≡◌, ◌≤◌, ℕ, false, List, Result, Ok, Err}
 use Rattle.std.specs.Option.{option_map}
 use Rattle.explore.specs.declared.ending.Stops.{Stops}
-use Rattle.laws_live.specs.Parts.{CountsParts}
 use Rattle.search_layer.specs.Limits.{IsWithinLimits}
 use Rattle.search_layer.specs.declared.plan.Plan.{Plan}
 use Rattle.semantics.specs.Configurations.{badness}
@@ -13,7 +12,7 @@ use Rattle.ttcnx.specs.declared.fault.Fault.{Fault}
 use Rattle.ttcnx.specs.declared.fault.Fault.TheVariants as fault
 use Rattle.ttcnx.specs.declared.until.Until.{Until}
 use Rattle.ttcnx_command_line.specs.declared.command.Wishes.{Wishes}
-use Rattle.ttcnx_runs.specs.Endings.{HaveEnded}
+use Rattle.ttcnx_runs.specs.Endings.{AreTooMany, HaveEnded}
 
 -- where an exploration ends by what is wished: at the limit, where the report is complete, where some run ends with the verdict
 abbrev pub stops_of : Wishes → Stops
@@ -29,15 +28,14 @@ pub data IsRefusedUntil (given : Source) (name : List ℕ) (plan : Plan) (stops 
   beyond : (IsWithinLimits plan → ⊥) → IsRefusedUntil given name plan stops fault.BadPlan
   -- the plan is within its limits, and there is no test case of the name with the script: why
   lacking : {why : Fault} → IsWithinLimits plan → HasNoTest given name why → IsRefusedUntil given name plan stops why
-  -- there is one, its runs reach more configurations than the limit, and the exploration is not to end there
-  too_many : {test : Test} {count : ℕ} → IsWithinLimits plan → IsTestOf given name test → stops.at_limit ≡ false → CountsParts test plan.steps count → plan.limit < count
-      → IsRefusedUntil given name plan stops fault.TooMany
+  -- there is one, the exploration is not to end at the limit, and wherever it may end its runs reach more configurations than that
+  too_many : {test : Test} → IsWithinLimits plan → IsTestOf given name test → stops.at_limit ≡ false → AreTooMany test plan stops → IsRefusedUntil given name plan stops fault.TooMany
 
 -- what is answered
 pub data IsAnswerUntil (given : Source) (name : List ℕ) (plan : Plan) (stops : Stops) : Result Until Fault → Type 0 where
   -- there is no report: why
   refused : {why : Fault} → IsRefusedUntil given name plan stops why → IsAnswerUntil given name plan stops (Err why)
-  -- the report of a bound within the plan's, which is the answer for this bound, and why it is no greater
+  -- the report of a bound within the plan's, which is the answer for this bound: the least with which the exploration may end
   reached : {until : Until} {test : Test} → IsTestOf given name test → until.report.steps ≤ plan.steps
       → IsAnswer given name (with_steps plan until.report.steps) (Ok until.report)
       → HaveEnded test plan stops until.report.steps until.ending → IsAnswerUntil given name plan stops (Ok until)

@@ -1,9 +1,9 @@
 -- What a search over live parts within a bound answers is true of the runs that keep it, on whole configurations.
-use Rattle.std.proofs.Common.{◌≡◌, ℕ, None, true, false, true≢false, suc, ◌<◌, ◌≤◌, length, subst, sym, ap, ◌∙◌}
+use Rattle.std.proofs.Common.{◌≡◌, ℕ, None, false, true≢false, suc, ◌≤◌, length, subst, sym, ap, ◌∙◌}
 use Rattle.std.specs.Prelude.{◌↔◌, IsTrue, Ok, Err}
 use Rattle.explore.specs.Best.{AreBest}
 use Rattle.explore.specs.Endings as ended
-use Rattle.explore.specs.Endings.{HasEnded}
+use Rattle.explore.specs.Endings.{AreTooMany, HasEnded, MayEnd}
 use Rattle.explore.specs.declared.ending.Ending.{Ending}
 use Rattle.explore.specs.declared.ending.Stops.{Stops}
 use Rattle.laws_bounds.proofs.BoundedTests.{complete-bounded, counts-bounded, marked-bounded}
@@ -18,7 +18,7 @@ use Rattle.semantics.specs.Snapshots.{Test}
 use Rattle.summary.specs.Exploration.{Counts, IsComplete}
 use Rattle.ttcnx_bounds.proofs.Bests.{best-stays, best-within}
 use Rattle.ttcnx_bounds.proofs.Sums.{blocked-bounded, blocked_within, branch_within, branches-bounded, parts_within}
-use Rattle.ttcnx_bounds.specs.BoundedEndings.{HaveEndedBounded, all_done, at_limit, at_mark, complete}
+use Rattle.ttcnx_bounds.specs.BoundedEndings.{AreTooManyBounded, HaveEndedBounded, MayEndBounded, all_done, at_limit, at_mark, complete}
 use Rattle.ttcnx_bounds.specs.BoundedFound.{AreFoundBounded}
 use Rattle.ttcnx_bounds.specs.internal.BoundedExplored.{IsExploredBounded}
 use Rattle.ttcnx_runs.specs.Answers.{IsMadeOf, Searched}
@@ -33,15 +33,28 @@ pub record AreSummedBounded (test : Test) (bound : Bound) (n : ℕ) (answer : Se
   pub blocked : answer.summary.second.second.components ≡ blocked_of (parts_within test bound) (blocked_within test) n
 
 module _ (test : Test) (bound : Bound) where
-  too-many-pairs : (n limit : ℕ) → ((count : ℕ) × Counts (parts_within test bound) n count × (limit < count)) → (count : ℕ) × CountsBounded test bound n count × (limit < count)
-  too-many-pairs n limit more = (more.0, (counts-bounded test bound n more.0).0 more.1, more.2)
+  -- why the search over live parts may end is why the exploration of the runs may
+  parts-may : (plan : Plan) (stops : Stops) (steps : ℕ) (why : Ending) → MayEnd (parts_within test bound) plan stops steps why → MayEndBounded test bound plan stops steps why
+  parts-may plan stops steps why (ended.all_done done) = all_done done
+  parts-may plan stops steps why (ended.at_limit {count} stop low counts many) = at_limit stop low ((counts-bounded test bound (suc steps) count).0 counts) many
+  parts-may plan stops steps why (ended.complete stop is) = complete stop ((complete-bounded test bound steps).0 is)
+  parts-may plan stops steps why (ended.at_mark {mark} {run} is has) = at_mark is ((marked-bounded test bound steps mark run).0 has)
+
+  runs-may : (plan : Plan) (stops : Stops) (steps : ℕ) (why : Ending) → MayEndBounded test bound plan stops steps why → MayEnd (parts_within test bound) plan stops steps why
+  runs-may plan stops steps why (all_done done) = ended.all_done done
+  runs-may plan stops steps why (at_limit {count} stop low counts many) = ended.at_limit stop low ((counts-bounded test bound (suc steps) count).1 counts) many
+  runs-may plan stops steps why (complete stop is) = ended.complete stop ((complete-bounded test bound steps).1 is)
+  runs-may plan stops steps why (at_mark {mark} {run} is has) = ended.at_mark is ((marked-bounded test bound steps mark run).1 has)
 
   -- why the search over live parts went no further is why the exploration of the runs did not
   runs-ended : (plan : Plan) (stops : Stops) (steps : ℕ) (why : Ending) → HasEnded (parts_within test bound) plan stops steps why → HaveEndedBounded test bound plan stops steps why
-  runs-ended plan stops steps why (ended.all_done done) = all_done done
-  runs-ended plan stops steps why (ended.at_limit {count} stop low counts many) = at_limit stop low ((counts-bounded test bound (suc steps) count).0 counts) many
-  runs-ended plan stops steps why (ended.complete stop is) = complete stop ((complete-bounded test bound steps).0 is)
-  runs-ended plan stops steps why (ended.at_mark {mark} {run} is has) = at_mark is ((marked-bounded test bound steps mark run).0 has)
+  runs-ended plan stops steps why end = record {
+    may = parts-may plan stops steps why end.may;
+    least = λ fewer other low may. end.least fewer other low (runs-may plan stops fewer other may);
+  }
+
+  too-many-pairs : (plan : Plan) (stops : Stops) → AreTooMany (parts_within test bound) plan stops → AreTooManyBounded test bound plan stops
+  too-many-pairs plan stops many steps why may = let more = many steps why (runs-may plan stops steps why may) in (more.0, (counts-bounded test bound steps more.0).0 more.1, more.2)
 
   module _ (found : Exploration) (answer : Searched) (made : IsMadeOf found answer) where
     complete-pairs : (n : ℕ) → (IsTrue answer.complete ↔ IsComplete (parts_within test bound) n) → IsTrue found.complete ↔ IsCompleteBounded test bound n
@@ -97,12 +110,12 @@ module _ (test : Test) (bound : Bound) where
 
   -- why nothing was found
   pub refused-explored : (plan : Plan) (stops : Stops) (why : ExploreError) → ((why ≡ refused.BadPlan) → ¬ IsWithinLimits plan) → (¬ IsWithinLimits plan → why ≡ refused.BadPlan)
-      → (why ≡ refused.TooMany → (count : ℕ) × Counts (parts_within test bound) plan.steps count × (plan.limit < count))
+      → (why ≡ refused.TooMany → AreTooMany (parts_within test bound) plan stops)
       → (why ≡ refused.TooMany → stops.at_limit ≡ false) → IsExploredBounded test bound plan stops (Err why)
   refused-explored plan stops why bad_plan beyond too_many limited = record {
     bad_plan = (λ is. bad_plan (let same = is in cc), λ no. ap Err (beyond no));
     planned = tt;
-    too_many = λ is. too-many-pairs plan.steps plan.limit (too_many (let same = is in cc));
+    too_many = λ is. too-many-pairs plan stops (too_many (let same = is in cc));
     limited = λ is. limited (let same = is in cc);
     steps = tt;
     ended = tt;
@@ -113,9 +126,13 @@ module _ (test : Test) (bound : Bound) where
   }
 
 -- an exploration without stops has done all steps
+done-without-stops : (test : Test) (bound : Bound) (plan : Plan) (stops : Stops) (n : ℕ) (why : Ending) → stops.at_limit ≡ false → stops.when_complete ≡ false → stops.at_mark ≡ None
+    → MayEndBounded test bound plan stops n why → n ≡ plan.steps
+done-without-stops test bound plan stops n why no_limit no_complete no_mark (all_done done) = done
+done-without-stops test bound plan stops n why no_limit no_complete no_mark (at_limit stop below counts many) = absurd (true≢false (sym stop ∙ no_limit))
+done-without-stops test bound plan stops n why no_limit no_complete no_mark (complete stop is) = absurd (true≢false (sym stop ∙ no_complete))
+done-without-stops test bound plan stops n why no_limit no_complete no_mark (at_mark is has) = cc
+
 pub all-steps : (test : Test) (bound : Bound) (plan : Plan) (stops : Stops) (n : ℕ) (why : Ending) → stops.at_limit ≡ false → stops.when_complete ≡ false → stops.at_mark ≡ None
     → HaveEndedBounded test bound plan stops n why → n ≡ plan.steps
-all-steps test bound plan stops n why no_limit no_complete no_mark (all_done done) = done
-all-steps test bound plan stops n why no_limit no_complete no_mark (at_limit stop below counts many) = absurd (true≢false (sym stop ∙ no_limit))
-all-steps test bound plan stops n why no_limit no_complete no_mark (complete stop is) = absurd (true≢false (sym stop ∙ no_complete))
-all-steps test bound plan stops n why no_limit no_complete no_mark (at_mark is has) = cc
+all-steps test bound plan stops n why no_limit no_complete no_mark end = done-without-stops test bound plan stops n why no_limit no_complete no_mark end.may

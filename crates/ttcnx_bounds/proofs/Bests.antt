@@ -12,8 +12,7 @@ use Rattle.laws_bounds.specs.BoundedParts.{CountsBounded, HasMarkBounded, IsBest
 use Rattle.laws_bounds.specs.Seen.{CountsKept}
 use Rattle.laws_bounds.specs.StandsFor.{StandsFor}
 use Rattle.search_bounds.specs.declared.bound.Bound.{Bound}
-use Rattle.search_bounds.specs.declared.state.Bounded.{Bounded}
-use Rattle.semantics.specs.Configurations.{Configuration, badness}
+use Rattle.semantics.specs.Configurations.{badness}
 use Rattle.semantics.specs.Labels.{label_cmp}
 use Rattle.semantics.specs.Snapshots.{Test}
 use Rattle.semantics.specs.Steps.{Label}

@@ -4,7 +4,7 @@ use Rattle.std.specs.Prelude.{Contains}
 use Rattle.std.specs.List.{filter}
 use Rattle.std.proofs.lemmas.List.{length-map}
 use Rattle.laws_bounds.proofs.Standing.{same-sums}
-use Rattle.laws_bounds.specs.BoundedParts.{CountsBounded, HasMarkBounded, IsBestBounded, IsBoundedReached, Keeps, kind_of}
+use Rattle.laws_bounds.specs.BoundedParts.{CountsBounded, HasMarkBounded, IsBoundedReached, Keeps, kind_of}
 use Rattle.laws_bounds.specs.StandsFor.{StandsFor, of_states}
 use Rattle.laws_live.specs.PlaceReadings.{blocked_reading, branch_reading}
 use Rattle.laws_live.specs.Parts.{CountsParts, IsPartReached}
@@ -13,11 +13,10 @@ use Rattle.search_bounds.specs.declared.kind.Kind.{Kind}
 use Rattle.search_bounds.specs.declared.kind.Kind.TheVariants as kind
 use Rattle.search_bounds.specs.declared.state.Bounded.{Bounded}
 use Rattle.semantics.specs.Configurations.{Configuration, badness}
-use Rattle.semantics.specs.Labels.{label_cmp}
 use Rattle.semantics.specs.Runs.{graph_of}
 use Rattle.semantics.specs.Snapshots.{Test}
 use Rattle.semantics.specs.Steps.{Label}
-use Rattle.summary.specs.Exploration.{HasMark, IsBest}
+use Rattle.summary.specs.Exploration.{HasMark}
 use Rattle.summary.specs.KeySet.{empty, from_list, from_option, union_join}
 use Rattle.summary.specs.Run.{IsRun, Run}
 use Rattle.summary.specs.Sums.{Join, Observation, sum_of}

@@ -1,4 +1,4 @@
--- Why the runs of a test case that keep a bound were explored no further than so many steps.
+-- With how many steps an exploration of the runs of a test case that keep a bound may end, and that it ended with the fewest.
 use Rattle.std.specs.Prelude.{◌≡◌, ℕ, suc, ◌<◌, true, Some}
 use Rattle.explore.specs.declared.ending.Ending.{Ending}
 use Rattle.explore.specs.declared.ending.Ending.TheVariants as ending
@@ -10,13 +10,22 @@ use Rattle.semantics.specs.Snapshots.{Test}
 use Rattle.semantics.specs.Steps.{Label}
 use Rattle.summary.specs.Run.{Run}
 
--- the exploration of these runs of at most so many steps ended where it was to end
-pub data HaveEndedBounded (test : Test) (bound : Bound) (plan : Plan) (stops : Stops) (steps : ℕ) : Ending → Type 0 where
+-- the exploration of these runs of at most so many steps may end with them, for this reason
+pub data MayEndBounded (test : Test) (bound : Bound) (plan : Plan) (stops : Stops) (steps : ℕ) : Ending → Type 0 where
   -- the plan's steps are done
-  all_done : steps ≡ plan.steps → HaveEndedBounded test bound plan stops steps ending.Steps
+  all_done : steps ≡ plan.steps → MayEndBounded test bound plan stops steps ending.Steps
   -- with one step more, these runs reach more pairs than the limit
-  at_limit : {count : ℕ} → stops.at_limit ≡ true → steps < plan.steps → CountsBounded test bound (suc steps) count → plan.limit < count → HaveEndedBounded test bound plan stops steps ending.Limit
+  at_limit : {count : ℕ} → stops.at_limit ≡ true → steps < plan.steps → CountsBounded test bound (suc steps) count → plan.limit < count → MayEndBounded test bound plan stops steps ending.Limit
   -- no longer run within the bound reaches another pair
-  complete : stops.when_complete ≡ true → IsCompleteBounded test bound steps → HaveEndedBounded test bound plan stops steps ending.Complete
+  complete : stops.when_complete ≡ true → IsCompleteBounded test bound steps → MayEndBounded test bound plan stops steps ending.Complete
   -- one of these runs ends with the mark, which is a verdict's number
-  at_mark : {mark : ℕ} {run : Run Label} → stops.at_mark ≡ Some mark → HasMarkBounded test bound steps mark run → HaveEndedBounded test bound plan stops steps ending.Mark
+  at_mark : {mark : ℕ} {run : Run Label} → stops.at_mark ≡ Some mark → HasMarkBounded test bound steps mark run → MayEndBounded test bound plan stops steps ending.Mark
+
+-- it ended with the fewest steps with which it may
+pub record HaveEndedBounded (test : Test) (bound : Bound) (plan : Plan) (stops : Stops) (steps : ℕ) (why : Ending) : Type 0 where
+  pub may : MayEndBounded test bound plan stops steps why
+  pub least : (fewer : ℕ) (other : Ending) → fewer < steps → ¬ MayEndBounded test bound plan stops fewer other
+
+-- with each number of steps with which it may end, these runs reach more pairs than the limit
+abbrev pub AreTooManyBounded : Test → Bound → Plan → Stops → Type 0
+AreTooManyBounded test bound plan stops = (steps : ℕ) (why : Ending) → MayEndBounded test bound plan stops steps why → (count : ℕ) × CountsBounded test bound steps count × (plan.limit < count)

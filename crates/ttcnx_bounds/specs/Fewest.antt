@@ -1,5 +1,5 @@
 -- The runs of a test case with the fewest expiries of timers that end with a verdict.
-use Rattle.std.specs.Prelude.{◌≡◌, ℕ, ◌<◌, Bool, List, Option, Some, None}
+use Rattle.std.specs.Prelude.{ℕ, ◌<◌, Bool, List, Option, Some, None}
 use Rattle.search_bounds.specs.declared.bound.Bound.{Bound}
 use Rattle.semantics.specs.Snapshots.{Test}
 use Rattle.semantics.specs.Steps.{Label}

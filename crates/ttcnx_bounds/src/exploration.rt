@@ -2,7 +2,7 @@
 ghost use Rattle.std.specs.Prelude.{◌≡◌, ◌↔◌, ℕ, ◌<◌, ◌≤◌, false, IfOk, IsErrOf, IsTrue, OnOk};
 ghost use Rattle.laws_bounds.specs.BoundedParts.{CountsBounded, IsCompleteBounded};
 ghost use Rattle.search_layer.specs.Limits.{IsWithinLimits};
-ghost use Rattle.ttcnx_bounds.specs.BoundedEndings.{HaveEndedBounded};
+ghost use Rattle.ttcnx_bounds.specs.BoundedEndings.{AreTooManyBounded, HaveEndedBounded};
 ghost use Rattle.ttcnx_bounds.specs.BoundedFound.{AreFoundBounded};
 ghost use Rattle.ttcnx_bounds.specs.internal.BoundedExplored.{IsExploredBounded};
 
@@ -51,10 +51,12 @@ pub fn explore_bounded_until<G: Gate, R: Threads + Sync>(
 ) -> Result<Extent, ExploreError>
     ensures bad_plan { IsErrOf result ExploreError.BadPlan ↔ ¬ IsWithinLimits plan.now }
     ensures planned { OnOk result (IsWithinLimits plan.now) }
-    ensures too_many { IsErrOf result ExploreError.TooMany → (count : ℕ) × CountsBounded machine.now.test bound plan.now.steps count × (plan.now.limit < count) }
+
+    // These runs reach more pairs than the limit, with each number of steps with which the exploration may end.
+    ensures too_many { IsErrOf result ExploreError.TooMany → AreTooManyBounded machine.now.test bound plan.now stops.now }
     ensures limited { IsErrOf result ExploreError.TooMany → stops.now.at_limit ≡ false }
 
-    // What is found is of a number of steps within the plan's, and a stop says why it is less.
+    // What is found is of a number of steps within the plan's, the fewest with which the exploration may end.
     ensures steps { IfOk result (λ extent. extent.steps ≤ plan.now.steps) }
     ensures ended { IfOk result (λ extent. HaveEndedBounded machine.now.test bound plan.now stops.now extent.steps extent.ending) }
 

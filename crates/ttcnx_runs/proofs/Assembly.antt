@@ -1,5 +1,5 @@
 -- What a search over live parts answers is true of the runs, on whole configurations.
-use Rattle.std.proofs.Common.{◌≡◌, ℕ, None, false, true≢false, suc, ◌<◌, ◌≤◌, length, subst, sym, ap, ◌∙◌}
+use Rattle.std.proofs.Common.{◌≡◌, ℕ, None, false, true≢false, suc, ◌≤◌, length, subst, sym, ap, ◌∙◌}
 use Rattle.std.specs.Prelude.{◌↔◌, IsTrue, Ok, Err}
 use Rattle.explore.specs.Best.{AreBest}
 use Rattle.search_layer.specs.Limits.{IsWithinLimits}
@@ -15,7 +15,7 @@ use Rattle.explore.specs.Endings as ended
 use Rattle.explore.specs.Endings.{HasEnded}
 use Rattle.explore.specs.declared.ending.Ending.{Ending}
 use Rattle.explore.specs.declared.ending.Stops.{Stops}
-use Rattle.ttcnx_runs.specs.Endings.{HaveEnded, all_done, at_limit, at_mark, complete}
+use Rattle.ttcnx_runs.specs.Endings.{AreTooMany, HaveEnded, MayEnd, all_done, at_limit, at_mark, complete}
 use Rattle.ttcnx_runs.specs.Extents.{IsExtent}
 use Rattle.ttcnx_runs.specs.Answers.{IsMadeOf, Searched}
 use Rattle.ttcnx_runs.specs.internal.Explored.{IsExplored}
@@ -35,15 +35,28 @@ pub record AreSummed (test : Test) (n : ℕ) (answer : Searched) : Type 0 where
   pub blocked : answer.summary.second.second.components ≡ blocked_of (canonical_graph test) (blocked test) n
 
 module _ (test : Test) where
-  pub too-many-parts : (n limit : ℕ) → ((count : ℕ) × Counts (canonical_graph test) n count × (limit < count)) → (count : ℕ) × CountsParts test n count × (limit < count)
-  too-many-parts n limit more = (more.0, (same-counts test n more.0).0 more.1, more.2)
+  -- why the search over live parts may end is why the exploration of all runs may
+  parts-may : (plan : Plan) (stops : Stops) (steps : ℕ) (why : Ending) → ended.MayEnd (canonical_graph test) plan stops steps why → MayEnd test plan stops steps why
+  parts-may plan stops steps why (ended.all_done done) = all_done done
+  parts-may plan stops steps why (ended.at_limit {count} stop low counts many) = at_limit stop low ((same-counts test (suc steps) count).0 counts) many
+  parts-may plan stops steps why (ended.complete stop is) = complete stop ((same-complete test steps).0 is)
+  parts-may plan stops steps why (ended.at_mark {mark} {run} is has) = at_mark is ((same-marked test steps mark run).0 has)
+
+  runs-may : (plan : Plan) (stops : Stops) (steps : ℕ) (why : Ending) → MayEnd test plan stops steps why → ended.MayEnd (canonical_graph test) plan stops steps why
+  runs-may plan stops steps why (all_done done) = ended.all_done done
+  runs-may plan stops steps why (at_limit {count} stop low counts many) = ended.at_limit stop low ((same-counts test (suc steps) count).1 counts) many
+  runs-may plan stops steps why (complete stop is) = ended.complete stop ((same-complete test steps).1 is)
+  runs-may plan stops steps why (at_mark {mark} {run} is has) = ended.at_mark is ((same-marked test steps mark run).1 has)
 
   -- why the search over live parts went no further is why the exploration of all runs did not
   pub runs-ended : (plan : Plan) (stops : Stops) (steps : ℕ) (why : Ending) → HasEnded (canonical_graph test) plan stops steps why → HaveEnded test plan stops steps why
-  runs-ended plan stops steps why (ended.all_done done) = all_done done
-  runs-ended plan stops steps why (ended.at_limit {count} stop low counts many) = at_limit stop low ((same-counts test (suc steps) count).0 counts) many
-  runs-ended plan stops steps why (ended.complete stop is) = complete stop ((same-complete test steps).0 is)
-  runs-ended plan stops steps why (ended.at_mark {mark} {run} is has) = at_mark is ((same-marked test steps mark run).0 has)
+  runs-ended plan stops steps why end = record {
+    may = parts-may plan stops steps why end.may;
+    least = λ fewer other low may. end.least fewer other low (runs-may plan stops fewer other may);
+  }
+
+  pub too-many-parts : (plan : Plan) (stops : Stops) → ended.AreTooMany (canonical_graph test) plan stops → AreTooMany test plan stops
+  too-many-parts plan stops many steps why may = let more = many steps why (runs-may plan stops steps why may) in (more.0, (same-counts test steps more.0).0 more.1, more.2)
 
   module _ (found : Exploration) (answer : Searched) (made : IsMadeOf found answer) where
     pub complete-parts : (n : ℕ) → (IsTrue answer.complete ↔ IsComplete (canonical_graph test) n) → IsTrue found.complete ↔ IsCompleteByParts test n
@@ -106,20 +119,24 @@ module _ (test : Test) where
 
     -- why nothing was found
     pub refused-explored : (why : ExploreError) → ((why ≡ refused.BadPlan) → ¬ IsWithinLimits plan) → (¬ IsWithinLimits plan → why ≡ refused.BadPlan)
-        → (why ≡ refused.TooMany → (count : ℕ) × Counts (canonical_graph test) plan.steps count × (plan.limit < count))
+        → (why ≡ refused.TooMany → ended.AreTooMany (canonical_graph test) plan stops)
         → (why ≡ refused.TooMany → stops.at_limit ≡ false) → IsExplored test plan stops is (Err why)
     refused-explored why bad_plan beyond too_many limited = record {
       bad_plan = (λ is. bad_plan (let same = is in cc), λ no. ap Err (beyond no));
       planned = tt;
-      too_many = λ is. too-many-parts plan.steps plan.limit (too_many (let same = is in cc));
+      too_many = λ is. too-many-parts plan stops (too_many (let same = is in cc));
       limited = λ is. limited (let same = is in cc);
       answer = tt;
     }
 
 -- an exploration without stops has done all steps
+done-without-stops : (test : Test) (plan : Plan) (stops : Stops) (n : ℕ) (why : Ending) → stops.at_limit ≡ false → stops.when_complete ≡ false → stops.at_mark ≡ None
+    → MayEnd test plan stops n why → n ≡ plan.steps
+done-without-stops test plan stops n why no_limit no_complete no_mark (all_done done) = done
+done-without-stops test plan stops n why no_limit no_complete no_mark (at_limit stop below counts many) = absurd (true≢false (sym stop ∙ no_limit))
+done-without-stops test plan stops n why no_limit no_complete no_mark (complete stop is) = absurd (true≢false (sym stop ∙ no_complete))
+done-without-stops test plan stops n why no_limit no_complete no_mark (at_mark is has) = cc
+
 pub all-steps : (test : Test) (plan : Plan) (stops : Stops) (n : ℕ) (why : Ending) → stops.at_limit ≡ false → stops.when_complete ≡ false → stops.at_mark ≡ None
     → HaveEnded test plan stops n why → n ≡ plan.steps
-all-steps test plan stops n why no_limit no_complete no_mark (all_done done) = done
-all-steps test plan stops n why no_limit no_complete no_mark (at_limit stop below counts many) = absurd (true≢false (sym stop ∙ no_limit))
-all-steps test plan stops n why no_limit no_complete no_mark (complete stop is) = absurd (true≢false (sym stop ∙ no_complete))
-all-steps test plan stops n why no_limit no_complete no_mark (at_mark is has) = cc
+all-steps test plan stops n why no_limit no_complete no_mark end = done-without-stops test plan stops n why no_limit no_complete no_mark end.may

@@ -10,7 +10,7 @@ use Rattle.semantics.specs.Places.{blocked, branch_of, standings}
 use Rattle.semantics.specs.Snapshots.{Test}
 use Rattle.semantics.specs.Steps.{Delivery, Expiry, Statement}
 use Rattle.ttcnx_runs.specs.Going.{GoesOn}
-use Rattle.config_packed.specs.Packs.{first_position, position_in}
+use Rattle.ttcnx_runs.specs.internal.Positions.{first_position, position_in}
 use Rattle.config_parts.specs.declared.component.Component.{Component}
 use Rattle.config_parts.specs.declared.config.Config.{Config}
 use Rattle.config_parts.specs.declared.config.Config.TheVariants as config

@@ -1,5 +1,5 @@
 -- The least run to a place, whether a message is lost in its last step or not.
-use Rattle.std.proofs.Common.{◌≡◌, ℕ, Bool, List, Option, None, Some, refl, ap}
+use Rattle.std.proofs.Common.{◌≡◌, ℕ, Bool, List, Option, None, Some, ap}
 use Rattle.std.specs.Option.{option_map}
 use Rattle.explore.specs.Sightings.{shown_by_step}
 use Rattle.semantics.specs.Labels.{label_cmp}

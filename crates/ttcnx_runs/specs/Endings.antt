@@ -1,4 +1,4 @@
--- Why the runs of a test case were explored no further than so many steps.
+-- With how many steps an exploration of the runs of a test case may end, and that it ended with the fewest.
 use Rattle.std.specs.Prelude.{◌≡◌, ℕ, suc, ◌<◌, true, Some}
 use Rattle.explore.specs.declared.ending.Ending.{Ending}
 use Rattle.explore.specs.declared.ending.Ending.TheVariants as ending
@@ -11,13 +11,22 @@ use Rattle.semantics.specs.Steps.{Label}
 use Rattle.summary.specs.Exploration.{HasMark}
 use Rattle.summary.specs.Run.{Run}
 
--- the exploration of runs of at most so many steps ended where it was to end
-pub data HaveEnded (test : Test) (plan : Plan) (stops : Stops) (steps : ℕ) : Ending → Type 0 where
+-- the exploration of runs of at most so many steps may end with them, for this reason
+pub data MayEnd (test : Test) (plan : Plan) (stops : Stops) (steps : ℕ) : Ending → Type 0 where
   -- the plan's steps are done
-  all_done : steps ≡ plan.steps → HaveEnded test plan stops steps ending.Steps
+  all_done : steps ≡ plan.steps → MayEnd test plan stops steps ending.Steps
   -- with one step more, runs reach more configurations than the limit
-  at_limit : {count : ℕ} → stops.at_limit ≡ true → steps < plan.steps → CountsParts test (suc steps) count → plan.limit < count → HaveEnded test plan stops steps ending.Limit
+  at_limit : {count : ℕ} → stops.at_limit ≡ true → steps < plan.steps → CountsParts test (suc steps) count → plan.limit < count → MayEnd test plan stops steps ending.Limit
   -- no longer run reaches another configuration
-  complete : stops.when_complete ≡ true → IsCompleteByParts test steps → HaveEnded test plan stops steps ending.Complete
+  complete : stops.when_complete ≡ true → IsCompleteByParts test steps → MayEnd test plan stops steps ending.Complete
   -- some run of at most so many steps ends with the mark, which is a verdict's number
-  at_mark : {mark : ℕ} {run : Run Label} → stops.at_mark ≡ Some mark → HasMark (graph_of test) steps mark run → HaveEnded test plan stops steps ending.Mark
+  at_mark : {mark : ℕ} {run : Run Label} → stops.at_mark ≡ Some mark → HasMark (graph_of test) steps mark run → MayEnd test plan stops steps ending.Mark
+
+-- it ended with the fewest steps with which it may
+pub record HaveEnded (test : Test) (plan : Plan) (stops : Stops) (steps : ℕ) (why : Ending) : Type 0 where
+  pub may : MayEnd test plan stops steps why
+  pub least : (fewer : ℕ) (other : Ending) → fewer < steps → ¬ MayEnd test plan stops fewer other
+
+-- with each number of steps with which it may end, runs reach more configurations than the limit
+abbrev pub AreTooMany : Test → Plan → Stops → Type 0
+AreTooMany test plan stops = (steps : ℕ) (why : Ending) → MayEnd test plan stops steps why → (count : ℕ) × CountsParts test steps count × (plan.limit < count)

@@ -8,7 +8,7 @@ use Rattle.ttcnx_runs.specs.declared.exploration.Extent.{Extent}
 use Rattle.laws_live.specs.Parts.{IsCompleteByParts}
 use Rattle.semantics.specs.Snapshots.{Test}
 
--- what is found is true of the runs of a bound within the plan's, and a stop says why it is less
+-- what is found is true of the runs of a bound within the plan's, the least with which the exploration may end
 pub record IsExtent (test : Test) (plan : Plan) (stops : Stops) (extent : Extent) : Type 0 where
   pub steps : extent.steps ≤ plan.steps
   pub ended : HaveEnded test plan stops extent.steps extent.ending

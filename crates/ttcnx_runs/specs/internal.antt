@@ -1,1 +1,2 @@
 pub mod Explored
+pub mod Positions

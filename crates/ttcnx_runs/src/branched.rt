@@ -29,7 +29,7 @@ fn branch_from<K: Scheme>(
     requires same { said K.machine config.now ≡ state.now }
     ensures { IfOk result (λ taken. taken ≡ rules.branch_of K.machine.test state.now label.now) }
 {
-    if !may_take_branch(alloc, machine, state, label)? {
+    if !may_take_branch(machine, config, label) {
         return Ok(None);
     }
     let place = machine.branch(alloc, config, label)?;

@@ -3,6 +3,7 @@ ghost use Rattle.std.specs.Prelude.{◌≡◌, ◌↔◌, ℕ, ◌<◌, ◌≤�
 ghost use Rattle.search_layer.specs.Limits.{IsWithinLimits};
 ghost use Rattle.ttcnx_runs.specs.Found.{AreFound, place_cmp, standing_cmp};
 ghost use Rattle.ttcnx_runs.specs.Answers.{IsMadeOf};
+ghost use Rattle.ttcnx_runs.specs.Endings.{AreTooMany};
 ghost use Rattle.ttcnx_runs.specs.Extents.{IsExtent};
 ghost use Rattle.ttcnx_runs.specs.internal.Explored.{IsExplored};
 ghost use Rattle.summary.specs.Ascent.{Ascends};
@@ -83,8 +84,11 @@ pub fn explore_runs_until<G: Gate, R: Threads + Sync>(
 ) -> Result<Extent, ExploreError>
     ensures bad_plan { IsErrOf result ExploreError.BadPlan ↔ ¬ IsWithinLimits plan.now }
     ensures planned { OnOk result (IsWithinLimits plan.now) }
-    ensures too_many { IsErrOf result ExploreError.TooMany → (count : ℕ) × CountsParts machine.now.test plan.now.steps count × (plan.now.limit < count) }
+
+    // Runs reach more configurations than the limit, with each number of steps with which the exploration may end.
+    ensures too_many { IsErrOf result ExploreError.TooMany → AreTooMany machine.now.test plan.now stops.now }
     ensures limited { IsErrOf result ExploreError.TooMany → stops.now.at_limit ≡ false }
+
     ensures extent { IfOk result (IsExtent machine.now.test plan.now stops.now) }
 {
     explore_within::<Brand, G, R>(rt, alloc, machine, plan, stops, gate)

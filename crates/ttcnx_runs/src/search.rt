@@ -1,8 +1,8 @@
 //! All runs of a system, with the branches that they take and the components that are blocked.
-ghost use Rattle.std.specs.Prelude.{◌↔◌, ◌≡◌, ℕ, ◌<◌, ◌≤◌, false, IfOk, IsErrOf, IsTrue, OnOk};
+ghost use Rattle.std.specs.Prelude.{◌↔◌, ◌≡◌, ℕ, ◌≤◌, false, IfOk, IsErrOf, IsTrue, OnOk};
 ghost use Rattle.ttcnx_runs.specs.Sums.{blocked_of, branches_of};
 ghost use Rattle.explore.specs.Best.{AreBest};
-ghost use Rattle.explore.specs.Endings.{HasEnded};
+ghost use Rattle.explore.specs.Endings.{AreTooMany, HasEnded};
 ghost use Rattle.explore.specs.Sightings.{AreSighted, shown_at_end, shown_by_step};
 ghost use Rattle.search_layer.specs.Limits.{IsWithinLimits};
 ghost use Rattle.summary.specs.Exploration.{Counts, IsComplete};
@@ -27,8 +27,7 @@ pub fn search<Y: Branched, G: Gate, R: Threads + Sync>(
 >
     ensures bad_plan { IsErrOf result ExploreError.BadPlan ↔ ¬ IsWithinLimits plan.now }
     ensures planned { OnOk result (IsWithinLimits plan.now) }
-    ensures too_many { IsErrOf result ExploreError.TooMany
-        → (count : ℕ) × Counts (Y.graph system.now) plan.now.steps count × (plan.now.limit < count) }
+    ensures too_many { IsErrOf result ExploreError.TooMany → AreTooMany (Y.graph system.now) plan.now stops.now }
     ensures limited { IsErrOf result ExploreError.TooMany → stops.now.at_limit ≡ false }
     ensures steps { IfOk result (λ reached. reached.steps ≤ plan.now.steps) }
     ensures ended { IfOk result (λ reached. HasEnded (Y.graph system.now) plan.now stops.now reached.steps reached.ending) }
@@ -67,8 +66,7 @@ pub fn search_watched<Y: Located + Watched, G: Gate, R: Threads + Sync>(
 >
     ensures bad_plan { IsErrOf result ExploreError.BadPlan ↔ ¬ IsWithinLimits plan.now }
     ensures planned { OnOk result (IsWithinLimits plan.now) }
-    ensures too_many { IsErrOf result ExploreError.TooMany
-        → (count : ℕ) × Counts (Y.graph system.now) plan.now.steps count × (plan.now.limit < count) }
+    ensures too_many { IsErrOf result ExploreError.TooMany → AreTooMany (Y.graph system.now) plan.now stops.now }
     ensures limited { IsErrOf result ExploreError.TooMany → stops.now.at_limit ≡ false }
     ensures steps { IfOk result (λ s. s.reached.steps ≤ plan.now.steps) }
     ensures ended { IfOk result (λ s. HasEnded (Y.graph system.now) plan.now stops.now s.reached.steps s.reached.ending) }

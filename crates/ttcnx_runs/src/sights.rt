@@ -1,6 +1,5 @@
 //! Runs to places of a test case, and to blocks.
-ghost use Rattle.std.specs.Prelude.{◌≡◌, ◌↔◌, ℕ, ◌<◌, [], false, IfOk, IsErrOf, OnOk};
-ghost use Rattle.laws_live.specs.Parts.{CountsParts};
+ghost use Rattle.std.specs.Prelude.{◌≡◌, ◌↔◌, [], false, IfOk, IsErrOf, OnOk};
 ghost use Rattle.search_layer.specs.Limits.{IsWithinLimits};
 ghost use Rattle.semantics.specs.Places as rules;
 ghost use Rattle.ttcnx_runs.specs.Sights.{AreBlocks, ArePlaces, block_in, if_some, is_lost, stands-itself, stands-one, step_place, step-place-itself, step-place-one};
@@ -10,6 +9,7 @@ ghost use Rattle.std.specs.List.{find};
 ghost use Rattle.std.specs.Option.{option_map};
 ghost use Rattle.ttcnx_runs.specs.Aims.{first_of, is_at, stands_at};
 ghost use Rattle.ttcnx_runs.specs.Answers.{IsMadeOf};
+ghost use Rattle.ttcnx_runs.specs.Endings.{AreTooMany};
 ghost use Rattle.ttcnx_runs.specs.Extents.{IsExtent};
 ghost use Rattle.ttcnx_runs.specs.internal.Explored.{AreSights, IsExplored};
 
@@ -128,7 +128,7 @@ pub fn sight_runs<G: Gate, R: Threads + Sync>(
 ) -> Result<Sights, ExploreError>
     ensures bad_plan { IsErrOf result ExploreError.BadPlan ↔ ¬ IsWithinLimits plan.now }
     ensures planned { OnOk result (IsWithinLimits plan.now) }
-    ensures too_many { IsErrOf result ExploreError.TooMany → (count : ℕ) × CountsParts machine.now.test plan.now.steps count × (plan.now.limit < count) }
+    ensures too_many { IsErrOf result ExploreError.TooMany → AreTooMany machine.now.test plan.now stops.now }
     ensures limited { IsErrOf result ExploreError.TooMany → stops.now.at_limit ≡ false }
     ensures extent { IfOk result (λ sights. IsExtent machine.now.test plan.now stops.now sights.extent) }
     ensures places { IfOk result (λ sights. ArePlaces machine.now.test sights.extent.steps sights.places.items) }

@@ -1,11 +1,11 @@
 -- Why a search went no further, in the words of the search.
-use Rattle.std.specs.Prelude.{◌≡◌, ℕ, ◌<◌, ◌≤◌, Bool, suc, true, List, [], length, drop, slice_index_or, All, Option, Some, if◌then◌else◌}
+use Rattle.std.specs.Prelude.{◌≡◌, ◌≢◌, ℕ, ◌<◌, ◌≤◌, Bool, suc, true, List, [], length, take, drop, slice_index_or, All, Option, Some, if◌then◌else◌}
 use Rattle.explore.specs.declared.ending.Ending.{Ending}
 use Rattle.explore.specs.declared.ending.Ending.TheVariants as ending
 use Rattle.explore.specs.declared.ending.Stops.{Stops}
 use Rattle.explore.specs.declared.layers.Explored.{Explored}
 use Rattle.search_layer.specs.declared.plan.Plan.{Plan}
-use Rattle.search_layer.specs.internal.Search.{as_found, found_after}
+use Rattle.search_layer.specs.internal.Search.{Found, as_found, found_after}
 use Rattle.summary.specs.Graph.{Graph}
 use Rattle.summary.specs.Sums.{Join, Observation}
 
@@ -16,6 +16,14 @@ pub record IsMarked {C L : Type 0} (g : Graph C L) (states : List C) (mark : Opt
   pub is : mark ≡ Some number
   pub within : place < length states
   pub marked : g.mark (slice_index_or states place g.first) ≡ Some number
+
+-- no state has the mark, where there is one
+abbrev pub IsUnmarked : {C L : Type 0} → Graph C L → List C → Option ℕ → Type 0
+IsUnmarked g states mark = (number : ℕ) → mark ≡ Some number → All (λ c. g.mark c ≢ Some number) states
+
+-- no state of the last layer has labels
+abbrev pub IsQuiet : {C L S : Type 0} → Graph C L → Found C L S → Type 0
+IsQuiet g found = All (λ c. g.enabled c ≡ []) (drop found.from found.states)
 
 -- the search that found these states in so many layers, of which the last begins at the place, ended where it was to end
 pub data HasStopped {C L S : Type 0} (g : Graph C L) (j : Join S) (r : Observation C L S) (eq : C → C → Bool) (plan : Plan) (stops : Stops) (states : List C) (from steps : ℕ) : Ending → Type 0 where
@@ -36,9 +44,20 @@ pub record IsEnd {C L S : Type 0} (g : Graph C L) (j : Join S) (r : Observation 
   pub from : e.from ≤ length e.visited.states.keys
   pub steps : e.steps ≤ plan.steps
   pub stopped : HasStopped g j r eq plan stops e.visited.states.keys e.from e.steps e.ending
+  -- no fewer layers were enough
+  pub led_on : stops.when_complete ≡ true → (layer : ℕ) → layer < e.steps → ¬ IsQuiet g (found_after g j r eq layer)
+  pub unmarked : IsUnmarked g (take e.from e.visited.states.keys) stops.at_mark
 
 -- what a search found, in so many layers
 pub record IsSearched {C L S : Type 0} (g : Graph C L) (j : Join S) (r : Observation C L S) (eq : C → C → Bool) (F : C → Type 0) (e : Explored C L S) : Type 0 where
   pub found : as_found e.visited.states.keys e.visited.steps.items e.from e.summary ≡ found_after g j r eq e.steps
   pub fits : All F e.visited.states.keys
   pub from : e.from ≤ length e.visited.states.keys
+
+-- a search that went on up to a layer, behind which there is no room for all states
+pub record HasNoRoom {C L S : Type 0} (g : Graph C L) (j : Join S) (r : Observation C L S) (eq : C → C → Bool) (plan : Plan) (stops : Stops) : Type 0 where
+  pub layer : ℕ
+  pub below : layer < plan.steps
+  pub many : plan.limit < length (found_after g j r eq (suc layer)).states
+  pub led_on : (k : ℕ) → k < suc layer → ¬ IsQuiet g (found_after g j r eq k)
+  pub unmarked : IsUnmarked g (found_after g j r eq layer).states stops.at_mark

@@ -1,21 +1,21 @@
 -- What exploring a test case answers, as one fact.
-use Rattle.std.specs.Prelude.{◌≡◌, ◌↔◌, ℕ, ◌<◌, false, IfOk, IsErrOf, OnOk, Result}
+use Rattle.std.specs.Prelude.{◌≡◌, ◌↔◌, false, IfOk, IsErrOf, OnOk, Result}
 use Rattle.explore.specs.declared.ending.Stops.{Stops}
 use Rattle.search_layer.specs.Limits.{IsWithinLimits}
 use Rattle.search_layer.specs.declared.plan.ExploreError.{ExploreError}
 use Rattle.search_layer.specs.declared.plan.ExploreError.TheVariants as searching
 use Rattle.search_layer.specs.declared.plan.Plan.{Plan}
+use Rattle.ttcnx_runs.specs.Endings.{AreTooMany}
 use Rattle.ttcnx_runs.specs.Extents.{IsExtent}
 use Rattle.ttcnx_runs.specs.Sights.{AreBlocks, ArePlaces}
 use Rattle.ttcnx_runs.specs.declared.sights.Sights.{Sights}
-use Rattle.laws_live.specs.Parts.{CountsParts}
 use Rattle.semantics.specs.Snapshots.{Test}
 
 -- an answer is as it is to be, and a refusal has its reason
 pub record IsExplored {A : Type 0} (test : Test) (plan : Plan) (stops : Stops) (is : A → Type 0) (result : Result A ExploreError) : Type 0 where
   pub bad_plan : IsErrOf result searching.BadPlan ↔ ¬ IsWithinLimits plan
   pub planned : OnOk result (IsWithinLimits plan)
-  pub too_many : IsErrOf result searching.TooMany → (count : ℕ) × CountsParts test plan.steps count × (plan.limit < count)
+  pub too_many : IsErrOf result searching.TooMany → AreTooMany test plan stops
   pub limited : IsErrOf result searching.TooMany → stops.at_limit ≡ false
   pub answer : IfOk result is
 

@@ -1,10 +1,9 @@
 use Rattle.std.proofs.Common.{◌≤◌, sym, subst}
-use Rattle.std.proofs.lemmas.Result.{err_from_is_err_and}
 use Rattle.summary.specs.Exploration.{Counts}
 use Rattle.summary.specs.Sums.{IsSemilattice}
 use Rattle.explore.proofs.Endings.{ends}
 use Rattle.explore.proofs.Visits.{IsLawful}
-use Rattle.explore.proofs.Outcome.{too_many, go-back, as_many, count-is, complete-is, summary_is, every_bound, best-is}
+use Rattle.explore.proofs.Outcome.{go-back, as_many, count-is, complete-is, summary_is, every_bound, best-is}
 use Rattle.explore.proofs.answer.answer_of.Given.{Over}
 use Rattle.explore.proofs.answer.answer_of.Goals as goal
 
@@ -100,7 +99,5 @@ returns-clause-every_bound g c complete bound le =
 pub returns-clause-ended : goal.returns-clause-ended
 returns-clause-ended g c =
     let system = c.args.system.now in
-    let found = c.args.explored in
     ends (g.Y.System.graph system) g.Y.Label.Ord.cmp g.Y.State.PartialEq.eq (g.Y.System.fits system) (lawful g system)
-    g.U.Summary.joins (g.U.Summary.observation system) (semilattice g) c.args.plan.now c.args.stops.now found.steps
-    found.visited.states.keys found.visited.steps.items found.from found.summary c.requires.found found.ending c.requires.stopped
+    g.U.Summary.joins (g.U.Summary.observation system) (semilattice g) c.args.plan.now c.args.stops.now c.args.explored c.requires

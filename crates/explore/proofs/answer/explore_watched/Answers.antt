@@ -1,11 +1,9 @@
-use Rattle.std.proofs.Common.{◌≤◌, sym, subst}
+use Rattle.std.proofs.Common.{sym, subst}
 use Rattle.std.proofs.lemmas.Result.{err_from_is_err_and}
-use Rattle.summary.specs.Exploration.{Counts}
 use Rattle.summary.specs.Sums.{IsSemilattice}
-use Rattle.explore.proofs.Endings.{ends}
 use Rattle.explore.proofs.Visits.{IsLawful}
 use Rattle.explore.specs.Sightings.{AreSighted, shown_at_end, shown_by_step}
-use Rattle.explore.proofs.Outcome.{too_many, go-back, as_many, count-is, complete-is, summary_is, every_bound, best-is}
+use Rattle.explore.proofs.Endings.{no-room-left}
 use Rattle.explore.proofs.answer.explore_watched.Given.{Over}
 use Rattle.explore.proofs.answer.explore_watched.Goals as goal
 
@@ -30,9 +28,9 @@ pub returns-in_err-explored-clause-too_many : goal.returns-in_err-explored-claus
 returns-in_err-explored-clause-too_many g c many =
     let system = c.args.system.now in
     let p = err_from_is_err_and c.from_residual.result c.from_residual.ensures.1 in
-    too_many (g.Y.System.graph system) g.Y.Label.Ord.cmp g.Y.State.PartialEq.eq (g.Y.System.fits system) (lawful g system)
-    g.U.Summary.joins (g.U.Summary.observation system) (semilattice g) c.args.plan.now.steps c.args.plan.now.limit
-    (c.in_err-explored.ensures.too_many (cc (p.1, p.2, many)))
+    no-room-left (g.Y.System.graph system) g.Y.Label.Ord.cmp g.Y.State.PartialEq.eq (g.Y.System.fits system) (lawful g system)
+    g.U.Summary.joins (g.U.Summary.observation system) (semilattice g) c.args.plan.now c.args.stops.now
+    (c.in_err-explored.ensures.too_many (cc (p.1, p.2, many))) (c.in_err-explored.ensures.limited (cc (p.1, p.2, many)))
 
 pub returns-clause-planned : goal.returns-clause-planned
 returns-clause-planned g c = c.is_within_limits.ensures.0 c.if-not-is_within_limits.false

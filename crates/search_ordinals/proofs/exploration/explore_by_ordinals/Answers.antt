@@ -1,7 +1,7 @@
 use Rattle.std.proofs.Common.{◌≡◌, ℕ, ◌<◌, List, Less, ap, length, subst, sym, ◌∙◌}
 use Rattle.std.specs.Prelude.{AllPairs, IfSome, None, slice_index_or}
 use Rattle.std.proofs.lemmas.Result.{err_from_is_err_and}
-use Rattle.search_ordinals.proofs.Answered.{all-best, all-telling, ended-told, shown-told}
+use Rattle.search_ordinals.proofs.Answered.{all-best, all-telling, ended-told, shown-told, too-many-told}
 use Rattle.search_ordinals.proofs.Explored.{complete-told, counts-told, run-fits}
 use Rattle.search_ordinals.specs.Told.{AreToldWhereTold, IsTelling}
 use Rattle.summary.specs.Run.{IsRun, Run, end_of}
@@ -18,8 +18,7 @@ pub returns-in_err-reached-clause-too_many : goal.returns-in_err-reached-clause-
 returns-in_err-reached-clause-too_many g c many =
     let system = c.args.system.now in
     let p = err_from_is_err_and c.from_residual.result c.from_residual.ensures.1 in
-    let found = c.in_err-reached.ensures.too_many (cc (p.1, p.2, many)) in
-    (found.0, counts-told (g.Y.Located.branch system) (g.Y.System.graph system) c.args.plan.now.steps found.0 found.1, found.2)
+    too-many-told (g.Y.Located.branch system) (g.Y.System.graph system) c.args.plan.now c.args.stops.now (c.in_err-reached.ensures.too_many (cc (p.1, p.2, many)))
 
 pub labels_of_runs-requires-clause-told : goal.labels_of_runs-requires-clause-told
 labels_of_runs-requires-clause-told g c κs within =

@@ -1,10 +1,10 @@
-use Rattle.search_ordinals.proofs.Explored.{best-told, complete-told, counts-told, marked-told, told-marked}
+use Rattle.search_ordinals.proofs.Explored.{best-told, complete-told, counts-told, marked-told, told-counts, told-marked}
 use Rattle.search_ordinals.proofs.Order.{no-later}
 use Rattle.search_ordinals.proofs.Sums.{sums-told}
 use Rattle.search_ordinals.proofs.laws.ordinals_are_explored_alike.Goals as goal
 
 pub returns-clause-counts : goal.returns-clause-counts
-returns-clause-counts g c = counts-told
+returns-clause-counts g c branch graph n count = (counts-told branch graph n count, told-counts branch graph n count)
 
 pub returns-clause-complete : goal.returns-clause-complete
 returns-clause-complete g c = complete-told

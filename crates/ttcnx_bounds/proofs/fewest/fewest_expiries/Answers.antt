@@ -1,4 +1,4 @@
-use Rattle.std.proofs.Common.{◌≡◌, ℕ, ◌<◌, ◌≤◌, List, None, Option, refl, subst, sym}
+use Rattle.std.proofs.Common.{ℕ, ◌<◌, List, Option, refl, subst, sym}
 use Rattle.semantics.specs.Steps.{Label}
 use Rattle.ttcnx_bounds.proofs.FewExpiries.{none-at-all, none-so-far, within}
 use Rattle.ttcnx_bounds.proofs.fewest.fewest_expiries.Goals as goal

@@ -1,7 +1,10 @@
 use Rattle.std.proofs.Common.{◌≡◌, ℕ, ◌≤◌, refl, subst, sym}
 use Rattle.std.specs.Prelude.{◌↔◌, IsTrue}
+use Rattle.std.proofs.lemmas.Result.{err_from_is_err_and}
+use Rattle.explore.specs.declared.ending.Ending.TheVariants as ending
 use Rattle.laws_live.specs.Parts.{IsCompleteByParts}
 use Rattle.ttcnx_runs.proofs.Assembly.{all-steps}
+use Rattle.ttcnx_runs.specs.Endings.{all_done}
 use Rattle.ttcnx_runs.specs.Found.{AreFound}
 use Rattle.ttcnx_runs.proofs.exploration.explore_runs.Given.{Over}
 use Rattle.ttcnx_runs.proofs.exploration.explore_runs.Goals as goal
@@ -9,6 +12,11 @@ use Rattle.ttcnx_runs.proofs.exploration.explore_runs.Goals as goal
 -- all of the plan's steps are done
 done : (g : Over) (c : goal.In_ok-extent g) → c.in_ok-extent.extent.steps ≡ c.args.plan.now.steps
 done g c = all-steps c.args.machine.now.test c.args.plan.now _ c.in_ok-extent.extent.steps c.in_ok-extent.extent.ending refl refl refl c.in_ok-extent.ensures.extent.ended
+
+pub returns-in_err-extent-clause-too_many : goal.returns-in_err-extent-clause-too_many
+returns-in_err-extent-clause-too_many g c many =
+    let p = err_from_is_err_and c.from_residual.result c.from_residual.ensures.1 in
+    c.in_err-extent.ensures.too_many (cc (p.1, p.2, many)) c.args.plan.now.steps ending.Steps (all_done refl)
 
 pub returns-clause-found : goal.returns-clause-found
 returns-clause-found g c = subst (λ (n : ℕ). AreFound c.args.machine.now.test n c.in_ok-extent.extent.found) (done g c) c.in_ok-extent.ensures.extent.found

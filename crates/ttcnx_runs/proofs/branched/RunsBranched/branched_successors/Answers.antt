@@ -1,4 +1,4 @@
-use Rattle.std.proofs.Common.{◌≡◌, List, [], ◌∷◌, IfOk, Option, ap, map, refl, subst, sym, ◌∙◌}
+use Rattle.std.proofs.Common.{◌≡◌, List, [], ◌∷◌, IfOk, Option, ap, map, refl, subst, ◌∙◌}
 use Rattle.search_ordinals.proofs.Numbers.{branch-pair, branches-there}
 use Rattle.search_ordinals.specs.Ordinals.{with_branch}
 use Rattle.semantics.specs.Canonical.{canonical_graph}
