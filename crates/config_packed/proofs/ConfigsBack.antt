@@ -1,12 +1,14 @@
 -- Configurations are read back from the bytes that spell them, whatever follows.
-use Rattle.std.proofs.Common.{◌≡◌, ℕ, true, List, [], ◌++◌, Option, Some, None, refl, sym, ap, ◌∙◌, append_assoc}
+use Rattle.std.proofs.Common.{◌≡◌, ℕ, nat_eq, Bool, true, false, cond, List, [], ◌∷◌, ◌++◌, length, map, Option, Some, None, refl, sym, ap, ◌∙◌, arith, append_assoc}
+use Rattle.std.proofs.lemmas.Bool.{ne_eqb}
 use Rattle.std.proofs.lemmas.List.{append-nil}
 use Rattle.std.specs.Cmp.Lexicographic.{same_text}
+use Rattle.std.specs.List.{flat_map}
 use Rattle.config_packed.specs.Packs.{same_bytes, same_bytes_equiv}
-use Rattle.config_packed.specs.Reading.{Reads, config_in, read_byte, read_cells, read_component, read_config, read_connection, read_data, read_default, read_end, read_entry, read_frame, read_going, read_links, read_list, read_long, read_message, read_queue, read_sender, read_state, read_timer, read_value, read_verdict}
-use Rattle.config_packed.specs.Spelling.{spell_cells, spell_component, spell_config, spell_connection, spell_data, spell_default, spell_end, spell_entry, spell_frame, spell_going, spell_links, spell_list, spell_long, spell_message, spell_queue, spell_sender, spell_state, spell_timer, spell_value, spell_verdict}
-use Rattle.config_packed.proofs.NumbersBack.{read-list-back, read-long-back, read-number-back}
-use Rattle.config_packed.proofs.ValuesBack.{read-identity-back, read-path-back, read-value-back}
+use Rattle.config_packed.specs.Reading.{Reads, config_in, identity_from, read_byte, read_cells, read_component, read_config, read_connection, read_contents, read_default, read_end, read_entry, read_frame, read_going, read_links, read_list, read_items, read_long, read_message, read_name, read_own, read_queue, read_sender, state_of, read_timer, read_value, read_verdict, verdict_of}
+use Rattle.config_packed.specs.Spelling.{name_of, spell_cells, spell_config, spell_connection, spell_content, spell_default, spell_end, spell_entry, spell_frame, spell_links, spell_list, spell_long, spell_message, spell_name, spell_outline, spell_own, spell_queue, spell_sender, spell_sized, state_code, spell_timer, spell_value, spell_verdict, verdict_code}
+use Rattle.config_packed.proofs.NumbersBack.{items-back, read-list-back, read-long-back, read-long-pair-back, read-number-back, read-pair-back}
+use Rattle.config_packed.proofs.ValuesBack.{identity-begins, read-path-back, read-value-back}
 use Rattle.ttcn_syntax.specs.declared.tree.statement.Verdict.{Verdict}
 use Rattle.ttcn_syntax.specs.declared.tree.statement.Verdict.TheVariants as verdict
 use Rattle.value_types.specs.declared.frame.TimerState.{TimerState}
@@ -44,9 +46,12 @@ module _ {A : Type 0} (spell : A → List ℕ) (read : Reads A) (back : (a : A) 
   entries_back : (entries : List (ℕ × A)) (rest : List ℕ) → read_list (read_entry read) (spell_list (spell_entry spell) entries ++ rest) ≡ (entries, rest)
   entries_back = read-list-back (spell_entry spell) (read_entry read) entry-back
 
+  entry_items_back : (entries : List (ℕ × A)) (rest : List ℕ) → read_items (read_entry read) (length entries) (flat_map (spell_entry spell) entries ++ rest) ≡ (entries, rest)
+  entry_items_back = items-back (spell_entry spell) (read_entry read) entry-back
+
 cells_back : (cells : Cells) (rest : List ℕ) → read_cells (spell_cells cells ++ rest) ≡ (cells, rest)
 unfolding read_cells spell_cells
-cells_back cells rest = simp (append_assoc, entries_back spell_value read_value read-value-back, entries_back spell_timer read_timer timer-back)
+cells_back cells rest = simp (append_assoc, read-long-pair-back, entry_items_back spell_value read_value read-value-back, entry_items_back spell_timer read_timer timer-back)
 
 frame_back : (frame : Frame) (rest : List ℕ) → read_frame (spell_frame frame ++ rest) ≡ (frame, rest)
 unfolding read_frame spell_frame
@@ -56,13 +61,9 @@ default_back : (active : ActiveDefault) (rest : List ℕ) → read_default (spel
 unfolding read_default spell_default
 default_back active rest = simp (append_assoc, read-number-back, read-long-back, read-list-back spell_value read_value read-value-back)
 
-data_back : (own : Data) (rest : List ℕ) → read_data (spell_data own ++ rest) ≡ (own, rest)
-unfolding read_data spell_data
-data_back own rest = simp (append_assoc, cells_back, read-list-back spell_frame read_frame frame_back, read-list-back spell_default read_default default_back, read-number-back)
-
 -- ---- components, connections and mappings
 
-verdict-back : (v : Verdict) (rest : List ℕ) → read_verdict (spell_verdict v ++ rest) ≡ (v, rest)
+pub verdict-back : (v : Verdict) (rest : List ℕ) → read_verdict (spell_verdict v ++ rest) ≡ (v, rest)
 unfolding read_verdict read_byte
 verdict-back verdict.None rest = refl
 verdict-back verdict.Pass rest = refl
@@ -70,28 +71,41 @@ verdict-back verdict.Inconc rest = refl
 verdict-back verdict.Fail rest = refl
 verdict-back verdict.Error rest = refl
 
-state_back : (s : State) (rest : List ℕ) → read_state (spell_state s ++ rest) ≡ (s, rest)
-unfolding read_state read_byte
-state_back state.Created rest = refl
-state_back state.Running rest = refl
-state_back state.Terminated rest = refl
+verdict-of-code : (v : Verdict) → verdict_of (verdict_code v) ≡ v
+verdict-of-code verdict.None = refl
+verdict-of-code verdict.Pass = refl
+verdict-of-code verdict.Inconc = refl
+verdict-of-code verdict.Fail = refl
+verdict-of-code verdict.Error = refl
+
+state-of-code : (s : State) → state_of (state_code s) ≡ s
+state-of-code state.Created = refl
+state-of-code state.Running = refl
+state-of-code state.Terminated = refl
+
+pub own_back : (v : Verdict) (own : Data) (rest : List ℕ) → read_own (spell_own v own ++ rest) ≡ ((v, own), rest)
+unfolding read_own spell_own
+own_back v own rest =
+    simp (append_assoc, read-pair-back, cells_back, read-list-back spell_frame read_frame frame_back, items-back spell_default read_default default_back)
+    (ap (λ (w : Verdict). ((w, own), rest)) (verdict-of-code v))
 
 sender-back : (sender : Option ComponentId) (rest : List ℕ) → read_sender (spell_sender sender ++ rest) ≡ (sender, rest)
 unfolding read_sender read_byte spell_sender
 sender-back None rest = refl
-sender-back (Some component) rest = ap (λ (p : ComponentId × List ℕ). (Some p.0, p.1)) (read-identity-back component rest)
+sender-back (Some component) rest =
+    let b = identity-begins component in
+    let begun : nat_eq b.first 102 ≡ false = ne_eqb b.first 102 (λ e. let h = b.small in absurd (omega arith)) in
+    ap (λ (bytes : List ℕ). read_sender (bytes ++ rest)) b.begins
+    ∙ ap (λ (is : Bool). cond {A = Reads (Option ComponentId)} is (λ bytes. (None, bytes)) (λ bytes. (Some (identity_from b.first bytes).0, (identity_from b.first bytes).1)) (b.behind ++ rest)) begun
+    ∙ ap (λ (p : ComponentId × List ℕ). (Some p.0, p.1)) (b.back rest)
 
-message_back : (message : Message) (rest : List ℕ) → read_message (spell_message message ++ rest) ≡ (message, rest)
+pub message_back : (message : Message) (rest : List ℕ) → read_message (spell_message message ++ rest) ≡ (message, rest)
 unfolding read_message spell_message
 message_back message rest = simp (append_assoc, read-value-back, sender-back)
 
-queue_back : (queue : Queue) (rest : List ℕ) → read_queue (spell_queue queue ++ rest) ≡ (queue, rest)
+pub queue_back : (queue : Queue) (rest : List ℕ) → read_queue (spell_queue queue ++ rest) ≡ (queue, rest)
 unfolding read_queue spell_queue
-queue_back queue rest = simp (append_assoc, read-number-back, read-list-back spell_message read_message message_back)
-
-component_back : (component : Component) (rest : List ℕ) → read_component (spell_component component ++ rest) ≡ (component, rest)
-unfolding read_component spell_component
-component_back component rest = simp (append_assoc, read-identity-back, data_back, state_back, verdict-back, read-list-back spell_queue read_queue queue_back)
+queue_back queue rest = simp (append_assoc, read-pair-back, items-back spell_message read_message message_back)
 
 end_back : (e : End) (rest : List ℕ) → read_end (spell_end e ++ rest) ≡ (e, rest)
 unfolding read_end spell_end
@@ -101,18 +115,37 @@ connection_back : (connection : Connection) (rest : List ℕ) → read_connectio
 unfolding read_connection spell_connection
 connection_back connection rest = simp (append_assoc, end_back)
 
-links-back : (links : Links) (rest : List ℕ) → read_links (spell_links links ++ rest) ≡ (links, rest)
+pub links-back : (links : Links) (rest : List ℕ) → read_links (spell_links links ++ rest) ≡ (links, rest)
 unfolding read_links spell_links
 links-back links rest = simp (append_assoc, read-list-back spell_connection read_connection connection_back, entries_back spell_end read_end end_back, entries_back spell_long read_long read-long-back)
 
 -- ---- configurations
 
-going_back : (going : Going) (rest : List ℕ) → read_going (spell_going going ++ rest) ≡ (going, rest)
-unfolding read_going spell_going
-going_back going rest = simp (append_assoc, read-list-back spell_component read_component component_back, links-back, verdict-back)
+pub name_back : (name : ComponentId × State) (rest : List ℕ) → read_name (spell_name name ++ rest) ≡ (name, rest)
+unfolding read_name spell_name
+name_back name rest =
+    simp (append_assoc, read-path-back, read-long-pair-back) (ap (λ (s : State). ((name.0, s), rest)) (state-of-code name.1))
+
+component-back : (c : Component) (rest : List ℕ) → read_component (name_of c) (spell_content c ++ rest) ≡ (c, rest)
+unfolding read_component spell_content spell_sized
+component-back c rest = simp (append_assoc, read-long-back, own_back, read-list-back spell_queue read_queue queue_back)
+
+contents-back : (cs : List Component) (rest : List ℕ) → read_contents (map name_of cs) (flat_map spell_content cs ++ rest) ≡ (cs, rest)
+unfolding read_contents
+contents-back [] rest = refl
+contents-back (c ∷ cs) rest =
+    let behind = flat_map spell_content cs ++ rest in
+    ap (read_contents (map name_of (c ∷ cs))) (append_assoc (spell_content c) (flat_map spell_content cs) rest)
+    ∙ ap (λ (p : Component × List ℕ). (p.0 ∷ (read_contents (map name_of cs) p.1).0, (read_contents (map name_of cs) p.1).1)) (component-back c behind)
+    ∙ ap (λ (p : List Component × List ℕ). (c ∷ p.0, p.1)) (contents-back cs rest)
+
+going_back : (going : Going) (rest : List ℕ)
+    → read_going (((spell_verdict going.forgotten ++ spell_links going.links ++ spell_list spell_name (map name_of going.components)) ++ flat_map spell_content going.components) ++ rest) ≡ (going, rest)
+unfolding read_going
+going_back going rest = simp (append_assoc, verdict-back, links-back, read-list-back spell_name read_name name_back, contents-back)
 
 pub read_config_back : (c : Config) (rest : List ℕ) → read_config (spell_config c ++ rest) ≡ (c, rest)
-unfolding read_config spell_config read_byte
+unfolding read_config read_byte spell_config spell_outline
 read_config_back (config.Ended v) rest = ap (λ (p : Verdict × List ℕ). (config.Ended p.0, p.1)) (verdict-back v rest)
 read_config_back (config.Going going) rest = ap (λ (p : Going × List ℕ). (config.Going p.0, p.1)) (going_back going rest)
 

@@ -1,8 +1,13 @@
 -- Lists of items, spelled and read one item after another.
-use Rattle.std.proofs.Common.{◌≡◌, ℕ, suc, ◌+◌, ◌-◌, ◌<◌, List, [], ◌∷◌, ◌++◌, length, get_or, take, sym, ap, ◌∙◌, arith, append_assoc}
-use Rattle.std.proofs.lemmas.List.{append-nil, flat_map_more, take_more}
+use Rattle.std.proofs.Common.{◌≡◌, ℕ, zero, suc, ◌+◌, ◌-◌, ◌<◌, ◌≤◌, List, [], ◌∷◌, ◌++◌, length, get_or, map, take, refl, sym, ap, ◌∙◌, arith, append_assoc}
+use Rattle.std.proofs.lemmas.List.{append-nil, flat_map_more, length-map, take_all, take_more}
+use Rattle.std.proofs.lemmas.List.Folds.{flat_map-map}
 use Rattle.std.specs.List.{flat_map}
-use Rattle.config_packed.specs.Reading.{Reads, read_items, read_list, read_long}
+use Rattle.config_packed.specs.Reading.{Reads, read_component, read_contents, read_items, read_list, read_long}
+use Rattle.config_packed.specs.Spelling.{name_of, spell_list, spell_long, spell_name}
+use Rattle.value_types.specs.declared.value.ComponentId.{ComponentId}
+use Rattle.config_parts.specs.declared.component.Component.{Component}
+use Rattle.config_parts.specs.declared.component.State.{State}
 
 -- ---- spelling
 
@@ -14,6 +19,17 @@ pub spelled-more : {A : Type 0} (spell : A → List ℕ) (old now : List ℕ) (i
 spelled-more {A} spell old now items i x h is e =
     e ∙ flat_map_more spell old (take i items) x
     ∙ ap (λ (l : List A). old ++ flat_map spell l) (ap (λ (y : A). take i items ++ y ∷ []) is ∙ sym (take_more items i x h))
+
+-- the names of components are spelled
+pub names-put : (components : List Component) (start counted bytes : List ℕ) (i : ℕ)
+    → counted ≡ start ++ spell_long (length components) → length components ≤ i
+    → bytes ≡ counted ++ flat_map (λ c. spell_name (name_of c)) (take i components)
+    → bytes ≡ start ++ spell_list spell_name (map name_of components)
+unfolding spell_list
+names-put components start counted bytes i put all e =
+    e ∙ (λ k. put k ++ flat_map (λ c. spell_name (name_of c)) (take_all i components all k))
+    ∙ append_assoc start (spell_long (length components)) (flat_map (λ c. spell_name (name_of c)) components)
+    ∙ (λ k. start ++ (spell_long (sym (length-map components name_of) k) ++ sym (flat_map-map spell_name name_of components) k))
 
 -- ---- reading
 
@@ -85,3 +101,33 @@ unfolding read_list
 list-passed read start before after count turn is behind all e =
     let f : read_items read (read_long start).0 (read_long start).1 ≡ read_items read count before = λ i. read_items read (sym is i) (sym behind i) in
     sym (ap (λ p. p.1) f ∙ items-behind read count turn after (read_items read count before).1 all e)
+
+-- ---- how many items are read
+
+pub items-count : {A : Type 0} (read : Reads A) (count : ℕ) (bytes : List ℕ) → length (read_items read count bytes).0 ≡ count
+unfolding read_items
+items-count read zero bytes = refl
+items-count read (suc count) bytes = ap suc (items-count read count (read bytes).1)
+
+pub listed : {A : Type 0} (read : Reads A) (bytes : List ℕ) → length (read_list read bytes).0 ≡ (read_long bytes).0
+unfolding read_list
+listed read bytes = items-count read (read_long bytes).0 (read_long bytes).1
+
+-- ---- components by their names
+
+-- one more component is read
+pub contents-more : (names left : List (ComponentId × State)) (name : ComponentId × State) (before after : List ℕ) (whole : List Component × List ℕ) (xs : List Component) (x : Component)
+    → names ≡ name ∷ left → x ≡ (read_component name before).0 → after ≡ (read_component name before).1
+    → whole ≡ ahead xs (read_contents names before)
+    → whole ≡ ahead (xs ++ x ∷ []) (read_contents left after)
+unfolding read_contents
+contents-more names left name before after whole xs x split is rest e =
+    let e' : whole ≡ ahead xs (read_contents (name ∷ left) before) = e ∙ ap (λ (l : List (ComponentId × State)). ahead xs (read_contents l before)) split in
+    rw (is, rest) (e' ∙ ap (λ (l : List Component). (l, (read_contents left (read_component name before).1).1)) (sym (append_assoc xs ((read_component name before).0 ∷ []) (read_contents left (read_component name before).1).0)))
+
+-- all components are read
+pub contents-all : (left : List (ComponentId × State)) (bytes : List ℕ) (whole : List Component × List ℕ) (xs : List Component)
+    → length left ≡ 0 → whole ≡ ahead xs (read_contents left bytes) → whole ≡ (xs, bytes)
+unfolding read_contents
+contents-all [] bytes whole xs none e = e ∙ ap (λ (l : List Component). (l, bytes)) (append-nil xs)
+contents-all (name ∷ left) bytes whole xs none e = absurd (omega arith)

@@ -1,6 +1,11 @@
 pub mod Items
+pub mod Numbers
 pub mod Values
 pub mod NumbersBack
 pub mod ValuesBack
 pub mod ConfigsBack
-pub mod Positions
+pub mod Cutting
+pub mod Changing
+pub mod Waiting
+pub mod Keys
+pub mod OwnBack

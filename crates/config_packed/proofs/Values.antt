@@ -17,7 +17,7 @@ spell_of_field field = spell_field (option_map spell_value field)
 
 -- what the variants are spelled as
 
-pub spell-of-integer : (integer : ℤ) → spell_value (value.Integer integer) ≡ 0 ∷ spell_integer integer
+pub spell-of-integer : (integer : ℤ) → spell_value (value.Integer integer) ≡ spell_integer integer
 unfolding spell_value
 spell-of-integer integer = ap spell_value (sym (value.rolls-Integer integer)) ∙ fold-roll-Value (List ℕ) spell_level (Value-F.Integer integer)
 

@@ -1,8 +1,9 @@
 -- Values are read back from the bytes that spell them, whatever follows.
-use Rattle.std.proofs.Common.{◌≡◌, ℕ, zero, suc, ◌+◌, ◌*◌, ◌/◌, ◌%◌, ◌≤◌, nat_eq, ℤ, pos, negsuc, Bool, true, false, cond, List, [], ◌∷◌, ◌++◌, length, map, Option, Some, None, refl, sym, ap, subst, ◌∙◌, arith, append_assoc, length-append}
+use Rattle.std.proofs.Common.{◌≡◌, ℕ, zero, suc, ◌+◌, ◌*◌, ◌/◌, ◌%◌, ◌≤◌, ◌-◌, ◌<◌, nat_eq, nat_lt, ℤ, pos, negsuc, Bool, true, false, cond, List, [], ◌∷◌, ◌++◌, length, map, Option, Some, None, refl, sym, ap, subst, ◌∙◌, arith, append_assoc, length-append}
+use Rattle.std.proofs.lemmas.Bool.{lt-ltb, ltb-true, ne_eqb}
 use Rattle.std.specs.List.{flat_map}
-use Rattle.config_packed.specs.Reading.{integer_of, read_byte, read_enumerated, read_field, read_identity, read_integer, read_items, read_list, read_number, read_path, read_record, read_value, read_value_within, value_from}
-use Rattle.config_packed.specs.Spelling.{number_of, spell_identity, spell_integer, spell_long, spell_number, spell_path, spell_value}
+use Rattle.config_packed.specs.Reading.{Reads, identity_from, integer_of, other_from, path_from, read_byte, read_enumerated, read_field, read_identity, read_integer, read_items, read_list, read_long, read_number, read_path, read_record, read_value, read_value_within, value_from}
+use Rattle.config_packed.specs.Spelling.{number_of, spell_identity, spell_integer, spell_list, spell_long, spell_number, spell_path, spell_path_numbers, spell_value}
 use Rattle.config_packed.proofs.NumbersBack.{item-back, list-from-items, read-list-back, read-long-back, read-number-back}
 use Rattle.config_packed.proofs.Values.{spell-of-boolean, spell-of-component, spell-of-default, spell-of-enumerated, spell_of_field, spell-of-integer, spell-of-null, spell-of-omit, spell-of-record}
 use Rattle.value_types.specs.declared.path.Path.{Path}
@@ -25,19 +26,88 @@ integer-back (negsuc n) =
     let half : (2 * n + 1) / 2 ≡ n = omega arith in
     ap (λ (r : ℕ). cond (nat_eq r 0) (pos ((2 * n + 1) / 2)) (negsuc ((2 * n + 1) / 2))) odd ∙ ap negsuc half
 
-pub read-integer-back : (z : ℤ) (rest : List ℕ) → read_integer (spell_integer z ++ rest) ≡ (z, rest)
-unfolding read_integer spell_integer
+read-integer-back : (z : ℤ) (rest : List ℕ) → read_integer (spell_long (number_of z) ++ rest) ≡ (z, rest)
+unfolding read_integer
 read-integer-back z rest =
     ap (λ (p : ℕ × List ℕ). (integer_of p.0, p.1)) (read-long-back (number_of z) rest)
     ∙ ap (λ (y : ℤ). (y, rest)) (integer-back z)
 
+-- what a path begins with, and that it is read back from there on
+record PathBegins (numbers : List ℕ) : Type 0 where
+  pub first : ℕ
+  pub behind : List ℕ
+  pub begins : spell_path_numbers numbers ≡ first ∷ behind
+  pub small : first < 102
+  pub back : (rest : List ℕ) → path_from first (behind ++ rest) ≡ (record { numbers = numbers }, rest)
+
+long-path-back : (numbers rest : List ℕ) → path_from 101 (spell_list spell_number numbers ++ rest) ≡ (record { numbers = numbers }, rest)
+long-path-back numbers rest = ap (λ (p : List ℕ × List ℕ). (record { numbers = p.0 }, p.1)) (read-list-back spell_number read_number read-number-back numbers rest)
+
+small-path-back : (n : ℕ) (rest : List ℕ) → n < 100 → path_from (1 + n) rest ≡ (record { numbers = n ∷ [] }, rest)
+small-path-back n rest h =
+    ap (λ (b : Bool). cond {A = Reads Path} b (λ bytes. (record { numbers = [] }, bytes)) (cond {A = Reads Path} (nat_lt (1 + n) 101) (λ bytes. (record { numbers = ((1 + n) - 1) ∷ [] }, bytes)) (path_from 101)) rest) (ne_eqb (1 + n) 0 (λ e. absurd (omega arith)))
+    ∙ ap (λ (b : Bool). cond {A = Reads Path} b (λ bytes. (record { numbers = ((1 + n) - 1) ∷ [] }, bytes)) (path_from 101) rest) (lt-ltb (1 + n) 101 (omega arith))
+    ∙ ap (λ (m : ℕ). (record { numbers = m ∷ [] }, rest)) (omega arith)
+
+child-begins : (b : Bool) (n : ℕ) → nat_lt n 100 ≡ b → PathBegins (n ∷ [])
+child-begins true n is =
+    record {
+      first = 1 + n;
+      behind = [];
+      begins = ap (λ (b : Bool). cond {A = List ℕ} b ((1 + n) ∷ []) (101 ∷ spell_list spell_number (n ∷ []))) is;
+      small = let h = ltb-true n 100 is in omega arith;
+      back = λ rest. small-path-back n rest (ltb-true n 100 is);
+    }
+child-begins false n is =
+    record {
+      first = 101;
+      behind = spell_list spell_number (n ∷ []);
+      begins = ap (λ (b : Bool). cond {A = List ℕ} b ((1 + n) ∷ []) (101 ∷ spell_list spell_number (n ∷ []))) is;
+      small = omega arith;
+      back = λ rest. long-path-back (n ∷ []) rest;
+    }
+
+path-begins : (numbers : List ℕ) → PathBegins numbers
+path-begins [] = record { first = 0; behind = []; begins = refl; small = omega arith; back = λ rest. refl }
+path-begins (n ∷ []) = child-begins (nat_lt n 100) n refl
+path-begins (n ∷ m ∷ others) =
+    record { first = 101; behind = spell_list spell_number (n ∷ m ∷ others); begins = refl; small = omega arith; back = λ rest. long-path-back (n ∷ m ∷ others) rest }
+
 pub read-path-back : (path : Path) (rest : List ℕ) → read_path (spell_path path ++ rest) ≡ (path, rest)
-unfolding read_path spell_path
-read-path-back path rest = simp (read-list-back spell_number read_number read-number-back)
+unfolding read_path read_byte spell_path
+read-path-back path rest =
+    let p = path-begins path.numbers in
+    ap (λ (bytes : List ℕ). read_path (bytes ++ rest)) p.begins ∙ p.back rest
+
+-- what a component that a reference names begins with, and that it is read back from there on
+pub record IdentityBegins (component : ComponentId) : Type 0 where
+  pub first : ℕ
+  pub behind : List ℕ
+  pub begins : spell_identity component ≡ first ∷ behind
+  pub small : first < 102
+  pub back : (rest : List ℕ) → identity_from first (behind ++ rest) ≡ (component, rest)
+
+pub identity-begins : (component : ComponentId) → IdentityBegins component
+unfolding spell_identity spell_path identity_from
+identity-begins component =
+    let p = path-begins component.path.numbers in
+    let type = spell_long component.component_type in
+    record {
+      first = p.first;
+      behind = p.behind ++ type;
+      begins = ap (λ (bytes : List ℕ). bytes ++ type) p.begins;
+      small = p.small;
+      back = λ rest.
+          ap (identity_from p.first) (append_assoc p.behind type rest)
+          ∙ ap (λ (q : Path × List ℕ). (record { path = q.0; component_type = (read_long q.1).0 }, (read_long q.1).1)) (p.back (type ++ rest))
+          ∙ ap (λ (q : ℕ × List ℕ). (record { path = component.path; component_type = q.0 }, q.1)) (read-long-back component.component_type rest);
+    }
 
 pub read-identity-back : (component : ComponentId) (rest : List ℕ) → read_identity (spell_identity component ++ rest) ≡ (component, rest)
-unfolding read_identity spell_identity
-read-identity-back component rest = simp (append_assoc, read-path-back, read-long-back)
+unfolding read_identity read_byte
+read-identity-back component rest =
+    let b = identity-begins component in
+    ap (λ (bytes : List ℕ). read_identity (bytes ++ rest)) b.begins ∙ b.back rest
 
 -- ---- values
 
@@ -55,8 +125,28 @@ behind-tag v tag bytes is back (suc depth) rest h =
     ap (λ (spelled : List ℕ). read_value_within (suc depth) (spelled ++ rest)) is
     ∙ back depth rest (let e = ap length is in omega arith)
 
+small-integer-back : (read : Reads Value) (z : ℤ) (rest : List ℕ) → number_of z < 247 → value_from read (9 + number_of z) rest ≡ (value.Integer z, rest)
+small-integer-back read z rest h =
+    let n = number_of z in
+    let least : (9 + n) - 9 ≡ n = omega arith in
+    ap (λ (b : Bool). cond {A = Reads Value} b (λ bytes. (value.Integer (integer_of ((9 + n) - 9)), bytes)) (other_from read (9 + n)) rest) (lt-ltb 8 (9 + n) (omega arith))
+    ∙ ap (λ (m : ℕ). (value.Integer (integer_of m), rest)) least
+    ∙ ap (λ (y : ℤ). (value.Integer y, rest)) (integer-back z)
+
+integer-back-when : (b : Bool) (z : ℤ) → nat_lt (number_of z) 247 ≡ b → ComesBackWithin (value.Integer z)
+unfolding spell_integer
+integer-back-when true z is =
+    let h = ltb-true (number_of z) 247 is in
+    behind-tag (value.Integer z) (9 + number_of z) []
+    (spell-of-integer z ∙ ap (λ (b : Bool). cond {A = List ℕ} b ((9 + number_of z) ∷ []) (0 ∷ spell_long (number_of z))) is)
+    (λ depth rest k. small-integer-back (read_value_within depth) z rest h)
+integer-back-when false z is =
+    behind-tag (value.Integer z) 0 (spell_long (number_of z))
+    (spell-of-integer z ∙ ap (λ (b : Bool). cond {A = List ℕ} b ((9 + number_of z) ∷ []) (0 ∷ spell_long (number_of z))) is)
+    (λ depth rest h. ap (λ (p : ℤ × List ℕ). (value.Integer p.0, p.1)) (read-integer-back z rest))
+
 integer-value-back : (z : ℤ) → ComesBackWithin (value.Integer z)
-integer-value-back z = behind-tag (value.Integer z) 0 (spell_integer z) (spell-of-integer z) (λ depth rest h. simp read-integer-back)
+integer-value-back z = integer-back-when (nat_lt (number_of z) 247) z refl
 
 boolean-value-back : (truth : Bool) → ComesBackWithin (value.Boolean truth)
 boolean-value-back true = behind-tag (value.Boolean true) 2 [] (spell-of-boolean true) (λ depth rest h. refl)

@@ -1,17 +1,13 @@
 -- What is seen of configurations that are kept as bytes.
 use Rattle.std.specs.Prelude.{◌≡◌, ℕ, Bool, true, List, [], ◌∷◌, Option, Some, None, bytes_eq}
-use Rattle.std.specs.List.{find}
-use Rattle.std.specs.Option.{option_and_then}
 use Rattle.std.proofs.Common.{ap, sym}
 use Rattle.std.specs.Cmp.{IsEquivalence, IsPartialEquivalence, partial_equiv_from_equiv}
 use Rattle.std.specs.Cmp.Lexicographic.{on_texts_equal, same_text}
 use Rattle.std.specs.Hash.{HashWrites}
 use Rattle.config_packed.specs.Spelling.{spell_config}
 use Rattle.ttcn_syntax.specs.declared.tree.statement.Verdict.{Verdict}
-use Rattle.config_parts.specs.declared.component.Component.{Component}
 use Rattle.config_parts.specs.declared.config.Config.{Config}
 use Rattle.config_parts.specs.declared.config.Config.TheVariants as config
-use Rattle.config_parts.specs.declared.frame.Frame.{Frame}
 
 -- the same bytes spell two configurations
 abbrev pub same_bytes : Config → Config → Bool
@@ -34,17 +30,3 @@ fed_alike a b same = ap (λ (bytes : List ℕ). bytes ∷ []) (same_text (spell_
 abbrev pub verdict_in : Config → Option Verdict
 verdict_in (config.Ended v) = Some v
 verdict_in (config.Going going) = None
-
--- the position of the first of several frames, which is the last one that was called
-abbrev pub first_position : List Frame → Option ℕ
-first_position [] = None
-first_position (frame ∷ frames) = Some frame.remaining
-
--- among components, the position of the last frame of the one of this path
-abbrev pub position_among : List Component → List ℕ → Option ℕ
-position_among components path = option_and_then (λ component. first_position component.own.calls) (find (λ component. bytes_eq component.itself.path.numbers path) components)
-
--- in a configuration, the position of the last frame of the component of this path
-abbrev pub position_in : Config → List ℕ → Option ℕ
-position_in (config.Ended v) path = None
-position_in (config.Going going) path = position_among going.components path

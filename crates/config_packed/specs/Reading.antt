@@ -78,6 +78,21 @@ read_number = read_byte >>= number_from read_four
 unfoldable pub read_long : Reads ℕ
 read_long = read_byte >>= number_from read_eight
 
+-- two numbers that begin with this byte
+abbrev pub both_from : Reads ℕ → ℕ → Reads (ℕ × ℕ)
+both_from read first = if nat_lt first 240 then done (first / 16, first % 16) else (do
+  a ← read_long
+  b ← read
+  done (a, b))
+
+-- a number of 64 bits and one of 32 bits
+unfoldable pub read_pair : Reads (ℕ × ℕ)
+read_pair = read_byte >>= both_from read_number
+
+-- two numbers of 64 bits
+unfoldable pub read_long_pair : Reads (ℕ × ℕ)
+read_long_pair = read_byte >>= both_from read_long
+
 -- ---- lists
 
 -- reads this many items
@@ -98,24 +113,34 @@ read_list read = read_long >>= read_items read
 abbrev pub integer_of : ℕ → ℤ
 integer_of n = if n % 2 == 0 then pos (n / 2) else negsuc (n / 2)
 
--- an integer, by its number
+-- an integer, by its number, behind the byte of the variant
 unfoldable pub read_integer : Reads ℤ
 read_integer = do
   number ← read_long
   done (integer_of number)
 
+-- the name of a component that begins with this byte
+abbrev pub path_from : ℕ → Reads Path
+path_from first =
+    if first == 0 then done (record { numbers = [] }) else (
+    if nat_lt first 101 then done (record { numbers = (first - 1) ∷ [] }) else (do
+      numbers ← read_list read_number
+      done (record { numbers = numbers })))
+
 -- the name of a component
 unfoldable pub read_path : Reads Path
-read_path = do
-  numbers ← read_list read_number
-  done (record { numbers = numbers })
+read_path = read_byte >>= path_from
+
+-- a component that a reference names, where its path begins with this byte
+unfoldable pub identity_from : ℕ → Reads ComponentId
+identity_from first = do
+  path ← path_from first
+  component_type ← read_long
+  done (record { path = path; component_type = component_type })
 
 -- a component that a reference names
 unfoldable pub read_identity : Reads ComponentId
-read_identity = do
-  path ← read_path
-  component_type ← read_long
-  done (record { path = path; component_type = component_type })
+read_identity = read_byte >>= identity_from
 
 -- a field that begins with this byte: behind 0 it has no value
 abbrev pub field_from : Reads Value → ℕ → Reads (Option Value)
@@ -141,9 +166,9 @@ read_record read = do
   fields ← read_list (read_field read)
   done (value.Record at fields)
 
--- a value that begins with this byte, where fields are read in this way
-abbrev pub value_from : Reads Value → ℕ → Reads Value
-value_from read tag =
+-- a value behind the byte of its variant, where fields are read in this way
+abbrev pub other_from : Reads Value → ℕ → Reads Value
+other_from read tag =
     if tag == 0 then (do
       integer ← read_integer
       done (value.Integer integer)) else (
@@ -158,6 +183,10 @@ value_from read tag =
       activation ← read_number
       done (value.Default activation)) else (
     if tag == 7 then done value.Null else done value.Omit)))))))
+
+-- a value that begins with this byte: a byte from 9 on is an integer
+abbrev pub value_from : Reads Value → ℕ → Reads Value
+value_from read tag = if nat_lt 8 tag then done (value.Integer (integer_of (tag - 9))) else other_from read tag
 
 -- a value whose records nest less deep than this
 unfoldable pub read_value_within : ℕ → Reads Value
@@ -187,11 +216,12 @@ read_entry read = do
   stored ← read
   done (slot, stored)
 
--- the values of names, and then the states of timers
+-- how many names have values and how many timers there are, and then they
 unfoldable pub read_cells : Reads Cells
 read_cells = do
-  values ← read_list (read_entry read_value)
-  timers ← read_list (read_entry read_timer)
+  counts ← read_long_pair
+  values ← read_items (read_entry read_value) counts.0
+  timers ← read_items (read_entry read_timer) counts.1
   done (record { values = values; timers = timers })
 
 -- what remains in a frame, and then its names
@@ -208,16 +238,6 @@ read_default = do
   altstep ← read_long
   arguments ← read_list read_value
   done (record { number = number; altstep = altstep; arguments = arguments })
-
--- what a component has of its own
-unfoldable pub read_data : Reads Data
-read_data = do
-  members ← read_cells
-  calls ← read_list read_frame
-  defaults ← read_list read_default
-  activations ← read_number
-  children ← read_number
-  done (record { members = members; calls = calls; defaults = defaults; activations = activations; children = children })
 
 -- ---- components, connections and mappings
 
@@ -239,16 +259,10 @@ read_verdict = do
 abbrev pub state_of : ℕ → State
 state_of code = if code == 0 then state.Created else (if code == 1 then state.Running else state.Terminated)
 
--- the state of a component
-unfoldable pub read_state : Reads State
-read_state = do
-  code ← read_byte
-  done (state_of code)
-
--- the sender of a message that begins with this byte: behind 0 it has none
+-- the sender of a message that begins with this byte: behind 102 it has none
 abbrev pub sender_from : ℕ → Reads (Option ComponentId)
-sender_from tag = if tag == 0 then done None else (do
-  component ← read_identity
+sender_from first = if first == 102 then done None else (do
+  component ← identity_from first
   done (Some component))
 
 -- the sender of a message
@@ -262,22 +276,12 @@ read_message = do
   sender ← read_sender
   done (record { value = value; sender = sender })
 
--- a port, and then the messages that wait there
+-- how many messages wait at a port and the port, and then the messages
 unfoldable pub read_queue : Reads Queue
 read_queue = do
-  port ← read_number
-  messages ← read_list read_message
-  done (record { port = port; messages = messages })
-
--- a component
-unfoldable pub read_component : Reads Component
-read_component = do
-  itself ← read_identity
-  own ← read_data
-  state ← read_state
-  verdict ← read_verdict
-  queues ← read_list read_queue
-  done (record { itself = itself; own = own; state = state; verdict = verdict; queues = queues })
+  head ← read_pair
+  messages ← read_items read_message head.0
+  done (record { port = head.1; messages = messages })
 
 -- a component's port
 unfoldable pub read_end : Reads End
@@ -303,12 +307,46 @@ read_links = do
 
 -- ---- configurations
 
--- a test case that goes on
+-- the name and the state of a component
+unfoldable pub read_name : Reads (ComponentId × State)
+read_name = do
+  path ← read_path
+  kind ← read_long_pair
+  done (record { path = path; component_type = kind.0 }, state_of kind.1)
+
+-- the verdict of a component, and its data
+unfoldable pub read_own : Reads (Verdict × Data)
+read_own = do
+  head ← read_pair
+  members ← read_cells
+  calls ← read_list read_frame
+  last ← read_pair
+  defaults ← read_items read_default last.0
+  done (verdict_of head.0, record { members = members; calls = calls; defaults = defaults; activations = last.1; children = head.1 })
+
+-- a component of this name, from its content: the length of what it has of its own is passed over
+unfoldable pub read_component : ComponentId × State → Reads Component
+read_component name = do
+  size ← read_long
+  own ← read_own
+  queues ← read_list read_queue
+  done (record { itself = name.0; own = own.1; state = name.1; verdict = own.0; queues = queues })
+
+-- components of these names, from their contents
+unfoldable pub read_contents : List (ComponentId × State) → Reads (List Component)
+read_contents [] = done []
+read_contents (name ∷ names) = do
+  component ← read_component name
+  components ← read_contents names
+  done (component ∷ components)
+
+-- a test case that goes on, behind the first byte
 unfoldable pub read_going : Reads Going
 read_going = do
-  components ← read_list read_component
-  links ← read_links
   forgotten ← read_verdict
+  links ← read_links
+  names ← read_list read_name
+  components ← read_contents names
   done (record { components = components; links = links; forgotten = forgotten })
 
 -- a configuration that begins with this byte

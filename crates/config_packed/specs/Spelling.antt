@@ -1,5 +1,5 @@
 -- How configurations are spelled as bytes. A byte of the definitions is a number: those of the code's numbers are below 256.
-use Rattle.std.specs.Prelude.{ℕ, ◌+◌, ◌*◌, ◌/◌, ◌%◌, ℤ, pos, negsuc, nat_lt, if◌then◌else◌, List, [], ◌∷◌, ◌++◌, length, Option, Some, None}
+use Rattle.std.specs.Prelude.{ℕ, ◌+◌, ◌*◌, ◌/◌, ◌%◌, ℤ, pos, negsuc, nat_lt, ◌&&◌, if◌then◌else◌, List, [], ◌∷◌, ◌++◌, length, map, Option, Some, None}
 use Rattle.std.specs.List.{flat_map}
 use Rattle.ttcn_syntax.specs.declared.tree.statement.Verdict.{Verdict}
 use Rattle.ttcn_syntax.specs.declared.tree.statement.Verdict.TheVariants as verdict
@@ -35,9 +35,13 @@ four n = (n % 256) ∷ ((n / 256) % 256) ∷ ((n / 256 / 256) % 256) ∷ (n / 25
 abbrev pub eight : ℕ → List ℕ
 eight n = four (n % 4294967296) ++ four (n / 4294967296)
 
--- a number below 192 in one byte, and one below 63 * 256 in two, of which the first is from 192 to 254
+-- a number below 63 * 256 in two bytes, of which the first is from 192 to 254
+abbrev pub two : ℕ → List ℕ
+two n = (192 + n / 256) ∷ (n % 256) ∷ []
+
+-- a number below 192 in one byte, any other one in two
 abbrev pub short : ℕ → List ℕ
-short n = if nat_lt n 192 then n ∷ [] else (192 + n / 256) ∷ (n % 256) ∷ []
+short n = if nat_lt n 192 then n ∷ [] else two n
 
 -- a number: where it isn't short, the byte 255 and then its wide form
 abbrev pub number_in : (ℕ → List ℕ) → ℕ → List ℕ
@@ -50,6 +54,18 @@ spell_number n = number_in four n
 -- a number of 64 bits
 unfoldable pub spell_long : ℕ → List ℕ
 spell_long n = number_in eight n
+
+-- two numbers: the first one below 15 and the second one below 16 in one byte, others behind the byte 255
+abbrev pub both_in : (ℕ → List ℕ) → ℕ → ℕ → List ℕ
+both_in spell a b = if nat_lt a 15 && nat_lt b 16 then (16 * a + b) ∷ [] else 255 ∷ (spell_long a ++ spell b)
+
+-- a number of 64 bits and one of 32 bits
+unfoldable pub spell_pair : ℕ → ℕ → List ℕ
+spell_pair a b = both_in spell_number a b
+
+-- two numbers of 64 bits
+unfoldable pub spell_long_pair : ℕ → ℕ → List ℕ
+spell_long_pair a b = both_in spell_long a b
 
 -- ---- lists
 
@@ -64,13 +80,23 @@ abbrev pub number_of : ℤ → ℕ
 number_of (pos n) = 2 * n
 number_of (negsuc n) = 2 * n + 1
 
--- an integer, by its number
+-- an integer: where its number is below 247, the byte that is 9 more, and else the byte 0 and then its number
 unfoldable pub spell_integer : ℤ → List ℕ
-spell_integer z = spell_long (number_of z)
+spell_integer z = if nat_lt (number_of z) 247 then (9 + number_of z) ∷ [] else 0 ∷ spell_long (number_of z)
+
+-- a component that was created as this one by the main test component: where the number is below 100, the byte that is one more
+abbrev pub spell_child : ℕ → List ℕ
+spell_child n = if nat_lt n 100 then (1 + n) ∷ [] else 101 ∷ spell_list spell_number (n ∷ [])
+
+-- the numbers of a path: none are the byte 0, and more than one stand behind the byte 101
+abbrev pub spell_path_numbers : List ℕ → List ℕ
+spell_path_numbers [] = 0 ∷ []
+spell_path_numbers (n ∷ []) = spell_child n
+spell_path_numbers (n ∷ m ∷ others) = 101 ∷ spell_list spell_number (n ∷ m ∷ others)
 
 -- the name of a component: the numbers of its path
 unfoldable pub spell_path : Path → List ℕ
-spell_path path = spell_list spell_number path.numbers
+spell_path path = spell_path_numbers path.numbers
 
 -- a component that a reference names: its path, and then its type
 unfoldable pub spell_identity : ComponentId → List ℕ
@@ -81,9 +107,9 @@ abbrev pub spell_field : Option (List ℕ) → List ℕ
 spell_field None = 0 ∷ []
 spell_field (Some bytes) = 1 ∷ bytes
 
--- a byte for the variant, and then what it holds
+-- an integer, or a byte for the variant, and then what it holds
 abbrev pub spell_level : Value-F (List ℕ) → List ℕ
-spell_level (Value-F.Integer integer) = 0 ∷ spell_integer integer
+spell_level (Value-F.Integer integer) = spell_integer integer
 spell_level (Value-F.Boolean truth) = (if truth then 2 else 1) ∷ []
 spell_level (Value-F.Enumerated at name) = 3 ∷ (spell_long at ++ spell_long name)
 spell_level (Value-F.Record at fields) = 4 ∷ (spell_long at ++ spell_list spell_field fields)
@@ -112,9 +138,9 @@ spell_timer state = timer_code state ∷ []
 abbrev pub spell_entry : {A : Type 0} → (A → List ℕ) → ℕ × A → List ℕ
 spell_entry spell entry = spell_number entry.0 ++ spell entry.1
 
--- the values of names, and then the states of timers
+-- how many names have values and how many timers there are, then the values, and then the states of the timers
 unfoldable pub spell_cells : Cells → List ℕ
-spell_cells cells = spell_list (spell_entry spell_value) cells.values ++ spell_list (spell_entry spell_timer) cells.timers
+spell_cells cells = spell_long_pair (length cells.values) (length cells.timers) ++ flat_map (spell_entry spell_value) cells.values ++ flat_map (spell_entry spell_timer) cells.timers
 
 -- what remains in a frame, and then its names
 unfoldable pub spell_frame : Frame → List ℕ
@@ -123,10 +149,6 @@ spell_frame frame = spell_long frame.remaining ++ spell_cells frame.cells
 -- an activated default: its number, its altstep and its arguments
 unfoldable pub spell_default : ActiveDefault → List ℕ
 spell_default active = spell_number active.number ++ spell_long active.altstep ++ spell_list spell_value active.arguments
-
--- frame 0, the frames above, the defaults, and how many defaults and components there were so far
-unfoldable pub spell_data : Data → List ℕ
-spell_data own = spell_cells own.members ++ spell_list spell_frame own.calls ++ spell_list spell_default own.defaults ++ spell_number own.activations ++ spell_number own.children
 
 -- ---- components, connections and mappings
 
@@ -148,26 +170,18 @@ state_code state.Created = 0
 state_code state.Running = 1
 state_code state.Terminated = 2
 
--- the state of a component
-abbrev pub spell_state : State → List ℕ
-spell_state s = state_code s ∷ []
-
--- the sender of a message: the byte 0 where it has none, and the byte 1 before the component that sent it
+-- the sender of a message: where it has none, the byte 102, with which no path begins
 unfoldable pub spell_sender : Option ComponentId → List ℕ
-spell_sender None = 0 ∷ []
-spell_sender (Some component) = 1 ∷ spell_identity component
+spell_sender None = 102 ∷ []
+spell_sender (Some component) = spell_identity component
 
 -- a message, and then its sender
 unfoldable pub spell_message : Message → List ℕ
 spell_message message = spell_value message.value ++ spell_sender message.sender
 
--- a port, and then the messages that wait there
+-- how many messages wait at a port and the port, and then the messages
 unfoldable pub spell_queue : Queue → List ℕ
-spell_queue queue = spell_number queue.port ++ spell_list spell_message queue.messages
-
--- a component: its name, its data, its state, its verdict and its queues
-unfoldable pub spell_component : Component → List ℕ
-spell_component component = spell_identity component.itself ++ spell_data component.own ++ spell_state component.state ++ spell_verdict component.verdict ++ spell_list spell_queue component.queues
+spell_queue queue = spell_pair (length queue.messages) queue.port ++ flat_map spell_message queue.messages
 
 -- a component's port
 unfoldable pub spell_end : End → List ℕ
@@ -183,11 +197,37 @@ spell_links links = spell_list spell_connection links.connections ++ spell_list 
 
 -- ---- configurations
 
--- components, how ports are linked and what came in there, and the verdict of the components that are forgotten
-unfoldable pub spell_going : Going → List ℕ
-spell_going going = spell_list spell_component going.components ++ spell_links going.links ++ spell_verdict going.forgotten
+-- what all components see of one: its name and its state
+abbrev pub name_of : Component → ComponentId × State
+name_of component = (component.itself, component.state)
 
--- a configuration: the byte 0 stands before the verdict of a test case that ended, and the byte 1 before one that goes on
+-- such a name: the component's path, and then its type and its state
+unfoldable pub spell_name : ComponentId × State → List ℕ
+spell_name name = spell_path name.0.path ++ spell_long_pair name.0.component_type (state_code name.1)
+
+-- what a component has of its own: its verdict and how many components it created, frame 0, the frames above, how many defaults it has and how many were activated so far, and then the defaults
+unfoldable pub spell_own : Verdict → Data → List ℕ
+spell_own v own =
+    spell_pair (verdict_code v) own.children ++ spell_cells own.members ++ spell_list spell_frame own.calls
+    ++ spell_pair (length own.defaults) own.activations ++ flat_map spell_default own.defaults
+
+-- bytes behind their length
+unfoldable pub spell_sized : List ℕ → List ℕ
+spell_sized bytes = spell_long (length bytes) ++ bytes
+
+-- what only a component itself sees: what it has of its own, behind its length, and then its queues
+unfoldable pub spell_content : Component → List ℕ
+spell_content component = spell_sized (spell_own component.verdict component.own) ++ spell_list spell_queue component.queues
+
+-- the contents of components, one behind the other
+abbrev pub spell_contents : List Component → List ℕ
+spell_contents components = flat_map spell_content components
+
+-- what all components see: the byte 1, the verdict of the components that are forgotten, how ports are linked and what came in there, and the components' names
+unfoldable pub spell_outline : Going → List ℕ
+spell_outline going = 1 ∷ (spell_verdict going.forgotten ++ spell_links going.links ++ spell_list spell_name (map name_of going.components))
+
+-- a configuration: the byte 0 stands before the verdict of a test case that ended, and the outline before the contents of the components of one that goes on
 unfoldable pub spell_config : Config → List ℕ
 spell_config (config.Ended v) = 0 ∷ spell_verdict v
-spell_config (config.Going going) = 1 ∷ spell_going going
+spell_config (config.Going going) = spell_outline going ++ spell_contents going.components

@@ -1,5 +1,6 @@
 //! Bytes that are read one behind the other.
-ghost use Rattle.std.specs.Prelude.{◌≡◌, length};
+ghost use Rattle.std.specs.Prelude.{◌≡◌, drop, length, take};
+ghost use Rattle.config_packed.specs.internal.Cuts.{since};
 ghost use Rattle.config_packed.specs.Reading.{read_byte};
 
 use std::marker::Model;
@@ -33,6 +34,7 @@ impl<'a> ByteReader<'a> {
     }
 
     /// The next byte, or 0 behind the last one.
+    #[inline(always)]
     #[tactic(auto, unfolding(crate::specs::Reading::read_byte))]
     pub fn byte(&mut self) -> u8
         ensures value { result ≡ (read_byte self.old).0 }
@@ -46,5 +48,30 @@ impl<'a> ByteReader<'a> {
                 byte
             }
         }
+    }
+
+    /// The bytes that are left.
+    pub fn rest(&self) -> &'a [u8]
+        ensures { result.now ≡ self.now }
+    {
+        self.bytes
+    }
+
+    /// The next bytes: this many, or all that are left.
+    pub fn bytes(&mut self, count: usize) -> &'a [u8]
+        ensures value { result.now ≡ take count self.old }
+        ensures rest { self.new ≡ drop count self.old }
+    {
+        let count = count.min(self.bytes.len());
+        let (bytes, rest) = self.bytes.split_at(count);
+        self.bytes = rest;
+        bytes
+    }
+
+    /// Of these bytes those before the ones that are left.
+    pub fn since(&self, bytes: &'a [u8]) -> &'a [u8]
+        ensures { result.now ≡ since bytes.now self.now }
+    {
+        &bytes[..bytes.len().saturating_sub(self.bytes.len())]
     }
 }

@@ -4,12 +4,21 @@
 mod byte_reader;
 mod laws;
 mod number;
+mod own;
 mod packed;
 mod parts;
-mod position;
+mod pieces;
+mod queues;
 mod skip;
 mod spelled;
 mod value;
+mod whole;
 
-pub use laws::{configs_are_spelled_apart, same_bytes_are_one, spelled_configs_are_read_back};
+pub use laws::{
+    configs_are_spelled_apart, keys_tell_what_is_seen, outlines_tell_what_all_see,
+    same_bytes_are_one, spelled_configs_are_read_back,
+};
+pub use own::OwnBytes;
 pub use packed::{Packed, pack, unpack};
+pub use pieces::{ComponentBytes, ConfigBytes};
+pub use queues::{message_bytes, queues_with_message, queues_without_first};

@@ -1,20 +1,19 @@
 //! Configurations that are kept as bytes.
 ghost use Rattle.std.specs.Prelude.{◌≡◌, IfOk};
-ghost use Rattle.config_packed.specs.Packs.{fed, fed_alike, position_in, same_bytes, same_bytes_equiv, same_bytes_laws, verdict_in};
+ghost use Rattle.config_packed.specs.Packs.{fed, fed_alike, same_bytes, same_bytes_equiv, same_bytes_laws, verdict_in};
+ghost use Rattle.config_packed.specs.Pieces.{AreParts};
 ghost use Rattle.config_packed.specs.Spelling.{spell_config};
+ghost use Rattle.config_parts.specs.declared.config.Config.{Config};
 
 use crate::byte_reader::ByteReader;
 use crate::parts::take_verdict;
-use crate::position::take_position_of;
-use crate::spelled::Spelled;
+use crate::pieces::{ConfigBytes, take_parts};
+use crate::whole::{ROOM, put_config, take_config};
 use config_parts::Config;
 use std::alloc::{AllocError, Global};
 use std::hash::{Hash, Hasher};
 use std::marker::Model;
-use ttcn_syntax::{Seq, Verdict};
-
-/// How many bytes are asked for before a configuration is spelled: few need more.
-const ROOM: usize = 512;
+use ttcn_syntax::Verdict;
 
 /// A configuration as bytes. Contracts see the configuration.
 pub struct Packed {
@@ -45,14 +44,13 @@ impl Drop for Packed {
 }
 
 /// The bytes of a configuration, in no more memory than they need.
-#[tactic(auto, using(crate::proofs::ConfigsBack::config_back))]
 pub fn pack(alloc: Global, config: &Config) -> Result<Packed, AllocError>
     ensures { IfOk result (λ packed. packed ≡ config.now) }
 {
     let mut bytes = Vec::with_capacity(alloc, ROOM)?;
-    config.put(&mut bytes)?;
+    put_config(alloc, &mut bytes, config)?;
     let bytes = Vec::from_slice(alloc, bytes.as_slice())?;
-    Ok(Packed { bytes })
+    Ok(Packed::from_bytes(bytes))
 }
 
 /// The configuration that was packed, in memory of its own.
@@ -60,11 +58,19 @@ pub fn unpack(alloc: Global, packed: &Packed) -> Result<Config, AllocError>
     ensures { IfOk result (λ config. config ≡ packed.now) }
 {
     let mut reader = ByteReader::new(packed.bytes.as_slice());
-    let config = Config::take(alloc, &mut reader)?;
-    Ok(config)
+    take_config(alloc, &mut reader)
 }
 
 impl Packed {
+    /// The configuration that these bytes spell.
+    #[tactic(auto, using(crate::proofs::ConfigsBack::config_back))]
+    pub(crate) fn from_bytes(bytes: Vec<u8>) -> Packed
+        requires { (config : Config) × (bytes.items ≡ spell_config config) }
+        ensures { (config : Config) → bytes.items ≡ spell_config config → result ≡ config }
+    {
+        Packed { bytes }
+    }
+
     pub fn as_bytes(&self) -> &[u8]
         ensures { result.now ≡ spell_config self.now }
     {
@@ -83,16 +89,15 @@ impl Packed {
         None
     }
 
-    /// The position of the last frame of the component of this path, where there is one. Nothing else is unpacked.
-    #[tactic(auto, unfolding(crate::specs::Reading::read_config, crate::specs::Reading::read_going))]
-    pub fn position(&self, alloc: Global, component: &Seq<u32>) -> Result<Option<usize>, AllocError>
-        ensures { IfOk result (λ found. found ≡ position_in self.now component.now) }
+    /// The bytes in parts, where the test case goes on.
+    pub fn parts(&self, alloc: Global) -> Result<Option<ConfigBytes<'_>>, AllocError>
+        ensures { IfOk result (λ parts. AreParts self.now parts) }
     {
-        let mut reader = ByteReader::new(self.bytes.as_slice());
-        if reader.byte() == 0 {
+        let bytes = self.bytes.as_slice();
+        if ByteReader::new(bytes).byte() == 0 {
             return Ok(None);
         }
-        take_position_of(alloc, &mut reader, component)
+        Ok(Some(take_parts(alloc, bytes)?))
     }
 }
 

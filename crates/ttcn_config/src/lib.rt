@@ -2,7 +2,10 @@
 #![tactic(auto)]
 
 pub use config_canonical::{canon, canon_owned};
-pub use config_packed::{Packed, pack, unpack};
+pub use config_packed::{
+    ComponentBytes, ConfigBytes, OwnBytes, Packed, message_bytes, pack, queues_with_message,
+    queues_without_first, unpack,
+};
 pub use config_parts::{
     ActiveDefault, Cells, Component, Config, Connection, Data, End, Frame, Going, Links, Message,
     Queue, Shared, State, TryClone,

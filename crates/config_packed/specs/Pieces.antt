@@ -1,0 +1,95 @@
+-- The bytes of a configuration that goes on, in parts: what tells what a component does, and what is put in place of the bytes of one.
+use Rattle.std.specs.Prelude.{◌≡◌, ℕ, nat_lt, Bool, List, [], ◌∷◌, ◌++◌, length, map, Option, Some, None}
+use Rattle.std.specs.Option.{option_to_list}
+use Rattle.ttcn_syntax.specs.declared.tree.statement.Verdict.{Verdict}
+use Rattle.config_parts.specs.declared.component.Component.{Component}
+use Rattle.config_parts.specs.declared.component.Message.{Message}
+use Rattle.config_parts.specs.declared.component.Queue.{Queue}
+use Rattle.config_parts.specs.declared.config.Config.{Config}
+use Rattle.config_parts.specs.declared.config.Config.TheVariants as config
+use Rattle.config_parts.specs.declared.config.Going.{Going}
+use Rattle.config_parts.specs.declared.connection.Links.{Links}
+use Rattle.config_parts.specs.declared.frame.Data.{Data}
+use Rattle.config_parts.specs.internal.Changes.{changed_at, with_queues}
+use Rattle.config_packed.specs.Spelling.{name_of, spell_list, spell_long, spell_outline, spell_own, spell_queue}
+use Rattle.config_packed.specs.declared.pieces.ComponentBytes.{ComponentBytes}
+use Rattle.config_packed.specs.declared.pieces.ConfigBytes.{ConfigBytes}
+
+-- ---- parts
+
+-- the bytes of a component: those of what it has of its own, and those of its queues
+abbrev pub bytes_of : ComponentBytes → List ℕ × List ℕ
+bytes_of component = (component.own.now, component.queues.now)
+
+-- the bytes that spell these
+abbrev pub spelled_parts : Component → List ℕ × List ℕ
+spelled_parts component = (spell_own component.verdict component.own, spell_list spell_queue component.queues)
+
+-- whether system ports are mapped
+abbrev pub has_mappings : Links → Bool
+has_mappings links = nat_lt 0 (length links.mappings)
+
+-- the parts of the bytes of a configuration that goes on
+pub record IsCut (going : Going) (parts : ConfigBytes) : Type 0 where
+  pub outline : parts.outline.now ≡ spell_outline going
+  pub components : map bytes_of parts.components.items ≡ map spelled_parts going.components
+  pub mappings : parts.has_mappings ≡ has_mappings going.links
+
+-- a test case that ended has no parts
+abbrev pub AreParts : Config → Option ConfigBytes → Type 0
+AreParts (config.Ended v) None = Unit {0}
+AreParts (config.Ended v) (Some parts) = ⊥
+AreParts (config.Going going) None = ⊥
+AreParts (config.Going going) (Some parts) = IsCut going parts
+
+-- ---- what a component sees
+
+-- the first of messages
+abbrev pub first_message : List Message → Option Message
+first_message [] = None
+first_message (message ∷ messages) = Some message
+
+-- a port, and the message that waits there in front of the others
+abbrev pub front_at : Queue → ℕ × Option Message
+front_at queue = (queue.port, first_message queue.messages)
+
+-- a port and the message in front, as a queue with at most one message
+unfoldable pub spell_front : ℕ × Option Message → List ℕ
+spell_front front = spell_queue (record { port = front.0; messages = option_to_list front.1 })
+
+-- what a component sees, which is at this place: what all see, its place, what it has of its own, and the message in front of each of its queues
+unfoldable pub spell_key : Going → ℕ → Component → List ℕ
+spell_key going at component = spell_outline going ++ spell_long at ++ spell_own component.verdict component.own ++ spell_list spell_front (map front_at component.queues)
+
+-- all components see the same of two configurations
+pub record ShareOutline (g h : Going) : Type 0 where
+  pub forgotten : g.forgotten ≡ h.forgotten
+  pub links : g.links ≡ h.links
+  pub names : map name_of g.components ≡ map name_of h.components
+
+-- a component of one configuration sees what a component of another one sees
+pub record SeeTheSame (g h : Going) (at i : ℕ) (c d : Component) : Type 0 where
+  pub outline : ShareOutline g h
+  pub place : at ≡ i
+  pub verdict : c.verdict ≡ d.verdict
+  pub own : c.own ≡ d.own
+  pub fronts : map front_at c.queues ≡ map front_at d.queues
+
+-- ---- changes
+
+-- a component with another verdict and other data
+abbrev pub with_verdict_and_own : Verdict → Data → Component → Component
+with_verdict_and_own v own c = record { itself = c.itself; own = own; state = c.state; verdict = v; queues = c.queues }
+
+-- the component at a place has another verdict and other data, and that at a place other queues
+abbrev pub changed_going : Going → ℕ → Verdict → Data → ℕ → List Queue → Going
+changed_going going at v own behind queues = record {
+  components = changed_at (changed_at going.components at (with_verdict_and_own v own)) behind (with_queues (λ old. queues));
+  links = going.links;
+  forgotten = going.forgotten;
+}
+
+-- the bytes of a configuration in parts, bytes of what a component has of its own, and bytes of queues
+abbrev pub AreSpelled : ConfigBytes → List ℕ → List ℕ → Type 0
+AreSpelled parts own queues =
+    ((going : Going) × IsCut going parts) × ((v : Verdict) × ((d : Data) × (own ≡ spell_own v d))) × ((qs : List Queue) × (queues ≡ spell_list spell_queue qs))

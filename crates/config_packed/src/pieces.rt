@@ -1,0 +1,240 @@
+//! The bytes of a configuration that goes on, in parts.
+ghost use Rattle.std.specs.Prelude.{◌≡◌, ◌++◌, ℕ, ◌<◌, IfOk, List, OnOk, Option, Some, length, map, slice_get};
+ghost use Rattle.config_packed.specs.internal.Cuts.{changed_at_place, cut_content, cut_front, joined};
+ghost use Rattle.config_packed.specs.Pieces.{AreSpelled, IsCut, bytes_of, changed_going, front_at, spell_front, spell_key};
+ghost use Rattle.config_packed.specs.Reading.{read_items};
+ghost use Rattle.config_packed.specs.Spelling.{spell_config, spell_list, spell_own, spell_queue};
+ghost use Rattle.config_parts.specs.declared.component.Component.{Component};
+ghost use Rattle.config_parts.specs.declared.component.Queue.{Queue};
+ghost use Rattle.config_parts.specs.declared.config.Going.{Going};
+ghost use Rattle.config_parts.specs.declared.frame.Data.{Data};
+
+use crate::byte_reader::ByteReader;
+use crate::number::{LONG_ROOM, put_long, put_pair, size_of_long, take_long, take_pair};
+use crate::packed::Packed;
+use crate::parts::{Name, take_verdict};
+use crate::skip::{Skip, skip_items, skip_links, skip_list};
+use crate::whole::put_sized;
+use config_parts::{Config, Message, Queue};
+use std::alloc::{AllocError, Global};
+use ttcn_syntax::{Seq, Verdict};
+
+/// The bytes of a component: those of its verdict and its data, and those of its queues.
+#[derive(Clone, Copy)]
+pub struct ComponentBytes<'a> {
+    pub own: &'a [u8],
+    pub queues: &'a [u8],
+}
+
+/// The bytes of a configuration that goes on, in parts.
+#[derive(Drop)]
+pub struct ConfigBytes<'a> {
+    /// What all components see: how ports are linked, and the names and states of the components.
+    pub outline: &'a [u8],
+    pub components: Vec<ComponentBytes<'a>>,
+    /// Whether system ports are mapped.
+    pub has_mappings: bool,
+}
+
+// ---- cutting
+
+/// The bytes of the next component.
+#[tactic(auto, unfolding(crate::specs::internal::Cuts::cut_content))]
+fn take_component<'a>(reader: &mut ByteReader<'a>) -> ComponentBytes<'a>
+    ensures value { bytes_of result ≡ (cut_content reader.old).0 }
+    ensures rest { reader.new ≡ (cut_content reader.old).1 }
+{
+    let size = take_long(reader);
+    let own = reader.bytes(size);
+    let behind = reader.rest();
+    Seq::<Queue>::skip(reader);
+    let queues = reader.since(behind);
+    ComponentBytes { own, queues }
+}
+
+/// The bytes of this many components.
+fn take_components<'a>(
+    alloc: Global,
+    reader: &mut ByteReader<'a>,
+    count: usize,
+) -> Result<Vec<ComponentBytes<'a>>, AllocError>
+    ensures { IfOk result (λ components. map bytes_of components.items ≡ (read_items cut_content count reader.old).0) }
+{
+    let mut components = Vec::with_capacity(alloc, count.min(reader.left()))?;
+    for _turn in 0..count {
+        components.push(take_component(reader))?;
+    }
+    Ok(components)
+}
+
+/// The parts of the bytes of a configuration that goes on.
+pub fn take_parts<'a>(alloc: Global, bytes: &'a [u8]) -> Result<ConfigBytes<'a>, AllocError>
+    ensures { (going : Going) → bytes.now ≡ spell_config (Config.Going going) → IfOk result (λ parts. IsCut going parts) }
+{
+    let mut reader = ByteReader::new(bytes);
+    let _tag = reader.byte();
+    let _forgotten = take_verdict(&mut reader);
+    let has_mappings = skip_links(&mut reader);
+    let count = skip_list::<Name>(&mut reader);
+    let outline = reader.since(bytes);
+    let components = take_components(alloc, &mut reader, count)?;
+    Ok(ConfigBytes {
+        outline,
+        components,
+        has_mappings,
+    })
+}
+
+// ---- keys
+
+/// The port and the first message of the next queue.
+#[tactic(auto, unfolding(crate::specs::internal::Cuts::cut_front))]
+fn put_front(key: &mut Vec<u8>, reader: &mut ByteReader<'_>) -> Result<(), AllocError>
+    ensures value { OnOk result (key.new.items ≡ key.old.items ++ (cut_front reader.old).0) }
+    ensures rest { OnOk result (reader.new ≡ (cut_front reader.old).1) }
+{
+    let (count, port) = take_pair(reader);
+    put_pair(key, count.min(1), port)?;
+    if count == 0 {
+        return Ok(());
+    }
+    let message = reader.rest();
+    Message::skip(reader);
+    key.extend_from_slice(reader.since(message))?;
+    skip_items::<Message>(reader, count - 1);
+    Ok(())
+}
+
+/// The port and the first message of each queue, from the bytes of the queues.
+fn put_fronts(key: &mut Vec<u8>, queues: &[u8]) -> Result<(), AllocError>
+    ensures { (qs : List Queue) → queues.now ≡ spell_list spell_queue qs → OnOk result (key.new.items ≡ key.old.items ++ spell_list spell_front (map front_at qs)) }
+{
+    let mut reader = ByteReader::new(queues);
+    let count = take_long(&mut reader);
+    put_long(key, count)?;
+    for _turn in 0..count {
+        put_front(key, &mut reader)?;
+    }
+    Ok(())
+}
+
+// ---- changes
+
+/// What takes the place of other bytes: of what the component at a place has of its own, and of the queues of one.
+#[derive(Clone, Copy)]
+struct Change<'o, 'q> {
+    at: usize,
+    own: &'o [u8],
+    behind: usize,
+    queues: &'q [u8],
+}
+
+impl Change<'_, '_> {
+    /// How many bytes the component at a place takes.
+    fn room(&self, place: usize, component: &ComponentBytes<'_>) -> usize {
+        let own = if place == self.at {
+            self.own.len()
+        } else {
+            component.own.len()
+        };
+        let queues = if place == self.behind {
+            self.queues.len()
+        } else {
+            component.queues.len()
+        };
+        size_of_long(own).saturating_add(own).saturating_add(queues)
+    }
+
+    /// The bytes of the component at a place.
+    fn put(
+        &self,
+        bytes: &mut Vec<u8>,
+        place: usize,
+        component: &ComponentBytes<'_>,
+    ) -> Result<(), AllocError>
+        ensures { OnOk result (bytes.new.items ≡ bytes.old.items ++ joined (changed_at_place self.now.at self.now.own.now self.now.behind self.now.queues.now place (bytes_of component.now))) }
+    {
+        if place == self.at {
+            put_sized(bytes, self.own)?;
+        } else {
+            put_sized(bytes, component.own)?;
+        }
+        if place == self.behind {
+            bytes.extend_from_slice(self.queues)
+        } else {
+            bytes.extend_from_slice(component.queues)
+        }
+    }
+}
+
+impl<'a> ConfigBytes<'a> {
+    /// What tells what the component at a place does, behind other bytes: what all components see, its place, what it has of
+    /// its own, and the first message of each of its queues.
+    pub fn put_key(&self, key: &mut Vec<u8>, at: usize) -> Result<(), AllocError>
+        requires { at < length self.now.components.items }
+        ensures { (going : Going) (component : Component) → IsCut going self.now → slice_get going.components at ≡ Some component
+            → OnOk result (key.new.items ≡ key.old.items ++ spell_key going at component) }
+    {
+        let component = &self.components[at];
+        key.extend_from_slice(self.outline)?;
+        put_long(key, at)?;
+        key.extend_from_slice(component.own)?;
+        put_fronts(key, component.queues)
+    }
+
+    /// What tells what the component at a place does.
+    pub fn key(&self, alloc: Global, at: usize) -> Result<Vec<u8>, AllocError>
+        requires { at < length self.now.components.items }
+        ensures { (going : Going) (component : Component) → IsCut going self.now → slice_get going.components at ≡ Some component
+            → IfOk result (λ key. key.items ≡ spell_key going at component) }
+    {
+        let mut key = Vec::with_capacity(alloc, self.key_room(&self.components[at]))?;
+        self.put_key(&mut key, at)?;
+        Ok(key)
+    }
+
+    /// No more bytes than a key takes.
+    fn key_room(&self, component: &ComponentBytes<'_>) -> usize {
+        self.outline
+            .len()
+            .saturating_add(component.own.len())
+            .saturating_add(component.queues.len())
+            .saturating_add(LONG_ROOM)
+    }
+
+    /// How many bytes the configuration takes with a change.
+    fn changed_room(&self, change: &Change<'_, '_>) -> usize {
+        let mut room = self.outline.len();
+        for (place, component) in self.components.iter().enumerate() {
+            room = room.saturating_add(change.room(place, component));
+        }
+        room
+    }
+
+    /// The bytes with other bytes of what one component has of its own, and other bytes of the queues of one.
+    pub fn pack_changed(
+        &self,
+        alloc: Global,
+        at: usize,
+        own: &[u8],
+        behind: usize,
+        queues: &[u8],
+    ) -> Result<Packed, AllocError>
+        requires { AreSpelled self.now own.now queues.now }
+        ensures { (going : Going) (v : Verdict) (d : Data) (qs : List Queue) → IsCut going self.now → own.now ≡ spell_own v d → queues.now ≡ spell_list spell_queue qs
+            → IfOk result (λ packed. packed ≡ Config.Going (changed_going going at v d behind qs)) }
+    {
+        let change = Change {
+            at,
+            own,
+            behind,
+            queues,
+        };
+        let mut bytes = Vec::with_capacity(alloc, self.changed_room(&change))?;
+        bytes.extend_from_slice(self.outline)?;
+        for (place, component) in self.components.iter().enumerate() {
+            change.put(&mut bytes, place, component)?;
+        }
+        Ok(Packed::from_bytes(bytes))
+    }
+}

@@ -1,0 +1,96 @@
+//! Parts of configurations that are kept as bytes.
+use crate::parts::{large, small};
+use std::alloc::{AllocError, Global};
+use std::test::Fail;
+use ttcn_config::{
+    Config, Message, message_bytes, pack, queues_with_message, queues_without_first,
+};
+use ttcn_syntax::Verdict;
+use ttcn_values::Value;
+
+/// What is seen of a small configuration, in which all is as in `round`: the outline, its place, what it has of its own, and
+/// its queue, where no message waits.
+const KEY: &[u8] = &[
+    1, 0, 0, 0, 0, 1, 0, 33, // the outline
+    0, // its place
+    17, 17, 3, 18, 4, 1, 1, 192, 200, 0, 0, // its verdict and its data
+    1, 7, // the fronts of its queues
+];
+
+#[test]
+fn of_a_component(rt: HostRuntime) -> Result<(), Fail> {
+    let alloc = rt.alloc();
+    let packed = pack(alloc, &small(alloc, Value::Integer(-5), 200)?)?;
+    let Some(parts) = packed.parts(alloc)? else {
+        return Err(Fail::new("no parts"));
+    };
+    assert!(rt; !parts.has_mappings);
+    assert_eq!(rt; parts.outline.len(), 8);
+    assert_eq!(rt; parts.components.len(), 1);
+    for at in 0..parts.components.len() {
+        assert_eq!(rt; parts.components[at].own.len(), 11);
+        assert_eq!(rt; parts.components[at].queues, [1, 7].as_slice());
+        assert_eq!(rt; parts.key(alloc, at)?.as_slice(), KEY);
+    }
+    Ok(())
+}
+
+#[test]
+fn of_two_components(rt: HostRuntime) -> Result<(), Fail> {
+    let alloc = rt.alloc();
+    let packed = pack(alloc, &large(alloc, Verdict::Pass)?)?;
+    let Some(parts) = packed.parts(alloc)? else {
+        return Err(Fail::new("no parts"));
+    };
+    assert!(rt; parts.has_mappings);
+    assert_eq!(rt; parts.components.len(), 2);
+    let mut room = parts.outline.len();
+    for component in parts.components.as_slice() {
+        room = room.saturating_add(component.own.len());
+        room = room.saturating_add(component.queues.len());
+    }
+    assert!(rt; room < packed.as_bytes().len());
+    Ok(())
+}
+
+#[test]
+fn of_what_has_ended(rt: HostRuntime) -> Result<(), Fail> {
+    let alloc = rt.alloc();
+    let packed = pack(alloc, &Config::Ended(Verdict::Pass))?;
+    assert!(rt; packed.parts(alloc)?.is_none());
+    Ok(())
+}
+
+/// An integer that someone unknown sent, as it is spelled.
+fn sent(alloc: Global, number: i64) -> Result<Vec<u8>, AllocError> {
+    message_bytes(
+        alloc,
+        &Message {
+            value: Value::Integer(number),
+            sender: None,
+        },
+    )
+}
+
+#[test]
+fn of_queues(rt: HostRuntime) -> Result<(), Fail> {
+    let alloc = rt.alloc();
+    let first = sent(alloc, 5)?;
+    let second = sent(alloc, 300)?;
+    let one = queues_with_message(alloc, &[2, 7, 8], 8, first.as_slice())?;
+    let two = queues_with_message(alloc, one.as_slice(), 8, second.as_slice())?;
+    let rest = queues_without_first(alloc, two.as_slice(), 8)?;
+    let only = queues_with_message(alloc, &[2, 7, 8], 8, second.as_slice())?;
+    assert_eq!(rt; rest.as_slice(), only.as_slice());
+    let none = queues_without_first(alloc, rest.as_slice(), 8)?;
+    assert_eq!(rt; none.as_slice(), [2, 7, 8].as_slice());
+    assert_eq!(rt;
+        queues_without_first(alloc, none.as_slice(), 8)?.as_slice(),
+        [2, 7, 8].as_slice()
+    );
+    assert_eq!(rt;
+        queues_without_first(alloc, one.as_slice(), 7)?.as_slice(),
+        one.as_slice()
+    );
+    Ok(())
+}
