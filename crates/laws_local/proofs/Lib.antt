@@ -1,0 +1,5 @@
+pub mod Seeing
+pub mod Touching
+pub mod Stepping
+pub mod Grouping
+pub mod Sending

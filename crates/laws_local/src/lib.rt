@@ -1,0 +1,51 @@
+//! What a component does by itself: a step that changes one component alone is the same wherever the component sees the same.
+//! Laws, which run no code.
+#![tactic(auto)]
+
+ghost use Rattle.std.specs.Prelude.{◌≡◌, ◌≤◌, ℕ, Some, slice_get, true, []};
+ghost use Rattle.std.specs.List.{filter};
+ghost use Rattle.std.specs.Option.{option_map};
+ghost use Rattle.laws_local.specs.Alone.{IsLive, IsOf, IsReceiver, LookAlike, SeeAlike, SendsAlone, StepsAlone, change_alone, has_labels, how_many, is_of_path, outside_of, removed_at, steps_alone, with_component_at};
+ghost use Rattle.semantics.specs.Configurations.{Component, End, Goes, Going, path_of};
+ghost use Rattle.semantics.specs.Labels.{labels, labels_of_component};
+ghost use Rattle.semantics.specs.LiveParts.{live_part};
+ghost use Rattle.semantics.specs.Places.{branch_of_component};
+ghost use Rattle.semantics.specs.Snapshots.{Test};
+ghost use Rattle.semantics.specs.Steps.{Label, next};
+ghost use Rattle.semantics.specs.Telling.{Reaches, Sent, sent_of};
+
+/// Of other components a component sees nothing but their names and states. Where it sees the same, has the same, and the
+/// same messages come first at its ports, the same labels are enabled, and their steps take the same branches and change the
+/// same.
+#[tactic(auto, using(crate::proofs::Seeing::labels_alike, crate::proofs::Seeing::branches_alike, crate::proofs::Seeing::changes_alike, crate::proofs::Seeing::removed_alike))]
+pub fn components_do_what_they_see()
+    ensures labels { (test : Test) (c d : Going) (x y : Component) → LookAlike c d → SeeAlike x y → labels_of_component test c x ≡ labels_of_component test d y }
+    ensures branches { (test : Test) (c d : Going) (x y : Component) → LookAlike c d → SeeAlike x y → branch_of_component test c x ≡ branch_of_component test d y }
+    ensures changes { (test : Test) (c d : Going) (x y : Component) (label : Label) → LookAlike c d → SeeAlike x y → change_alone test c x label ≡ change_alone test d y label }
+    ensures removed { (test : Test) (c d : Going) (x y : Component) (label : Label) → LookAlike c d → SeeAlike x y → removed_at test c x label ≡ removed_at test d y label }
+{}
+
+/// A step that changes one component alone makes the same of the component wherever it sees the same.
+#[tactic(auto, using(crate::proofs::Stepping::step_alone))]
+pub fn steps_alone_are_the_same()
+    ensures { (test : Test) (c : Going) (x : Component) (at : ℕ) (label : Label) (e : Going) (z : Component) → IsLive c → slice_get c.components at ≡ Some x → IsOf x label → steps_alone test c x label ≡ true
+        → option_map live_part (next test (Goes c) label) ≡ Some (Goes e) → slice_get e.components at ≡ Some z → StepsAlone test c x label z.own z.verdict (removed_at test c x label) }
+{}
+
+/// The labels of a component are those of its path among all. Where two components have labels, some are left whatever one of
+/// them becomes, as long as its name and its state stay.
+#[tactic(auto, using(crate::proofs::Grouping::labels_by_path, crate::proofs::Grouping::labels_left))]
+pub fn labels_are_of_components()
+    ensures by_path { (test : Test) (c : Going) (y : Component) (at : ℕ) → IsLive c → slice_get c.components at ≡ Some y → filter (is_of_path (path_of y)) (labels test (Goes c)) ≡ labels_of_component test c y }
+    ensures left { (test : Test) (c : Going) (at : ℕ) (x z : Component) → slice_get c.components at ≡ Some x → outside_of z ≡ outside_of x → 2 ≤ how_many (has_labels test c) c.components
+        → ¬ (labels test (Goes (with_component_at at z c)) ≡ []) }
+{}
+
+/// A step that sends a message to another component makes the same of the sender's data, and sends the same message to the same
+/// port, wherever the sender sees the same and ports are linked alike.
+#[tactic(auto, using(crate::proofs::Sending::send_alone))]
+pub fn messages_are_sent_alike()
+    ensures { (test : Test) (c : Going) (x : Component) (at : ℕ) (label : Label) (sent : Sent) (to : ℕ) (w : Component) (e : End) (behind : Going) (z : Component) → IsLive c → slice_get c.components at ≡ Some x → IsOf x label
+        → sent_of test (Goes c) label ≡ Some sent → sent.way ≡ Reaches e → IsReceiver c x to w e → option_map live_part (next test (Goes c) label) ≡ Some (Goes behind) → slice_get behind.components at ≡ Some z
+        → SendsAlone test c x label z.own to e.port (record { value = sent.value; sender = Some x.itself }) }
+{}
