@@ -22,22 +22,23 @@ LONGEST = 1 << 20
 # the report on examples/x1.ttcn
 REPORT = b"testcase T\nsteps 2\nconfigurations 3\ncomplete yes\nverdict pass 2\n  mtc\n  mtc\n"
 
-# a test case of a few hundred thousand configurations: three components send three messages each to the main one
+# a test case with more configurations than any limit below allows: three components send many messages each to the main one
 CROWD = """module C {
 type port P message { inout integer }
 type component M { port P p }
 type component W { port P q }
-function f() runs on W { q.send(1); q.send(2); q.send(3) }
+function f() runs on W { while (true) { q.send(1) } }
 testcase T() runs on M {
-var integer n := 0;
 var W a := W.create; var W b := W.create; var W c := W.create;
 connect(self:p, a:q); connect(self:p, b:q); connect(self:p, c:q);
 a.start(f()); b.start(f()); c.start(f());
-while (n < 9) { p.receive; n := n + 1 }
-setverdict(pass)
+while (true) { p.receive }
 }
 }
 """
+
+# a run of so many seconds shows a line of progress for sure
+LONG = 3
 
 # what takes a line of progress away, and how one begins
 CLEAR = b"\r\x1b[K"
@@ -189,11 +190,20 @@ def on_terminal(program, words):
 
 
 def progress(program, folder):
-    """Returns what a run of some seconds answers on a terminal, and whether a line of progress comes and goes there."""
+    """Returns what a run of some seconds answers on a terminal, and whether a line of progress comes and goes there.
+
+    A run with twice the limit takes some twice as long: the first that takes long enough is run again.
+    """
     path = file_in(folder, "crowd.ttcn", CROWD.encode())
-    words = ["run", path, *TEST, "100"]
+    for doublings in range(10):
+        words = ["run", path, *TEST, "100000", "--workers", "1", "--limit", str(50_000 << doublings)]
+        begun = time.monotonic()
+        wanted = run(program, words, capture_output=True)
+        if time.monotonic() - begun >= LONG:
+            break
     status, out, shown = on_terminal(program, words)
-    return (status, out, shown.startswith(LINE), shown.endswith(CLEAR)), (*run(program, words, capture_output=True)[:2], True, True)
+    told = shown.rpartition(CLEAR)[2].replace(b"\r\n", b"\n")
+    return (status, out, told, shown.startswith(LINE)), (*wanted, True)
 
 
 def shrinking(program, folder):
