@@ -1,0 +1,140 @@
+//! What is kept in a memory is found again, by threads that share it too.
+use search_memory::{Keyed, Memory};
+use std::alloc::{AllocError, Global};
+use std::test::Fail;
+use std::thread::join;
+
+/// A number with a key of one byte.
+#[derive(Drop)]
+struct Noted {
+    key: Vec<u8>,
+    number: usize,
+}
+
+impl Keyed for Noted {
+    ghost key = { λ noted. noted.key.items };
+
+    fn key(&self) -> &[u8] {
+        self.key.as_slice()
+    }
+}
+
+/// Keeps a number.
+fn keep(alloc: Global, memory: &Memory<Noted>, byte: u8, number: usize) -> Result<(), AllocError> {
+    let key = Vec::from_slice(alloc, &[byte])?;
+    memory.keep(alloc, Noted { key, number })
+}
+
+/// The number that is found with a key of one byte.
+fn found(memory: &Memory<Noted>, byte: u8) -> Option<usize> {
+    let noted = memory.find(&[byte])?;
+    Some(noted.number)
+}
+
+/// How many of the 100 first keys are found, each with its own number.
+fn count_found(memory: &Memory<Noted>) -> usize {
+    let mut count: usize = 0;
+    for byte in 0..100 {
+        if found(memory, byte) == Some(byte as usize) {
+            count = count.saturating_add(1);
+        }
+    }
+    count
+}
+
+/// A memory that was of use, so its trial is over.
+fn of_use(alloc: Global, places: usize) -> Result<Memory<Noted>, AllocError> {
+    let memory = Memory::new(alloc, 1, places);
+    memory.note_use(alloc)?;
+    Ok(memory)
+}
+
+#[test]
+fn all_are_found(rt: HostRuntime) -> Result<(), Fail> {
+    let alloc = rt.alloc();
+    let memory = of_use(alloc, 4_096)?;
+    assert_eq!(rt; count_found(&memory), 0);
+    for byte in 0..100 {
+        keep(alloc, &memory, byte, byte as usize)?;
+    }
+    assert_eq!(rt; count_found(&memory), 100);
+    assert_eq!(rt; found(&memory, 100), None);
+    Ok(())
+}
+
+#[test]
+fn the_first_stays(rt: HostRuntime) -> Result<(), Fail> {
+    let alloc = rt.alloc();
+    let memory = of_use(alloc, 16)?;
+    keep(alloc, &memory, 7, 1)?;
+    keep(alloc, &memory, 7, 2)?;
+    assert_eq!(rt; found(&memory, 7), Some(1));
+    Ok(())
+}
+
+#[test]
+fn few_places(rt: HostRuntime) -> Result<(), Fail> {
+    let alloc = rt.alloc();
+    let none = of_use(alloc, 0)?;
+    let four = of_use(alloc, 4)?;
+    for byte in 0..100 {
+        keep(alloc, &none, byte, byte as usize)?;
+        keep(alloc, &four, byte, byte as usize)?;
+    }
+    assert_eq!(rt; count_found(&none), 0);
+    assert_eq!(rt; count_found(&four), 4);
+    assert!(rt; !four.has_given_up());
+    Ok(())
+}
+
+#[test]
+fn a_trial_ends(rt: HostRuntime) -> Result<(), Fail> {
+    let alloc = rt.alloc();
+    let memory = Memory::new(alloc, 4, 4_096);
+    for byte in 0..4 {
+        keep(alloc, &memory, byte, byte as usize)?;
+    }
+    assert_eq!(rt; count_found(&memory), 4);
+    assert!(rt; !memory.has_given_up());
+    keep(alloc, &memory, 4, 4)?;
+    assert!(rt; memory.has_given_up());
+    assert_eq!(rt; count_found(&memory), 4);
+    Ok(())
+}
+
+#[test]
+fn a_trial_ends_with_use(rt: HostRuntime) -> Result<(), Fail> {
+    let alloc = rt.alloc();
+    let memory = Memory::new(alloc, 4, 4_096);
+    keep(alloc, &memory, 0, 0)?;
+    memory.note_use(alloc)?;
+    memory.note_use(alloc)?;
+    for byte in 0..100 {
+        keep(alloc, &memory, byte, byte as usize)?;
+    }
+    assert_eq!(rt; count_found(&memory), 100);
+    assert!(rt; !memory.has_given_up());
+    Ok(())
+}
+
+/// Keeps the 100 first keys, and counts those that are found.
+fn keep_all(alloc: Global, memory: &Memory<Noted>) -> Result<usize, AllocError> {
+    for byte in 0..100 {
+        keep(alloc, memory, byte, byte as usize)?;
+    }
+    Ok(count_found(memory))
+}
+
+#[test]
+fn two_threads(rt: HostRuntime) -> Result<(), Fail> {
+    let alloc = rt.alloc();
+    let memory = of_use(alloc, 4_096)?;
+    let (there, here) = join(
+        &rt,
+        || keep_all(alloc, &memory),
+        || keep_all(alloc, &memory),
+    );
+    assert!(rt; there == Ok(100) && here == Ok(100));
+    assert_eq!(rt; count_found(&memory), 100);
+    Ok(())
+}
