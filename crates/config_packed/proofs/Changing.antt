@@ -1,13 +1,13 @@
 -- Other bytes are put in the place of those of a component.
-use Rattle.std.proofs.Common.{◌≡◌, ℕ, zero, suc, ◌+◌, ◌<◌, ◌≤◌, ◌==◌, nat_eq, Bool, true, false, if◌then◌else◌, List, [], ◌∷◌, ◌++◌, length, map, drop, get_or, refl, sym, ap, ◌∙◌, arith, add-one, append_assoc, eq-eqb}
+use Rattle.std.proofs.Common.{◌≡◌, ℕ, zero, suc, ◌+◌, ◌<◌, ◌≤◌, ◌==◌, nat_eq, Bool, true, false, if◌then◌else◌, List, [], ◌∷◌, ◌++◌, length, map, drop, get_or, slice_get, Some, refl, sym, ap, ◌∙◌, arith, add-one, append_assoc, eq-eqb}
 use Rattle.std.proofs.lemmas.Bool.{ne_eqb}
-use Rattle.std.proofs.lemmas.List.{append-nil}
+use Rattle.std.proofs.lemmas.List.{append-nil, length-map}
 use Rattle.std.proofs.lemmas.List.Folds.{flat_map-map}
 use Rattle.std.proofs.Math.ListN.{drop_of_length-le}
 use Rattle.std.proofs.Math.Seq.{drop-cons}
 use Rattle.std.specs.List.{flat_map}
-use Rattle.config_packed.specs.internal.Cuts.{changed_at_place, changed_from, joined}
-use Rattle.config_packed.specs.Pieces.{IsCut, bytes_of, changed_going, spelled_parts, with_verdict_and_own}
+use Rattle.config_packed.specs.internal.Cuts.{changed_at_place, changed_contents, changed_from, joined}
+use Rattle.config_packed.specs.Pieces.{AreJoined, IsCut, bytes_of, changed_going, joined_going, spelled_parts, with_verdict_and_own}
 use Rattle.config_packed.specs.Spelling.{name_of, spell_config, spell_content, spell_links, spell_list, spell_name, spell_outline, spell_own, spell_queue, spell_verdict}
 use Rattle.config_packed.specs.declared.pieces.ComponentBytes.{ComponentBytes}
 use Rattle.config_packed.specs.declared.pieces.ConfigBytes.{ConfigBytes}
@@ -47,6 +47,17 @@ module _ (at : ℕ) (own : List ℕ) (behind : ℕ) (queues : List ℕ) where
       sym (append-nil now)
       ∙ ap (λ (xs : List ComponentBytes). now ++ flat_map joined (changed_from at own behind queues place (map bytes_of xs))) (sym (drop_of_length-le items h))
       ∙ sym e
+
+  -- the bytes of all components are put behind an outline
+  pub changed-all : (parts : ConfigBytes) (outline empty start bytes : List ℕ) (items : List ComponentBytes) (place : ℕ)
+      → empty ≡ [] → start ≡ empty ++ outline → items ≡ parts.components.items → length items ≤ place
+      → start ++ changed_contents at own behind queues (map bytes_of items)
+      ≡ bytes ++ flat_map joined (changed_from at own behind queues place (map bytes_of (drop place items)))
+      → bytes ≡ outline ++ changed_contents at own behind queues (map bytes_of parts.components.items)
+  changed-all parts outline empty start bytes items place none begun all h e =
+      let begun-is : start ≡ outline = begun ∙ ap (λ (bs : List ℕ). bs ++ outline) none in
+      changes-all place (start ++ changed_contents at own behind queues (map bytes_of items)) bytes items h e
+      ∙ (λ i. begun-is i ++ changed_contents at own behind queues (map bytes_of (all i)))
 
 -- ---- the places of changes
 
@@ -137,18 +148,84 @@ module _ (going : Going) (at : ℕ) (v : Verdict) (own : Data) (behind : ℕ) (q
       ap (λ (names : List (ComponentId × State)). 1 ∷ (spell_verdict going.forgotten ++ spell_links going.links ++ spell_list spell_name names)) (map-unchanged name_of (with_queues (λ old. qs)) (λ x. refl) once behind ∙ map-unchanged name_of (with_verdict_and_own v own) (λ x. refl) going.components at)
 
   -- the bytes that are put are those of the changed configuration
-  pub changed-spelled : (parts : ConfigBytes) (own-bytes queue-bytes empty start bytes : List ℕ) (items : List ComponentBytes) (place : ℕ)
+  pub changed-spelled : (parts : ConfigBytes) (own-bytes queue-bytes bytes : List ℕ)
       → IsCut going parts → own-bytes ≡ spell_own v own → queue-bytes ≡ spell_list spell_queue qs
-      → empty ≡ [] → start ≡ empty ++ parts.outline.now → items ≡ parts.components.items → length items ≤ place
-      → start ++ flat_map joined (changed_from at own-bytes behind queue-bytes 0 (map bytes_of items))
-      ≡ bytes ++ flat_map joined (changed_from at own-bytes behind queue-bytes place (map bytes_of (drop place items)))
+      → bytes ≡ parts.outline.now ++ changed_contents at own-bytes behind queue-bytes (map bytes_of parts.components.items)
       → bytes ≡ spell_config (config.Going (changed_going going at v own behind qs))
   unfolding spell_config
-  changed-spelled parts own-bytes queue-bytes empty start bytes items place cut own-is queues-is none outline all h e =
+  changed-spelled parts own-bytes queue-bytes bytes cut own-is queues-is put =
       let new = changed_going going at v own behind qs in
-      let components : map bytes_of items ≡ map spelled_parts going.components = ap (map bytes_of) all ∙ cut.components in
-      let begun : start ≡ spell_outline new = outline ∙ (λ i. none i ++ cut.outline i) ∙ sym outline-unchanged in
-      let contents : flat_map joined (changed_from at own-bytes behind queue-bytes 0 (map bytes_of items)) ≡ flat_map spell_content new.components =
-      (λ i. flat_map joined (changed_from at (own-is i) behind (queues-is i) 0 (components i))) ∙ ap (flat_map joined) parts-changed ∙ contents-joined new.components in
-      changes-all at own-bytes behind queue-bytes place (start ++ flat_map joined (changed_from at own-bytes behind queue-bytes 0 (map bytes_of items))) bytes items h e
-      ∙ (λ i. begun i ++ contents i)
+      let begun : parts.outline.now ≡ spell_outline new = cut.outline ∙ sym outline-unchanged in
+      let contents : changed_contents at own-bytes behind queue-bytes (map bytes_of parts.components.items) ≡ flat_map spell_content new.components =
+      (λ i. changed_contents at (own-is i) behind (queues-is i) (cut.components i)) ∙ ap (flat_map joined) parts-changed ∙ contents-joined new.components in
+      put ∙ (λ i. begun i ++ contents i)
+
+-- ---- a component of another configuration
+
+module _ {A : Type 0} (f g : A → A) where
+  -- a list that is changed twice at a place, where both changes are one
+  twice-changed : (both : A → A) (xs : List A) (at : ℕ) → (at < length xs → (x : A) → g (f x) ≡ both x) → changed_at (changed_at xs at f) at g ≡ changed_at xs at both
+  twice-changed both [] at same = refl
+  twice-changed both (x ∷ xs) zero same = ap (λ (y : A). y ∷ xs) (same (omega arith) x)
+  twice-changed both (x ∷ xs) (suc at) same = ap (λ (ys : List A). x ∷ ys) (twice-changed both xs at (λ h. same (omega arith)))
+
+length-changed : {A : Type 0} (change : A → A) (xs : List A) (at : ℕ) → length (changed_at xs at change) ≡ length xs
+length-changed change [] at = refl
+length-changed change (x ∷ xs) zero = refl
+length-changed change (x ∷ xs) (suc at) = ap suc (length-changed change xs at)
+
+-- what is made of the element at a place
+made-at : {A B : Type 0} (make : A → B) (xs : List A) (at : ℕ) (x : A) → make (get_or xs at x) ≡ get_or (map make xs) at (make x)
+made-at make [] at x = refl
+made-at make (y ∷ ys) zero x = refl
+made-at make (y ∷ ys) (suc at) x = made-at make ys at x
+
+-- the bytes of the component at a place are those that are there
+bytes-at : (items : List ComponentBytes) (at : ℕ) (item : ComponentBytes) (old : Parts)
+    → ((found : ComponentBytes) → slice_get items at ≡ Some found → item ≡ found) → at < length items → bytes_of item ≡ get_or (map bytes_of items) at old
+bytes-at [] at item old is h = absurd (omega arith)
+bytes-at (x ∷ xs) zero item old is h = ap bytes_of (is x refl)
+bytes-at (x ∷ xs) (suc at) item old is h = bytes-at xs at item old is (omega arith)
+
+module _ (going : Going) (at : ℕ) (other : Going) (are : AreJoined going at other) where
+  parts-joined : (own queues : List ℕ) → (at < length going.components → (old : Parts) → (own, queues) ≡ get_or (map spelled_parts other.components) at old)
+      → changed_from at own at queues 0 (map spelled_parts going.components) ≡ map spelled_parts (joined_going going at other).components
+  parts-joined own queues same =
+      let own_change = with_own_bytes own in
+      let queue_change = with_queue_bytes queues in
+      let parts = map spelled_parts going.components in
+      let both = λ (old : Parts). get_or (map spelled_parts other.components) at old in
+      both-changed at own at queues 0 parts
+      ∙ changed-first queue_change (change_from at own_change 0 parts) at
+      ∙ ap (λ (xs : List Parts). changed_at xs at queue_change) (changed-first own_change parts at)
+      ∙ twice-changed own_change queue_change both parts at (λ h. same (let n = length-map going.components spelled_parts in omega arith))
+      ∙ sym (map-changed spelled_parts (λ old. get_or other.components at old) both (made-at spelled_parts other.components at) going.components at)
+
+  outline-joined : spell_outline (joined_going going at other) ≡ spell_outline other
+  unfolding spell_outline
+  outline-joined =
+      ap (λ (names : List (ComponentId × State)). 1 ∷ (spell_verdict other.forgotten ++ spell_links other.links ++ spell_list spell_name names)) are
+
+  -- both have as many components
+  lengths : length going.components ≡ length other.components
+  lengths =
+      sym (length-changed (λ old. get_or other.components at old) going.components at)
+      ∙ sym (length-map (joined_going going at other).components name_of) ∙ ap length are ∙ length-map other.components name_of
+
+  -- the bytes that are put are those of the joined configuration
+  pub joined-spelled : (parts behind : ConfigBytes) (item : ComponentBytes) (bytes : List ℕ)
+      → IsCut going parts → IsCut other behind
+      → ((found : ComponentBytes) → slice_get behind.components.items at ≡ Some found → item ≡ found)
+      → bytes ≡ behind.outline.now ++ changed_contents at item.own.now at item.queues.now (map bytes_of parts.components.items)
+      → bytes ≡ spell_config (config.Going (joined_going going at other))
+  unfolding spell_config
+  joined-spelled parts behind item bytes cut other-cut is put =
+      let new = joined_going going at other in
+      let begun : behind.outline.now ≡ spell_outline new = other-cut.outline ∙ sym outline-joined in
+      let count : length behind.components.items ≡ length other.components =
+      sym (length-map behind.components.items bytes_of) ∙ ap length other-cut.components ∙ length-map other.components spelled_parts in
+      let here : at < length going.components → (old : Parts) → bytes_of item ≡ get_or (map spelled_parts other.components) at old =
+      λ h old. bytes-at behind.components.items at item old is (omega (arith, lengths, count)) ∙ ap (λ (xs : List Parts). get_or xs at old) other-cut.components in
+      let contents : changed_contents at item.own.now at item.queues.now (map bytes_of parts.components.items) ≡ flat_map spell_content new.components =
+      ap (changed_contents at item.own.now at item.queues.now) cut.components ∙ ap (flat_map joined) (parts-joined item.own.now item.queues.now here) ∙ contents-joined new.components in
+      put ∙ (λ i. begun i ++ contents i)

@@ -1,5 +1,5 @@
 -- The bytes of a configuration that goes on, in parts: what tells what a component does, and what is put in place of the bytes of one.
-use Rattle.std.specs.Prelude.{◌≡◌, ℕ, nat_lt, Bool, List, [], ◌∷◌, ◌++◌, length, map, Option, Some, None}
+use Rattle.std.specs.Prelude.{◌≡◌, ℕ, nat_lt, Bool, List, [], ◌∷◌, ◌++◌, length, map, get_or, Option, Some, None}
 use Rattle.std.specs.Option.{option_to_list}
 use Rattle.ttcn_syntax.specs.declared.tree.statement.Verdict.{Verdict}
 use Rattle.config_parts.specs.declared.component.Component.{Component}
@@ -93,3 +93,15 @@ changed_going going at v own behind queues = record {
 abbrev pub AreSpelled : ConfigBytes → List ℕ → List ℕ → Type 0
 AreSpelled parts own queues =
     ((going : Going) × IsCut going parts) × ((v : Verdict) × ((d : Data) × (own ≡ spell_own v d))) × ((qs : List Queue) × (queues ≡ spell_list spell_queue qs))
+
+-- the component at a place, and what all components see, are those of another configuration; where that has no component there, all components stay
+abbrev pub joined_going : Going → ℕ → Going → Going
+joined_going going at other = record {
+  components = changed_at going.components at (λ old. get_or other.components at old);
+  links = other.links;
+  forgotten = other.forgotten;
+}
+
+-- the components then have, in their order, the names and states of those of the other configuration
+abbrev pub AreJoined : Going → ℕ → Going → Type 0
+AreJoined going at other = map name_of (joined_going going at other).components ≡ map name_of other.components

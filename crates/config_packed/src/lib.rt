@@ -3,6 +3,7 @@
 
 mod byte_reader;
 mod laws;
+mod message;
 mod number;
 mod own;
 mod packed;
@@ -18,7 +19,8 @@ pub use laws::{
     configs_are_spelled_apart, keys_tell_what_is_seen, outlines_tell_what_all_see,
     same_bytes_are_one, spelled_configs_are_read_back,
 };
+pub use message::MessageBytes;
 pub use own::OwnBytes;
 pub use packed::{Packed, pack, unpack};
 pub use pieces::{ComponentBytes, ConfigBytes};
-pub use queues::{message_bytes, queues_with_message, queues_without_first};
+pub use queues::{queues_with_message, queues_without_first};

@@ -1,9 +1,10 @@
 //! The bytes of a configuration that goes on, in parts.
 ghost use Rattle.std.specs.Prelude.{◌≡◌, ◌++◌, ℕ, ◌<◌, IfOk, List, OnOk, Option, Some, length, map, slice_get};
-ghost use Rattle.config_packed.specs.internal.Cuts.{changed_at_place, cut_content, cut_front, joined};
-ghost use Rattle.config_packed.specs.Pieces.{AreSpelled, IsCut, bytes_of, changed_going, front_at, spell_front, spell_key};
+ghost use Rattle.config_packed.specs.internal.Cuts.{changed_at_place, changed_contents, cut_content, cut_front, joined};
+ghost use Rattle.config_packed.specs.Pieces.{AreJoined, AreSpelled, IsCut, bytes_of, changed_going, front_at, joined_going, spell_front, spell_key};
 ghost use Rattle.config_packed.specs.Reading.{read_items};
 ghost use Rattle.config_packed.specs.Spelling.{spell_config, spell_list, spell_own, spell_queue};
+ghost use Rattle.config_packed.specs.declared.pieces.ComponentBytes.{ComponentBytes};
 ghost use Rattle.config_parts.specs.declared.component.Component.{Component};
 ghost use Rattle.config_parts.specs.declared.component.Queue.{Queue};
 ghost use Rattle.config_parts.specs.declared.config.Going.{Going};
@@ -202,13 +203,30 @@ impl<'a> ConfigBytes<'a> {
             .saturating_add(LONG_ROOM)
     }
 
-    /// How many bytes the configuration takes with a change.
-    fn changed_room(&self, change: &Change<'_, '_>) -> usize {
-        let mut room = self.outline.len();
+    /// How many bytes the components take with a change, behind an outline.
+    fn changed_room(&self, outline: &[u8], change: &Change<'_, '_>) -> usize {
+        let mut room = outline.len();
         for (place, component) in self.components.iter().enumerate() {
             room = room.saturating_add(change.room(place, component));
         }
         room
+    }
+
+    /// The bytes of the components with a change, behind an outline.
+    fn changed_bytes(
+        &self,
+        alloc: Global,
+        outline: &[u8],
+        change: &Change<'_, '_>,
+    ) -> Result<Vec<u8>, AllocError>
+        ensures { IfOk result (λ bytes. bytes.items ≡ outline.now ++ changed_contents change.now.at change.now.own.now change.now.behind change.now.queues.now (map bytes_of self.now.components.items)) }
+    {
+        let mut bytes = Vec::with_capacity(alloc, self.changed_room(outline, change))?;
+        bytes.extend_from_slice(outline)?;
+        for (place, component) in self.components.iter().enumerate() {
+            change.put(&mut bytes, place, component)?;
+        }
+        Ok(bytes)
     }
 
     /// The bytes with other bytes of what one component has of its own, and other bytes of the queues of one.
@@ -230,11 +248,42 @@ impl<'a> ConfigBytes<'a> {
             behind,
             queues,
         };
-        let mut bytes = Vec::with_capacity(alloc, self.changed_room(&change))?;
-        bytes.extend_from_slice(self.outline)?;
-        for (place, component) in self.components.iter().enumerate() {
-            change.put(&mut bytes, place, component)?;
+        let bytes = self.changed_bytes(alloc, self.outline, &change)?;
+        Ok(Packed::from_bytes(bytes))
+    }
+
+    /// The bytes of the component at a place, and no bytes where no component is there.
+    fn component_at(&self, at: usize) -> ComponentBytes<'a>
+        ensures { (component : ComponentBytes) → slice_get self.now.components.items at ≡ Some component → result ≡ component }
+    {
+        match self.components.get(at) {
+            Some(component) => *component,
+            None => ComponentBytes {
+                own: &[],
+                queues: &[],
+            },
         }
+    }
+
+    /// The bytes in which the component at a place, and what all components see, are those of another configuration's parts.
+    pub fn pack_joined(
+        &self,
+        alloc: Global,
+        at: usize,
+        behind: &ConfigBytes<'_>,
+    ) -> Result<Packed, AllocError>
+        requires { (going : Going) × (other : Going) × IsCut going self.now × IsCut other behind.now × AreJoined going at other }
+        ensures { (going other : Going) → IsCut going self.now → IsCut other behind.now → AreJoined going at other
+            → IfOk result (λ packed. packed ≡ Config.Going (joined_going going at other)) }
+    {
+        let component = behind.component_at(at);
+        let change = Change {
+            at,
+            own: component.own,
+            behind: at,
+            queues: component.queues,
+        };
+        let bytes = self.changed_bytes(alloc, behind.outline, &change)?;
         Ok(Packed::from_bytes(bytes))
     }
 }

@@ -1,16 +1,14 @@
 //! The messages that wait for a component, as bytes.
 ghost use Rattle.std.specs.Prelude.{◌≡◌, ◌++◌, IfOk, List, MatchOption};
 ghost use Rattle.config_packed.specs.internal.Cuts.{AreAt, IsWithout};
-ghost use Rattle.config_packed.specs.Spelling.{spell_list, spell_message, spell_queue};
-ghost use Rattle.config_parts.specs.declared.component.Message.{Message};
+ghost use Rattle.config_packed.specs.Spelling.{spell_list, spell_queue};
 ghost use Rattle.config_parts.specs.declared.component.Queue.{Queue};
 ghost use Rattle.config_parts.specs.internal.Changes.{with_message, without_message};
 
 use crate::byte_reader::ByteReader;
+use crate::message::MessageBytes;
 use crate::number::{PAIR_ROOM, put_pair, take_long, take_pair};
 use crate::skip::{Skip, skip_items};
-use crate::spelled::Spelled;
-use crate::whole::ROOM;
 use config_parts::Message;
 use std::alloc::{AllocError, Global};
 use value_types::Slot;
@@ -52,16 +50,16 @@ pub fn queues_without_first(alloc: Global, queues: &[u8], port: Slot) -> Result<
     Ok(bytes)
 }
 
-/// The bytes of queues where a message, of which these are the bytes, came to a port.
+/// The bytes of queues where a message came to a port.
 pub fn queues_with_message(
     alloc: Global,
     queues: &[u8],
     port: Slot,
-    message: &[u8],
+    message: &MessageBytes,
 ) -> Result<Vec<u8>, AllocError>
-    ensures { (qs : List Queue) (sent : Message) → queues.now ≡ spell_list spell_queue qs → message.now ≡ spell_message sent
-        → IfOk result (λ bytes. bytes.items ≡ spell_list spell_queue (with_message port sent qs)) }
+    ensures { (qs : List Queue) → queues.now ≡ spell_list spell_queue qs → IfOk result (λ bytes. bytes.items ≡ spell_list spell_queue (with_message port message.now qs)) }
 {
+    let message = message.as_bytes();
     let Some(mut reader) = from_queue(queues, port) else {
         return Vec::from_slice(alloc, queues);
     };
@@ -83,14 +81,5 @@ pub fn queues_with_message(
     bytes.extend_from_slice(reader.since(messages))?;
     bytes.extend_from_slice(message)?;
     bytes.extend_from_slice(reader.rest())?;
-    Ok(bytes)
-}
-
-/// The bytes of a message.
-pub fn message_bytes(alloc: Global, message: &Message) -> Result<Vec<u8>, AllocError>
-    ensures { IfOk result (λ bytes. bytes.items ≡ spell_message message.now) }
-{
-    let mut bytes = Vec::with_capacity(alloc, ROOM)?;
-    message.put(&mut bytes)?;
     Ok(bytes)
 }

@@ -2,9 +2,7 @@
 use crate::parts::{large, small};
 use std::alloc::{AllocError, Global};
 use std::test::Fail;
-use ttcn_config::{
-    Config, Message, message_bytes, pack, queues_with_message, queues_without_first,
-};
+use ttcn_config::{Config, Message, MessageBytes, pack, queues_with_message, queues_without_first};
 use ttcn_syntax::Verdict;
 use ttcn_values::Value;
 
@@ -61,9 +59,9 @@ fn of_what_has_ended(rt: HostRuntime) -> Result<(), Fail> {
     Ok(())
 }
 
-/// An integer that someone unknown sent, as it is spelled.
-fn sent(alloc: Global, number: i64) -> Result<Vec<u8>, AllocError> {
-    message_bytes(
+/// An integer that someone unknown sent, as it is kept.
+fn sent(alloc: Global, number: i64) -> Result<MessageBytes, AllocError> {
+    MessageBytes::new(
         alloc,
         &Message {
             value: Value::Integer(number),
@@ -77,10 +75,10 @@ fn of_queues(rt: HostRuntime) -> Result<(), Fail> {
     let alloc = rt.alloc();
     let first = sent(alloc, 5)?;
     let second = sent(alloc, 300)?;
-    let one = queues_with_message(alloc, &[2, 7, 8], 8, first.as_slice())?;
-    let two = queues_with_message(alloc, one.as_slice(), 8, second.as_slice())?;
+    let one = queues_with_message(alloc, &[2, 7, 8], 8, &first)?;
+    let two = queues_with_message(alloc, one.as_slice(), 8, &second)?;
     let rest = queues_without_first(alloc, two.as_slice(), 8)?;
-    let only = queues_with_message(alloc, &[2, 7, 8], 8, second.as_slice())?;
+    let only = queues_with_message(alloc, &[2, 7, 8], 8, &second)?;
     assert_eq!(rt; rest.as_slice(), only.as_slice());
     let none = queues_without_first(alloc, rest.as_slice(), 8)?;
     assert_eq!(rt; none.as_slice(), [2, 7, 8].as_slice());

@@ -3,7 +3,7 @@
 
 pub use config_canonical::{canon, canon_owned};
 pub use config_packed::{
-    ComponentBytes, ConfigBytes, OwnBytes, Packed, message_bytes, pack, queues_with_message,
+    ComponentBytes, ConfigBytes, MessageBytes, OwnBytes, Packed, pack, queues_with_message,
     queues_without_first, unpack,
 };
 pub use config_parts::{

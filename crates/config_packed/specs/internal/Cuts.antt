@@ -1,5 +1,6 @@
 -- How bytes are cut, as the private functions do it: what is read is kept as bytes.
 use Rattle.std.specs.Prelude.{ℕ, ◌+◌, ◌-◌, ◌==◌, if◌then◌else◌, List, [], ◌∷◌, ◌++◌, ◌≡◌, length, min, take, drop}
+use Rattle.std.specs.List.{flat_map}
 use Rattle.config_parts.specs.declared.component.Message.{Message}
 use Rattle.config_parts.specs.declared.component.Queue.{Queue}
 use Rattle.config_parts.specs.internal.Changes.{change_queue}
@@ -52,6 +53,10 @@ changed_at_place at own behind queues place parts = (if place == at then own els
 abbrev pub changed_from : ℕ → List ℕ → ℕ → List ℕ → ℕ → List (List ℕ × List ℕ) → List (List ℕ × List ℕ)
 changed_from at own behind queues place [] = []
 changed_from at own behind queues place (parts ∷ others) = changed_at_place at own behind queues place parts ∷ changed_from at own behind queues (place + 1) others
+
+-- the bytes of components from their parts, with the same changes
+abbrev pub changed_contents : ℕ → List ℕ → ℕ → List ℕ → List (List ℕ × List ℕ) → List ℕ
+changed_contents at own behind queues parts = flat_map joined (changed_from at own behind queues 0 parts)
 
 -- ---- queues
 

@@ -4,10 +4,10 @@ use Rattle.config_packed.proofs.Waiting.{message-came}
 use Rattle.config_packed.proofs.queues.queues_with_message.Goals as goal
 
 pub returns : goal.returns
-returns c qs message is sent-is =
-    message-came c.args.port message qs c.args.queues.now c.in-Some.reader c.take_pair-count.new.reader c.rest.result.now c.since-front.result.now c.since.result.now c.args.message.now
+returns c qs is =
+    message-came c.args.port c.args.message.now qs c.args.queues.now c.in-Some.reader c.take_pair-count.new.reader c.rest.result.now c.since-front.result.now c.since.result.now c.as_bytes-message.result.now
     c.in_ok-bytes.bytes.items c.extend_from_slice.new.self.items c.put_pair.new.bytes.items c.extend_from_slice-2.new.self.items c.extend_from_slice-3.new.self.items c.extend_from_slice-4.new.self.items c.take_pair-count.result c.in-Some-checked_add.more
-    is sent-is (c.in-Some.ensures qs is) c.since-front.ensures
+    is c.as_bytes-message.ensures (c.in-Some.ensures qs is) c.since-front.ensures
     c.take_pair-count.ensures.value c.take_pair-count.ensures.rest (c.rest.ensures ∙ c.skip_items.ensures)
     (c.since.ensures ∙ (λ i. since (c.rest-messages.ensures i) (sym c.rest.ensures i)))
     c.in-Some-checked_add.ensures.1
