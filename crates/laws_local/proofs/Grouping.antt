@@ -174,15 +174,13 @@ look-exchanged (suc at) x z (y ∷ ys) found same = ap (λ os. outside_of y ∷ 
 pub look_exchanged : (c : Going) (at : ℕ) (x z : Component) → slice_get c.components at ≡ Some x → outside_of z ≡ outside_of x → LookAlike c (with_component_at at z c)
 look_exchanged c at x z found same = look-exchanged at x z c.components found same
 
--- where two components have labels, some are left whatever one of them becomes
-pub labels_left : (test : Test) (c : Going) (at : ℕ) (x z : Component) → slice_get c.components at ≡ Some x → outside_of z ≡ outside_of x → 2 ≤ how_many (has_labels test c) c.components
-    → labels test (Goes (with_component_at at z c)) ≡ [] → ⊥
-labels_left test c at x z found same two none =
-    flat-some test d d.components
-    (let fewer = exchanged-many (has_labels test c) at z c.components in
+-- at most one component fewer has labels
+fewer-left : (test : Test) (c : Going) (at : ℕ) (x z : Component) → slice_get c.components at ≡ Some x → outside_of z ≡ outside_of x
+    → how_many (has_labels test c) c.components ≤ suc (how_many (has_labels test (with_component_at at z c)) (with_component_at at z c).components)
+fewer-left test c at x z found same =
+    let fewer = exchanged-many (has_labels test c) at z c.components in
     let alike = many-alike (has_labels test c) (has_labels test d) has-alike d.components in
-    omega (arith, fewer, alike, two))
-    (front-none (flat_map (labels_of_component test d) d.components) (deliveries test d) none)
+    omega (arith, fewer, alike)
   where
     d : Going
     d = with_component_at at z c
@@ -190,6 +188,22 @@ labels_left test c at x z found same two none =
     has-alike : (w : Component) → has_labels test c w ≡ has_labels test d w
     has-alike w = ap are_some (labels_alike test c d w w (look_exchanged c at x z found same) (record { itself = refl; own = refl; state = refl; verdict = refl; fronts = refl }))
 
-    front-none : (xs ys : List Label) → xs ++ ys ≡ [] → xs ≡ []
-    front-none [] ys e = refl
-    front-none (y ∷ xs) ys e = absurd (let no = e in cc)
+front-none : (xs ys : List Label) → xs ++ ys ≡ [] → xs ≡ []
+front-none [] ys e = refl
+front-none (y ∷ xs) ys e = absurd (let no = e in cc)
+
+some-left : (test : Test) (d : Going) → 1 ≤ how_many (has_labels test d) d.components → labels test (Goes d) ≡ [] → ⊥
+some-left test d some none = flat-some test d d.components some (front-none (flat_map (labels_of_component test d) d.components) (deliveries test d) none)
+
+-- where two components have labels, some are left whatever one of them becomes
+pub labels_left : (test : Test) (c : Going) (at : ℕ) (x z : Component) → slice_get c.components at ≡ Some x → outside_of z ≡ outside_of x → 2 ≤ how_many (has_labels test c) c.components
+    → labels test (Goes (with_component_at at z c)) ≡ [] → ⊥
+labels_left test c at x z found same two = some-left test (with_component_at at z c) (let fewer = fewer-left test c at x z found same in omega (arith, fewer, two))
+
+-- where three have, some are left whatever two of them become
+pub labels_left_by_two : (test : Test) (c : Going) (at to : ℕ) (x z w u : Component) → slice_get c.components at ≡ Some x → outside_of z ≡ outside_of x
+    → slice_get (with_component_at at z c).components to ≡ Some w → outside_of u ≡ outside_of w → 3 ≤ how_many (has_labels test c) c.components
+    → labels test (Goes (with_component_at to u (with_component_at at z c))) ≡ [] → ⊥
+labels_left_by_two test c at to x z w u found same other alike three =
+    some-left test (with_component_at to u (with_component_at at z c))
+    (let one = fewer-left test c at x z found same in let two = fewer-left test (with_component_at at z c) to w u other alike in omega (arith, one, two, three))

@@ -3,3 +3,4 @@ pub mod Touching
 pub mod Stepping
 pub mod Grouping
 pub mod Sending
+pub mod Ending

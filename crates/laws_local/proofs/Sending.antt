@@ -8,6 +8,7 @@ use Rattle.std.proofs.lemmas.List.Elements.{All-cons, All-head, All-tail}
 use Rattle.std.proofs.lemmas.List.Kept.{AllPairs-cons}
 use Rattle.semantics.proofs.LiveSteps.{is_over, path-is}
 use Rattle.semantics.proofs.Pairs.{pairs-head, pairs-tail}
+use Rattle.ttcn_syntax.specs.declared.tree.statement.Verdict.{Verdict}
 use Rattle.semantics.specs.Configurations.{Component, Configuration, Connection, Data, End, Goes, Going, Message, State, component_at, is_running_state, is_terminated_state, path_cmp, path_of, same_end, same_path}
 use Rattle.semantics.specs.Entries.{Identifier}
 use Rattle.semantics.specs.LiveParts.{live_going, live_part}
@@ -130,7 +131,7 @@ send-leads test c d itself port to v own e link goes =
     from : End
     from = record { component = itself.path; port = port }
 
-step-leads : (test : Test) (d : Going) (y : Component) (path : Path) (a : Act) (e : Configuration) → component_at d (path_of y) ≡ Some y → path ≡ path_of y → is_running_state y.state ≡ true
+pub step-leads : (test : Test) (d : Going) (y : Component) (path : Path) (a : Act) (e : Configuration) → component_at d (path_of y) ≡ Some y → path ≡ path_of y → is_running_state y.state ≡ true
     → act test (snapshot_of d y) y.own ≡ a → leads-by test d y.itself a ≡ Some e → next test (Goes d) (Statement path) ≡ Some e
 step-leads test d y path a e here of runs is leads =
     ap (λ p. next test (Goes d) (Statement p)) of
@@ -192,7 +193,7 @@ over-there c to w e live there path alive =
     sym (ap is_terminated_component (found-list w to c.components live.ordered there)) ∙ ap (is_terminated_at c) path ∙ alive
 
 sent-alone : (test : Test) (c : Going) (x : Component) (path : Path) (sent : Sent) (e : End) (to : ℕ) (w : Component) → IsLive c → path ≡ path_of x → sent_of_component test c x ≡ Some sent → sent.way ≡ Reaches e → IsReceiver c x to w e
-    → (own : Data) × SendsAlone test c x (Statement path) own to e.port (record { value = sent.value; sender = Some x.itself })
+    → (own : Data) × SendsAlone test c x (Statement path) own x.verdict to e.port (record { value = sent.value; sender = Some x.itself })
 sent-alone test c x path sent e to w live of is way receiver = (uncovered asks.own, steps)
   where
     told : (is_running_state x.state ≡ true) × AsksToSend c x.itself (act test (snapshot_of c x) x.own) sent
@@ -210,7 +211,7 @@ sent-alone test c x path sent e to w live of is way receiver = (uncovered asks.o
     m : Message
     m = record { value = sent.value; sender = Some x.itself }
 
-    steps : SendsAlone test c x (Statement path) (uncovered asks.own) to e.port m
+    steps : SendsAlone test c x (Statement path) (uncovered asks.own) x.verdict to e.port m
     steps d y at w' look link see living here there =
         ap (option_map live_part) (step-leads test d y path (Requests (Sends asks.port asks.to sent.value) asks.own) _ (found-list y at d.components living.ordered here) (of ∙ ap (λ (i : ComponentId). i.path) see.itself)
         (ap is_running_state (sym see.state) ∙ told.0) (sym (acts-alike test c d x y look see) ∙ asks.is)
@@ -221,6 +222,7 @@ sent-alone test c x path sent e to w live of is way receiver = (uncovered asks.o
         ∙ ap (λ (g : Going). touch g e.component (receiving e.port m)) by-place
         ∙ ap (λ p. touch behind p (receiving e.port m)) (sym (receiver.path) ∙ same-path)
         ∙ touch_by_place (receiving e.port m) w' to behind (ordered-exchanged at y (with_data asks.own y) d.components here refl living.ordered) there-behind alive)
+        ∙ ap (λ (v : Verdict). Some (Goes (with_component_at to (receiving e.port m w') (with_component_at at (becoming (uncovered asks.own) v None y) d)))) (sym see.verdict)
       where
         behind : Going
         behind = with_component_at at (with_data asks.own y) d
@@ -252,14 +254,14 @@ turned-apart p q true apart is = absurd (let no = sym (same-itself p) ∙ ap (sa
 -- what a step that sends a message makes of the sender's data it makes wherever the sender sees the same
 pub send_alone : (test : Test) (c : Going) (x : Component) (at : ℕ) (label : Label) (sent : Sent) (to : ℕ) (w : Component) (e : End) (behind : Going) (z : Component) → IsLive c → slice_get c.components at ≡ Some x → IsOf x label
     → sent_of test (Goes c) label ≡ Some sent → sent.way ≡ Reaches e → IsReceiver c x to w e → option_map live_part (next test (Goes c) label) ≡ Some (Goes behind) → slice_get behind.components at ≡ Some z
-    → SendsAlone test c x label z.own to e.port (record { value = sent.value; sender = Some x.itself })
+    → SendsAlone test c x label z.own z.verdict to e.port (record { value = sent.value; sender = Some x.itself })
 send_alone test c x at (Statement path) sent to w e behind z live here of is way receiver leads there =
-    subst (λ (own : Data). SendsAlone test c x (Statement path) own to e.port m) (ap (λ (k : Component). k.own) (sym found)) found-alone.1
+    subst (λ (k : Component). SendsAlone test c x (Statement path) k.own k.verdict to e.port m) (sym found) found-alone.1
   where
     m : Message
     m = record { value = sent.value; sender = Some x.itself }
 
-    found-alone : (own : Data) × SendsAlone test c x (Statement path) own to e.port m
+    found-alone : (own : Data) × SendsAlone test c x (Statement path) own x.verdict to e.port m
     found-alone = sent-alone test c x path sent e to w live of
         (sym (ap (option_and_then (sent_of_component test c)) (ap (component_at c) of ∙ found-list x at c.components live.ordered here)) ∙ is) way receiver
 

@@ -67,10 +67,10 @@ live-one p f mild x live = by-state (λ y. live_component y ≡ y → live_compo
     (λ alive e. live-alive (touched p f x) (touched-over f mild x (same_path (path_of x) p) (is_over x) ∙ alive))
     live
 
-head-is : (x y : Component) (xs ys : List Component) → x ∷ xs ≡ y ∷ ys → x ≡ y
+pub head-is : (x y : Component) (xs ys : List Component) → x ∷ xs ≡ y ∷ ys → x ≡ y
 head-is x y xs ys e = cc
 
-tail-is : (x y : Component) (xs ys : List Component) → x ∷ xs ≡ y ∷ ys → xs ≡ ys
+pub tail-is : (x y : Component) (xs ys : List Component) → x ∷ xs ≡ y ∷ ys → xs ≡ ys
 tail-is x y xs ys e = cc
 
 live-all : (p : Path) (f : Component → Component) → IsMild f → (xs : List Component) → map live_component xs ≡ xs → map live_component (map (touched p f) xs) ≡ map (touched p f) xs
@@ -84,7 +84,7 @@ over-same p f mild q xs =
     found-over (touched p f) (λ x. x) (λ x. touched-path p f mild x (same_path (path_of x) p) (is_over x)) (λ x. touched-over f mild x (same_path (path_of x) p) (is_over x)) q xs
     ∙ ap (λ ys. over_in ys q) (map-same xs)
 
-filter-alike : {A : Type 0} (p q : A → Bool) → ((x : A) → p x ≡ q x) → (xs : List A) → filter p xs ≡ filter q xs
+pub filter-alike : {A : Type 0} (p q : A → Bool) → ((x : A) → p x ≡ q x) → (xs : List A) → filter p xs ≡ filter q xs
 filter-alike p q same [] = refl
 filter-alike p q same (x ∷ xs) = ap (λ b. if b then x ∷ filter p xs else filter p xs) (same x) ∙ ap (λ zs. if q x then x ∷ zs else zs) (filter-alike p q same xs)
 

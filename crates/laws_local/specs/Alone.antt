@@ -5,11 +5,11 @@ use Rattle.ttcn_syntax.specs.declared.tree.statement.Verdict.{Verdict}
 use Rattle.semantics.specs.Configurations.{Component, Data, End, Goes, Going, Message, Queue, State, path_cmp, path_of, same_path}
 use Rattle.semantics.specs.Entries.{Identifier}
 use Rattle.semantics.specs.Labels.{labels_of_component}
-use Rattle.semantics.specs.LiveParts.{live_going, live_part}
+use Rattle.semantics.specs.LiveParts.{husk, live_going, live_part}
 use Rattle.semantics.specs.Order.{Ascends}
 use Rattle.semantics.specs.Runs.{option_elim}
 use Rattle.semantics.specs.Snapshots.{Test, front_at, snapshot_of}
-use Rattle.semantics.specs.Statements.{Act, Continues, Removes, Request, Requests, Worsens, act}
+use Rattle.semantics.specs.Statements.{Act, Continues, Removes, Request, Requests, Stops, Worsens, act}
 use Rattle.semantics.specs.Steps.{Delivery, Expiry, Label, Statement, at_queue, change_queue, exchanged, expired, if_running, next, with_data, with_verdict, without_first}
 use Rattle.semantics.specs.Telling.{request_of_component}
 use Rattle.value_types.specs.declared.path.Path.{Path}
@@ -155,8 +155,44 @@ pub record IsReceiver (c : Going) (sender : Component) (to : ℕ) (receiver : Co
 abbrev pub receiving : Identifier → Message → Component → Component
 receiving port m = at_queue port (λ messages. messages ++ m ∷ [])
 
--- wherever a component sees what it sees here, and ports are linked alike, the step of a label makes this of its data, puts a message behind those at a port of the component at a place, and changes nothing else
-abbrev pub SendsAlone : Test → Going → Component → Label → Data → ℕ → Identifier → Message → Type 0
-SendsAlone test c x label own to port m =
+-- wherever a component sees what it sees here, and ports are linked alike, the step of a label makes this of it, puts a message behind those at a port of the component at a place, and changes nothing else
+abbrev pub SendsAlone : Test → Going → Component → Label → Data → Verdict → ℕ → Identifier → Message → Type 0
+SendsAlone test c x label own v to port m =
     (d : Going) (y : Component) (at : ℕ) (w : Component) → LookAlike c d → LinkAlike c d → SeeAlike x y → IsLive d → slice_get d.components at ≡ Some y → slice_get d.components to ≡ Some w
-    → option_map live_part (next test (Goes d) label) ≡ Some (Goes (with_component_at to (receiving port m w) (with_component_at at (becoming own y.verdict None y) d)))
+    → option_map live_part (next test (Goes d) label) ≡ Some (Goes (with_component_at to (receiving port m w) (with_component_at at (becoming own v None y) d)))
+
+-- ---- a component that ends
+
+-- two test cases have the same connections, mappings and deliveries, and have forgotten the same verdict
+pub record AllAlike (c d : Going) : Type 0 where
+  pub connections : c.connections ≡ d.connections
+  pub mappings : c.mappings ≡ d.mappings
+  pub delivered : c.delivered ≡ d.delivered
+  pub forgotten : c.forgotten ≡ d.forgotten
+
+-- the component with a path is asked to stop
+abbrev pub is_stop_of : Path → Request → Bool
+is_stop_of path (Stops of) = same_path of path
+is_stop_of path _ = false
+
+-- a component ends by the step of a label: it asks to stop itself
+abbrev pub ends_itself : Test → Going → Component → Label → Bool
+ends_itself test c x (Statement path) = option_elim false (is_stop_of (path_of x)) (request_of_component test c x)
+ends_itself test c x (Expiry path number name) = false
+ends_itself test c x (Delivery system_port) = false
+
+-- a test case with another component at a place, and all but the components as in another test case
+abbrev pub joined_with : ℕ → Component → Going → Going → Going
+joined_with at z e d = record {
+  components = exchanged_at at z d.components;
+  connections = e.connections;
+  mappings = e.mappings;
+  delivered = e.delivered;
+  forgotten = e.forgotten;
+}
+
+-- wherever a component sees what it sees here, and all but the components is alike, the step of a label leaves a husk of the component at its place, leads to connections, mappings, deliveries and a forgotten verdict as here, and leaves the other components
+abbrev pub EndsAlone : Test → Going → Component → Label → ℕ → Going → Type 0
+EndsAlone test c x label at e =
+    (d : Going) (y : Component) → LookAlike c d → AllAlike c d → SeeAlike x y → IsLive d → slice_get d.components at ≡ Some y
+    → option_map live_part (next test (Goes d) label) ≡ Some (Goes (joined_with at (husk (path_of x)) e d))
