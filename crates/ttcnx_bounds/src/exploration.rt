@@ -6,13 +6,13 @@ ghost use Rattle.ttcnx_bounds.specs.BoundedEndings.{AreTooManyBounded, HaveEnded
 ghost use Rattle.ttcnx_bounds.specs.BoundedFound.{AreFoundBounded};
 ghost use Rattle.ttcnx_bounds.specs.internal.BoundedExplored.{IsExploredBounded};
 
+use crate::search::search_within;
 use explore::{ExploreError, Gate, Plan, Stops};
-use search_bounds::{Bound, BoundedSystem};
+use search_bounds::Bound;
 use std::alloc::{AllocError, Global};
 use std::marker::Brand;
 use std::thread::Threads;
 use ttcn_step::Machine;
-use ttcnx_runs::search::search;
 use ttcnx_runs::{Exploration, Extent, Runs, Scheme, extent_of};
 
 /// Explores all runs of a machine's test case of at most the plan's steps that keep a bound.
@@ -83,14 +83,8 @@ fn explore_kept<K: Scheme + Send + Sync, G: Gate, R: Threads + Sync>(
     requires { machine.now ≡ K.machine }
     ensures { IsExploredBounded K.machine.test bound plan.now stops.now result }
 {
-    let runs = Runs::<K>::new(machine);
-    let system = BoundedSystem {
-        system: &runs,
-        bound,
-    };
-    match search::<BoundedSystem<'_, Runs<'_, '_, K>>, G, R>(
-        rt, alloc, &system, plan, stops, gate,
-    ) {
+    let runs = Runs::<K>::new(alloc, machine);
+    match search_within::<Runs<'_, '_, K>, G, R>(rt, alloc, &runs, bound, plan, stops, gate) {
         Ok(reached) => match extent_of(alloc, reached) {
             Ok(extent) => Ok(extent),
             Err(AllocError) => Err(ExploreError::Memory),

@@ -4,6 +4,7 @@
 mod exploration;
 mod fewest;
 mod laws;
+mod search;
 
 pub use exploration::{explore_bounded, explore_bounded_until};
 pub use fewest::{Fewest, fewest_expiries};

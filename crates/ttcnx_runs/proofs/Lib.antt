@@ -11,3 +11,8 @@ pub mod SightsAlike
 pub mod StepPlaces
 pub mod Sums
 pub mod crossing
+pub mod SeenAlike
+pub mod Making
+pub mod Parting
+pub mod Gathering
+pub mod Recalled

@@ -5,8 +5,10 @@ use Rattle.std.specs.declared.cmp.Ordering.TheVariants.{Less}
 use Rattle.ttcn_syntax.specs.declared.tree.statement.Verdict.{Verdict}
 use Rattle.ttcn_syntax.specs.declared.tree.statement.Verdict.TheVariants as verdict
 use Rattle.ttcnx_runs.specs.Runs.{FitsRuns}
+use Rattle.laws_order.specs.Order.{StandsInOrder}
 use Rattle.laws_order.proofs.Runs.{live_ordered, next_ordered, start_ordered}
 use Rattle.semantics.proofs.LabelOrder.{labels_ascend}
+use Rattle.semantics.proofs.LiveTheorem.{live_twice}
 use Rattle.semantics.proofs.Pairs.{pairs-nil}
 use Rattle.semantics.specs.Canonical.{canonical_graph}
 use Rattle.semantics.specs.Configurations.{Configuration, Ended, Goes, badness}
@@ -15,22 +17,23 @@ use Rattle.semantics.specs.LiveParts.{live_part}
 use Rattle.semantics.specs.Runs.{mark_of, option_elim, start}
 use Rattle.semantics.specs.Snapshots.{Test}
 use Rattle.semantics.specs.Steps.{Label, next}
+use Rattle.ttcn_step.specs.FrameLimit.{AllKeepFrameLimit}
 use Rattle.ttcn_step.proofs.FramesKept.{limit_at_start, limit_behind}
 use Rattle.ttcn_step.proofs.LiveForms.{limit-in-live-parts}
 
 -- ---- live parts fit runs, too
 
-live-fits : (c : Configuration) → FitsRuns c → FitsRuns (live_part c)
-live-fits c fits = record { ordered = live_ordered c fits.ordered; frames = limit-in-live-parts c fits.frames }
+live-fits : (c : Configuration) → StandsInOrder c → AllKeepFrameLimit c → FitsRuns (live_part c)
+live-fits c ordered frames = record { ordered = live_ordered c ordered; frames = limit-in-live-parts c frames; live = live_twice c }
 
 -- ---- where runs start and lead
 
 pub first-fits : (test : Test) → FitsRuns (canonical_graph test).first
-first-fits test = live-fits (start test) (record { ordered = start_ordered test; frames = limit_at_start test })
+first-fits test = live-fits (start test) (start_ordered test) (limit_at_start test)
 
 behind-fits : (test : Test) (c : Configuration) (label : Label) (found : Option Configuration) → next test c label ≡ found → FitsRuns c → FitsRuns (live_part (option_elim c (λ d. d) found))
-behind-fits test c label None is fits = live-fits c fits
-behind-fits test c label (Some d) is fits = live-fits d (record { ordered = next_ordered test c d label fits.ordered is; frames = limit_behind test c d label fits.frames is })
+behind-fits test c label None is fits = live-fits c fits.ordered fits.frames
+behind-fits test c label (Some d) is fits = live-fits d (next_ordered test c d label fits.ordered is) (limit_behind test c d label fits.frames is)
 
 pub after-fits : (test : Test) (c : Configuration) (label : Label) → FitsRuns c → FitsRuns ((canonical_graph test).after c label)
 after-fits test c label fits = behind-fits test c label (next test c label) refl fits

@@ -15,4 +15,8 @@ pub mod Endings
 pub mod Extents
 pub mod Found
 pub mod Sums
+pub mod Remembered
+pub mod Recalls
+pub mod Makes
+pub mod WorkedOut
 pub mod internal

@@ -1,2 +1,1 @@
 pub mod Explored
-pub mod Positions

@@ -1,62 +1,66 @@
-//! All successors of a state with the branches of their steps, from a configuration that is unpacked once.
+//! All successors of a state with the branches of their steps: from what is remembered, else worked out.
 ghost use Rattle.std.specs.Prelude.{◌≡◌, IfOk, map};
 ghost use Rattle.std.specs.List.{All};
-ghost use Rattle.semantics.specs.LiveParts.{live_part};
 ghost use Rattle.semantics.specs.Places as rules;
+ghost use Rattle.ttcn_step.specs.Answers.{IsSuccessor};
 ghost use Rattle.ttcn_step.specs.Machines.{Fits, said};
+ghost use Rattle.ttcnx_runs.specs.WorkedOut.{IsStep};
 
 use crate::keys::BranchPlace;
-use crate::places::may_take_branch;
+use crate::recalling::recalled_pairs;
+use crate::remembering::remember;
 use crate::runs::{Runs, state_of};
 use crate::scheme::Scheme;
 use crate::state::State;
+use crate::step::Step;
 use search_ordinals::Branched;
 use std::alloc::{AllocError, Global};
-use step_labels::Label;
 use ttcn_config::{Config, unpack};
 use ttcn_step::{Machine, Successor};
 
-/// The branch that the step of a label takes from a state, if it takes one, by the state's configuration.
-fn branch_from<K: Scheme>(
+/// The steps from a configuration to its successors.
+fn steps_to<K: Scheme>(
     alloc: Global,
     machine: &Machine<'_>,
-    state: &State<K>,
-    config: &Config,
-    label: &Label,
-) -> Result<Option<BranchPlace>, AllocError>
-    requires is { machine.now ≡ K.machine }
-    requires fits { Fits machine.now config.now }
-    requires same { said K.machine config.now ≡ state.now }
-    ensures { IfOk result (λ taken. taken ≡ rules.branch_of K.machine.test state.now label.now) }
-{
-    if !may_take_branch(machine, config, label) {
-        return Ok(None);
-    }
-    let place = machine.branch(alloc, config, label)?;
-    Ok(place.map(BranchPlace::new))
-}
-
-/// For each successor of a state the branch that its step takes, if it takes one, and the state to which it leads.
-fn branched_pairs_of<K: Scheme>(
-    alloc: Global,
-    machine: &Machine<'_>,
-    state: &State<K>,
     config: &Config,
     found: Vec<Successor>,
-) -> Result<Vec<(Option<BranchPlace>, State<K>)>, AllocError>
+) -> Result<Vec<Step<State<K>>>, AllocError>
     requires is { machine.now ≡ K.machine }
-    requires fits { Fits machine.now config.now }
-    requires same { said K.machine config.now ≡ state.now }
+    requires fits { Fits K.machine config.now }
+    requires leads { All (IsSuccessor K.machine config.now) found.items }
     requires found { All (λ s. Fits machine.now s.config) found.items }
-    ensures { IfOk result (λ pairs. pairs.items ≡ map (λ s. (rules.branch_of K.machine.test state.now s.label, live_part (said K.machine s.config))) found.items) }
+    ensures labels { IfOk result (λ steps. map (λ step. step.label) steps.items ≡ map (λ s. s.label) found.items) }
+    ensures each { IfOk result (λ steps. All (IsStep K.machine config.now) steps.items) }
 {
-    let mut pairs = Vec::with_capacity(alloc, found.len())?;
+    let mut steps = Vec::with_capacity(alloc, found.len())?;
     for Successor {
         label,
         config: next,
     } in found {
-        let branch = branch_from(alloc, machine, state, config, &label)?;
+        let place = machine.branch(alloc, config, &label)?;
         let after = state_of(alloc, machine, next)?;
+        steps.push(Step {
+            label,
+            branch: place.map(BranchPlace::new),
+            after,
+        })?;
+    }
+    Ok(steps)
+}
+
+/// The branches of steps, and the states to which they lead.
+fn pairs_of<K: Scheme>(
+    alloc: Global,
+    steps: Vec<Step<State<K>>>,
+) -> Result<Vec<(Option<BranchPlace>, State<K>)>, AllocError>
+    ensures { IfOk result (λ pairs. pairs.items ≡ map (λ step. (step.branch, step.after)) steps.items) }
+{
+    let mut pairs = Vec::with_capacity(alloc, steps.len())?;
+    for Step {
+        label: _label,
+        branch,
+        after,
+    } in steps {
         pairs.push((branch, after))?;
     }
     Ok(pairs)
@@ -68,9 +72,22 @@ impl<'t, 'a, K: Scheme + Send + Sync> Branched for Runs<'t, 'a, K> {
         alloc: Global,
         state: &State<K>,
     ) -> Result<Vec<(Option<BranchPlace>, State<K>)>, AllocError> {
-        let config = unpack(alloc, &state.packed)?;
+        let packed = &state.packed;
+        if let Some(pairs) = recalled_pairs(alloc, self.machine, &self.memory, packed)? {
+            return Ok(pairs);
+        }
+        let config = unpack(alloc, packed)?;
         let found = self.machine.successors(alloc, &config)?;
-        branched_pairs_of(alloc, self.machine, state, &config, found)
+        let steps = steps_to(alloc, self.machine, &config, found)?;
+        remember(
+            alloc,
+            self.machine,
+            &self.memory,
+            packed,
+            &config,
+            steps.as_slice(),
+        )?;
+        pairs_of(alloc, steps)
     }
 
     fn copy_branch(branch: &BranchPlace) -> BranchPlace {

@@ -107,7 +107,7 @@ fn explore_within<K: Scheme + Send + Sync, G: Gate, R: Threads + Sync>(
     requires { machine.now ≡ K.machine }
     ensures { IsExplored K.machine.test plan.now stops.now (IsExtent K.machine.test plan.now stops.now) result }
 {
-    let runs = Runs::<K>::new(machine);
+    let runs = Runs::<K>::new(alloc, machine);
     match search::<Runs<'_, '_, K>, G, R>(rt, alloc, &runs, plan, stops, gate) {
         Ok(reached) => match extent_of(alloc, reached) {
             Ok(extent) => Ok(extent),

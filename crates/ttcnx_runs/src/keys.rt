@@ -37,6 +37,16 @@ impl BranchPlace {
     }
 }
 
+/// The same branch, if there is one.
+pub(crate) fn copied(branch: &Option<BranchPlace>) -> Option<BranchPlace>
+    ensures { result ≡ branch.now }
+{
+    match branch {
+        Some(branch) => Some(BranchPlace::new(branch.place())),
+        None => None,
+    }
+}
+
 impl PartialEq for BranchPlace {
     ghost eq = { eq_by_cmp place_cmp };
 

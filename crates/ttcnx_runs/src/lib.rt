@@ -6,12 +6,17 @@ pub mod equality;
 mod exploration;
 mod keys;
 mod laws;
+mod outcome;
 mod places;
+mod recalling;
+mod remembered;
+mod remembering;
 mod runs;
 mod scheme;
 pub mod search;
 mod sights;
 mod state;
+mod step;
 mod timed;
 
 pub use exploration::{Exploration, Extent, explore_runs, explore_runs_until, extent_of};

@@ -12,8 +12,10 @@ ghost use Rattle.config_parts.specs.Legend.{config_by};
 ghost use Rattle.config_parts.specs.Views.{IsConfigWithin};
 ghost use Rattle.ttcn_step.specs.Machines.{Fits, extent, legend, said};
 
+use crate::remembered::Remembered;
 use crate::scheme::Scheme;
-use crate::state::State;
+use crate::state::{State, hash_of};
+use search_memory::Memory;
 use std::alloc::{AllocError, Global};
 use std::marker::PhantomData;
 use step_labels::Label;
@@ -22,21 +24,28 @@ use ttcn_config::{Config, canon_owned, pack, unpack};
 use ttcn_step::{Machine, StepError, Successor};
 use ttcn_syntax::Verdict;
 
+/// How many components are remembered at most, each as it sees something else, before that was of use.
+const TRIAL: usize = 2_048;
+
+/// And how many behind that.
+const PLACES: usize = 65_536;
+
 /// The runs of the test case of a machine, which `K` names.
 #[derive(Drop)]
 pub struct Runs<'t, 'a, K: Scheme> {
     pub(crate) machine: &'a Machine<'t>,
-    of: PhantomData<K>,
+    /// What components do, by what they see.
+    pub(crate) memory: Memory<Remembered<K>>,
     ghost is: { machine.now ≡ K.machine },
 }
 
 impl<'t, 'a, K: Scheme> Runs<'t, 'a, K> {
-    pub fn new(machine: &'a Machine<'t>) -> Runs<'t, 'a, K>
+    pub fn new(alloc: Global, machine: &'a Machine<'t>) -> Runs<'t, 'a, K>
         requires { machine.now ≡ K.machine }
     {
         Runs {
             machine,
-            of: PhantomData,
+            memory: Memory::new(alloc, TRIAL, PLACES),
         }
     }
 }
@@ -67,8 +76,10 @@ pub fn state_of<K: Scheme>(
     machine.lists_and_names_differ();
     let goes_on = !machine.is_stuck(alloc, &config)?;
     let config = canon_owned(alloc, config)?;
+    let packed = pack(alloc, &config)?;
     Ok(State {
-        packed: pack(alloc, &config)?,
+        hash: hash_of(&packed),
+        packed,
         goes_on,
         of: PhantomData,
     })

@@ -149,7 +149,7 @@ fn sight_within<K: Scheme + Send + Sync, G: Gate, R: Threads + Sync>(
     requires { machine.now ≡ K.machine }
     ensures { IsExplored K.machine.test plan.now stops.now (AreSights K.machine.test plan.now stops.now) result }
 {
-    let runs = Runs::<K>::new(machine);
+    let runs = Runs::<K>::new(alloc, machine);
     match search_watched::<Runs<'_, '_, K>, G, R>(rt, alloc, &runs, plan, stops, gate) {
         Ok(sighted) => match sights_of(alloc, sighted) {
             Ok(sights) => Ok(sights),

@@ -1,9 +1,10 @@
 //! Canonical configurations, as states, which are kept as bytes.
-ghost use Rattle.ttcnx_runs.specs.States.{fed, fed_alike};
+ghost use Rattle.std.specs.Prelude.{◌≡◌};
+ghost use Rattle.ttcnx_runs.specs.States.{fed, fed_alike, hash_code};
 ghost use Rattle.ttcnx_runs.specs.SameConfigurations.{same_configuration, same_configuration_equiv, same_configuration_laws};
 
 use crate::scheme::Scheme;
-use std::hash::{Hash, Hasher};
+use std::hash::{FoldHasher, Hash, Hasher};
 use std::marker::{Model, PhantomData};
 use ttcn_config::Packed;
 
@@ -11,6 +12,8 @@ use ttcn_config::Packed;
 #[derive(Drop)]
 pub struct State<K: Scheme> {
     pub(crate) packed: Packed,
+    /// What its bytes are hashed to, once.
+    pub(crate) hash: u32,
     /// Where this is true, some label is enabled.
     pub(crate) goes_on: bool,
     pub(crate) of: PhantomData<K>,
@@ -26,6 +29,8 @@ impl<K: Scheme> Model for State<K> {
     ghost use Rattle.value_types.specs.contracts.value.Value as value;
     ghost use Rattle.ttcnx_runs.specs.Going.{GoesOn};
     ghost use Rattle.ttcnx_runs.specs.Schemes.{IsMachine};
+    ghost use Rattle.ttcnx_runs.specs.States.{hash_code};
+    ghost use Rattle.std.specs.Prelude.{◌≡◌};
     ghost use Rattle.semantics.specs.Configurations as rules;
     ghost use Rattle.config_parts.specs.Views.{IsConfigWithin};
     ghost use Rattle.ttcn_step.specs.Machines.{extent, said};
@@ -36,7 +41,16 @@ impl<K: Scheme> Model for State<K> {
 
     ghost view = { λ state. said K.machine state.packed };
 
-    ghost invariant = { λ state. IsMachine K.machine × IsConfigWithin (extent K.machine) state.packed × GoesOn K.machine.test (said K.machine state.packed) state.goes_on };
+    ghost invariant = { λ state. IsMachine K.machine × IsConfigWithin (extent K.machine) state.packed × GoesOn K.machine.test (said K.machine state.packed) state.goes_on × (state.hash ≡ hash_code state.packed) };
+}
+
+/// The upper half of what the bytes of a configuration are hashed to.
+pub(crate) fn hash_of(packed: &Packed) -> u32
+    ensures { result ≡ hash_code packed.now }
+{
+    let mut hasher = FoldHasher::default();
+    packed.hash(&mut hasher);
+    (hasher.finish() >> 32) as u32
 }
 
 impl<K: Scheme> PartialEq for State<K> {
@@ -59,6 +73,6 @@ impl<K: Scheme> Hash for State<K> {
     ghost respects_eq = { fed_alike K.machine };
 
     fn hash<H: Hasher>(&self, state: &mut H) {
-        self.packed.hash(state);
+        state.write_u32(self.hash);
     }
 }

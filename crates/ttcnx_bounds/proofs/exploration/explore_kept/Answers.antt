@@ -3,21 +3,20 @@ use Rattle.std.specs.Prelude.{Err, Ok}
 use denote.Param.Send.{sendable}
 use Rattle.std.proofs.Crossing.{crosses}
 use Rattle.ttcnx_bounds.proofs.Assembly.{found-explored, refused-explored}
-use Rattle.ttcnx_bounds.proofs.Crossing.{bounded-send, bounded-sync}
 use Rattle.ttcnx_bounds.proofs.exploration.explore_kept.Goals as goal
 use Rattle.ttcnx_bounds.specs.internal.BoundedExplored.{IsExploredBounded}
 use Rattle.ttcnx_runs.proofs.crossing.States.{state-send, state-sync}
-use Rattle.ttcnx_runs.proofs.crossing.Systems.{runs-sync}
+use Rattle.ttcnx_runs.proofs.crossing.Systems.{runs-row-sync}
 use Rattle.ttcnx_runs.specs.declared.exploration.Extent.{Extent}
 
-pub search-requires-send-Y-State : goal.search-requires-send-Y-State
-search-requires-send-Y-State g c κs within = search (state-send, bounded-send, crosses, sendable) depth 60 fits 20000
+pub search_within-requires-send-Y-State : goal.search_within-requires-send-Y-State
+search_within-requires-send-Y-State g c κs within = search (state-send, crosses, sendable) depth 60 fits 20000
 
-pub search-requires-sync-Y-State : goal.search-requires-sync-Y-State
-search-requires-sync-Y-State g c κs within = search (state-sync, bounded-sync, crosses, sendable) depth 60 fits 20000
+pub search_within-requires-sync-Y-State : goal.search_within-requires-sync-Y-State
+search_within-requires-sync-Y-State g c κs within = search (state-sync, crosses, sendable) depth 60 fits 20000
 
-pub search-requires-sync-Y : goal.search-requires-sync-Y
-search-requires-sync-Y g c κs within = search (runs-sync, crosses, sendable) depth 60 fits 20000
+pub search_within-requires-sync-Y : goal.search_within-requires-sync-Y
+search_within-requires-sync-Y g c κs within = search (runs-row-sync, crosses, sendable) depth 60 fits 20000
 
 pub returns-in-Ok-extent_of : goal.returns-in-Ok-extent_of
 returns-in-Ok-extent_of g c =
@@ -30,6 +29,6 @@ returns-in-Ok-extent_of g c =
     c.in-Ok.ensures.steps c.in-Ok.ensures.ended c.in-Ok.ensures.count c.in-Ok.ensures.branches c.in-Ok.ensures.blocked c.in-Ok.ensures.complete c.in-Ok.ensures.best
     c.in-Ok.ensures.every_bound)
 
-pub returns-in-Err : goal.returns-in-Err
-returns-in-Err g c = refused-explored g.K.Scheme.machine.test c.args.bound c.args.plan.now c.args.stops.now c.in-Err.refused
+pub returns : goal.returns
+returns g c = refused-explored g.K.Scheme.machine.test c.args.bound c.args.plan.now c.args.stops.now c.in-Err.refused
     (λ is. c.in-Err.ensures.bad_plan.0 (ap Err is)) (λ no. let same = c.in-Err.ensures.bad_plan.1 no in cc) (λ is. c.in-Err.ensures.too_many (ap Err is)) (λ is. c.in-Err.ensures.limited (ap Err is))

@@ -4,10 +4,10 @@ use Rattle.ttcnx_runs.specs.Extents.{IsExtent}
 use Rattle.ttcnx_runs.specs.declared.exploration.Extent.{Extent}
 use denote.Exit
 use denote.Param.{param}
-use denote.Param.Send.{arg_send, arg_sync, param_send, param_sync, sendable}
+use denote.Param.Send.{arg_send, arg_sync, param_send, param_sync}
 use Rattle.ttcnx_runs.proofs.Assembly.{answer-explored, extent-found, refused-explored}
 use Rattle.ttcnx_runs.proofs.crossing.States.{state-send, state-sync}
-use Rattle.ttcnx_runs.proofs.crossing.Systems.{runs-sync}
+use Rattle.ttcnx_runs.proofs.crossing.Systems.{runs-row-sync}
 use Rattle.ttcnx_runs.proofs.exploration.explore_within.Goals as goal
 
 pub search-requires-send-Y-State : goal.search-requires-send-Y-State
@@ -17,7 +17,7 @@ pub search-requires-sync-Y-State : goal.search-requires-sync-Y-State
 search-requires-sync-Y-State g c κs within = param_sync _ _ (arg_sync _ Exit.no _ (state-sync (param 0 g.row.K) g.K.Scheme))
 
 pub search-requires-sync-Y : goal.search-requires-sync-Y
-search-requires-sync-Y g c κs within = search (runs-sync, sendable) depth 20
+search-requires-sync-Y g c κs within = param_sync _ _ (arg_sync _ Exit.no _ (runs-row-sync _ _ (param 0 g.row.K) g.K.Scheme))
 
 pub returns-in-Ok-extent_of : goal.returns-in-Ok-extent_of
 returns-in-Ok-extent_of g c =
@@ -32,6 +32,6 @@ returns-in-Ok-extent_of g c =
     c.in-Ok.ensures.steps c.in-Ok.ensures.ended c.in-Ok.ensures.count c.in-Ok.ensures.branches c.in-Ok.ensures.blocked c.in-Ok.ensures.complete c.in-Ok.ensures.best
     c.in-Ok.ensures.every_bound))
 
-pub returns-in-Err : goal.returns-in-Err
-returns-in-Err g c = refused-explored g.K.Scheme.machine.test c.args.plan.now c.args.stops.now (IsExtent g.K.Scheme.machine.test c.args.plan.now c.args.stops.now) c.in-Err.refused
+pub returns : goal.returns
+returns g c = refused-explored g.K.Scheme.machine.test c.args.plan.now c.args.stops.now (IsExtent g.K.Scheme.machine.test c.args.plan.now c.args.stops.now) c.in-Err.refused
     (λ is. c.in-Err.ensures.bad_plan.0 (ap Err is)) (λ no. let same = c.in-Err.ensures.bad_plan.1 no in cc) (λ is. c.in-Err.ensures.too_many (ap Err is)) (λ is. c.in-Err.ensures.limited (ap Err is))

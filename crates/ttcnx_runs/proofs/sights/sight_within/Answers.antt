@@ -1,6 +1,7 @@
 use Rattle.std.proofs.Common.{ℕ, List, ap, subst, sym}
 use Rattle.std.specs.Prelude.{Err}
-use denote.Param.Send.{sendable}
+use denote.Param.{param}
+use mir.Syntax.{named}
 use Rattle.explore.specs.Sightings.{shown_at_end, shown_by_step}
 use Rattle.explore.specs.declared.sightings.Sighting.{Sighting}
 use Rattle.semantics.specs.Canonical.{canonical_graph}
@@ -10,7 +11,7 @@ use Rattle.semantics.specs.Steps.{Label}
 use Rattle.step_labels.specs.declared.standing.Standing.{Standing}
 use Rattle.ttcnx_runs.proofs.Assembly.{answer-explored, extent-found, refused-explored}
 use Rattle.ttcnx_runs.proofs.SightsAlike.{blocks-alike, places-alike, sighted-alike}
-use Rattle.ttcnx_runs.proofs.crossing.Systems.{runs-sync}
+use Rattle.ttcnx_runs.proofs.crossing.Systems.{runs-row-sync}
 use Rattle.ttcnx_runs.proofs.sights.sight_within.Goals as goal
 use Rattle.ttcnx_runs.specs.Extents.{IsExtent}
 use Rattle.ttcnx_runs.specs.Sights.{AreBlocks, ArePlaces, block_in, step_place}
@@ -19,7 +20,9 @@ use Rattle.ttcnx_runs.specs.declared.sights.StepPlace.{StepPlace}
 use Rattle.ttcnx_runs.specs.internal.Explored.{AreSights}
 
 pub search_watched-requires-sync-Y : goal.search_watched-requires-sync-Y
-search_watched-requires-sync-Y g c κs within = search (runs-sync, sendable) depth 20
+search_watched-requires-sync-Y g c κs within = record {
+  shared = (runs-row-sync (record { mir = named 14; lft = κs.1.1.1.1.1.1.1.1.1.1.1.1.1.1.0 }) (record { mir = named 15; lft = κs.1.1.1.1.1.1.1.1.1.1.1.1.1.1.1.0 }) (param 0 g.row.K) g.K.Scheme).shared;
+}
 
 pub returns-in-Ok-sights_of : goal.returns-in-Ok-sights_of
 returns-in-Ok-sights_of g c =
@@ -43,8 +46,8 @@ returns-in-Ok-sights_of g c =
           (sighted-alike test label_cmp n (shown_at_end live (block_in test)) (shown_at_end (graph_of test) (block_in test)) (blocks-alike test) sighted.stands.items is.stands));
     })
 
-pub returns-in-Err : goal.returns-in-Err
-returns-in-Err g c =
+pub returns : goal.returns
+returns g c =
     let test = g.K.Scheme.machine.test in
     refused-explored test c.args.plan.now c.args.stops.now (AreSights test c.args.plan.now c.args.stops.now) c.in-Err.refused
     (λ is. c.in-Err.ensures.bad_plan.0 (ap Err is)) (λ no. let same = c.in-Err.ensures.bad_plan.1 no in cc) (λ is. c.in-Err.ensures.too_many (ap Err is)) (λ is. c.in-Err.ensures.limited (ap Err is))

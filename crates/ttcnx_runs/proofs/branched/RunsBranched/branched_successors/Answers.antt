@@ -1,31 +1,84 @@
-use Rattle.std.proofs.Common.{◌≡◌, List, [], ◌∷◌, IfOk, Option, ap, map, refl, subst, ◌∙◌}
-use Rattle.search_ordinals.proofs.Numbers.{branch-pair, branches-there}
+use Rattle.std.proofs.Common.{◌≡◌, List, IfOk, Option, ap, map, subst, sym, ◌∙◌}
+use Rattle.std.specs.List.{All}
+use Rattle.config_parts.specs.declared.config.Config.{Config}
 use Rattle.search_ordinals.specs.Ordinals.{with_branch}
 use Rattle.semantics.specs.Canonical.{canonical_graph}
 use Rattle.semantics.specs.Configurations.{Configuration}
-use Rattle.semantics.specs.LiveParts.{live_part}
 use Rattle.semantics.specs.Places.{branch_of}
 use Rattle.semantics.specs.Labels.{labels}
-use Rattle.summary.specs.Graph.{Graph, with_after}
-use Rattle.ttcn_step.specs.Machines.{said}
+use Rattle.ttcn_step.specs.Answers.{IsSuccessor}
+use Rattle.ttcn_step.specs.Machines.{Fits, Machine, said}
 use Rattle.ttcn_syntax.specs.declared.place.Span.{Span}
-use Rattle.ttcnx_runs.proofs.Leading.{successors-lead}
+use Rattle.ttcnx_runs.proofs.Recalled.{if-some, machine-fits, state-fits, steps-lead}
 use Rattle.ttcnx_runs.proofs.branched.RunsBranched.branched_successors.Goals as goal
-
--- pairs of labels, with the branches of their steps in place of the labels
-branches-lead : {X C L B : Type 0} (branch : C → L → Option B) (graph : Graph C L) (state : C) (label : X → L) (after : X → C) (labels : List L) (found : List X)
-    → map (λ x. (label x, after x)) found ≡ with_after graph state labels → map (λ x. (branch state (label x), after x)) found ≡ with_branch branch graph state labels
-branches-lead {X} branch graph state label after labels found lead = parts found ∙ ap (map (branch-pair branch graph state)) lead ∙ branches-there branch graph state labels
-  where
-    parts : (xs : List X) → map (λ x. (branch state (label x), after x)) xs ≡ map (branch-pair branch graph state) (map (λ x. (label x, after x)) xs)
-    parts [] = refl
-    parts (x ∷ xs) = ap (λ ps. (branch state (label x), after x) ∷ ps) (parts xs)
+use Rattle.ttcnx_runs.specs.Recalls.{FitsState}
+use Rattle.ttcnx_runs.specs.WorkedOut.{AreSteps}
 
 pub returns : goal.returns
 returns g c =
     let self = c.args.self.now in
     let machine = g.K.Scheme.machine in
-    subst (λ (pairs : List (Option Span × Configuration)). IfOk c.branched_pairs_of.result (λ found. found.items ≡ pairs))
-    (branches-lead (branch_of machine.test) (canonical_graph machine.test) c.args.state.now (λ s. s.label) (λ s. live_part (said machine s.config)) (labels machine.test c.args.state.now) c.in_ok-found.found.items
-    (successors-lead self.machine.now machine self.is c.in_ok-config.config c.args.state.now (ap (said machine) c.in_ok-config.ensures ∙ c.state.view_is) c.in_ok-found.found.items c.in_ok-found.ensures.labels c.in_ok-found.ensures.leads))
-    c.branched_pairs_of.ensures
+    let config : Config = c.in_ok-config.config in
+    let steps = c.in_ok-steps.steps.items in
+    let state : said machine config ≡ c.args.state.now = ap (said machine) c.in_ok-config.ensures ∙ c.state.view_is in
+    let enabled : map (λ step. step.label) steps ≡ labels machine.test (said machine config) =
+    c.in_ok-steps.ensures.labels ∙ subst (λ (m : Machine). map (λ s. s.label) c.in_ok-found.found.items ≡ labels m.test (said m config)) self.is c.in_ok-found.ensures.labels in
+    subst (λ (pairs : List (Option Span × Configuration)). IfOk c.pairs_of.result (λ found. found.items ≡ pairs))
+    (steps-lead machine config steps c.in_ok-steps.ensures.each
+    ∙ ap (with_branch (branch_of machine.test) (canonical_graph machine.test) (said machine config)) enabled
+    ∙ ap (λ (s : Configuration). with_branch (branch_of machine.test) (canonical_graph machine.test) s (labels machine.test s)) state)
+    c.pairs_of.ensures
+
+pub returns-in-Some : goal.returns-in-Some
+returns-in-Some g c =
+    let machine = g.K.Scheme.machine in
+    let packed : Config = c.state.inside.packed in
+    if-some c.in_ok-pairs.field-0 c.in-Some.pairs
+    (λ pairs. pairs.items ≡ with_branch (branch_of machine.test) (canonical_graph machine.test) (said machine packed) (labels machine.test (said machine packed)))
+    c.in_ok-pairs.ensures c.in-Some.is
+    ∙ ap (λ (s : Configuration). with_branch (branch_of machine.test) (canonical_graph machine.test) s (labels machine.test s)) c.state.view_is
+
+pub recalled_pairs-requires-clause-fits : goal.recalled_pairs-requires-clause-fits
+recalled_pairs-requires-clause-fits g c = state-fits g.K.Scheme.machine c.state.inside.packed c.args.state.now c.state.invariant.1 c.state.view_is c.requires
+
+pub steps_to-requires-clause-fits : goal.steps_to-requires-clause-fits
+steps_to-requires-clause-fits g c =
+    let machine = g.K.Scheme.machine in
+    subst (Fits machine) (sym c.in_ok-config.ensures) (machine-fits machine c.state.inside.packed (state-fits machine c.state.inside.packed c.args.state.now c.state.invariant.1 c.state.view_is c.requires))
+
+pub steps_to-requires-clause-leads : goal.steps_to-requires-clause-leads
+steps_to-requires-clause-leads g c = subst (λ (m : Machine). All (IsSuccessor m c.in_ok-config.config) c.in_ok-found.found.items) c.args.self.now.is c.in_ok-found.ensures.leads
+
+pub remember-requires-clause-fits : goal.remember-requires-clause-fits
+remember-requires-clause-fits g c =
+    let machine = g.K.Scheme.machine in
+    subst (FitsState machine) (sym c.in_ok-config.ensures) (state-fits machine c.state.inside.packed c.args.state.now c.state.invariant.1 c.state.view_is c.requires)
+
+pub remember-requires-clause-steps : goal.remember-requires-clause-steps
+remember-requires-clause-steps g c =
+    let machine = g.K.Scheme.machine in
+    let config : Config = c.in_ok-config.config in
+    let enabled : map (λ step. step.label) c.in_ok-steps.steps.items ≡ labels machine.test (said machine config) =
+    c.in_ok-steps.ensures.labels ∙ subst (λ (m : Machine). map (λ s. s.label) c.in_ok-found.found.items ≡ labels m.test (said m config)) c.args.self.now.is c.in_ok-found.ensures.labels in
+    subst (AreSteps machine config) (sym c.as_slice.ensures.value) (record { enabled = enabled; each = c.in_ok-steps.ensures.each })
+
+pub recalled_pairs-requires-clause-is : goal.recalled_pairs-requires-clause-is
+recalled_pairs-requires-clause-is g c = c.args.self.now.is
+
+pub steps_to-requires-clause-is : goal.steps_to-requires-clause-is
+steps_to-requires-clause-is g c = c.args.self.now.is
+
+pub steps_to-requires-clause-found : goal.steps_to-requires-clause-found
+steps_to-requires-clause-found g c = c.in_ok-found.ensures.fits
+
+pub remember-requires-clause-is : goal.remember-requires-clause-is
+remember-requires-clause-is g c = c.args.self.now.is
+
+pub remember-requires-clause-same : goal.remember-requires-clause-same
+remember-requires-clause-same g c = sym c.in_ok-config.ensures
+
+pub successors-requires : goal.successors-requires
+successors-requires g c =
+    let machine = g.K.Scheme.machine in
+    subst (λ (m : Machine). Fits m c.in_ok-config.config) (sym c.args.self.now.is)
+    (subst (Fits machine) (sym c.in_ok-config.ensures) (machine-fits machine c.state.inside.packed (state-fits machine c.state.inside.packed c.args.state.now c.state.invariant.1 c.state.view_is c.requires)))

@@ -1,0 +1,42 @@
+-- Configurations whose successors are made from what is remembered.
+use Rattle.std.specs.Prelude.{◌≡◌, ℕ, Bool, true, false, List, [], ◌∷◌, Some, length, slice_get}
+use Rattle.config_packed.specs.Pieces.{IsCut, spell_key}
+use Rattle.config_packed.specs.declared.pieces.ConfigBytes.{ConfigBytes}
+use Rattle.config_parts.specs.Legend.{going_by}
+use Rattle.config_parts.specs.Views.{IsConfigWithin}
+use Rattle.config_parts.specs.declared.component.Component.{Component}
+use Rattle.config_parts.specs.declared.config.Config.{Config}
+use Rattle.config_parts.specs.declared.config.Config.TheVariants as config
+use Rattle.config_parts.specs.declared.config.Going.{Going}
+use Rattle.laws_local.specs.Alone.{has_labels, how_many}
+use Rattle.semantics.specs.Configurations as rules
+use Rattle.ttcn_step.specs.Machines.{Machine, extent, legend, said}
+use Rattle.ttcnx_runs.specs.Runs.{FitsRuns}
+use Rattle.ttcnx_runs.specs.declared.outcome.Outcome.{Outcome}
+
+-- a configuration of the code is one of a state
+pub record FitsState (machine : Machine) (configuration : Config) : Type 0 where
+  pub within : IsConfigWithin (extent machine) configuration
+  pub fits : FitsRuns (said machine configuration)
+
+-- how many components have enabled labels
+abbrev pub active_in : Machine → rules.Going → ℕ
+active_in machine going = how_many (has_labels machine.test going) going.components
+
+-- a configuration that goes on, cut into these parts; so many components have labels
+pub record CanRecall (machine : Machine) (configuration : Config) (parts : ConfigBytes) (active : ℕ) : Type 0 where
+  pub going : Going
+  pub is : configuration ≡ config.Going going
+  pub cut : IsCut going parts
+  pub state : FitsState machine configuration
+  pub counted : active ≡ active_in machine (going_by (legend machine) going)
+
+-- the keys of the components of a configuration, in their order
+pub record AreKeys (going : Going) (keys : List (List ℕ)) : Type 0 where
+  pub count : length keys ≡ length going.components
+  pub each : (at : ℕ) (component : Component) → slice_get going.components at ≡ Some component → slice_get keys at ≡ Some (spell_key going at component)
+
+-- whether a component has steps, by what is remembered of it
+abbrev pub has_steps : List Outcome → Bool
+has_steps [] = false
+has_steps (outcome ∷ outcomes) = true

@@ -1,0 +1,323 @@
+//! Successors from what is remembered of each component, without unpacking the configuration.
+ghost use Rattle.std.specs.Prelude.{◌≡◌, ◌++◌, ◌<◌, ◌≤◌, ◌↔◌, ◌∷◌, [], ℕ, IfOk, IfSome, IsTrue, OnOk, Some, length, map, slice_get};
+ghost use Rattle.std.specs.List.{All, flat_map};
+ghost use Rattle.config_packed.specs.Pieces.{AreJoined, AreParts, IsCut, changed_going, joined_going, spell_key};
+ghost use Rattle.config_parts.specs.declared.component.Component.{Component};
+ghost use Rattle.config_parts.specs.declared.config.Config.TheVariants as config;
+ghost use Rattle.config_parts.specs.declared.config.Going.{Going};
+ghost use Rattle.laws_local.specs.Alone.{how_many};
+ghost use Rattle.search_ordinals.specs.Ordinals.{with_branch};
+ghost use Rattle.semantics.specs.Canonical.{canonical_graph};
+ghost use Rattle.semantics.specs.Labels.{labels};
+ghost use Rattle.semantics.specs.Places.{branch_of};
+ghost use Rattle.ttcn_step.specs.Machines.{Fits, said};
+ghost use Rattle.ttcnx_runs.specs.Recalls.{AreKeys, CanRecall, FitsState, has_steps};
+ghost use Rattle.ttcnx_runs.specs.Remembered.{IsEffectWithin, led_to, sent_going, shown, steps_of, without_front};
+ghost use Rattle.ttcnx_runs.specs.declared.outcome.Effect.TheVariants as effect;
+
+use crate::keys::{BranchPlace, copied};
+use crate::outcome::{Effect, Outcome, Sending};
+use crate::remembered::Remembered;
+use crate::runs::state_of;
+use crate::scheme::Scheme;
+use crate::state::{State, hash_of};
+use search_memory::Memory;
+use std::alloc::{AllocError, Global};
+use std::marker::PhantomData;
+use step_labels::Label;
+use ttcn_config::{
+    ConfigBytes, OwnBytes, Packed, queues_with_message, queues_without_first, unpack,
+};
+use ttcn_step::Machine;
+use value_types::Slot;
+
+/// The state to which a label leads.
+pub(crate) fn next_state<K: Scheme>(
+    alloc: Global,
+    machine: &Machine<'_>,
+    packed: &Packed,
+    label: &Label,
+) -> Result<State<K>, AllocError>
+    requires is { machine.now ≡ K.machine }
+    requires fits { FitsState K.machine packed.now }
+    ensures { IfOk result (λ state. state ≡ (canonical_graph K.machine.test).after (said K.machine packed.now) label.now) }
+{
+    let config = unpack(alloc, packed)?;
+    match machine.next(alloc, &config, label) {
+        Ok(after) => state_of(alloc, machine, after),
+        Err(_) => Err(AllocError),
+    }
+}
+
+/// The bytes where a component alone changed.
+fn changed_alone(
+    alloc: Global,
+    parts: &ConfigBytes<'_>,
+    at: usize,
+    own: &OwnBytes,
+    removed: Option<Slot>,
+) -> Result<Packed, AllocError>
+    requires { (going : Going) × (component : Component) × IsCut going parts.now × (slice_get going.components at ≡ Some component) }
+    ensures { (going : Going) (component : Component) → IsCut going parts.now → slice_get going.components at ≡ Some component
+        → IfOk result (λ packed. packed ≡ config.Going (changed_going going at own.now.0 own.now.1 at (without_front removed component.queues))) }
+{
+    let queues = parts.components[at].queues;
+    match removed {
+        None => parts.pack_changed(alloc, at, own.as_bytes(), at, queues),
+        Some(port) => {
+            let queues = queues_without_first(alloc, queues, port)?;
+            parts.pack_changed(alloc, at, own.as_bytes(), at, queues.as_slice())
+        }
+    }
+}
+
+/// The bytes where a component changed and sent a message. Where no component is at its place, nobody gets it.
+fn changed_by_sending(
+    alloc: Global,
+    parts: &ConfigBytes<'_>,
+    at: usize,
+    own: &OwnBytes,
+    sending: &Sending,
+) -> Result<Packed, AllocError>
+    requires { (going : Going) × (component : Component) × IsCut going parts.now × (slice_get going.components at ≡ Some component) }
+    ensures { (going : Going) (component : Component) → IsCut going parts.now → slice_get going.components at ≡ Some component
+        → IfOk result (λ packed. packed ≡ config.Going (sent_going going at own.now sending.now)) }
+{
+    if sending.to >= parts.components.len() {
+        let queues = parts.components[at].queues;
+        return parts.pack_changed(alloc, at, own.as_bytes(), at, queues);
+    }
+    let waiting = parts.components[sending.to].queues;
+    let queues = queues_with_message(alloc, waiting, sending.port, &sending.message)?;
+    parts.pack_changed(alloc, at, own.as_bytes(), sending.to, queues.as_slice())
+}
+
+/// The bytes where a component ended: it, and what all components see, are those of another configuration.
+fn changed_by_ending(
+    alloc: Global,
+    parts: &ConfigBytes<'_>,
+    at: usize,
+    behind: &Packed,
+) -> Result<Packed, AllocError>
+    requires { (going : Going) × (other : Going) × IsCut going parts.now × (behind.now ≡ config.Going other) × AreJoined going at other }
+    ensures { (going other : Going) → IsCut going parts.now → behind.now ≡ config.Going other → AreJoined going at other → IfOk result (λ packed. packed ≡ config.Going (joined_going going at other)) }
+{
+    match behind.parts(alloc)? {
+        Some(others) => parts.pack_joined(alloc, at, &others),
+        None => unreachable!(),
+    }
+}
+
+/// A configuration whose successors are made from what is remembered.
+#[derive(Drop)]
+struct Recall<'m, 't, 'k, 'p, 'b, K: Scheme> {
+    alloc: Global,
+    machine: &'m Machine<'t>,
+    packed: &'k Packed,
+    parts: &'p ConfigBytes<'b>,
+    /// How many components have enabled labels. Where several have, some are left whatever one does.
+    active: usize,
+    of: PhantomData<K>,
+}
+
+impl<K: Scheme> Recall<'_, '_, '_, '_, '_, K> {
+    /// The state to which a step leads that changes the component at a place alone.
+    fn state_alone(
+        &self,
+        at: usize,
+        own: &OwnBytes,
+        removed: Option<Slot>,
+    ) -> Result<State<K>, AllocError>
+        requires is { self.now.machine.now ≡ K.machine }
+        requires can { CanRecall K.machine self.now.packed.now self.now.parts.now self.now.active }
+        requires here { (going : Going) → self.now.packed.now ≡ config.Going going → (component : Component) × (slice_get going.components at ≡ Some component) }
+        requires within { (going : Going) → self.now.packed.now ≡ config.Going going → IsEffectWithin K.machine going at (effect.Alone own.now removed) }
+        ensures { (going : Going) (component : Component) → self.now.packed.now ≡ config.Going going → slice_get going.components at ≡ Some component
+            → IfOk result (λ state. state ≡ led_to K.machine going at component (effect.Alone own.now removed)) }
+    {
+        self.machine.lists_and_names_differ();
+        let packed = changed_alone(self.alloc, self.parts, at, own, removed)?;
+        Ok(State {
+            hash: hash_of(&packed),
+            packed,
+            goes_on: self.active >= 2,
+            of: PhantomData,
+        })
+    }
+
+    /// The state to which a step leads by which the component at a place sends a message.
+    fn state_sending(
+        &self,
+        at: usize,
+        own: &OwnBytes,
+        sending: &Sending,
+    ) -> Result<State<K>, AllocError>
+        requires is { self.now.machine.now ≡ K.machine }
+        requires can { CanRecall K.machine self.now.packed.now self.now.parts.now self.now.active }
+        requires here { (going : Going) → self.now.packed.now ≡ config.Going going → (component : Component) × (slice_get going.components at ≡ Some component) }
+        requires within { (going : Going) → self.now.packed.now ≡ config.Going going → IsEffectWithin K.machine going at (effect.Sends own.now sending.now) }
+        ensures { (going : Going) (component : Component) → self.now.packed.now ≡ config.Going going → slice_get going.components at ≡ Some component
+            → IfOk result (λ state. state ≡ led_to K.machine going at component (effect.Sends own.now sending.now)) }
+    {
+        self.machine.lists_and_names_differ();
+        let packed = changed_by_sending(self.alloc, self.parts, at, own, sending)?;
+        Ok(State {
+            hash: hash_of(&packed),
+            packed,
+            goes_on: self.active >= 3,
+            of: PhantomData,
+        })
+    }
+
+    /// The state to which a step leads that ends the component at a place.
+    fn state_ended(&self, at: usize, behind: &Packed) -> Result<State<K>, AllocError>
+        requires is { self.now.machine.now ≡ K.machine }
+        requires can { CanRecall K.machine self.now.packed.now self.now.parts.now self.now.active }
+        requires within { (going : Going) → self.now.packed.now ≡ config.Going going → IsEffectWithin K.machine going at (effect.Ends behind.now) }
+        ensures { (going : Going) (component : Component) → self.now.packed.now ≡ config.Going going → slice_get going.components at ≡ Some component
+            → IfOk result (λ state. state ≡ led_to K.machine going at component (effect.Ends behind.now)) }
+    {
+        self.machine.lists_and_names_differ();
+        let packed = changed_by_ending(self.alloc, self.parts, at, behind)?;
+        Ok(State {
+            hash: hash_of(&packed),
+            packed,
+            goes_on: false,
+            of: PhantomData,
+        })
+    }
+
+    /// The state to which a step of the component at a place leads.
+    fn state_behind(&self, at: usize, effect: &Effect) -> Result<State<K>, AllocError>
+        requires is { self.now.machine.now ≡ K.machine }
+        requires can { CanRecall K.machine self.now.packed.now self.now.parts.now self.now.active }
+        requires here { (going : Going) → self.now.packed.now ≡ config.Going going → (component : Component) × (slice_get going.components at ≡ Some component) }
+        requires within { (going : Going) → self.now.packed.now ≡ config.Going going → IsEffectWithin K.machine going at effect.now }
+        ensures { (going : Going) (component : Component) → self.now.packed.now ≡ config.Going going → slice_get going.components at ≡ Some component
+            → IfOk result (λ state. state ≡ led_to K.machine going at component effect.now) }
+    {
+        match effect {
+            Effect::Alone(own, removed) => self.state_alone(at, own, *removed),
+            Effect::Sends(own, sending) => self.state_sending(at, own, sending),
+            Effect::Ends(behind) => self.state_ended(at, behind),
+            Effect::Other(label) => next_state(self.alloc, self.machine, self.packed, label),
+        }
+    }
+
+    /// Adds what is remembered of the steps of the component at a place.
+    fn push_steps(
+        &self,
+        at: usize,
+        outcomes: &[Outcome],
+        pairs: &mut Vec<(Option<BranchPlace>, State<K>)>,
+    ) -> Result<(), AllocError>
+        requires is { self.now.machine.now ≡ K.machine }
+        requires can { CanRecall K.machine self.now.packed.now self.now.parts.now self.now.active }
+        requires here { (going : Going) → self.now.packed.now ≡ config.Going going → (component : Component) × (slice_get going.components at ≡ Some component) }
+        requires within { (going : Going) → self.now.packed.now ≡ config.Going going → All (λ outcome. IsEffectWithin K.machine going at outcome.effect) outcomes.now }
+        ensures { (going : Going) (component : Component) → self.now.packed.now ≡ config.Going going → slice_get going.components at ≡ Some component
+            → OnOk result (pairs.new.items ≡ pairs.old.items ++ map (shown K.machine going at component) outcomes.now) }
+    {
+        for outcome in outcomes {
+            let branch = copied(&outcome.branch);
+            let after = self.state_behind(at, &outcome.effect)?;
+            pairs.push((branch, after))?;
+        }
+        Ok(())
+    }
+
+    /// What is remembered of the steps of all components.
+    fn pairs_of(
+        &self,
+        all: &[&Remembered<K>],
+    ) -> Result<Vec<(Option<BranchPlace>, State<K>)>, AllocError>
+        requires is { self.now.machine.now ≡ K.machine }
+        requires can { CanRecall K.machine self.now.packed.now self.now.parts.now self.now.active }
+        requires keys { (going : Going) → self.now.packed.now ≡ config.Going going → AreKeys going (map (λ one. one.now.key.items) all.now) }
+        ensures { (going : Going) → self.now.packed.now ≡ config.Going going
+            → IfOk result (λ pairs. pairs.items ≡ flat_map (steps_of K.machine going) going.components) }
+    {
+        let mut pairs = Vec::new(self.alloc);
+        for at in 0..all.len() {
+            self.push_steps(at, all[at].outcomes.as_slice(), &mut pairs)?;
+        }
+        Ok(pairs)
+    }
+}
+
+/// How many bytes are asked for before a key is made: few need more.
+const KEY_ROOM: usize = 256;
+
+/// What is remembered of each component, where something is of all of them. Of a component that is the only one nothing is.
+fn recall_all<'m, K: Scheme>(
+    alloc: Global,
+    memory: &'m Memory<Remembered<K>>,
+    parts: &ConfigBytes<'_>,
+) -> Result<Option<Vec<&'m Remembered<K>>>, AllocError>
+    ensures { (going : Going) → IsCut going parts.now → IfOk result (λ found. IfSome found (λ all. AreKeys going (map (λ one. one.now.key.items) all.items))) }
+{
+    if parts.components.len() < 2 {
+        return Ok(None);
+    }
+    let mut all = Vec::with_capacity(alloc, parts.components.len())?;
+    let mut key = Vec::with_capacity(alloc, KEY_ROOM)?;
+    for at in 0..parts.components.len() {
+        key.clear();
+        parts.put_key(&mut key, at)?;
+        let Some(one) = memory.find(key.as_slice()) else {
+            return Ok(None);
+        };
+        all.push(one)?;
+    }
+    Ok(Some(all))
+}
+
+/// How many components have steps.
+fn active_among<K: Scheme>(all: &[&Remembered<K>]) -> usize
+    ensures { result ≡ how_many (λ one. has_steps one.now.outcomes.items) all.now }
+{
+    let mut count = 0;
+    for one in all {
+        if !one.outcomes.is_empty() {
+            count += 1;
+        }
+    }
+    count
+}
+
+/// For each enabled label the branch that its step takes, if it takes one, and the state to which it leads, where the steps of
+/// all components are remembered.
+pub(crate) fn recalled_pairs<K: Scheme>(
+    alloc: Global,
+    machine: &Machine<'_>,
+    memory: &Memory<Remembered<K>>,
+    packed: &Packed,
+) -> Result<Option<Vec<(Option<BranchPlace>, State<K>)>>, AllocError>
+    requires is { machine.now ≡ K.machine }
+    requires fits { FitsState K.machine packed.now }
+    ensures { IfOk result (λ found. IfSome found (λ pairs. pairs.items ≡ with_branch (branch_of K.machine.test) (canonical_graph K.machine.test) (said K.machine packed.now) (labels K.machine.test (said K.machine packed.now)))) }
+{
+    if memory.has_given_up() {
+        return Ok(None);
+    }
+    let Some(parts) = packed.parts(alloc)? else {
+        return Ok(None);
+    };
+    if parts.has_mappings {
+        return Ok(None);
+    }
+    let Some(all) = recall_all(alloc, memory, &parts)? else {
+        return Ok(None);
+    };
+    let recall = Recall {
+        alloc,
+        machine,
+        packed,
+        parts: &parts,
+        active: active_among(&all),
+        of: PhantomData,
+    };
+    let pairs = recall.pairs_of(&all)?;
+    memory.note_use(alloc)?;
+    Ok(Some(pairs))
+}
