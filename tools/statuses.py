@@ -314,6 +314,47 @@ def large_rows(folder):
     ]
 
 
+def crowd(components, messages):
+    """Returns a module in which so many components send so many messages each to the main one, which counts those of the first."""
+    workers = range(1, components + 1)
+    lines = [
+        "module F {",
+        "type port P message { inout integer }",
+        "type component M { port P p; var integer n := 0; var integer c := 0 }",
+        "type component W { port P q }",
+        "function f(integer x) runs on W {",
+        f"for (var integer i := 0; i < {messages}; i := i + 1) {{ q.send(x) }}",
+        "}",
+        "testcase T() runs on M {",
+        *(f"var W w{it} := W.create;" for it in workers),
+        *(f"connect(self:p, w{it}:q);" for it in workers),
+        *(f"w{it}.start(f({it}));" for it in workers),
+        f"while (n < {components * messages}) {{",
+        "alt {",
+        "[] p.receive(1) { c := c + 1 }",
+        "[] p.receive { }",
+        "}",
+        "n := n + 1",
+        "}",
+        f"if (c == {messages}) {{ setverdict(pass) }} else {{ setverdict(fail) }}",
+        "}",
+        "}",
+    ]
+    return "\n".join(lines).encode()
+
+
+def crowd_rows(folder):
+    """Returns command lines with modules of many configurations, each with its status, and what its text begins with.
+
+    The reference makes the same reports of them (tools/reference).
+    """
+    for components, messages, count in ((2, 2, 2268), (2, 3, 9219), (3, 2, 126538)):
+        module = file_in(folder, f"crowd_{components}_{messages}.ttcn", crowd(components, messages))
+        for workers in ("1", "4"):
+            wanted = f"testcase T\nsteps 200\nconfigurations {count}\ncomplete yes\nverdict pass "
+            yield ["run", module, "--testcase", "T", "--steps", "200", "--workers", workers, "--piece", "64"], 0, wanted
+
+
 def lint_rows():
     """Returns command lines whose modules are linted, in the folder of the modules, each with its status and what is printed."""
     texts = ["mark.ttcn", "equals.ttcn", "name.ttcn", "semicolon.ttcn", "word.ttcn", "brace.ttcn", "end.ttcn"]
@@ -526,6 +567,7 @@ def rows(folder):
         *aim_rows(folder),
         *bounded_rows(folder),
         *large_rows(folder),
+        *crowd_rows(folder),
         *lint_rows(),
         *help_rows(),
         *refused_rows(),
