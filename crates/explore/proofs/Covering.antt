@@ -75,7 +75,7 @@ module _ {C L : Type 0} (g : Graph C L) (cmp : L → L → Ordering) (eq : C →
   split-right P [] ys e = e
   split-right P (x ∷ xs) ys e = split-right P xs ys e.1
 
-  split-ordered : (R : Run L → Run L → Type 0) (xs ys : List (Run L)) → Ordered R (xs ++ ys) → Ordered R ys
+  pub split-ordered : (R : Run L → Run L → Type 0) (xs ys : List (Run L)) → Ordered R (xs ++ ys) → Ordered R ys
   split-ordered R [] ys o = o
   split-ordered R (x ∷ xs) ys o = split-ordered R xs ys o.1
 

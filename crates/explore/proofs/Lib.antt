@@ -4,6 +4,7 @@ pub mod Covering
 pub mod Endings
 pub mod Expanding
 pub mod FirstPlaces
+pub mod Late
 pub mod LayerSteps
 pub mod LeastRuns
 pub mod Lists

@@ -57,7 +57,7 @@ module _ {C L S : Type 0} (g : Graph C L) (cmp : L → L → Ordering) (eq : C �
     pub from-is : from ≡ length (visits g eq n).old
     from-is = ap (λ (f : Found C L S). f.from) is ∙ tied.from_is
 
-    layer-is : drop from states ≡ map (end_of g) (visits g eq n).layer
+    pub layer-is : drop from states ≡ map (end_of g) (visits g eq n).layer
     layer-is = (λ i. drop ((ap (λ (f : Found C L S). f.from) is ∙ tied.from_is) i) (states_are i)) ∙ drop-front j r laws g eq (visits g eq n).old (visits g eq n).layer
 
     pub go-back : GoBack steps

@@ -1,6 +1,7 @@
 -- Where a search stops before the plan's steps: what has no room, and what has no labels.
 use Rattle.std.proofs.Common.{◌≡◌, ◌≢◌, ℕ, zero, suc, ◌+◌, ◌-◌, ◌<◌, ◌≤◌, Bool, true, false, true≢false, if◌then◌else◌, List, [], ◌∷◌, ◌++◌, length, get_or, take, drop, map, sym, refl, ap, subst, ◌∙◌, append_assoc, append-nil, length-append, arith}
-use Rattle.std.specs.Prelude.{All, Option, Some}
+use Rattle.std.specs.Prelude.{All, Option, Some, slice_get}
+use Rattle.std.specs.List.{list_any}
 use Rattle.std.specs.Cmp.{IsEquivalence}
 use Rattle.std.proofs.lemmas.List.{length-map, take-append-drop, take-append-le, take_all}
 use Rattle.std.proofs.lemmas.List.Elements.{All-nil, All-cons, All-append, All-get_or, All-head, All-tail}
@@ -27,6 +28,14 @@ use Rattle.search_layer.specs.declared.plan.Plan.{Plan}
 
 -- ---- there are as many first candidates as new states
 
+get-middle : {X : Type 0} (front : List X) (x : X) (rest : List X) → slice_get ((front ++ x ∷ []) ++ rest) (length front) ≡ Some x
+get-middle [] x rest = refl
+get-middle (y ∷ front) x rest = get-middle front x rest
+
+take-front : {X : Type 0} (front : List X) (x : X) (rest : List X) → take (length front) ((front ++ x ∷ []) ++ rest) ≡ front
+take-front [] x rest = refl
+take-front (y ∷ front) x rest = ap (λ ys. y ∷ ys) (take-front front x rest)
+
 module _ {C L : Type 0} (eq : C → C → Bool) (laws : IsEquivalence eq) (known : List C) (cs : List (Candidate C L)) (firsts : List ℕ) (h : AreFirst eq known cs firsts) where
   at-the-end : (next : ℕ) → IsUpTo firsts next (length cs) → length firsts ≡ next
   at-the-end next up = dite (dec_le (suc next) (length firsts))
@@ -44,8 +53,11 @@ module _ {C L : Type 0} (eq : C → C → Bool) (laws : IsEquivalence eq) (known
   counted front (c ∷ rest) next split up count =
       let regroup : cs ≡ (front ++ c ∷ []) ++ rest = split ∙ sym (append_assoc front (c ∷ []) rest) in
       let more : length front + 1 ≡ length (front ++ c ∷ []) = sym (length-append front (c ∷ [])) in
+      let there : slice_get cs (length front) ≡ Some c = ap (λ xs. slice_get xs (length front)) regroup ∙ get-middle front c rest in
+      let fronts : take (length front) cs ≡ front = ap (take (length front)) regroup ∙ take-front front c rest in
       let elsewhere : (next < length firsts → get_or firsts next 0 ≢ length front) → length (newly eq known cs) ≡ length firsts = λ differ.
-      let old = other-is-known eq laws known cs firsts front rest c (length front) h regroup refl (not-there firsts next (length front) h.ascending up differ) in
+      let old = subst (λ xs. list_any (eq c.state) (known ++ map state_of (newly eq known xs)) ≡ true) fronts
+      (other-is-known eq laws known cs firsts c (length front) h there (not-there firsts next (length front) h.ascending up differ)) in
       counted (front ++ c ∷ []) rest next regroup
       (subst (λ k. IsUpTo firsts next k) more (up-other firsts next (length front) h.ascending up differ))
       (ap length (with_known eq laws known front c old) ∙ count) in
@@ -53,7 +65,8 @@ module _ {C L : Type 0} (eq : C → C → Bool) (laws : IsEquivalence eq) (known
       (λ low. dite (ℕ_discrete (get_or firsts next 0) (length front))
       (λ here.
       let has : Stands (length front) firsts = subst (λ k. Stands k firsts) here (stands-at firsts next low) in
-      let new = first-is-new eq laws known cs firsts front rest c (length front) h regroup refl has in
+      let new = subst (λ xs. list_any (eq c.state) (known ++ map state_of (newly eq known xs)) ≡ false) fronts
+      (first-is-new eq laws known cs firsts c (length front) h there has) in
       counted (front ++ c ∷ []) rest (next + 1) regroup
       (subst (λ k. IsUpTo firsts (next + 1) k) more (up-first firsts next (length front) h.ascending up low here))
       (ap length (with_new eq laws known front c new) ∙ length-append (newly eq known front) (c ∷ []) ∙ ap (λ k. k + 1) count))

@@ -13,7 +13,7 @@ use crate::layers::{Explored, search};
 use crate::runs::{first_marked, is_quiet, run_to};
 use crate::sightings::{Sighting, noted_states, noted_steps, runs_by, runs_to};
 use crate::watched::Watched;
-use search_layer::{ExploreError, Gate, Plan, Step, Visited};
+use search_layer::{ExploreError, Gate, Plan, Sparing, Step, Visited};
 use std::alloc::{AllocError, Global};
 use std::thread::Threads;
 use summary::{Summary, System};
@@ -46,7 +46,7 @@ pub struct Reached<U, L> {
 ///
 /// `BadPlan` is answered before any memory is asked for, `TooMany` where more states than the plan's limit are
 /// reached, and `Memory` only where a request for memory was refused.
-pub fn explore<Y: System, U: Summary<Y>, G: Gate, R: Threads + Sync>(
+pub fn explore<Y: Sparing, U: Summary<Y>, G: Gate, R: Threads + Sync>(
     rt: &R,
     alloc: Global,
     system: &Y,
@@ -77,7 +77,7 @@ pub fn explore<Y: System, U: Summary<Y>, G: Gate, R: Threads + Sync>(
 ///
 /// Refusals are those of `explore`, but for `TooMany`: it comes only where the exploration isn't to end at the limit, and
 /// where no other stop comes before more states than the limit are reached.
-pub fn explore_until<Y: System, U: Summary<Y>, G: Gate, R: Threads + Sync>(
+pub fn explore_until<Y: Sparing, U: Summary<Y>, G: Gate, R: Threads + Sync>(
     rt: &R,
     alloc: Global,
     system: &Y,
@@ -124,7 +124,7 @@ pub struct Sighted<U, L, E, S> {
 
 /// Explores as `explore_until` does, and finds for all that steps and states show the least of the shortest runs that
 /// show it.
-pub fn explore_watched<Y: Watched, U: Summary<Y>, G: Gate, R: Threads + Sync>(
+pub fn explore_watched<Y: Watched + Sparing, U: Summary<Y>, G: Gate, R: Threads + Sync>(
     rt: &R,
     alloc: Global,
     system: &Y,

@@ -4,6 +4,7 @@ ghost use Rattle.explore.specs.Ring.{ring, ring_same, ring_ascends, ring_after, 
 ghost use Rattle.summary.specs.NumberSet.{union_semilattice};
 
 use crate::watched::Watched;
+use search_layer::Sparing;
 use std::alloc::{AllocError, Global};
 use summary::{SmallSet, Summary, System};
 
@@ -76,6 +77,9 @@ impl System for Ring {
         }
     }
 }
+
+/// No state is left out.
+impl Sparing for Ring {}
 
 /// Steps show their labels, and states their remainders by 4.
 impl Watched for Ring {

@@ -1,20 +1,19 @@
-//! The candidates of a layer, by as many threads as rayon starts.
+//! The candidates of a layer, by as many threads as rayon starts. States that are late may be left out.
 ghost use Rattle.std.specs.Prelude.{◌≡◌, ◌+◌, ◌-◌, ◌<◌, ◌≤◌, ◌++◌, ◌∷◌, [], length, drop, All, IfOk, OnOk, flat_map};
 ghost use Rattle.search_layer.specs.internal.Search.{layer_candidates};
-ghost use Rattle.explore.specs.internal.Expansion.{candidates_with, candidates_in, IsExpanded};
+ghost use Rattle.explore.specs.internal.Expansion.{all_given, candidates_with, candidates_in, AreKept, AreThinOf, IsExpanded};
 
 use rayon::prelude::*;
-use search_layer::{Candidate, Leftovers};
+use search_layer::{Candidate, Leftovers, Sparing, Step};
 use search_shards::ShardedSet;
 use std::alloc::{AllocError, Global};
 use std::thread;
 use std::thread::Threads;
-use summary::System;
 
 /// The fewest states that a thread of their own expands: a step of a test case takes longer than most items of a list do.
 const FEWEST: usize = 32;
 
-/// The state at a place, by the labels that lead on from it and the states that they lead to.
+/// The state at a place, by the labels that lead on from it and what is given of the states that they lead to.
 #[derive(Drop)]
 pub struct Expanded<S, L> {
     pub place: usize,
@@ -67,60 +66,84 @@ fn add_candidates<S: Drop, L: Drop>(
     Ok(())
 }
 
-/// The candidates of the layer that begins at place `from`, in the order that one thread makes.
-pub fn expand_layer<Y: System, R: Threads + Sync>(
+/// Successors, each with its state.
+fn all_given<S: Drop, L: Drop>(
+    alloc: Global,
+    successors: Vec<(L, S)>,
+) -> Result<Vec<(L, Option<S>)>, AllocError>
+    ensures { IfOk result (λ given. given.items ≡ all_given successors.items) }
+{
+    let mut given = Vec::with_capacity(alloc, successors.len())?;
+    for (label, state) in successors {
+        given.push((label, Some(state)))?;
+    }
+    Ok(given)
+}
+
+/// The candidates of the layer that begins at place `from`, in the order that one thread makes. A state may be left out where it
+/// is late behind the last step before it.
+pub fn expand_layer<Y: Sparing, R: Threads + Sync>(
     rt: &R,
     alloc: Global,
     system: &Y,
     states: &ShardedSet<Y::State>,
+    steps: &[Option<Step<Y::Label>>],
     from: usize,
-) -> Result<Vec<Candidate<Y::State, Y::Label>>, AllocError>
+) -> Result<Vec<Candidate<Option<Y::State>, Y::Label>>, AllocError>
     requires fits { All (Y.fits system.now) states.now.keys }
+    requires kept { AreKept (Y.graph system.now) states.now.keys steps.now }
     requires from { from ≤ length states.now.keys }
-    ensures { IfOk result (λ candidates. candidates.items ≡ layer_candidates (Y.graph system.now) from (drop from states.now.keys)) }
+    ensures { IfOk result (λ candidates. AreThinOf (Y.graph system.now) states.now.keys steps.now Y.Label.cmp (layer_candidates (Y.graph system.now) from (drop from states.now.keys)) candidates.items) }
 {
     let candidates = (from..states.len())
         .into_par_iter()
         .with_min_len(FEWEST)
         .map(
-            |place: usize| -> Result<Expanded<Y::State, Y::Label>, AllocError>
-                requires { (place < length states.now.keys) × All (Y.fits system.now) states.now.keys }
-                ensures { IfOk result (λ e. IsExpanded (Y.graph system.entry.now) states.entry.now.keys place e.place e.successors.items) }
+            |place: usize| -> Result<Expanded<Option<Y::State>, Y::Label>, AllocError>
+                requires { (place < length states.now.keys) × All (Y.fits system.now) states.now.keys × AreKept (Y.graph system.now) states.now.keys steps.now }
+                ensures { IfOk result (λ e. IsExpanded (Y.graph system.entry.now) states.entry.now.keys steps.entry.now Y.Label.cmp place e.place e.successors.items) }
             {
-                Ok(Expanded {
-                    place,
-                    successors: system.successors(alloc, &states[place])?,
-                })
+                let state = &states[place];
+                let successors = match &steps[place] {
+                    Some(step) => {
+                        let before = &states[step.before];
+                        system.sparing_successors(alloc, state, before, &step.label)?
+                    }
+                    None => all_given(alloc, system.successors(alloc, state)?)?,
+                };
+                Ok(Expanded { place, successors })
             },
         )
-        .collect::<Result<Candidates<Y::State, Y::Label>, AllocError>>(rt, alloc)??;
+        .collect::<Result<Candidates<Option<Y::State>, Y::Label>, AllocError>>(rt, alloc)??;
     let Candidates { list } = candidates;
     Ok(list)
 }
 
 /// The candidates of the layer that begins at place `from`. What is left of the layer before is dropped meanwhile.
-pub fn expand_and_drop<Y: System, R: Threads + Sync>(
+pub fn expand_and_drop<Y: Sparing, R: Threads + Sync>(
     rt: &R,
     alloc: Global,
     system: &Y,
     states: &ShardedSet<Y::State>,
+    steps: &[Option<Step<Y::Label>>],
     from: usize,
-    leftovers: Leftovers<Candidate<Y::State, Y::Label>>,
-) -> Result<Vec<Candidate<Y::State, Y::Label>>, AllocError>
+    leftovers: Leftovers<Candidate<Option<Y::State>, Y::Label>>,
+) -> Result<Vec<Candidate<Option<Y::State>, Y::Label>>, AllocError>
     requires fits { All (Y.fits system.now) states.now.keys }
+    requires kept { AreKept (Y.graph system.now) states.now.keys steps.now }
     requires from { from ≤ length states.now.keys }
-    ensures { IfOk result (λ candidates. candidates.items ≡ layer_candidates (Y.graph system.now) from (drop from states.now.keys)) }
+    ensures { IfOk result (λ candidates. AreThinOf (Y.graph system.now) states.now.keys steps.now Y.Label.cmp (layer_candidates (Y.graph system.now) from (drop from states.now.keys)) candidates.items) }
 {
     if leftovers.are_few() {
         drop(leftovers);
-        return expand_layer(rt, alloc, system, states, from);
+        return expand_layer(rt, alloc, system, states, steps, from);
     }
     let (candidates, ()) = thread::join(
         rt,
-        move || -> Result<Vec<Candidate<Y::State, Y::Label>>, AllocError>
-            requires { All (Y.fits system.now) states.now.keys × (from ≤ length states.now.keys) }
-            ensures { IfOk result (λ candidates. candidates.items ≡ layer_candidates (Y.graph system.entry.now) from (drop from states.entry.now.keys)) }
-        { expand_layer(rt, alloc, system, states, from) },
+        move || -> Result<Vec<Candidate<Option<Y::State>, Y::Label>>, AllocError>
+            requires { All (Y.fits system.now) states.now.keys × AreKept (Y.graph system.now) states.now.keys steps.now × (from ≤ length states.now.keys) }
+            ensures { IfOk result (λ candidates. AreThinOf (Y.graph system.entry.now) states.entry.now.keys steps.entry.now Y.Label.cmp (layer_candidates (Y.graph system.entry.now) from (drop from states.entry.now.keys)) candidates.items) }
+        { expand_layer(rt, alloc, system, states, steps, from) },
         move || leftovers.drop_all(rt),
     );
     candidates

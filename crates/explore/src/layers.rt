@@ -1,14 +1,14 @@
-ghost use Rattle.std.specs.Prelude.{◌≡◌, ◌≢◌, ◌↔◌, ◌+◌, ◌^◌, ◌<◌, ◌≤◌, ℕ, [], ◌∷◌, ◌++◌, suc, length, drop, None, Some, false, All, IfOk, OnOk, IsErrOf, IsTrue};
+ghost use Rattle.std.specs.Prelude.{◌≡◌, ◌≢◌, ◌↔◌, ◌+◌, ◌^◌, ◌<◌, ◌≤◌, ℕ, List, [], ◌∷◌, ◌++◌, suc, length, drop, None, Some, false, All, IfOk, OnOk, IsErrOf, IsTrue};
 ghost use Rattle.search_layer.specs.Limits.{IsWithinLimits};
 ghost use Rattle.search_layer.specs.internal.Search.{with_steps, place_all, as_found};
-ghost use Rattle.search_layer.specs.internal.Work.{AreFirst};
+ghost use Rattle.explore.specs.internal.Expansion.{AreAll};
 ghost use Rattle.explore.specs.internal.Stopped.{HasNoRoom, IsEnd, IsMarked, IsUnmarked, finished_by};
 
 use crate::ending::{Ending, Stops};
 use crate::expand::expand_and_drop;
 use search_layer::{
-    Candidate, ExploreError, Firsts, Gate, Leftovers, Plan, Visited, enter_layer, find_first,
-    show_states,
+    Candidate, ExploreError, Firsts, Gate, Leftovers, Plan, Sparing, Visited, enter_layer,
+    find_first, show_states,
 };
 use search_shards::ShardedSet;
 use std::alloc::{AllocError, Global};
@@ -31,29 +31,30 @@ pub struct Explored<S: Eq + Hash, L, U> {
 #[derive(Drop)]
 struct Placed<S: Eq + Hash, L, U> {
     explored: Explored<S, L, U>,
-    leftovers: Leftovers<Candidate<S, L>>,
+    leftovers: Leftovers<Candidate<Option<S>, L>>,
 }
 
-/// Keeps a layer's new states in order, and joins what all steps and the new states show.
+/// Keeps a layer's new states in order, and joins what all steps and the new states show. Of all its candidates some have no
+/// state, where it is known without them.
 fn place_layer<Y: System, U: Summary<Y>, R: Threads + Sync>(
     rt: &R,
     alloc: Global,
     system: &Y,
     plan: &Plan,
     explored: Explored<Y::State, Y::Label, U>,
-    candidates: Vec<Candidate<Y::State, Y::Label>>,
+    candidates: Vec<Candidate<Option<Y::State>, Y::Label>>,
     firsts: Firsts<U>,
 ) -> Result<Placed<Y::State, Y::Label, U>, ExploreError>
     requires plan { IsWithinLimits plan.now }
     requires steps { explored.steps < plan.now.steps }
     requires room { length explored.visited.states.keys + length firsts.positions.items ≤ plan.now.limit }
     requires states { All (Y.fits system.now) explored.visited.states.keys }
-    requires fits { All (λ c. Y.fits system.now c.state) candidates.items }
-    requires first { AreFirst Y.State.eq explored.visited.states.keys candidates.items firsts.positions.items }
-    requires shown { firsts.shown ≡ with_steps U.joins (U.observation system.now) (Y.graph system.now) explored.visited.states.keys U.joins.none candidates.items }
-    ensures placed { IfOk result (λ p. (from : ℕ) → as_found p.explored.visited.states.keys p.explored.visited.steps.items from p.explored.summary
+    requires candidates { (all : List (Candidate Y.State Y.Label)) × AreAll (Y.graph system.now) U.joins (U.observation system.now) Y.State.eq (Y.fits system.now)
+        explored.visited.states.keys candidates.items firsts.positions.items firsts.shown all }
+    ensures placed { IfOk result (λ p. (all : List (Candidate Y.State Y.Label)) → AreAll (Y.graph system.now) U.joins (U.observation system.now) Y.State.eq (Y.fits system.now)
+        explored.visited.states.keys candidates.items firsts.positions.items firsts.shown all → (from : ℕ) → as_found p.explored.visited.states.keys p.explored.visited.steps.items from p.explored.summary
         ≡ place_all U.joins (U.observation system.now) Y.State.eq (as_found explored.visited.states.keys explored.visited.steps.items from
-        (with_steps U.joins (U.observation system.now) (Y.graph system.now) explored.visited.states.keys explored.summary candidates.items)) candidates.items) }
+        (with_steps U.joins (U.observation system.now) (Y.graph system.now) explored.visited.states.keys explored.summary all)) all) }
     ensures from { IfOk result (λ p. p.explored.from ≡ length explored.visited.states.keys) }
     ensures steps { IfOk result (λ p. p.explored.steps ≡ explored.steps + 1) }
     ensures ending { IfOk result (λ p. p.explored.ending ≡ explored.ending) }
@@ -188,7 +189,7 @@ fn finished<S: Eq + Hash + Drop, L: Drop, U: Drop>(
 }
 
 /// Searches layer by layer, up to the plan's steps or to a stop.
-pub fn search<Y: System, U: Summary<Y>, G: Gate, R: Threads + Sync>(
+pub fn search<Y: Sparing, U: Summary<Y>, G: Gate, R: Threads + Sync>(
     rt: &R,
     alloc: Global,
     system: &Y,
@@ -214,7 +215,16 @@ pub fn search<Y: System, U: Summary<Y>, G: Gate, R: Threads + Sync>(
             return Ok(ended(explored, Ending::Mark));
         }
         let states = &explored.visited.states;
-        let candidates = expand_and_drop(rt, alloc, system, states, explored.from, leftovers)?;
+        let steps = explored.visited.steps.as_slice();
+        let candidates = expand_and_drop(
+            rt,
+            alloc,
+            system,
+            states,
+            steps,
+            explored.from,
+            leftovers,
+        )?;
         if are_none(&candidates) {
             return Ok(finished(explored, plan, stops));
         }

@@ -12,6 +12,6 @@ mod watched;
 
 pub use answer::{Answer, Reached, Sighted, explore, explore_until, explore_watched};
 pub use ending::{Ending, Stops};
-pub use search_layer::{ExploreError, Gate, NoGate, Plan};
+pub use search_layer::{ExploreError, Gate, NoGate, Plan, Sparing};
 pub use sightings::Sighting;
 pub use watched::Watched;

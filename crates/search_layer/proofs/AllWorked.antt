@@ -25,13 +25,13 @@ use Rattle.search_layer.proofs.Drawing.{times-cons}
 use Rattle.search_layer.proofs.Placing.{in-piece}
 use Rattle.search_layer.proofs.StepSums.{same-shown}
 
-get-take : {X : Type 0} (n k : ℕ) (xs : List X) → k < n → slice_get (take n xs) k ≡ slice_get xs k
+pub get-take : {X : Type 0} (n k : ℕ) (xs : List X) → k < n → slice_get (take n xs) k ≡ slice_get xs k
 get-take zero k xs low = absurd (omega arith)
 get-take (suc n) k [] low = refl
 get-take (suc n) zero (x ∷ xs) low = refl
 get-take (suc n) (suc k) (x ∷ xs) low = get-take n k xs (omega arith)
 
-any-at : {X : Type 0} (test : X → Bool) (xs : List X) → list_any test xs ≡ true → (k : ℕ) × (d : X) × (slice_get xs k ≡ Some d) × (test d ≡ true)
+pub any-at : {X : Type 0} (test : X → Bool) (xs : List X) → list_any test xs ≡ true → (k : ℕ) × (d : X) × (slice_get xs k ≡ Some d) × (test d ≡ true)
 any-at test [] e = absurd (cc)
 any-at {X} test (x ∷ xs) e = go (test x) refl (any-at test xs) e
   where
@@ -111,9 +111,9 @@ module _ {C L : Type 0} (eq : C → C → Bool) (laws : IsEquivalence eq) (known
       let inside : off < length (slice_chunk cs size k) = (let t = length-take size (drop (k * size) cs) in let d = length-drop (k * size) cs in omega arith) in
       in-drawn drawn k (get_or cs i c) (each k (within i low)) (subst (Contains (slice_chunk cs size k)) is (Contains-get_or (slice_chunk cs size k) off c inside))
 
-  pub all-shown : {S : Type 0} (j : Join S) (r : Observation C L S) (g : Graph C L) (semilattice : IsSemilattice j)
-      → with_steps j r g known j.none (in_pieces size cs drawn) ≡ with_steps j r g known j.none cs
-  all-shown j r g semilattice = same-shown j r g known semilattice (in_pieces size cs drawn) cs (parts-within drawn) all-drawn
+  pub all-shown : {B S : Type 0} (j : Join S) (r : Observation B L S) (g : Graph B L) (states : List B) (semilattice : IsSemilattice j)
+      → with_steps j r g states j.none (in_pieces size cs drawn) ≡ with_steps j r g states j.none cs
+  all-shown j r g states semilattice = same-shown j r g states semilattice (in_pieces size cs drawn) cs (parts-within drawn) all-drawn
 
 -- pieces as many as it takes
 pub piece-begins : (n size pieces : ℕ) → 0 < size → pieces ≡ n / size + min 1 (n % size) → (piece : ℕ) → piece < pieces → piece * size < n

@@ -32,7 +32,7 @@ joined-placed eq known cs size ps qs xs ys h k = record {
       );
 }
 
-pub joined-shown : {C L S : Type 0} (j : Join S) (r : Observation C L S) (g : Graph C L) (states : List C) (laws : IsSemilattice j) (size : ℕ) (cs : List (Candidate C L)) (ps qs : List ℕ) (s t u : S)
+pub joined-shown : {C D L S : Type 0} (j : Join S) (r : Observation C L S) (g : Graph C L) (states : List C) (laws : IsSemilattice j) (size : ℕ) (cs : List (Candidate D L)) (ps qs : List ℕ) (s t u : S)
     → s ≡ with_steps j r g states j.none (in_pieces size cs ps) → t ≡ with_steps j r g states j.none (in_pieces size cs qs) → u ≡ j.join s t
     → u ≡ with_steps j r g states j.none (in_pieces size cs (ps ++ qs))
 joined-shown j r g states laws size cs ps qs s t u a b e =

@@ -6,6 +6,9 @@ pub mod Newly
 pub mod NotFirst
 pub mod Placing
 pub mod SearchSteps
+pub mod ShardList
+pub mod Spared
 pub mod StatesShown
 pub mod StepSums
 pub mod Taken
+pub mod Thinned

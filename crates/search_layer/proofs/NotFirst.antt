@@ -7,8 +7,8 @@ use mathlib.Core.Logic.{dite}
 use native.Mathlib.Decide.{dec_le, ℕ_discrete}
 use Rattle.search_layer.proofs.AllWorked.{stands-behind}
 use Rattle.search_layer.proofs.Drawing.{stands-at}
-use Rattle.std.proofs.lemmas.List.{map-append}
-use Rattle.std.proofs.lemmas.Option.{slice_get_within}
+use Rattle.std.proofs.lemmas.List.{map-append, take_more}
+use Rattle.std.proofs.lemmas.Option.{get_or_from_slice_get, slice_get_within}
 use Rattle.std.proofs.lemmas.List.Elements.{All-from_get_or}
 use Rattle.search_layer.proofs.Newly.{all-placed, newly-push}
 use Rattle.search_layer.specs.internal.Search.{as_found, Found, state_of, newly}
@@ -24,14 +24,6 @@ either-known : (a b : Bool) → ((a ≡ false) → (b ≡ false) → ⊥) → (a
 either-known true b h = refl
 either-known false true h = refl
 either-known false false h = absurd (h refl refl)
-
-get-middle : {X : Type 0} (front : List X) (x : X) (rest : List X) → slice_get ((front ++ x ∷ []) ++ rest) (length front) ≡ Some x
-get-middle [] x rest = refl
-get-middle (y ∷ front) x rest = get-middle front x rest
-
-take-front : {X : Type 0} (front : List X) (x : X) (rest : List X) → take (length front) ((front ++ x ∷ []) ++ rest) ≡ front
-take-front [] x rest = refl
-take-front (y ∷ front) x rest = ap (λ ys. y ∷ ys) (take-front front x rest)
 
 -- so many of the positions are behind us
 pub record IsUpTo (firsts : List ℕ) (next at : ℕ) : Type 0 where
@@ -89,30 +81,21 @@ module _ {C L : Type 0} (eq : C → C → Bool) (laws : IsEquivalence eq) where
       ap (λ (f : Found C L (Unit {0})). list_any (eq x) f.states) (sym (all-placed j r eq found front))
       ∙ known-after j r eq (λ x y z a b. laws.congr x y z a ∙ b) found x front
 
-  module _ (known : List C) (cs : List (Candidate C L)) (firsts : List ℕ) (front rest : List (Candidate C L)) (c : Candidate C L) (at : ℕ)
-      (h : AreFirst eq known cs firsts) (split : cs ≡ (front ++ c ∷ []) ++ rest) (at_is : at ≡ length front) where
-    there : slice_get cs at ≡ Some c
-    there = (λ i. slice_get (split i) (at_is i)) ∙ get-middle front c rest
-
-    fronts : take at cs ≡ front
-    fronts = (λ i. take (at_is i) (split i)) ∙ take-front front c rest
-
+  module _ (known : List C) (cs : List (Candidate C L)) (firsts : List ℕ) (c : Candidate C L) (at : ℕ) (h : AreFirst eq known cs firsts) (there : slice_get cs at ≡ Some c) where
     -- the candidate at one of the positions is new when its turn comes
-    pub first-is-new : Stands at firsts → list_any (eq c.state) (known ++ map state_of (newly eq known front)) ≡ false
+    pub first-is-new : Stands at firsts → list_any (eq c.state) (known ++ map state_of (newly eq known (take at cs))) ≡ false
     first-is-new has =
         let m = (h.members at).0 has in
         let same : m.0 ≡ c = cc (m.1, there) in
         let old : list_any (eq c.state) known ≡ false = ap (λ (d : Candidate C L). list_any (eq d.state) known) (sym same) ∙ m.2 in
-        let earlier : list_any (λ d. eq c.state d.state) front ≡ false =
-        (λ i. list_any (λ (d : Candidate C L). eq (sym same i).state d.state) (sym fronts i)) ∙ m.3 in
-        known-newly known c.state front ∙ (λ i. old i || earlier i)
+        let earlier : list_any (λ d. eq c.state d.state) (take at cs) ≡ false = (λ i. list_any (λ (d : Candidate C L). eq (sym same i).state d.state) (take at cs)) ∙ m.3 in
+        known-newly known c.state (take at cs) ∙ (λ i. old i || earlier i)
 
     -- a candidate elsewhere is known
-    pub other-is-known : (Stands at firsts → ⊥) → list_any (eq c.state) (known ++ map state_of (newly eq known front)) ≡ true
+    pub other-is-known : (Stands at firsts → ⊥) → list_any (eq c.state) (known ++ map state_of (newly eq known (take at cs))) ≡ true
     other-is-known other =
-        known-newly known c.state front
-        ∙ either-known (list_any (eq c.state) known) (list_any (λ d. eq c.state d.state) front)
-        (λ a b. other ((h.members at).1 (c, there, a, ap (list_any (λ (d : Candidate C L). eq c.state d.state)) fronts ∙ b)))
+        known-newly known c.state (take at cs)
+        ∙ either-known (list_any (eq c.state) known) (list_any (λ d. eq c.state d.state) (take at cs)) (λ a b. other ((h.members at).1 (c, there, a, b)))
 
   -- candidates and one more that is new
   pub with_new : (known : List C) (front : List (Candidate C L)) (c : Candidate C L) → list_any (eq c.state) (known ++ map state_of (newly eq known front)) ≡ false
@@ -124,16 +107,18 @@ module _ {C L : Type 0} (eq : C → C → Bool) (laws : IsEquivalence eq) where
       → newly eq known (front ++ c ∷ []) ≡ newly eq known front
   with_known known front c old = newly-push eq known front c ∙ ap (λ b. newly eq known front ++ cond b [] (c ∷ [])) old ∙ append-nil (newly eq known front)
 
-  -- what is kept of a new candidate comes behind what was kept
-  pub kept-new : {X : Type 0} (f : Candidate C L → X) (known : List C) (front : List (Candidate C L)) (c : Candidate C L) (old before after : List X)
-      → list_any (eq c.state) (known ++ map state_of (newly eq known front)) ≡ false
-      → before ≡ old ++ map f (newly eq known front) → after ≡ before ++ f c ∷ [] → after ≡ old ++ map f (newly eq known (front ++ c ∷ []))
-  kept-new f known front c old before after new so_far is =
-      is ∙ ap (λ xs. xs ++ f c ∷ []) so_far ∙ append_assoc old (map f (newly eq known front)) (f c ∷ [])
-      ∙ ap (λ xs. old ++ xs) (sym (map-append f (newly eq known front) (c ∷ [])) ∙ ap (map f) (sym (with_new known front c new)))
+  module _ {X : Type 0} (f : Candidate C L → X) (known : List C) (cs : List (Candidate C L)) (c : Candidate C L) (at : ℕ) (there : slice_get cs at ≡ Some c) (old before : List X)
+      (so_far : before ≡ old ++ map f (newly eq known (take at cs))) where
+    one-more : take (at + 1) cs ≡ take at cs ++ c ∷ []
+    one-more = take_more cs at c (slice_get_within cs at c there) ∙ ap (λ d. take at cs ++ d ∷ []) (get_or_from_slice_get cs at c c there)
 
-  -- nothing is kept of a known one
-  pub kept-known : {X : Type 0} (f : Candidate C L → X) (known : List C) (front : List (Candidate C L)) (c : Candidate C L) (old before : List X)
-      → list_any (eq c.state) (known ++ map state_of (newly eq known front)) ≡ true
-      → before ≡ old ++ map f (newly eq known front) → before ≡ old ++ map f (newly eq known (front ++ c ∷ []))
-  kept-known f known front c old before known_is so_far = so_far ∙ ap (λ ds. old ++ map f ds) (sym (with_known known front c known_is))
+    -- what is kept of a new candidate comes behind what was kept
+    pub kept-new : (after : List X) → list_any (eq c.state) (known ++ map state_of (newly eq known (take at cs))) ≡ false
+        → after ≡ before ++ f c ∷ [] → after ≡ old ++ map f (newly eq known (take (at + 1) cs))
+    kept-new after new is =
+        is ∙ ap (λ xs. xs ++ f c ∷ []) so_far ∙ append_assoc old (map f (newly eq known (take at cs))) (f c ∷ [])
+        ∙ ap (λ xs. old ++ xs) (sym (map-append f (newly eq known (take at cs)) (c ∷ [])) ∙ ap (map f) (sym (with_new known (take at cs) c new) ∙ ap (newly eq known) (sym one-more)))
+
+    -- nothing is kept of a known one
+    pub kept-known : list_any (eq c.state) (known ++ map state_of (newly eq known (take at cs))) ≡ true → before ≡ old ++ map f (newly eq known (take (at + 1) cs))
+    kept-known known_is = so_far ∙ ap (λ ds. old ++ map f ds) (sym (with_known known (take at cs) c known_is) ∙ ap (newly eq known) (sym one-more))

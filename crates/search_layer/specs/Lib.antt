@@ -1,2 +1,3 @@
+pub mod Late
 pub mod Limits
 pub mod internal

@@ -1,3 +1,4 @@
 pub mod Search
 pub mod Shards
+pub mod Thinned
 pub mod Work

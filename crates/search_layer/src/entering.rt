@@ -1,10 +1,10 @@
 //! The first new candidates enter the visited states.
-ghost use Rattle.std.specs.Prelude.{◌≡◌, ◌≢◌, ◌<◌, ◌≤◌, ◌++◌, length, map, All, IfOk, OnOk, IsErrOf, slice_get, Some};
+ghost use Rattle.std.specs.Prelude.{◌≡◌, ◌≢◌, ◌<◌, ◌≤◌, ◌++◌, List, length, map, All, IfOk, OnOk, IsErrOf};
 ghost use Rattle.search_layer.specs.Limits.{IsWithinLimits};
-ghost use Rattle.search_layer.specs.internal.Shards.{AreShards};
+ghost use Rattle.search_layer.specs.internal.Shards.{AreShards, IsShardAt};
 ghost use Rattle.search_layer.specs.internal.Search.{newly, state_of, step_of};
+ghost use Rattle.search_layer.specs.internal.Thinned.{AreThinned};
 ghost use Rattle.search_layer.specs.internal.Work.{AreFirst};
-ghost use Rattle.search_shards.specs.Sharded.{shard_of};
 
 use crate::leftovers::Leftovers;
 use crate::plan::{ExploreError, Plan};
@@ -20,7 +20,7 @@ pub fn shards_of<S: Eq + Hash + Send + Sync, L: Send + Sync, R: Threads + Sync>(
     rt: &R,
     alloc: Global,
     states: &ShardedSet<S>,
-    candidates: &[Candidate<S, L>],
+    candidates: &[Candidate<Option<S>, L>],
     firsts: &[u64],
 ) -> Result<Vec<usize>, AllocError>
     requires { All (λ at. at < length candidates.now) firsts.now }
@@ -31,8 +31,8 @@ pub fn shards_of<S: Eq + Hash + Send + Sync, L: Send + Sync, R: Threads + Sync>(
         .map(
             |at: &u64| -> usize
                 requires { at.now < length candidates.now }
-                ensures { (c : Candidate S L) → slice_get candidates.entry.now at.now ≡ Some c → result ≡ shard_of S.hash_input states.entry.now.shards c.state }
-            { states.shard_of(&candidates[*at as usize].state) },
+                ensures { IsShardAt S.hash_input states.entry.now.shards candidates.entry.now at.now result }
+            { candidates[*at as usize].shard_in(states) },
         )
         .collect(rt, alloc)
 }
@@ -41,21 +41,23 @@ pub fn shards_of<S: Eq + Hash + Send + Sync, L: Send + Sync, R: Threads + Sync>(
 /// left over.
 pub fn enter_first<S: Eq + Hash + Send + Drop, L: Send + Drop>(
     visited: &mut Visited<S, L>,
-    candidates: Vec<Candidate<S, L>>,
+    candidates: Vec<Candidate<Option<S>, L>>,
     firsts: &[u64],
     shards: &[usize],
-    leftovers: &mut Leftovers<Candidate<S, L>>,
+    leftovers: &mut Leftovers<Candidate<Option<S>, L>>,
 ) -> Result<(), AllocError>
-    requires first { AreFirst S.eq visited.old.states.keys candidates.items firsts.now }
+    requires first { (all : List (Candidate S L)) × AreThinned S.eq visited.old.states.keys all candidates.items × AreFirst S.eq visited.old.states.keys all firsts.now }
     requires shards { AreShards S.hash_input visited.old.states.shards candidates.items firsts.now shards.now }
-    ensures states { OnOk result (visited.new.states.keys ≡ visited.old.states.keys ++ map state_of (newly S.eq visited.old.states.keys candidates.items)) }
-    ensures steps { OnOk result (visited.new.steps.items ≡ visited.old.steps.items ++ map step_of (newly S.eq visited.old.states.keys candidates.items)) }
+    ensures states { OnOk result ((all : List (Candidate S L)) → AreThinned S.eq visited.old.states.keys all candidates.items → AreFirst S.eq visited.old.states.keys all firsts.now
+        → visited.new.states.keys ≡ visited.old.states.keys ++ map state_of (newly S.eq visited.old.states.keys all)) }
+    ensures steps { OnOk result ((all : List (Candidate S L)) → AreThinned S.eq visited.old.states.keys all candidates.items → AreFirst S.eq visited.old.states.keys all firsts.now
+        → visited.new.steps.items ≡ visited.old.steps.items ++ map step_of (newly S.eq visited.old.states.keys all)) }
 {
     let mut next = 0;
     let mut at: u64 = 0;
     for candidate in candidates {
         if next < firsts.len() && firsts[next] == at {
-            visited.add(shards[next], candidate)?;
+            visited.add(shards[next], candidate.with_state())?;
             next += 1;
         } else {
             leftovers.take(candidate);
@@ -72,15 +74,18 @@ pub fn enter_layer<S: Eq + Hash + Send + Sync + Drop, L: Send + Sync + Drop, R: 
     alloc: Global,
     plan: &Plan,
     visited: Visited<S, L>,
-    candidates: Vec<Candidate<S, L>>,
+    candidates: Vec<Candidate<Option<S>, L>>,
     firsts: &[u64],
-) -> Result<(Visited<S, L>, Leftovers<Candidate<S, L>>), ExploreError>
+) -> Result<(Visited<S, L>, Leftovers<Candidate<Option<S>, L>>), ExploreError>
     requires plan { IsWithinLimits plan.now }
-    requires first { AreFirst S.eq visited.states.keys candidates.items firsts.now }
-    ensures states { IfOk result (λ entered. entered.0.states.keys ≡ visited.states.keys ++ map state_of (newly S.eq visited.states.keys candidates.items)) }
-    ensures steps { IfOk result (λ entered. entered.0.steps.items ≡ visited.steps.items ++ map step_of (newly S.eq visited.states.keys candidates.items)) }
+    requires first { (all : List (Candidate S L)) × AreThinned S.eq visited.states.keys all candidates.items × AreFirst S.eq visited.states.keys all firsts.now }
+    ensures states { IfOk result (λ entered. (all : List (Candidate S L)) → AreThinned S.eq visited.states.keys all candidates.items → AreFirst S.eq visited.states.keys all firsts.now
+        → entered.0.states.keys ≡ visited.states.keys ++ map state_of (newly S.eq visited.states.keys all)) }
+    ensures steps { IfOk result (λ entered. (all : List (Candidate S L)) → AreThinned S.eq visited.states.keys all candidates.items → AreFirst S.eq visited.states.keys all firsts.now
+        → entered.0.steps.items ≡ visited.steps.items ++ map step_of (newly S.eq visited.states.keys all)) }
     ensures within { IfOk result (λ entered. length entered.0.states.keys ≤ plan.now.limit) }
-    ensures too_many { IsErrOf result ExploreError.TooMany → plan.now.limit < length (visited.states.keys ++ map state_of (newly S.eq visited.states.keys candidates.items)) }
+    ensures too_many { IsErrOf result ExploreError.TooMany → (all : List (Candidate S L)) → AreThinned S.eq visited.states.keys all candidates.items → AreFirst S.eq visited.states.keys all firsts.now
+        → plan.now.limit < length (visited.states.keys ++ map state_of (newly S.eq visited.states.keys all)) }
     ensures planned { result ≢ Err ExploreError.BadPlan }
 {
     let shards = shards_of(rt, alloc, &visited.states, candidates.as_slice(), firsts)?;

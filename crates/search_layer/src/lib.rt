@@ -5,6 +5,7 @@ mod entering;
 mod leftovers;
 mod plan;
 mod showing;
+mod sparing;
 mod visited;
 mod workers;
 
@@ -12,5 +13,6 @@ pub use entering::enter_layer;
 pub use leftovers::Leftovers;
 pub use plan::{ExploreError, Gate, NoGate, Plan};
 pub use showing::show_states;
+pub use sparing::Sparing;
 pub use visited::{Candidate, Step, Visited};
 pub use workers::{Firsts, find_first};

@@ -1,4 +1,4 @@
-ghost use Rattle.std.specs.Prelude.{◌≡◌, ◌∷◌, [], ◌++◌, None, Some, false, IfOk, OnOk};
+ghost use Rattle.std.specs.Prelude.{◌≡◌, ◌∷◌, [], ◌++◌, None, Some, false, IfOk, IsSome, OnOk};
 ghost use Rattle.std.specs.List.{list_any};
 ghost use Rattle.search_shards.specs.Sharded.{shard_of};
 
@@ -14,7 +14,8 @@ pub struct Step<L> {
     pub label: L,
 }
 
-/// A state that a step leads to, which may have been found before.
+/// A state that a step leads to, which may have been found before. Where the type of its state is an `Option`, the state may be
+/// left out: it is found without this candidate.
 #[derive(Debug, Drop)]
 pub struct Candidate<S, L> {
     pub before: usize,
@@ -45,6 +46,38 @@ impl<S: Eq + Hash, L> Hash for Candidate<S, L> {
 
     fn hash<H: Hasher>(&self, state: &mut H) {
         self.state.hash(state);
+    }
+}
+
+impl<S: Eq + Hash, L> Candidate<Option<S>, L> {
+    /// The shard that its state belongs to, if it has one.
+    pub(crate) fn shard_in(&self, states: &ShardedSet<S>) -> usize
+        ensures { (s : S) → self.now.state ≡ Some s → result ≡ shard_of S.hash_input states.now.shards s }
+    {
+        match &self.state {
+            Some(state) => states.shard_of(state),
+            None => 0,
+        }
+    }
+}
+
+impl<S, L> Candidate<Option<S>, L> {
+    /// The candidate, whose state is there.
+    pub(crate) fn with_state(self) -> Candidate<S, L>
+        requires { IsSome self.state }
+        ensures { self ≡ record { before = result.before; label = result.label; state = Some result.state } }
+    {
+        let Candidate {
+            before,
+            label,
+            state,
+        } = self;
+        let Some(state) = state else { unreachable!() };
+        Candidate {
+            before,
+            label,
+            state,
+        }
     }
 }
 

@@ -21,11 +21,11 @@ pub struct Work<'l, 's, Y: System, G: Gate> {
     pub gate: &'l G,
     pub layer: u64,
     pub visited: &'l ShardedSet<Y::State>,
-    pub candidates: &'l [Candidate<Y::State, Y::Label>],
+    pub candidates: &'l [Candidate<Option<Y::State>, Y::Label>],
     /// How many candidates a piece has. The last piece may have fewer.
     pub size: usize,
     pub pieces: u64,
-    pub seen: &'s Seen<'l, Candidate<Y::State, Y::Label>>,
+    pub seen: &'s Seen<'l, Candidate<Option<Y::State>, Y::Label>>,
     pub board: &'s Board,
     ghost cut: { (piece : ℕ) → piece < pieces → piece * size < length candidates.now },
     ghost some: { 0 < size },

@@ -1,4 +1,5 @@
 pub mod Numbers
+pub mod Sparing
 pub mod Runs
 pub mod Order
 pub mod Explored

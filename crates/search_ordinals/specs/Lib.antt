@@ -2,3 +2,4 @@ pub mod Ordinals
 pub mod OrdinalOrder
 pub mod OrdinalLaws
 pub mod Told
+pub mod Sparing

@@ -1,5 +1,8 @@
 ghost use Rattle.std.specs.Prelude.{◌≡◌, IfOk};
+ghost use Rattle.std.specs.List.{AllZip};
 ghost use Rattle.search_ordinals.specs.Ordinals.{with_branch};
+ghost use Rattle.search_ordinals.specs.Sparing.{IsSparedAt};
+ghost use Rattle.search_ordinals.specs.Told.{IsNth};
 
 use search_bounds::{BoundedSystem, Timed};
 use std::alloc::{AllocError, Global};
@@ -23,6 +26,27 @@ pub trait Branched: Located {
             pairs.push((branch, after))?;
         }
         Ok(pairs)
+    }
+
+    /// The same for a state behind a step, which is given by the state before it and by how many enabled labels come before
+    /// its own. A state may be left out where two steps lead there from the state before, of which the first one comes before
+    /// that step.
+    fn sparing_branches(
+        &self,
+        alloc: Global,
+        state: &Self::State,
+        before: &Self::State,
+        nth: u32,
+    ) -> Result<Vec<(Option<Self::Branch>, Option<Self::State>)>, AllocError>
+        requires fits { Self.fits self.now state.now × Self.fits self.now before.now }
+        requires behind { (label : Self.Label) × IsNth ((Self.graph self.now).enabled before.now) nth label × (state.now ≡ (Self.graph self.now).after before.now label) }
+        ensures { IfOk result (λ found. AllZip (IsSparedAt (Self.branch self.now) (Self.graph self.now) before.now nth state.now) ((Self.graph self.now).enabled state.now) found.items) }
+    {
+        let mut found = Vec::new(alloc);
+        for (branch, after) in self.branched_successors(alloc, state)? {
+            found.push((branch, Some(after)))?;
+        }
+        Ok(found)
     }
 
     /// An equal place of a branch. Takes no memory.

@@ -6,6 +6,7 @@ ghost use Rattle.search_ordinals.specs.Ordinals.{ordinal_graph};
 use crate::branched::Branched;
 use crate::ordinal::Ordinal;
 use crate::steps::{nth_of, number_of};
+use search_layer::Sparing;
 use std::alloc::{AllocError, Global};
 use summary::System;
 
@@ -102,4 +103,24 @@ impl<'a, Y: Branched> System for OrdinalSystem<'a, Y> {
     ghost after_fits = { λ it s o f c. holds_behind (Y.branch it.system.now) (Y.graph it.system.now) (Y.fits it.system.now) s o (λ label found. Y.after_fits it.system.now s label f found) c };
 
     ghost marks_below_8 = { λ it s f. Y.marks_below_8 it.system.now s f };
+}
+
+impl<'a, Y: Branched> Sparing for OrdinalSystem<'a, Y> {
+    fn sparing_successors(
+        &self,
+        alloc: Global,
+        state: &Y::State,
+        before: &Y::State,
+        last: &Ordinal<Y::Branch>,
+    ) -> Result<Vec<(Ordinal<Y::Branch>, Option<Y::State>)>, AllocError> {
+        let found = self
+            .system
+            .sparing_branches(alloc, state, before, last.nth)?;
+        let mut spared = Vec::with_capacity(alloc, found.len())?;
+        for (branch, after) in found {
+            let nth = number_of(spared.len())?;
+            spared.push((Ordinal { nth, branch }, after))?;
+        }
+        Ok(spared)
+    }
 }

@@ -1,1 +1,2 @@
 pub mod Fork
+pub mod Plane

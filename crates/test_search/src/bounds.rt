@@ -2,10 +2,10 @@
 ghost use Rattle.search_bounds.specs.declared.kind.Kind.TheVariants.{Expiry};
 
 use crate::places::Light;
-use explore::{NoGate, Plan, explore};
+use explore::{NoGate, Plan, Stops};
 use search_bounds::{Bound, BoundedSystem, Kind, Timed};
+use search_ordinals::{Branched, explore_by_ordinals};
 use std::test::Fail;
-use summary::Verdicts;
 
 /// Each step of the light is the expiry of a timer.
 impl Timed for Light {
@@ -13,6 +13,12 @@ impl Timed for Light {
 
     fn kind(_label: &u8) -> Kind {
         Kind::Expiry
+    }
+}
+
+impl Branched for Light {
+    fn copy_branch(branch: &u16) -> u16 {
+        *branch
     }
 }
 
@@ -35,13 +41,15 @@ fn runs_with_few_expiries_are_explored(rt: HostRuntime) -> Result<(), Fail> {
     ] {
         let bound = Bound { expiries, patient };
         let system = BoundedSystem::new(&Light, bound);
-        let answer = explore::<BoundedSystem<'_, Light>, Verdicts, NoGate, HostRuntime>(
+        let reached = explore_by_ordinals::<BoundedSystem<'_, Light>, NoGate, HostRuntime>(
             &rt,
             rt.alloc(),
             &system,
             &plan,
+            &Stops::NOWHERE,
             &NoGate,
         )?;
+        let answer = reached.answer;
         assert!(rt;
             answer.count == count && answer.complete == complete,
             "{bound:?}"

@@ -8,7 +8,7 @@ ghost use Rattle.test_search.specs.Fork.{fork, fork_ascends, same_number};
 
 use super::rings::{PLAN, ring};
 use explore::example::Ring;
-use explore::{Gate, NoGate, Plan, explore};
+use explore::{Gate, NoGate, Plan, Sparing, explore};
 use std::alloc::{AllocError, Global};
 use std::hash::{Hash, Hasher};
 use std::sync::atomic::AtomicU64;
@@ -130,6 +130,8 @@ impl<'a> System for Fork<'a> {
         None
     }
 }
+
+impl<'a> Sparing for Fork<'a> {}
 
 /// The labels that were taken.
 #[derive(Debug, Drop)]

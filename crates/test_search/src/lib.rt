@@ -27,4 +27,6 @@ mod ordinals;
 #[cfg(test)]
 mod places;
 #[cfg(test)]
+mod plane;
+#[cfg(test)]
 mod rings;

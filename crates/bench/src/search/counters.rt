@@ -6,6 +6,7 @@ ghost use Rattle.std.proofs.lemmas.List.{length-replicate, length-set};
 ghost use Rattle.bench.specs.Counters.{counters, labels_ascend};
 
 use super::row::Row;
+use explore::Sparing;
 use std::alloc::{AllocError, Global};
 use summary::System;
 
@@ -84,3 +85,5 @@ impl System for Counters {
         None
     }
 }
+
+impl Sparing for Counters {}

@@ -33,7 +33,7 @@ module _ {C L : Type 0} (g : Graph C L) where
   layer_candidates place (state ∷ states) = candidates_of place state (g.enabled state) ++ layer_candidates (place + 1) states
 
   -- the candidate is a step from one of these states by an enabled label
-  abbrev pub IsStep : List C → Candidate C L → Type 0
+  abbrev pub IsStep : {D : Type 0} → List C → Candidate D L → Type 0
   IsStep states c = (c.before < length states) × Contains (g.enabled (slice_index_or states c.before g.first)) c.label
 
 module _ {C L : Type 0} where
@@ -60,7 +60,7 @@ module _ {C L S : Type 0} (j : Join S) (r : Observation C L S) where
   with_layer g summary (state ∷ states) = with_layer g (with_labels state summary (g.enabled state)) states
 
   -- a summary, and what the steps of these candidates show, each from its state before
-  abbrev pub with_steps : Graph C L → List C → S → List (Candidate C L) → S
+  abbrev pub with_steps : {D : Type 0} → Graph C L → List C → S → List (Candidate D L) → S
   with_steps g states summary [] = summary
   with_steps g states summary (c ∷ cs) = with_steps g states (j.join summary (r.by (slice_index_or states c.before g.first) c.label)) cs
 

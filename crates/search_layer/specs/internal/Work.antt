@@ -1,5 +1,7 @@
 -- What the workers of a layer do: which of its candidates' positions they place, and what their summaries show.
-use Rattle.std.specs.Prelude.{◌≡◌, ◌↔◌, ◌⊎◌, ℕ, ◌/◌, ◌<◌, ◌≤◌, Bool, true, false, List, [], take, slice_get, Some, IfOk, flat_map}
+-- Where a candidate's state may be missing, C is the type of states or none: `option_eq` compares, and `or_none` is what is known.
+use Rattle.std.specs.Prelude.{◌≡◌, ◌↔◌, ◌⊎◌, ℕ, ◌/◌, ◌<◌, ◌≤◌, Bool, true, false, List, [], ◌∷◌, map, take, slice_get, Option, None, Some, IfOk, flat_map}
+use Rattle.std.specs.Option.{option_eq}
 use Rattle.std.specs.List.{list_any}
 use Rattle.std.specs.List.Sorted.{IsStrictlyIncreasing}
 use Rattle.std.specs.Fork.{slice_chunk}
@@ -18,6 +20,10 @@ use Rattle.search_layer.specs.declared.visited.Candidate.{Candidate}
 use Rattle.search_layer.specs.declared.workers.Worker.{Worker}
 use Rattle.search_layer.specs.declared.workers.Worked.{Worked}
 use Rattle.search_layer.specs.internal.Search.{with_steps}
+
+-- these states, and none: a candidate without a state is not new
+abbrev pub or_none : {C : Type 0} → List C → List (Option C)
+or_none known = None ∷ map Some known
 
 module _ {C L : Type 0} where
   -- the candidates of pieces of this size, in the order of the pieces
@@ -79,10 +85,10 @@ pub record IsFresh (v : SeenView) (w : BoardView) : Type 0 where
   pub placed : v.placed ≡ []
   pub drawn : w.drawn ≡ []
 
-module _ {C L : Type 0} (eq : C → C → Bool) (seen : Seen (Candidate C L)) (board : Board) where
+module _ {C L : Type 0} (eq : C → C → Bool) (seen : Seen (Candidate (Option C) L)) (board : Board) where
   -- the seats are of this table and of this board
   abbrev pub AreSeatsOf : SeenSeat → BoardSeat → Type 0
-  AreSeatsOf seat draws = IsSeatOf (have_same_state eq) seen seat × IsBoardSeatOf board draws
+  AreSeatsOf seat draws = IsSeatOf (have_same_state (option_eq eq)) seen seat × IsBoardSeatOf board draws
 
   -- a worker that can begin
   pub record IsReady (worker : Worker) : Type 0 where
@@ -90,12 +96,12 @@ module _ {C L : Type 0} (eq : C → C → Bool) (seen : Seen (Candidate C L)) (b
     pub idle : IsIdle (view worker.seen) (board_view worker.board)
 
   -- A worker that is done. Unless it saw the flag, it found no piece left and placed the new candidates of its pieces
-  pub record IsDone {S : Type 0} (j : Join S) (r : Observation C L S) (g : Graph C L) (known : List C) (cs : List (Candidate C L)) (size : ℕ) (worked : Worked S) : Type 0 where
+  pub record IsDone {S : Type 0} (j : Join S) (r : Observation C L S) (g : Graph C L) (known : List C) (cs : List (Candidate (Option C) L)) (size : ℕ) (worked : Worked S) : Type 0 where
     pub own : AreSeatsOf worked.worker.seen worked.worker.board
     pub seen_first : (view worked.worker.seen).first ≡ false
     pub seen_parts : (view worked.worker.seen).parts ≡ 1
     pub board_first : (board_view worked.worker.board).first ≡ false
     pub board_parts : (board_view worked.worker.board).parts ≡ 1
     pub placed : (board_view worked.worker.board).saw ≡ false
-        → (0 < (board_view worked.worker.board).ends) × HasPlaced eq known cs size (board_view worked.worker.board).drawn (view worked.worker.seen).placed
+        → (0 < (board_view worked.worker.board).ends) × HasPlaced (option_eq eq) (or_none known) cs size (board_view worked.worker.board).drawn (view worked.worker.seen).placed
     pub summary : IfOk worked.summary (λ s. s ≡ with_steps j r g known j.none (in_pieces size cs (board_view worked.worker.board).drawn))

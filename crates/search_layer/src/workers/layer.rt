@@ -1,10 +1,12 @@
 //! All workers of a layer.
-ghost use Rattle.std.specs.Prelude.{◌≡◌, ◌+◌, ◌^◌, ◌<◌, ◌≤◌, false, length, All, IfOk, OnOk};
+ghost use Rattle.std.specs.Prelude.{◌≡◌, ◌+◌, ◌^◌, ◌<◌, ◌≤◌, false, List, length, All, IfOk, OnOk};
+ghost use Rattle.std.specs.Option.{option_eq};
 ghost use Rattle.shared.specs.BoardSeats.{view as board_view};
 ghost use Rattle.shared.specs.SeenSeats.{view};
 ghost use Rattle.search_layer.specs.internal.Search.{IsStep, with_steps};
 ghost use Rattle.search_layer.specs.Limits.{IsWithinLimits};
-ghost use Rattle.search_layer.specs.internal.Work.{in_pieces, AreFirst, AreFirstSeats, AreSeatsOf, HasPlaced, IsDone, IsFresh, IsReady};
+ghost use Rattle.search_layer.specs.internal.Thinned.{AreThinned};
+ghost use Rattle.search_layer.specs.internal.Work.{in_pieces, or_none, AreFirst, AreFirstSeats, AreSeatsOf, HasPlaced, IsDone, IsFresh, IsReady};
 
 use super::{Work, Worked, Worker};
 use crate::plan::{Gate, Plan};
@@ -68,7 +70,7 @@ impl<'l, 's, Y: System, G: Gate> Work<'l, 's, Y, G> {
         ensures first { OnOk result (AreFirstSeats 0 (1 + length done.items) (view seat.new) (board_view draws.new)) }
         ensures ends { OnOk result ((board_view draws.new).saw ≡ false → 0 < length done.items → 0 < (board_view draws.new).ends) }
         ensures placed { OnOk result ((board_view draws.new).saw ≡ false
-            → HasPlaced Y.State.eq self.now.visited.now.keys self.now.candidates.now self.now.size (board_view draws.new).drawn (view seat.new).placed) }
+            → HasPlaced (option_eq Y.State.eq) (or_none self.now.visited.now.keys) self.now.candidates.now self.now.size (board_view draws.new).drawn (view seat.new).placed) }
         ensures summary { IfOk result (λ s. s ≡ with_steps U.joins (U.observation self.now.system.now) (Y.graph self.now.system.now) self.now.visited.now.keys U.joins.none
             (in_pieces self.now.size self.now.candidates.now (board_view draws.new).drawn)) }
     {
@@ -134,7 +136,7 @@ fn share_work<Y: System, U: Summary<Y>, G: Gate, R: Threads + Sync>(
     ensures own { AreSeatsOf Y.State.eq work.now.seen.now work.now.board.now seat.new draws.new }
     ensures first { OnOk result (AreFirstSeats 0 (1 + count) (view seat.new) (board_view draws.new)) }
     ensures placed { OnOk result ((board_view draws.new).saw ≡ false → (0 < (board_view draws.new).ends)
-        × HasPlaced Y.State.eq work.now.visited.now.keys work.now.candidates.now work.now.size (board_view draws.new).drawn (view seat.new).placed) }
+        × HasPlaced (option_eq Y.State.eq) (or_none work.now.visited.now.keys) work.now.candidates.now work.now.size (board_view draws.new).drawn (view seat.new).placed) }
     ensures summary { IfOk result (λ s. s ≡ with_steps U.joins (U.observation work.now.system.now) (Y.graph work.now.system.now) work.now.visited.now.keys U.joins.none
         (in_pieces work.now.size work.now.candidates.now (board_view draws.new).drawn)) }
 {
@@ -143,7 +145,7 @@ fn share_work<Y: System, U: Summary<Y>, G: Gate, R: Threads + Sync>(
     work.join_workers(alloc, seat, draws, done)
 }
 
-/// The first candidates of a layer.
+/// The first candidates of a layer, whichever of them have a state.
 #[derive(Drop)]
 pub struct Firsts<U> {
     /// The positions of the candidates whose states are new and no earlier candidate's, ascending.
@@ -152,7 +154,8 @@ pub struct Firsts<U> {
     pub shown: U,
 }
 
-/// Finds the candidates whose states are new and no earlier candidate's, and what the steps of all candidates show.
+/// Finds the candidates whose states are new and no earlier candidate's, and what the steps of all candidates show. A candidate
+/// without a state is one whose state was found before, or is an earlier candidate's.
 pub fn find_first<'l, Y: System, U: Summary<Y>, G: Gate, R: Threads + Sync>(
     rt: &R,
     alloc: Global,
@@ -161,14 +164,16 @@ pub fn find_first<'l, Y: System, U: Summary<Y>, G: Gate, R: Threads + Sync>(
     gate: &'l G,
     layer: u64,
     visited: &'l ShardedSet<Y::State>,
-    candidates: &'l [Candidate<Y::State, Y::Label>],
+    candidates: &'l [Candidate<Option<Y::State>, Y::Label>],
 ) -> Result<Firsts<U>, AllocError>
     requires plan { IsWithinLimits plan.now }
     requires fits { All (Y.fits system.now) visited.now.keys }
     requires steps { All (IsStep (Y.graph system.now) visited.now.keys) candidates.now }
     requires room { length candidates.now < 2 ^ 63 }
-    ensures first { IfOk result (λ r. AreFirst Y.State.eq visited.now.keys candidates.now r.positions.items) }
-    ensures summary { IfOk result (λ r. r.shown ≡ with_steps U.joins (U.observation system.now) (Y.graph system.now) visited.now.keys U.joins.none candidates.now) }
+    ensures first { IfOk result (λ r. (all : List (Candidate Y.State Y.Label)) → AreThinned Y.State.eq visited.now.keys all candidates.now
+        → AreFirst Y.State.eq visited.now.keys all r.positions.items) }
+    ensures summary { IfOk result (λ r. (all : List (Candidate Y.State Y.Label)) → AreThinned Y.State.eq visited.now.keys all candidates.now
+        → r.shown ≡ with_steps U.joins (U.observation system.now) (Y.graph system.now) visited.now.keys U.joins.none all) }
 {
     let size = plan.piece as usize;
     let pieces = candidates.len().div_ceil(size) as u64;

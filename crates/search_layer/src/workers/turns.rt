@@ -1,13 +1,13 @@
 //! What one worker does.
 ghost use Rattle.std.specs.Prelude.{◌≡◌, ℕ, ◌+◌, ◌*◌, ◌-◌, ◌<◌, ◌≤◌, [], true, false, ◌∷◌, length, slice_get, Some, All, IfOk, OnOk};
 ghost use Rattle.std.specs.Fork.{slice_chunk};
+ghost use Rattle.std.specs.Option.{option_eq};
 ghost use Rattle.shared.specs.BoardSeats.{view as board_view, IsSeatOf as IsBoardSeatOf};
 ghost use Rattle.shared.specs.SeenRule.{IsSameSeat};
 ghost use Rattle.shared.specs.SeenSeats.{view, IsSeatOf};
 ghost use Rattle.search_layer.specs.internal.Search.{IsStep, with_steps};
-ghost use Rattle.search_layer.specs.internal.Shards.{AreShardsFrom};
-ghost use Rattle.search_layer.specs.internal.Work.{have_same_state, in_pieces, AddsNew, HasPlaced, IsIdle, IsSameBoardSeat, IsReady, IsDone};
-ghost use Rattle.search_shards.specs.Sharded.{shard_of};
+ghost use Rattle.search_layer.specs.internal.Shards.{AreShardsFrom, IsShardAt};
+ghost use Rattle.search_layer.specs.internal.Work.{have_same_state, in_pieces, or_none, AddsNew, HasPlaced, IsIdle, IsSameBoardSeat, IsReady, IsDone};
 
 use super::{Work, Worked, Worker};
 use crate::plan::Gate;
@@ -30,21 +30,24 @@ impl<'l, 's, Y: System, G: Gate> Work<'l, 's, Y, G> {
     {
         let mut shards = Vec::with_capacity(alloc, to - from)?;
         for at in from..to {
-            shards.push(self.visited.shard_of(&self.candidates[at].state))?;
+            shards.push(self.candidates[at].shard_in(self.visited))?;
         }
         Ok(shards)
     }
 
     /// Places a candidate's position if its state, which belongs to this shard, was not found before.
     fn place(&self, seat: &mut SeenSeat, at: usize, shard: usize)
-        requires own { IsSeatOf (have_same_state Y.State.eq) self.now.seen.now seat.old }
+        requires own { IsSeatOf (have_same_state (option_eq Y.State.eq)) self.now.seen.now seat.old }
         requires at { at < length self.now.candidates.now }
-        requires shard { (c : _) → slice_get self.now.candidates.now at ≡ Some c → shard ≡ shard_of Y.State.hash_input self.now.visited.now.shards c.state }
-        ensures own { IsSeatOf (have_same_state Y.State.eq) self.now.seen.now seat.new }
+        requires shard { IsShardAt Y.State.hash_input self.now.visited.now.shards self.now.candidates.now at shard }
+        ensures own { IsSeatOf (have_same_state (option_eq Y.State.eq)) self.now.seen.now seat.new }
         ensures kept { IsSameSeat (view seat.old) (view seat.new) }
-        ensures placed { AddsNew Y.State.eq self.now.visited.now.keys self.now.candidates.now at (at + 1) (view seat.old).placed (view seat.new).placed }
+        ensures placed { AddsNew (option_eq Y.State.eq) (or_none self.now.visited.now.keys) self.now.candidates.now at (at + 1) (view seat.old).placed (view seat.new).placed }
     {
-        if !self.visited.contains_in(shard, &self.candidates[at].state) {
+        let Some(state) = &self.candidates[at].state else {
+            return;
+        };
+        if !self.visited.contains_in(shard, state) {
             self.seen.place(seat, at);
         }
     }
@@ -77,11 +80,11 @@ impl<'l, 's, Y: System, G: Gate> Work<'l, 's, Y, G> {
     ) -> Result<U, AllocError>
         requires fits { All (Y.fits self.now.system.now) self.now.visited.now.keys }
         requires steps { All (IsStep (Y.graph self.now.system.now) self.now.visited.now.keys) self.now.candidates.now }
-        requires own { IsSeatOf (have_same_state Y.State.eq) self.now.seen.now seat.old }
+        requires own { IsSeatOf (have_same_state (option_eq Y.State.eq)) self.now.seen.now seat.old }
         requires piece { piece < self.now.pieces }
-        ensures own { IsSeatOf (have_same_state Y.State.eq) self.now.seen.now seat.new }
+        ensures own { IsSeatOf (have_same_state (option_eq Y.State.eq)) self.now.seen.now seat.new }
         ensures kept { IsSameSeat (view seat.old) (view seat.new) }
-        ensures placed { OnOk result (AddsNew Y.State.eq self.now.visited.now.keys self.now.candidates.now (piece * self.now.size) (piece * self.now.size + self.now.size) (view seat.old).placed (view seat.new).placed) }
+        ensures placed { OnOk result (AddsNew (option_eq Y.State.eq) (or_none self.now.visited.now.keys) self.now.candidates.now (piece * self.now.size) (piece * self.now.size + self.now.size) (view seat.old).placed (view seat.new).placed) }
         ensures summary { IfOk result (λ s. s ≡ with_steps U.joins (U.observation self.now.system.now) (Y.graph self.now.system.now) self.now.visited.now.keys summary (slice_chunk self.now.candidates.now self.now.size piece)) }
     {
         let from = piece as usize * self.size;
@@ -105,12 +108,12 @@ impl<'l, 's, Y: System, G: Gate> Work<'l, 's, Y, G> {
     ) -> Result<U, AllocError>
         requires fits { All (Y.fits self.now.system.now) self.now.visited.now.keys }
         requires steps { All (IsStep (Y.graph self.now.system.now) self.now.visited.now.keys) self.now.candidates.now }
-        requires own { IsSeatOf (have_same_state Y.State.eq) self.now.seen.now seat.old × IsBoardSeatOf self.now.board.now draws.old }
+        requires own { IsSeatOf (have_same_state (option_eq Y.State.eq)) self.now.seen.now seat.old × IsBoardSeatOf self.now.board.now draws.old }
         requires idle { IsIdle (view seat.old) (board_view draws.old) }
-        ensures own { IsSeatOf (have_same_state Y.State.eq) self.now.seen.now seat.new × IsBoardSeatOf self.now.board.now draws.new }
+        ensures own { IsSeatOf (have_same_state (option_eq Y.State.eq)) self.now.seen.now seat.new × IsBoardSeatOf self.now.board.now draws.new }
         ensures kept { IsSameSeat (view seat.old) (view seat.new) × IsSameBoardSeat (board_view draws.old) (board_view draws.new) }
         ensures placed { OnOk result ((board_view draws.new).saw ≡ false
-            → (0 < (board_view draws.new).ends) × HasPlaced Y.State.eq self.now.visited.now.keys self.now.candidates.now self.now.size (board_view draws.new).drawn (view seat.new).placed) }
+            → (0 < (board_view draws.new).ends) × HasPlaced (option_eq Y.State.eq) (or_none self.now.visited.now.keys) self.now.candidates.now self.now.size (board_view draws.new).drawn (view seat.new).placed) }
         ensures summary { IfOk result (λ s. s ≡ with_steps U.joins (U.observation self.now.system.now) (Y.graph self.now.system.now) self.now.visited.now.keys U.joins.none
             (in_pieces self.now.size self.now.candidates.now (board_view draws.new).drawn)) }
     {

@@ -12,7 +12,7 @@ collect-requires-clause-ready g c κs within =
     let ends = c.into_par_iter.ensures in
     let len = c.len.ensures.len in
     let inside = nat_range-All (λ i. i < n) c.args.from n (λ i low high. high) in
-    rw (c.map.ensures.f, c.map.ensures.base, c.with_min_len.ensures.base, ends.0, ends.1, len) (λ k d lt. ((inside k d lt, c.requires.fits), λ y p. tt))
+    rw (c.map.ensures.f, c.map.ensures.base, c.with_min_len.ensures.base, ends.0, ends.1, len) (λ k d lt. ((inside k d lt, c.requires.fits, c.requires.kept), λ y p. tt))
 
 pub returns : goal.returns
 returns g c =
@@ -26,4 +26,4 @@ returns g c =
     let whole = c.with_min_len.ensures.base in
     let places = found.1.1 ∙ (λ i. nat_range (base i).base.start (base i).base.end) ∙ (λ i. nat_range (whole i).start (whole i).end) ∙ (λ i. nat_range (ends.0 i) (ends.1 i)) ∙ ap (range_with_len from) count in
     let each = rw c.map.ensures.f at found.1.2 in
-    all-expanded (g.Y.System.graph c.args.system.now) states from found.1.0 found.0 c.in_ok-collect.field-0 c.in_ok-candidates.candidates places each found.2 c.in_ok-candidates.was
+    all-expanded (g.Y.System.graph c.args.system.now) g.Y.Label.Ord.cmp states c.args.steps.now from found.1.0 found.0 c.in_ok-collect.field-0 c.in_ok-candidates.candidates places each found.2 c.in_ok-candidates.was

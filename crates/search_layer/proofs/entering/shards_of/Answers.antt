@@ -1,9 +1,7 @@
-use Rattle.std.proofs.Common.{◌≡◌, ℕ, ap, ◌∙◌}
-use Rattle.std.specs.Prelude.{slice_get, Some}
+use Rattle.std.proofs.Common.{ℕ, ap, ◌∙◌}
 use Rattle.rayon.proofs.ListFacts.{IfOk-then}
 use Rattle.rayon.proofs.ToStd.{slice-AllZip}
-use Rattle.search_shards.specs.Sharded.{shard_of}
-use Rattle.search_layer.specs.declared.visited.Candidate.{Candidate}
+use Rattle.search_layer.specs.internal.Shards.{IsShardAt}
 use Rattle.search_layer.proofs.entering.shards_of.Goals as goal
 
 pub returns : goal.returns
@@ -13,4 +11,4 @@ returns g c =
     IfOk-then c.collect.result _ _ found (λ v h.
     let chain = h.1 in
     rw h.2 (slice-AllZip chain.0 c.args.firsts.now (chain.1 ∙ slice)
-    (λ (at number : ℕ). (k : Candidate g.row.S.Denot g.row.L.Denot) → slice_get c.args.candidates.now at ≡ Some k → number ≡ shard_of g.S.Hash.hash_input c.args.states.now.shards k.state) h.0 chain.2))
+    (λ (at number : ℕ). IsShardAt g.S.Hash.hash_input c.args.states.now.shards c.args.candidates.now at number) h.0 chain.2))

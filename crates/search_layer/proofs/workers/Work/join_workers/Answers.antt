@@ -3,6 +3,7 @@ use Rattle.std.specs.Prelude.{IfOk, All}
 use Rattle.std.proofs.iter.Next.{Yields-more}
 use Rattle.std.proofs.lemmas.List.Elements.{All-contains, Contains-append_left, Contains-push}
 use Rattle.std.specs.Vec.Iter.{into_iter_items, into_iter_steps}
+use Rattle.std.specs.Option.{option_eq}
 use Rattle.summary.specs.Sums.{IsSemilattice}
 use Rattle.shared.specs.BoardSeats.{view as board_view}
 use Rattle.shared.specs.SeenSeats.{view}
@@ -10,7 +11,7 @@ use Rattle.shared.specs.declared.board.view.BoardView.{BoardView}
 use Rattle.shared.specs.declared.seen.view.SeenView.{SeenView}
 use Rattle.search_layer.specs.declared.workers.Worked.{Worked}
 use Rattle.search_layer.specs.internal.Search.{with_steps}
-use Rattle.search_layer.specs.internal.Work.{in_pieces, HasPlaced, IsDone}
+use Rattle.search_layer.specs.internal.Work.{in_pieces, or_none, HasPlaced, IsDone}
 use Rattle.search_layer.proofs.Joining.{neither, joined-placed, joined-shown}
 use Rattle.search_layer.proofs.Taken.{front-taken}
 use Rattle.search_layer.proofs.workers.Work.join_workers.Given.{Over}
@@ -33,7 +34,7 @@ worked-done g c =
 
 pub loop-worked-preserved : goal.loop-worked-preserved
 loop-worked-preserved g c =
-    let eq = g.Y.State.PartialEq.eq in
+    let eq = option_eq g.Y.State.PartialEq.eq in
     let known = c.args.self.now.visited.now.keys in
     let cs = c.args.self.now.candidates.now in
     let size = c.args.self.now.size in
@@ -65,9 +66,9 @@ loop-worked-preserved g c =
       };
       ends = λ saw some. (let d = (done.placed (unseen saw).1).0 in let p = ap (λ (x : BoardView). x.ends) f in omega arith);
       placed = λ saw.
-          (let h = joined-placed eq known cs size w.drawn w'.drawn v.placed v'.placed (inv.placed (unseen saw).0) ((done.placed (unseen saw).1).1) in
-          subst (λ ds. HasPlaced eq known cs size ds (view c.join.new.seat).placed) (sym drawn_is)
-          (subst (λ xs. HasPlaced eq known cs size (w.drawn ++ w'.drawn) xs) (sym placed-is) h));
+          (let h = joined-placed eq (or_none known) cs size w.drawn w'.drawn v.placed v'.placed (inv.placed (unseen saw).0) ((done.placed (unseen saw).1).1) in
+          subst (λ ds. HasPlaced eq (or_none known) cs size ds (view c.join.new.seat).placed) (sym drawn_is)
+          (subst (λ xs. HasPlaced eq (or_none known) cs size (w.drawn ++ w'.drawn) xs) (sym placed-is) h));
       summary =
           joined-shown joins observation graph known (semilattice g) size cs w.drawn w'.drawn c.loop-worked.summary c.in_ok-shown.field-0 c.in_ok-summary-2.summary
           inv.summary (subst (λ o. IfOk o (λ s. s ≡ with_steps joins observation graph known joins.none (in_pieces size cs w'.drawn))) c.in_ok-shown.was done.summary) c.in_ok-summary-2.ensures

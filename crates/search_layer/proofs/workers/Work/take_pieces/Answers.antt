@@ -1,10 +1,11 @@
 use Rattle.std.proofs.Common.{ℕ, ◌≡◌, ◌<◌, ◌-◌, ◌∷◌, [], length, ap, sym, subst, ◌∙◌, length-append, arith}
+use Rattle.std.specs.Option.{option_eq}
 use Rattle.shared.specs.BoardSeats.{view as board_view}
-use Rattle.shared.specs.BoardRule.{with_drawn, with_look}
+use Rattle.shared.specs.BoardRule.{with_drawn, with_end, with_look}
 use Rattle.shared.specs.SeenSeats.{view}
 use Rattle.shared.specs.Totals.{Stands}
 use Rattle.shared.specs.declared.board.view.BoardView.{BoardView}
-use Rattle.search_layer.specs.internal.Work.{in_pieces, HasPlaced}
+use Rattle.search_layer.specs.internal.Work.{in_pieces, or_none, HasPlaced}
 use Rattle.search_layer.specs.internal.Search.{with_steps}
 use Rattle.search_layer.proofs.Drawing.{few, low-more, same-seat-then}
 use Rattle.search_layer.proofs.Placing.{piece-placed}
@@ -35,7 +36,7 @@ loop-alloc-smaller g c = fewer-left g (goal.at.loop-alloc-smaller g c).In-Some
 
 pub loop-alloc-preserved : goal.loop-alloc-preserved
 loop-alloc-preserved g c =
-    let eq = g.Y.State.PartialEq.eq in
+    let eq = option_eq g.Y.State.PartialEq.eq in
     let known = c.args.self.now.visited.now.keys in
     let cs = c.args.self.now.candidates.now in
     let size = c.args.self.now.size in
@@ -57,11 +58,21 @@ loop-alloc-preserved g c =
       going = ap (λ (v : BoardView). v.ended) e ∙ c.loop-alloc.invariant.going;
       low = drawn-low g at;
       once = c.in-Some.ensures.once;
-      placed = subst (λ ds. HasPlaced eq known cs size ds (view c.take_piece.new.seat).placed) (sym drawn)
-          (piece-placed eq known cs size c.in-Some.piece before (view c.loop-alloc.seat).placed (view c.take_piece.new.seat).placed c.args.self.now.some
+      placed = subst (λ ds. HasPlaced eq (or_none known) cs size ds (view c.take_piece.new.seat).placed) (sym drawn)
+          (piece-placed eq (or_none known) cs size c.in-Some.piece before (view c.loop-alloc.seat).placed (view c.take_piece.new.seat).placed c.args.self.now.some
           c.loop-alloc.invariant.placed c.in_ok-summary-in-Some.ensures.placed);
       summary =
           piece-more g.U.Summary.joins (g.U.Summary.observation system) (g.Y.System.graph system) known size cs before c.in-Some.piece c.loop-alloc.summary c.in_ok-summary-in-Some.summary
           c.loop-alloc.invariant.summary c.in_ok-summary-in-Some.ensures.summary
           ∙ ap (λ ds. with_steps g.U.Summary.joins (g.U.Summary.observation system) (g.Y.System.graph system) known g.U.Summary.joins.none (in_pieces size cs ds)) (sym drawn);
     }
+
+pub returns-in-None-clause-placed : goal.returns-in-None-clause-placed
+returns-in-None-clause-placed g c = λ saw.
+    let eq = option_eq g.Y.State.PartialEq.eq in
+    let known = or_none c.args.self.now.visited.now.keys in
+    let e = c.in-None.ensures.ended ∙ ap with_end c.raised.ensures.seen in
+    let drawn = ap (λ (v : BoardView). v.drawn) e in (
+      (let ends = ap (λ (v : BoardView). v.ends) e in omega arith),
+      subst (λ ds. HasPlaced eq known c.args.self.now.candidates.now c.args.self.now.size ds (view c.loop-alloc.seat).placed) (sym drawn) c.loop-alloc.invariant.placed,
+    )

@@ -1,0 +1,47 @@
+use Rattle.std.proofs.Common.{arith, sym, subst}
+use Rattle.explore.specs.internal.Expansion.{IsExpanded}
+use Rattle.explore.proofs.Expanding.{behind-step, last-step, leads-here, no-step, one_of}
+use Rattle.explore.proofs.expand.fn.expand_layer.map.Goals.{in-Some+in_ok-successors-in-Some, in-None+in_ok-successors-in-None+in_ok-successors-in-None-2}
+use Rattle.explore.proofs.expand.fn.expand_layer.map.Goals as goal
+
+pub sparing_successors-requires : goal.sparing_successors-requires
+sparing_successors-requires g c =
+    let graph = g.Y.System.graph c.captures.system.now in
+    let fits = g.Y.System.fits c.captures.system.now in
+    let keys = c.captures.states.now.keys in
+    let steps = c.captures.steps.now in
+    let here = c.index-state.result.now in
+    let there = c.index-before.result.now in
+    let many = c.requires.2.as_many in
+    let low = c.requires.0 in
+    let last = last-step graph g.Y.Label.Ord.cmp keys steps c.args.place c.index-steps-place.result c.in-Some.step (omega arith) c.index-steps-place.is c.in-Some.is in
+    let leads = leads-here graph g.Y.Label.Ord.cmp keys steps c.args.place here c.index-state.ensures c.in-Some.step there c.index-before.ensures last c.requires.2 c.requires.0 in
+    record {
+      fits = (one_of fits keys c.args.place here c.index-state.ensures c.requires.1, one_of fits keys c.in-Some.step.before there c.index-before.ensures c.requires.1);
+      enabled = leads.0;
+      behind = leads.1;
+    }
+
+pub successors-requires : goal.successors-requires
+successors-requires g c =
+    one_of (g.Y.System.fits c.captures.system.now) c.captures.states.now.keys c.args.place c.index-state.result.now c.index-state.ensures c.requires.1
+
+pub returns : goal.returns
+returns g c =
+    let graph = g.Y.System.graph c.captures.system.now in
+    let cmp = g.Y.Label.Ord.cmp in
+    let keys = c.captures.states.now.keys in
+    let steps = c.captures.steps.now in
+    let many = c.requires.2.as_many in
+    let low = c.requires.0 in
+    elim c.match-steps-place.branch [
+      | in-Some+in_ok-successors-in-Some w ↦
+          let last = last-step graph cmp keys steps c.args.place c.index-steps-place.result w.in-Some.step (omega arith) c.index-steps-place.is w.in-Some.is in
+          subst (λ (found : _). IsExpanded graph keys steps cmp c.args.place c.args.place found.items) (sym w.successors-is)
+          (behind-step graph cmp keys steps c.args.place c.index-state.result.now c.index-state.ensures w.in-Some.step w.index-before.result.now w.index-before.ensures last
+          w.in_ok-successors-in-Some.successors.items w.in_ok-successors-in-Some.ensures.labels w.in_ok-successors-in-Some.ensures.states)
+      | in-None+in_ok-successors-in-None+in_ok-successors-in-None-2 w ↦
+          subst (λ (found : _). IsExpanded graph keys steps cmp c.args.place c.args.place found.items) (sym w.successors-is)
+          (no-step graph cmp keys steps c.args.place c.index-state.result.now c.index-state.ensures
+          w.in_ok-successors-in-None-2.successors.items w.in_ok-successors-in-None.field-0.items w.in_ok-successors-in-None-2.ensures w.in_ok-successors-in-None.ensures)
+    ]
