@@ -16,3 +16,7 @@ pub mod Making
 pub mod Parting
 pub mod Gathering
 pub mod Recalled
+pub mod Commuting
+pub mod Numbering
+pub mod Late
+pub mod Zipped

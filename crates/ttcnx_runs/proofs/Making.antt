@@ -76,7 +76,7 @@ if-some None P Q told so = tt
 if-some (Some a) P Q told so = so a told
 
 -- what a component of a configuration has of its own is within what the configuration is within
-all-found : {A : Type 0} (P : A → Type 0) (xs : List A) (at : ℕ) (x : A) → slice_get xs at ≡ Some x → All P xs → P x
+pub all-found : {A : Type 0} (P : A → Type 0) (xs : List A) (at : ℕ) (x : A) → slice_get xs at ≡ Some x → All P xs → P x
 all-found P [] at x found all = absurd (let no = found in cc)
 all-found P (y ∷ ys) zero x found all = subst P (some-is found) (All-head P y ys all)
 all-found P (y ∷ ys) (suc at) x found all = all-found P ys at x found (All-tail P y ys all)

@@ -1,9 +1,15 @@
 //! All successors of a state with the branches of their steps: from what is remembered, else worked out.
-ghost use Rattle.std.specs.Prelude.{◌≡◌, IfOk, map};
-ghost use Rattle.std.specs.List.{All};
+ghost use Rattle.std.specs.Prelude.{◌≡◌, IfOk, Some, map};
+ghost use Rattle.std.specs.List.{All, AllZip};
+ghost use Rattle.search_ordinals.specs.Ordinals.{with_branch};
+ghost use Rattle.search_ordinals.specs.Told.{IsNth};
+ghost use Rattle.semantics.specs.Canonical.{canonical_graph};
 ghost use Rattle.semantics.specs.Places as rules;
+ghost use Rattle.semantics.specs.Steps.{Label};
 ghost use Rattle.ttcn_step.specs.Answers.{IsSuccessor};
 ghost use Rattle.ttcn_step.specs.Machines.{Fits, said};
+ghost use Rattle.ttcnx_runs.specs.Runs.{FitsRuns};
+ghost use Rattle.search_ordinals.specs.Sparing.{IsSparedAt};
 ghost use Rattle.ttcnx_runs.specs.WorkedOut.{IsStep};
 
 use crate::keys::BranchPlace;
@@ -11,6 +17,7 @@ use crate::recalling::recalled_pairs;
 use crate::remembering::remember;
 use crate::runs::{Runs, state_of};
 use crate::scheme::Scheme;
+use crate::sparing::spared_pairs;
 use crate::state::State;
 use crate::step::Step;
 use search_ordinals::Branched;
@@ -66,28 +73,92 @@ fn pairs_of<K: Scheme>(
     Ok(pairs)
 }
 
+/// For each enabled label the branch that its step takes, if it takes one, and the state to which it leads.
+fn all_successors<K: Scheme>(
+    runs: &Runs<'_, '_, K>,
+    alloc: Global,
+    state: &State<K>,
+) -> Result<Vec<(Option<BranchPlace>, State<K>)>, AllocError>
+    requires { FitsRuns state.now }
+    ensures { IfOk result (λ pairs. pairs.items ≡ with_branch (rules.branch_of K.machine.test) (canonical_graph K.machine.test) state.now ((canonical_graph K.machine.test).enabled state.now)) }
+{
+    let packed = &state.packed;
+    if let Some(pairs) = recalled_pairs(alloc, runs.machine, &runs.memory, packed)? {
+        return Ok(pairs);
+    }
+    let config = unpack(alloc, packed)?;
+    let found = runs.machine.successors(alloc, &config)?;
+    let steps = steps_to(alloc, runs.machine, &config, found)?;
+    remember(
+        alloc,
+        runs.machine,
+        &runs.memory,
+        packed,
+        &config,
+        steps.as_slice(),
+    )?;
+    pairs_of(alloc, steps)
+}
+
+/// The same branches and states, where no state is left out.
+fn with_all_states<K: Scheme>(
+    alloc: Global,
+    found: Vec<(Option<BranchPlace>, State<K>)>,
+) -> Result<Vec<(Option<BranchPlace>, Option<State<K>>)>, AllocError>
+    ensures { IfOk result (λ pairs. pairs.items ≡ map (λ pair. (pair.0, Some pair.1)) found.items) }
+{
+    let mut pairs = Vec::with_capacity(alloc, found.len())?;
+    for (branch, after) in found {
+        pairs.push((branch, Some(after)))?;
+    }
+    Ok(pairs)
+}
+
+/// The same of a state that is behind a step, which is given by the state before it and by how many enabled labels come before
+/// its own. A state may be left out where two steps lead there from the state before, of which the first one comes before
+/// that step.
+fn spared_successors<K: Scheme>(
+    runs: &Runs<'_, '_, K>,
+    alloc: Global,
+    state: &State<K>,
+    before: &State<K>,
+    nth: u32,
+) -> Result<Vec<(Option<BranchPlace>, Option<State<K>>)>, AllocError>
+    requires fits { FitsRuns state.now × FitsRuns before.now }
+    requires behind { (label : Label) × IsNth ((canonical_graph K.machine.test).enabled before.now) nth label × (state.now ≡ (canonical_graph K.machine.test).after before.now label) }
+    ensures { IfOk result (λ found. AllZip (IsSparedAt (rules.branch_of K.machine.test) (canonical_graph K.machine.test) before.now nth state.now) ((canonical_graph K.machine.test).enabled state.now) found.items) }
+{
+    let spared = spared_pairs(
+        alloc,
+        runs.machine,
+        &runs.memory,
+        &before.packed,
+        nth,
+        &state.packed,
+    )?;
+    if let Some(pairs) = spared {
+        return Ok(pairs);
+    }
+    with_all_states(alloc, all_successors(runs, alloc, state)?)
+}
+
 impl<'t, 'a, K: Scheme + Send + Sync> Branched for Runs<'t, 'a, K> {
     fn branched_successors(
         &self,
         alloc: Global,
         state: &State<K>,
     ) -> Result<Vec<(Option<BranchPlace>, State<K>)>, AllocError> {
-        let packed = &state.packed;
-        if let Some(pairs) = recalled_pairs(alloc, self.machine, &self.memory, packed)? {
-            return Ok(pairs);
-        }
-        let config = unpack(alloc, packed)?;
-        let found = self.machine.successors(alloc, &config)?;
-        let steps = steps_to(alloc, self.machine, &config, found)?;
-        remember(
-            alloc,
-            self.machine,
-            &self.memory,
-            packed,
-            &config,
-            steps.as_slice(),
-        )?;
-        pairs_of(alloc, steps)
+        all_successors(self, alloc, state)
+    }
+
+    fn sparing_branches(
+        &self,
+        alloc: Global,
+        state: &State<K>,
+        before: &State<K>,
+        nth: u32,
+    ) -> Result<Vec<(Option<BranchPlace>, Option<State<K>>)>, AllocError> {
+        spared_successors(self, alloc, state, before, nth)
     }
 
     fn copy_branch(branch: &BranchPlace) -> BranchPlace {

@@ -15,6 +15,7 @@ mod runs;
 mod scheme;
 pub mod search;
 mod sights;
+mod sparing;
 mod state;
 mod step;
 mod timed;

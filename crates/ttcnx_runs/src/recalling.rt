@@ -110,14 +110,14 @@ fn changed_by_ending(
 
 /// A configuration whose successors are made from what is remembered.
 #[derive(Drop)]
-struct Recall<'m, 't, 'k, 'p, 'b, K: Scheme> {
-    alloc: Global,
-    machine: &'m Machine<'t>,
-    packed: &'k Packed,
-    parts: &'p ConfigBytes<'b>,
+pub(crate) struct Recall<'m, 't, 'k, 'p, 'b, K: Scheme> {
+    pub(crate) alloc: Global,
+    pub(crate) machine: &'m Machine<'t>,
+    pub(crate) packed: &'k Packed,
+    pub(crate) parts: &'p ConfigBytes<'b>,
     /// How many components have enabled labels. Where several have, some are left whatever one does.
-    active: usize,
-    of: PhantomData<K>,
+    pub(crate) active: usize,
+    pub(crate) of: PhantomData<K>,
 }
 
 impl<K: Scheme> Recall<'_, '_, '_, '_, '_, K> {
@@ -188,7 +188,7 @@ impl<K: Scheme> Recall<'_, '_, '_, '_, '_, K> {
     }
 
     /// The state to which a step of the component at a place leads.
-    fn state_behind(&self, at: usize, effect: &Effect) -> Result<State<K>, AllocError>
+    pub(crate) fn state_behind(&self, at: usize, effect: &Effect) -> Result<State<K>, AllocError>
         requires is { self.now.machine.now ≡ K.machine }
         requires can { CanRecall K.machine self.now.packed.now self.now.parts.now self.now.active }
         requires here { (going : Going) → self.now.packed.now ≡ config.Going going → (component : Component) × (slice_get going.components at ≡ Some component) }
@@ -249,7 +249,7 @@ impl<K: Scheme> Recall<'_, '_, '_, '_, '_, K> {
 const KEY_ROOM: usize = 256;
 
 /// What is remembered of each component, where something is of all of them. Of a component that is the only one nothing is.
-fn recall_all<'m, K: Scheme>(
+pub(crate) fn recall_all<'m, K: Scheme>(
     alloc: Global,
     memory: &'m Memory<Remembered<K>>,
     parts: &ConfigBytes<'_>,
@@ -273,7 +273,7 @@ fn recall_all<'m, K: Scheme>(
 }
 
 /// How many components have steps.
-fn active_among<K: Scheme>(all: &[&Remembered<K>]) -> usize
+pub(crate) fn active_among<K: Scheme>(all: &[&Remembered<K>]) -> usize
     ensures { result ≡ how_many (λ one. has_steps one.now.outcomes.items) all.now }
 {
     let mut count = 0;

@@ -7,7 +7,9 @@ ghost use Rattle.explore.specs.Sightings.{AreSighted, shown_at_end, shown_by_ste
 ghost use Rattle.search_layer.specs.Limits.{IsWithinLimits};
 ghost use Rattle.summary.specs.Exploration.{Counts, IsComplete};
 
-use explore::{ExploreError, Gate, Plan, Reached, Sighted, Stops, Watched, explore_watched};
+use explore::{
+    ExploreError, Gate, Plan, Reached, Sighted, Sparing, Stops, Watched, explore_watched,
+};
 use search_ordinals::{Branched, explore_by_ordinals};
 use std::alloc::Global;
 use std::thread::Threads;
@@ -48,7 +50,7 @@ pub fn search<Y: Branched, G: Gate, R: Threads + Sync>(
 
 /// Explores all runs of a system as `search` does, and finds for all that steps and states show the least of the shortest runs
 /// that show it.
-pub fn search_watched<Y: Located + Watched, G: Gate, R: Threads + Sync>(
+pub fn search_watched<Y: Located + Sparing + Watched, G: Gate, R: Threads + Sync>(
     rt: &R,
     alloc: Global,
     system: &Y,
