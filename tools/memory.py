@@ -1,9 +1,9 @@
 """Has requests for memory refused: in the calls, in whole runs of the program, and by a limit on the program's memory.
 
-Usage: memory.py TTCNX SCARCITY [limits]. TTCNX is the built program, SCARCITY the program that makes the calls
-(crates/test_memory). It wants a C compiler, cc, and the C library of GNU.
+Usage: memory.py TTCNX CALLS [limits]. TTCNX is the built program, CALLS the program that makes the calls where its
+argument is --refuse-memory (crates/test_rows). It wants a C compiler, cc, and the C library of GNU.
 
-- In the calls: SCARCITY makes each call over and over, and has its N-th call of malloc, calloc or realloc refused, from N = 1
+- In the calls: CALLS makes each call over and over, and has its N-th call of malloc, calloc or realloc refused, from N = 1
   on, until a call asks no more so often. Each call must answer that it got no memory, or as with ample memory.
 - In whole runs: TTCNX runs on texts of examples/, and its N-th request is refused, from the first one of the process on. A run
   must answer as with ample memory, byte for byte, or write nothing but the line "out of memory" and end with status 4.
@@ -123,7 +123,7 @@ def build(folder):
 
 def refuse_in_calls(program, library):
     """Returns how many requests of the calls were refused, and how many of the answers were otherwise than they may be."""
-    ran = subprocess.Popen([program], env={**os.environ, "LD_PRELOAD": library}, stdout=subprocess.PIPE, text=True)
+    ran = subprocess.Popen([program, "--refuse-memory"], env={**os.environ, "LD_PRELOAD": library}, stdout=subprocess.PIPE, text=True)
     name, refused, wrong, otherwise = "", 0, 0, 0
     for line in ran.stdout:
         print(line, end="", flush=True)

@@ -1,17 +1,22 @@
-//! Answers rows of texts by what the program prints for them, or by what one of its layers says of them.
+//! Answers rows of texts by what the program prints for them, or by what one of its layers says of them. With the argument
+//! `--refuse-memory` alone it makes calls whose requests for memory are refused.
 #![tactic(auto)]
 
 mod language;
 mod machine;
+mod memory;
 mod program;
 
 use anyhow::Result;
 use language::{checked, evaluated, parsed, scripted};
 use machine::answer_of_machine;
+use memory::try_all;
 use program::answer_of;
 use std::alloc::AllocError;
 use std::process::ExitCode;
+use std::rt::Env;
 use std::thread::Threads;
+use std::{env, io};
 use test_corpus::{Settings, Subject, answer_files};
 
 struct Layers;
@@ -58,6 +63,16 @@ impl<R: AllocGlobal + Threads + Sync> Subject<R> for Layers {
     }
 }
 
+/// Whether calls with refused memory are asked for, and no rows.
+fn refuses_memory<R: AllocGlobal + Env>(rt: &R) -> io::Result<bool> {
+    let first = env::args(rt)?.skip(1).next();
+    Ok(first.is_some_and(|word| word.as_str() == "--refuse-memory"))
+}
+
 fn main(rt: HostRuntime) -> Result<ExitCode> {
+    if refuses_memory(&rt)? {
+        let otherwise = try_all(&rt)?;
+        return Ok(ExitCode::from((otherwise > 0) as u8));
+    }
     Ok(answer_files(&rt, &Layers)?)
 }

@@ -1,4 +1,4 @@
-//! Tests of the calls behind the commands, of what no row of texts shows.
+//! Tests of the calls behind the commands, of what no row of texts shows; and the public surface.
 #![tactic(auto)]
 
 #[cfg(test)]
@@ -7,3 +7,4 @@ mod devices;
 mod faults;
 #[cfg(test)]
 mod gate;
+pub mod surface;

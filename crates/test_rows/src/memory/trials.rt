@@ -1,9 +1,9 @@
 //! Each call with each of its requests for memory refused.
-use crate::calls::{CALLS, Call, Refusal, Subjects};
-use crate::given::Given;
-use crate::refusals::{Answer, Ending, Order, Refused, can_refuse, end};
-use crate::tables::{calls_without_memory, finish_table, new_board, new_table};
-use crate::texts::{FINE_RUN_OF_RACE, RACE, RUN_OF_RACE, SENT};
+use super::calls::{CALLS, Call, Refusal, Subjects};
+use super::given::Given;
+use super::refusals::{Answer, Ending, Order, Refused, can_refuse, end};
+use super::tables::{calls_without_memory, finish_table, new_board, new_table};
+use super::texts::{FINE_RUN_OF_RACE, RACE, RUN_OF_RACE, SENT};
 use anyhow::{Result, bail};
 use explore::{NoGate, Plan};
 use report::{read_fine, read_run};

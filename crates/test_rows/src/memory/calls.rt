@@ -1,6 +1,6 @@
 //! The calls that ask for memory, with what they are asked.
-use crate::given::Given;
-use crate::texts::{
+use super::given::Given;
+use super::texts::{
     FINE_RUN_OF_RACE, MAPPED, ONE, RACE, REPORT_ON_MAPPED, REPORT_ON_ONE, REPORT_ON_RACE,
     RUN_OF_RACE, SCRIPT,
 };

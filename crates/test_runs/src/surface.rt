@@ -1,6 +1,4 @@
 //! Each item of the public surface, by the path at which users find it. Where one is missing, this crate doesn't compile.
-#![tactic(auto)]
-
 pub use explore::{Answer, ExploreError, Gate, NoGate, Plan, explore};
 pub use report::{
     Report, RunError, ScriptError, read_fine, read_run, read_script, to_json, to_text,
