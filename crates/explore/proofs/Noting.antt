@@ -1,19 +1,14 @@
 -- What is noted, as one more is seen.
-use Rattle.std.proofs.Common.{◌≡◌, ℕ, zero, suc, ◌+◌, ◌<◌, ◌≤◌, Bool, false, List, [], ◌∷◌, ◌++◌, length, Option, None, Some, true, if◌then◌else◌, refl, ap, sym, ◌∙◌, arith}
+use Rattle.std.proofs.Common.{◌≡◌, ℕ, suc, ◌+◌, ◌<◌, ◌≤◌, Bool, false, List, [], ◌∷◌, ◌++◌, length, map, Option, None, Some, true, if◌then◌else◌, refl, ap, sym, ◌∙◌, arith}
 use Rattle.std.specs.List.{AllZip, list_any}
 use Rattle.std.specs.Prelude.{Err, IfOk, Ok, Result}
 use Rattle.explore.proofs.Lists.{Each, each-append}
 use Rattle.search_layer.specs.declared.visited.Step.{Step}
 use Rattle.explore.specs.declared.sightings.Noted.{Noted}
-use Rattle.explore.specs.internal.Noting.{note, note_labels, note_states, note_steps}
+use Rattle.explore.specs.internal.Noting.{note, note_labels, note_shown, note_states, note_steps}
 use Rattle.summary.specs.Graph.{Graph}
 
 module _ {C L E : Type 0} (g : Graph C L) (eq : E → E → Bool) (event : C → L → Option E) where
-  pub labels-push : (place : ℕ) (c : C) (ls : List L) (l : L) (noted : List (Noted E (Step L)))
-      → note_labels g eq event place c (ls ++ l ∷ []) noted ≡ note eq (event c l) (record { before = place; label = l }) (note_labels g eq event place c ls noted)
-  labels-push place c [] l noted = refl
-  labels-push place c (m ∷ ls) l noted = labels-push place c ls l (note eq (event c m) (record { before = place; label = m }) noted)
-
   pub steps-push : (place : ℕ) (cs : List C) (c : C) (noted : List (Noted E (Step L)))
       → note_steps g eq event place (cs ++ c ∷ []) noted ≡ note_labels g eq event (place + length cs) c (g.enabled c) (note_steps g eq event place cs noted)
   steps-push place [] c noted = let none : place ≡ place + 0 = omega arith in ap (λ k. note_labels g eq event k c (g.enabled c) noted) none
@@ -21,6 +16,18 @@ module _ {C L E : Type 0} (g : Graph C L) (eq : E → E → Bool) (event : C →
       let one : (place + 1) + length cs ≡ place + suc (length cs) = omega arith in
       let here = note_labels g eq event place d (g.enabled d) noted in
       steps-push (place + 1) cs c here ∙ ap (λ k. note_labels g eq event k c (g.enabled c) (note_steps g eq event (place + 1) cs here)) one
+
+-- one step more
+pub shown-push : {L E : Type 0} (eq : E → E → Bool) (place : ℕ) (ps : List (L × Option E)) (l : L) (e : Option E) (noted : List (Noted E (Step L)))
+    → note_shown eq place (ps ++ (l, e) ∷ []) noted ≡ note eq e (record { before = place; label = l }) (note_shown eq place ps noted)
+shown-push eq place [] l e noted = refl
+shown-push eq place (p ∷ ps) l e noted = shown-push eq place ps l e (note eq p.1 (record { before = place; label = p.0 }) noted)
+
+-- the steps of all labels, each with what it shows
+pub shown-labels : {C L E : Type 0} (g : Graph C L) (eq : E → E → Bool) (event : C → L → Option E) (place : ℕ) (c : C) (ls : List L) (noted : List (Noted E (Step L)))
+    → note_shown eq place (map (λ l. (l, event c l)) ls) noted ≡ note_labels g eq event place c ls noted
+shown-labels g eq event place c [] noted = refl
+shown-labels g eq event place c (l ∷ ls) noted = shown-labels g eq event place c ls (note eq (event c l) (record { before = place; label = l }) noted)
 
 module _ {C E : Type 0} (eq : E → E → Bool) (stand : C → Option E) where
   pub states-push : (place : ℕ) (cs : List C) (c : C) (noted : List (Noted E ℕ))

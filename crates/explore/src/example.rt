@@ -103,8 +103,12 @@ impl Watched for Ring {
 
     ghost same_stand = { λ s. eq-eqb s s refl };
 
-    fn event(&self, _alloc: Global, _state: &u32, label: &u8) -> Result<Option<u8>, AllocError> {
-        Ok(Some(*label))
+    fn events(&self, alloc: Global, state: &u32) -> Result<Vec<(u8, Option<u8>)>, AllocError> {
+        let mut found = Vec::new(alloc);
+        for label in self.labels(alloc, state)? {
+            found.push((label, Some(label)))?;
+        }
+        Ok(found)
     }
 
     fn stand(&self, _alloc: Global, state: &u32) -> Result<Option<u32>, AllocError> {

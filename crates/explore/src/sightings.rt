@@ -1,7 +1,7 @@
 //! The least runs that show something.
 ghost use Rattle.std.specs.Prelude.{◌≡◌, ◌<◌, ◌≤◌, List, [], length, take, All, IfOk, OnOk};
 ghost use Rattle.std.specs.List.{AllZip, list_any};
-ghost use Rattle.explore.specs.internal.Noting.{IsRunBy, IsRunTo, note, note_labels, note_states, note_steps};
+ghost use Rattle.explore.specs.internal.Noting.{IsRunBy, IsRunTo, note, note_shown, note_states, note_steps};
 ghost use Rattle.explore.specs.internal.Tied.{AreLastSteps, GoBack};
 ghost use Rattle.summary.specs.Run.{Run};
 
@@ -48,19 +48,15 @@ fn note<E: PartialEq + Drop, X: Drop>(
     Ok(())
 }
 
-/// Notes what the steps of the state at a place show.
-fn note_labels<Y: Watched>(
-    alloc: Global,
-    system: &Y,
-    state: &Y::State,
+/// Notes what the steps from the state at a place show, each given by its label and what it shows.
+fn note_shown<E: PartialEq + Drop, L: Drop>(
+    noted: &mut Vec<Noted<E, Step<L>>>,
     place: usize,
-    noted: &mut Vec<Noted<Y::Event, Step<Y::Label>>>,
+    shown: Vec<(L, Option<E>)>,
 ) -> Result<(), AllocError>
-    requires { Y.fits system.now state.now }
-    ensures { OnOk result (noted.new.items ≡ note_labels (Y.graph system.now) Y.Event.eq (Y.event system.now) place state.now ((Y.graph system.now).enabled state.now) noted.old.items) }
+    ensures { OnOk result (noted.new.items ≡ note_shown E.eq place shown.items noted.old.items) }
 {
-    for label in system.labels(alloc, state)? {
-        let event = system.event(alloc, state, &label)?;
+    for (label, event) in shown {
         let before = place;
         note(noted, event, Step { before, label })?;
     }
@@ -80,7 +76,8 @@ pub(crate) fn noted_steps<Y: Watched>(
 {
     let mut noted = Vec::new(alloc);
     for place in 0..to {
-        note_labels(alloc, system, &states[place], place, &mut noted)?;
+        let shown = system.events(alloc, &states[place])?;
+        note_shown(&mut noted, place, shown)?;
     }
     Ok(noted)
 }

@@ -1,4 +1,4 @@
-ghost use Rattle.std.specs.Prelude.{◌≡◌, Option, true, IfOk, Contains};
+ghost use Rattle.std.specs.Prelude.{◌≡◌, Option, true, IfOk, map};
 
 use std::alloc::{AllocError, Global};
 use summary::System;
@@ -6,10 +6,10 @@ use summary::System;
 /// A system whose steps and states show something to which runs are wanted.
 pub trait Watched: System {
     /// What a step shows.
-    type Event: PartialEq + Drop;
+    type Event: PartialEq + Send + Sync + Drop;
 
     /// What a state shows.
-    type Stand: PartialEq + Drop;
+    type Stand: PartialEq + Send + Sync + Drop;
 
     /// What the step by an enabled label shows, if it shows something.
     ghost event: { Self → Self.State → Self.Label → Option Self.Event };
@@ -17,16 +17,14 @@ pub trait Watched: System {
     /// What a state shows, if it shows something.
     ghost stand: { Self → Self.State → Option Self.Stand };
 
-    /// What the step by an enabled label shows, if it shows something.
-    fn event(
+    /// The enabled labels of a state, from the least to the greatest, each with what its step shows, if it shows something.
+    fn events(
         &self,
         alloc: Global,
         state: &Self::State,
-        label: &Self::Label,
-    ) -> Result<Option<Self::Event>, AllocError>
-        requires fits { Self.fits self.now state.now }
-        requires enabled { Contains ((Self.graph self.now).enabled state.now) label.now }
-        ensures { IfOk result (λ shown. shown ≡ event self.now state.now label.now) };
+    ) -> Result<Vec<(Self::Label, Option<Self::Event>)>, AllocError>
+        requires { Self.fits self.now state.now }
+        ensures { IfOk result (λ found. found.items ≡ map (λ label. (label, event self.now state.now label)) ((Self.graph self.now).enabled state.now)) };
 
     /// What a state shows, if it shows something.
     fn stand(&self, alloc: Global, state: &Self::State) -> Result<Option<Self::Stand>, AllocError>

@@ -6,3 +6,4 @@ pub mod Explored
 pub mod Sums
 pub mod Walks
 pub mod Answered
+pub mod Sighted

@@ -1,11 +1,17 @@
 -- What loops make of labels: their ordinals, branches and successors.
 use Rattle.std.proofs.Common.{◌≡◌, ℕ, zero, suc, ◌+◌, ◌<◌, List, [], ◌∷◌, ◌++◌, length, get_or, map, Option, refl, sym, ap, subst, ◌∙◌, arith}
-use Rattle.std.specs.Prelude.{Contains}
+use Rattle.std.specs.Prelude.{Contains, Err, IfOk, Ok, Result}
 use Rattle.search_ordinals.specs.OrdinalLaws.{contains_from_nth, led_there, nth_from_contains}
-use Rattle.search_ordinals.specs.Ordinals.{ordinal_graph, ordinals_from, with_branch}
+use Rattle.search_ordinals.specs.Ordinals.{ordinal_graph, ordinals_from, shown_at, with_branch}
 use Rattle.search_ordinals.specs.Told.{IsNth}
+use Rattle.search_ordinals.specs.internal.Numbered.{numbered}
 use Rattle.search_ordinals.specs.declared.ordinal.Ordinal.{Ordinal}
 use Rattle.summary.specs.Graph.{Graph, with_after}
+
+-- what holds of an answer
+pub if-ok : {A E : Type 0} (r : Result A E) (P Q : A → Type 0) → IfOk r P → ((a : A) → P a → Q a) → IfOk r Q
+if-ok (Ok a) P Q holds so = so a holds
+if-ok (Err e) P Q holds so = tt
 
 -- an item that is read at an index
 pub nth-read : {A : Type 0} (xs : List A) (n : ℕ) (x : A) → n < length xs → x ≡ get_or xs n x → IsNth xs n x
@@ -62,10 +68,6 @@ module _ {C L B : Type 0} (branch : C → L → Option B) (g : Graph C L) (state
 -- ---- numbered successors
 
 module _ {C B : Type 0} where
-  abbrev pub numbered : ℕ → List (Option B × C) → List (Ordinal B × C)
-  numbered n [] = []
-  numbered n (pair ∷ pairs) = (record { nth = n; branch = pair.0 }, pair.1) ∷ numbered (suc n) pairs
-
   as-many-numbered : (n : ℕ) (pairs : List (Option B × C)) → length (numbered n pairs) ≡ length pairs
   as-many-numbered n [] = refl
   as-many-numbered n (pair ∷ pairs) = ap suc (as-many-numbered (suc n) pairs)
@@ -95,3 +97,22 @@ module _ {C L B : Type 0} (branch : C → L → Option B) (g : Graph C L) (state
           let here : IsNth (g.enabled state) n l = subst (λ (m : ℕ). IsNth (g.enabled state) m l) (let e : n + 0 ≡ n = omega arith in e) (there 0 l refl) in
           let rest = from-there (suc n) ls (λ k m h. subst (λ (p : ℕ). IsNth (g.enabled state) p m) (let e : n + suc k ≡ suc n + k = omega arith in e) (there (suc k) m h)) in
           λ i. (record { nth = n; branch = branch state l }, sym (led_there branch g state (g.enabled state) n l here) i) ∷ rest i
+
+-- ---- what steps show
+
+module _ {L B E : Type 0} (branch : L → Option B) (event : L → Option E) where
+  pub shown-there : (labels : List L) (n : ℕ) (label : L) → IsNth labels n label → shown_at event labels n ≡ event label
+  shown-there [] n label h = absurd h
+  shown-there (l ∷ ls) zero label h = ap event h
+  shown-there (l ∷ ls) (suc n) label h = shown-there ls n label h
+
+  pub numbered-shown : (labels : List L) → numbered 0 (map (λ l. (branch l, event l)) labels) ≡ map (λ o. (o, shown_at event labels o.nth)) (ordinals_from branch 0 labels)
+  numbered-shown labels = from-there 0 labels (λ k l h. subst (λ (m : ℕ). IsNth labels m l) (let e : k ≡ 0 + k = omega arith in e) h)
+    where
+      from-there : (n : ℕ) (ls : List L) → ((k : ℕ) (l : L) → IsNth ls k l → IsNth labels (n + k) l)
+          → numbered n (map (λ l. (branch l, event l)) ls) ≡ map (λ o. (o, shown_at event labels o.nth)) (ordinals_from branch n ls)
+      from-there n [] there = refl
+      from-there n (l ∷ ls) there =
+          let here : IsNth labels n l = subst (λ (m : ℕ). IsNth labels m l) (let e : n + 0 ≡ n = omega arith in e) (there 0 l refl) in
+          let rest = from-there (suc n) ls (λ k m h. subst (λ (p : ℕ). IsNth labels p m) (let e : n + suc k ≡ suc n + k = omega arith in e) (there (suc k) m h)) in
+          λ i. (record { nth = n; branch = branch l }, sym (shown-there labels n l here) i) ∷ rest i

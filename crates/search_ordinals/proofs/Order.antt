@@ -14,7 +14,7 @@ use Rattle.search_ordinals.specs.OrdinalOrder.{ordinal_cmp}
 use Rattle.search_ordinals.specs.Told.{IsNth, IsTold}
 use Rattle.search_ordinals.specs.declared.ordinal.Ordinal.{Ordinal}
 use Rattle.summary.specs.Graph.{Graph}
-use Rattle.summary.specs.Run.{IsRun, NoLater, Run, Start, Then, end_of, labels_of, steps_of}
+use Rattle.summary.specs.Run.{Before, IsRun, NoLater, Run, Start, Then, end_of, labels_of, steps_of}
 
 -- ---- orderings
 
@@ -146,10 +146,13 @@ module _ {C L B : Type 0} (branch : C → L → Option B) (g : Graph C L) (cmp :
           (λ i. ordering_then (same-labels i) (ordering_then (last-less before (first-less (told-cmp a b) e) i) Equal))
       by-front Greater front tie _ e = absurd (greater-not-less e)
 
+  -- a run of ordinals that comes before tells a run that comes before
+  pub comes-before : (r s : Run L) (o p : Run (Ordinal B)) → IsTold branch g r o → IsTold branch g s p → Before told-cmp o p → Before cmp r s
+  comes-before r s o p is also (inl shorter) = inl (omega (arith, same-steps branch g r o is, same-steps branch g s p also, shorter))
+  comes-before r s o p is also (inr first) =
+      inr (sym (same-steps branch g r o is) ∙ first.0 ∙ same-steps branch g s p also, lesser-runs r s o p is also first.0 first.1)
+
   -- a run of ordinals that comes no later tells a run that comes no later
   pub no-later : (r s : Run L) (o p : Run (Ordinal B)) → IsTold branch g r o → IsTold branch g s p → NoLater told-cmp o p → NoLater cmp r s
-  no-later r s o p is also (inl (inl shorter)) =
-      inl (inl (omega (arith, same-steps branch g r o is, same-steps branch g s p also, shorter)))
-  no-later r s o p is also (inl (inr first)) =
-      inl (inr (sym (same-steps branch g r o is) ∙ first.0 ∙ same-steps branch g s p also, lesser-runs r s o p is also first.0 first.1))
+  no-later r s o p is also (inl first) = inl (comes-before r s o p is also first)
   no-later r s o p is also (inr same) = inr (one-run branch g r s p (subst (λ (t : Run (Ordinal B)). IsTold branch g r t) same is) also)

@@ -5,7 +5,7 @@ use Rattle.std.specs.Cmp.{nat_cmp_is}
 use Rattle.std.specs.List.{All, AllZip}
 use Rattle.std.proofs.lemmas.List.Elements.{All-cons, All-nil}
 use Rattle.search_layer.specs.Late.{IsLate, IsSpared}
-use Rattle.search_ordinals.proofs.Numbers.{numbered}
+use Rattle.search_ordinals.specs.internal.Numbered.{numbered}
 use Rattle.search_ordinals.specs.OrdinalLaws.{led_there, nth_from_contains, ordinal_of}
 use Rattle.search_ordinals.specs.OrdinalOrder.{ordinal_cmp}
 use Rattle.search_ordinals.specs.Ordinals.{ordinal_graph, ordinals_from, with_branch}

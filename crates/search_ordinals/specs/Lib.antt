@@ -3,3 +3,4 @@ pub mod OrdinalOrder
 pub mod OrdinalLaws
 pub mod Told
 pub mod Sparing
+pub mod internal

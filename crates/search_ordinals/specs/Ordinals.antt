@@ -1,5 +1,5 @@
 -- A graph whose labels say how many enabled labels come before them, and which branch their steps take.
-use Rattle.std.specs.Prelude.{ℕ, zero, suc, List, [], ◌∷◌, map, Option}
+use Rattle.std.specs.Prelude.{ℕ, zero, suc, List, [], ◌∷◌, map, Option, None}
 use Rattle.search_ordinals.specs.declared.ordinal.Ordinal.{Ordinal}
 use Rattle.summary.specs.Graph.{Graph}
 
@@ -17,6 +17,12 @@ abbrev pub led_to : {C L : Type 0} → Graph C L → C → List L → ℕ → C
 led_to g state [] n = state
 led_to g state (label ∷ labels) zero = g.after state label
 led_to g state (label ∷ labels) (suc n) = led_to g state labels n
+
+-- what the step of the label shows before which so many of these come; without such a label, nothing
+abbrev pub shown_at : {L E : Type 0} → (L → Option E) → List L → ℕ → Option E
+shown_at event [] n = None
+shown_at event (label ∷ labels) zero = event label
+shown_at event (label ∷ labels) (suc n) = shown_at event labels n
 
 -- the graph with ordinals in place of labels
 abbrev pub ordinal_graph : {C L B : Type 0} → (C → L → Option B) → Graph C L → Graph C (Ordinal B)

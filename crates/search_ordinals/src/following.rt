@@ -1,10 +1,13 @@
 //! From the ordinals of runs back to their labels.
-ghost use Rattle.std.specs.Prelude.{◌≡◌, ℕ, ◌<◌, length, None, IfOk, IfSome, slice_index_or};
+ghost use Rattle.std.specs.Prelude.{◌≡◌, ℕ, ◌<◌, length, None, All, IfOk, IfSome, slice_index_or};
+ghost use Rattle.std.specs.List.{AllZip};
 ghost use Rattle.search_ordinals.specs.Told.{AreLabelsTold, AreToldWhereTold, IsTelling};
+ghost use Rattle.search_ordinals.specs.internal.Sighted.{IsSightingTold};
 
 use crate::branched::Branched;
 use crate::ordinal::Ordinal;
 use crate::steps::nth_of;
+use explore::Sighting;
 use std::alloc::{AllocError, Global};
 
 /// The labels of the run that ordinals tell.
@@ -56,4 +59,22 @@ pub fn labels_of_runs<Y: Branched>(
         all.push(labels_where_told(alloc, system, run)?)?;
     }
     Ok(all)
+}
+
+/// The same that is shown, with the labels of the runs that ordinals tell.
+pub fn labels_of_sightings<Y: Branched, E: Drop>(
+    alloc: Global,
+    system: &Y,
+    told: Vec<Sighting<E, Ordinal<Y::Branch>>>,
+) -> Result<Vec<Sighting<E, Y::Label>>, AllocError>
+    requires telling { All (λ one. IsTelling (Y.branch system.now) (Y.graph system.now) one.run.items) told.items }
+    ensures { IfOk result (λ sightings. AllZip (IsSightingTold (Y.branch system.now) (Y.graph system.now)) sightings.items told.items) }
+{
+    let mut sightings = Vec::with_capacity(alloc, told.len())?;
+    for one in told {
+        let Sighting { event, run } = one;
+        let labels = labels_along(alloc, system, run.as_slice())?;
+        sightings.push(Sighting { event, run: labels })?;
+    }
+    Ok(sightings)
 }

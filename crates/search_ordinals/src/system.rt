@@ -5,7 +5,7 @@ ghost use Rattle.search_ordinals.specs.Ordinals.{ordinal_graph};
 
 use crate::branched::Branched;
 use crate::ordinal::Ordinal;
-use crate::steps::{nth_of, number_of};
+use crate::steps::{nth_of, number_of, numbered};
 use search_layer::Sparing;
 use std::alloc::{AllocError, Global};
 use summary::System;
@@ -66,13 +66,7 @@ impl<'a, Y: Branched> System for OrdinalSystem<'a, Y> {
         alloc: Global,
         state: &Y::State,
     ) -> Result<Vec<(Ordinal<Y::Branch>, Y::State)>, AllocError> {
-        let found = self.system.branched_successors(alloc, state)?;
-        let mut pairs = Vec::with_capacity(alloc, found.len())?;
-        for (branch, after) in found {
-            let nth = number_of(pairs.len())?;
-            pairs.push((Ordinal { nth, branch }, after))?;
-        }
-        Ok(pairs)
+        numbered(alloc, self.system.branched_successors(alloc, state)?)
     }
 
     fn copy(
@@ -116,11 +110,6 @@ impl<'a, Y: Branched> Sparing for OrdinalSystem<'a, Y> {
         let found = self
             .system
             .sparing_branches(alloc, state, before, last.nth)?;
-        let mut spared = Vec::with_capacity(alloc, found.len())?;
-        for (branch, after) in found {
-            let nth = number_of(spared.len())?;
-            spared.push((Ordinal { nth, branch }, after))?;
-        }
-        Ok(spared)
+        numbered(alloc, found)
     }
 }

@@ -1,10 +1,15 @@
 //! An exploration by ordinals answers with labels, and with branches and blocked components.
-ghost use Rattle.std.specs.Prelude.{◌≡◌, ◌==◌, ◌<◌, ◌≤◌, [], ◌∷◌, None, Some, if◌then◌else◌};
+ghost use Rattle.std.specs.Prelude.{◌≡◌, ◌==◌, ◌<◌, ◌≤◌, ◌%◌, [], ◌∷◌, None, Some, if◌then◌else◌};
+ghost use Rattle.std.proofs.Common.{refl};
+ghost use Rattle.std.proofs.lemmas.Bool.{eq-eqb, eqb-true};
 ghost use Rattle.explore.specs.Ring.{ring, ring_same, ring_ascends, ring_after, ring_mark};
 
+use crate::rings::is_sighting;
 use explore::example::Ring;
-use explore::{NoGate, Plan, Stops};
-use search_ordinals::{Branched, explore_by_ordinals};
+use explore::{NoGate, Plan, Stops, Watched};
+use search_ordinals::{
+    Branched, BranchedWatched, explore_by_ordinals, explore_watched_by_ordinals,
+};
 use std::alloc::{AllocError, Global};
 use std::test::Fail;
 use summary::{Located, System};
@@ -84,14 +89,52 @@ impl Branched for Wheel {
     }
 }
 
+/// Steps show their labels, and states their remainders by 4.
+impl Watched for Wheel {
+    type Event = u8;
+
+    type Stand = u32;
+
+    ghost event = { λ it state label. Some label };
+
+    ghost stand = { λ it state. Some (state % 4) };
+
+    ghost one_event = { λ e f same. eqb-true e f same };
+
+    ghost one_stand = { λ s t same. eqb-true s t same };
+
+    ghost same_event = { λ e. eq-eqb e e refl };
+
+    ghost same_stand = { λ s. eq-eqb s s refl };
+
+    fn events(&self, alloc: Global, state: &u32) -> Result<Vec<(u8, Option<u8>)>, AllocError> {
+        self.ring.events(alloc, state)
+    }
+
+    fn stand(&self, alloc: Global, state: &u32) -> Result<Option<u32>, AllocError> {
+        self.ring.stand(alloc, state)
+    }
+}
+
+impl BranchedWatched for Wheel {
+    fn branched_events(
+        &self,
+        alloc: Global,
+        _state: &u32,
+    ) -> Result<Vec<(Option<u16>, Option<u8>)>, AllocError> {
+        Vec::from_slice(alloc, &[(None, Some(0)), (Some(7), Some(1))])
+    }
+}
+
+const PLAN: Plan = Plan {
+    steps: 10,
+    limit: 100,
+    workers: 2,
+    piece: 1,
+};
+
 #[test]
 fn best_runs_are_told_in_labels(rt: HostRuntime) -> Result<(), Fail> {
-    let plan = Plan {
-        steps: 10,
-        limit: 100,
-        workers: 2,
-        piece: 1,
-    };
     let wheel = Wheel {
         ring: Ring::new(10),
     };
@@ -99,7 +142,7 @@ fn best_runs_are_told_in_labels(rt: HostRuntime) -> Result<(), Fail> {
         &rt,
         rt.alloc(),
         &wheel,
-        &plan,
+        &PLAN,
         &Stops::NOWHERE,
         &NoGate,
     )?;
@@ -113,5 +156,32 @@ fn best_runs_are_told_in_labels(rt: HostRuntime) -> Result<(), Fail> {
     assert!(rt; answer.best[1].is_none());
     assert!(rt; answer.summary.second.first.places.as_slice() == [7].as_slice());
     assert!(rt; answer.summary.second.second.components.as_slice() == [30].as_slice());
+    Ok(())
+}
+
+#[test]
+fn least_runs_to_sights_are_told_in_labels(rt: HostRuntime) -> Result<(), Fail> {
+    let wheel = Wheel {
+        ring: Ring::new(10),
+    };
+    let sighted = explore_watched_by_ordinals::<Wheel, NoGate, HostRuntime>(
+        &rt,
+        rt.alloc(),
+        &wheel,
+        &PLAN,
+        &Stops::NOWHERE,
+        &NoGate,
+    )?;
+    let reached = &sighted.reached;
+    assert!(rt; reached.steps == 10 && reached.answer.count == 10 && reached.answer.complete);
+    let events = sighted.events.as_slice();
+    assert!(rt; events.len() == 2);
+    assert!(rt; is_sighting(events.get(0), 0, &[0]) && is_sighting(events.get(1), 1, &[1]));
+    let stands = sighted.stands.as_slice();
+    assert!(rt; stands.len() == 4);
+    assert!(rt; is_sighting(stands.get(0), 0, &[]) && is_sighting(stands.get(1), 1, &[0]));
+    assert!(rt;
+        is_sighting(stands.get(2), 2, &[0, 0]) && is_sighting(stands.get(3), 3, &[0, 0, 0])
+    );
     Ok(())
 }

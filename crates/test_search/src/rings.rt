@@ -206,7 +206,7 @@ fn an_exploration_ends_where_it_is_to(rt: HostRuntime) {
 }
 
 /// Whether a sighting has this number and these labels.
-fn is_sighting<E: Copy + Into<u32>>(
+pub(crate) fn is_sighting<E: Copy + Into<u32>>(
     sighting: Option<&Sighting<E, u8>>,
     number: u32,
     run: &[u8],

@@ -15,7 +15,6 @@ ghost use Rattle.ttcn_step.specs.Machines.{Fits, extent, legend, said};
 use crate::remembered::Remembered;
 use crate::scheme::Scheme;
 use crate::state::{State, hash_of};
-use explore::Sparing;
 use search_memory::Memory;
 use std::alloc::{AllocError, Global};
 use std::marker::PhantomData;
@@ -159,5 +158,3 @@ impl<'t, 'a, K: Scheme + Send + Sync> System for Runs<'t, 'a, K> {
 
     ghost marks_below_8 = { λ _ s _. marks-below s };
 }
-
-impl<'t, 'a, K: Scheme + Send + Sync> Sparing for Runs<'t, 'a, K> {}

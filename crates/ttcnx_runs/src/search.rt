@@ -7,13 +7,13 @@ ghost use Rattle.explore.specs.Sightings.{AreSighted, shown_at_end, shown_by_ste
 ghost use Rattle.search_layer.specs.Limits.{IsWithinLimits};
 ghost use Rattle.summary.specs.Exploration.{Counts, IsComplete};
 
-use explore::{
-    ExploreError, Gate, Plan, Reached, Sighted, Sparing, Stops, Watched, explore_watched,
+use explore::{ExploreError, Gate, Plan, Reached, Sighted, Stops};
+use search_ordinals::{
+    Branched, BranchedWatched, explore_by_ordinals, explore_watched_by_ordinals,
 };
-use search_ordinals::{Branched, explore_by_ordinals};
 use std::alloc::Global;
 use std::thread::Threads;
-use summary::{Blocked, Both, Branches, Located, Verdicts};
+use summary::{Blocked, Both, Branches, Verdicts};
 
 /// Explores all runs of a system of at most the plan's steps, or of fewer where a stop comes first.
 pub fn search<Y: Branched, G: Gate, R: Threads + Sync>(
@@ -50,7 +50,7 @@ pub fn search<Y: Branched, G: Gate, R: Threads + Sync>(
 
 /// Explores all runs of a system as `search` does, and finds for all that steps and states show the least of the shortest runs
 /// that show it.
-pub fn search_watched<Y: Located + Sparing + Watched, G: Gate, R: Threads + Sync>(
+pub fn search_watched<Y: BranchedWatched, G: Gate, R: Threads + Sync>(
     rt: &R,
     alloc: Global,
     system: &Y,
@@ -86,7 +86,5 @@ pub fn search_watched<Y: Located + Sparing + Watched, G: Gate, R: Threads + Sync
     ensures events { IfOk result (λ s. AreSighted (Y.graph system.now) Y.Label.cmp s.reached.steps (shown_by_step (Y.graph system.now) (Y.event system.now)) s.events.items) }
     ensures stands { IfOk result (λ s. AreSighted (Y.graph system.now) Y.Label.cmp s.reached.steps (shown_at_end (Y.graph system.now) (Y.stand system.now)) s.stands.items) }
 {
-    explore_watched::<Y, Both<Verdicts, Both<Branches<Y::Branch>, Blocked<Y::Standing>>>, G, R>(
-        rt, alloc, system, plan, stops, gate,
-    )
+    explore_watched_by_ordinals::<Y, G, R>(rt, alloc, system, plan, stops, gate)
 }

@@ -1,8 +1,10 @@
 //! Runs to places of a test case, and to blocks.
-ghost use Rattle.std.specs.Prelude.{◌≡◌, ◌↔◌, [], false, IfOk, IsErrOf, OnOk};
+ghost use Rattle.std.specs.Prelude.{◌≡◌, ◌↔◌, [], false, IfOk, IsErrOf, OnOk, map};
 ghost use Rattle.search_layer.specs.Limits.{IsWithinLimits};
+ghost use Rattle.semantics.specs.Labels.{labels};
 ghost use Rattle.semantics.specs.Places as rules;
 ghost use Rattle.ttcnx_runs.specs.Sights.{AreBlocks, ArePlaces, block_in, if_some, is_lost, stands-itself, stands-one, step_place, step-place-itself, step-place-one};
+ghost use Rattle.ttcn_step.specs.Machines.{Fits, said};
 ghost use Rattle.ttcn_step.specs.Telling.{sent_by};
 ghost use Rattle.config_parts.specs.Legend.{Legend};
 ghost use Rattle.std.specs.List.{find};
@@ -21,12 +23,13 @@ use crate::search::search_watched;
 use crate::state::State;
 use config_parts::Way;
 use explore::{ExploreError, Gate, Plan, Sighted, Sighting, Stops, Watched};
+use search_ordinals::BranchedWatched;
 use std::alloc::{AllocError, Global};
 use std::marker::Brand;
 use std::thread::Threads;
 use step_labels::{Label, Standing};
 use summary::Located;
-use ttcn_config::unpack;
+use ttcn_config::{Config, unpack};
 use ttcn_step::{Machine, Sent};
 use ttcn_syntax::{Seq, Span};
 
@@ -49,6 +52,68 @@ fn is_lost(sent: &Option<Sent>) -> bool
             Way::Reaches(_) | Way::Leaves(_) => false,
         },
     }
+}
+
+/// The branch that the step of a label takes, if it takes one, and where the step is, and whether its message is lost.
+fn step_shown(
+    alloc: Global,
+    machine: &Machine<'_>,
+    config: &Config,
+    label: &Label,
+) -> Result<(Option<BranchPlace>, Option<StepPlace>), AllocError>
+    requires { Fits machine.now config.now }
+    ensures branch { IfOk result (λ shown. shown.0 ≡ rules.branch_of machine.now.test (said machine.now config.now) label.now) }
+    ensures event { IfOk result (λ shown. shown.1 ≡ step_place machine.now.test (said machine.now config.now) label.now) }
+{
+    let branch = machine.branch(alloc, config, label)?;
+    let place = match branch {
+        Some(place) => Some(place),
+        None => machine.place(config, label),
+    };
+    let Some(place) = place else {
+        return Ok((branch.map(BranchPlace::new), None));
+    };
+    let lost = is_lost(&machine.sent(alloc, config, label)?);
+    let place = BranchPlace::new(place);
+    Ok((
+        branch.map(BranchPlace::new),
+        Some(StepPlace { place, lost }),
+    ))
+}
+
+/// The enabled labels, each with where its step is, and whether its message is lost.
+fn shown_steps(
+    alloc: Global,
+    machine: &Machine<'_>,
+    config: &Config,
+) -> Result<Vec<(Label, Option<StepPlace>)>, AllocError>
+    requires { Fits machine.now config.now }
+    ensures { IfOk result (λ found. found.items ≡ map (λ label. (label, step_place machine.now.test (said machine.now config.now) label)) (labels machine.now.test (said machine.now config.now))) }
+{
+    let mut found = Vec::new(alloc);
+    for label in machine.labels(alloc, config)? {
+        let (_branch, event) = step_shown(alloc, machine, config, &label)?;
+        found.push((label, event))?;
+    }
+    Ok(found)
+}
+
+/// For each enabled label the branch that its step takes, if it takes one, and where the step is, and whether its message is
+/// lost.
+fn branched_steps(
+    alloc: Global,
+    machine: &Machine<'_>,
+    config: &Config,
+) -> Result<Vec<(Option<BranchPlace>, Option<StepPlace>)>, AllocError>
+    requires { Fits machine.now config.now }
+    ensures { IfOk result (λ found. found.items ≡ map (λ label. (rules.branch_of machine.now.test (said machine.now config.now) label, step_place machine.now.test (said machine.now config.now) label)) (labels machine.now.test (said machine.now config.now))) }
+{
+    let mut found = Vec::new(alloc);
+    for label in machine.labels(alloc, config)? {
+        let (branch, event) = step_shown(alloc, machine, config, &label)?;
+        found.push((branch, event))?;
+    }
+    Ok(found)
 }
 
 /// Some, where there are some.
@@ -79,28 +144,28 @@ impl<'t, 'a, K: Scheme + Send + Sync> Watched for Runs<'t, 'a, K> {
 
     ghost same_stand = { stands-itself };
 
-    fn event(
+    fn events(
         &self,
         alloc: Global,
         state: &State<K>,
-        label: &Label,
-    ) -> Result<Option<StepPlace>, AllocError> {
+    ) -> Result<Vec<(Label, Option<StepPlace>)>, AllocError> {
         let config = unpack(alloc, &state.packed)?;
-        let place = match self.branch(alloc, state, label)? {
-            Some(place) => Some(place),
-            None => self.machine.place(&config, label).map(BranchPlace::new),
-        };
-        match place {
-            Some(place) => {
-                let lost = is_lost(&self.machine.sent(alloc, &config, label)?);
-                Ok(Some(StepPlace { place, lost }))
-            }
-            None => Ok(None),
-        }
+        shown_steps(alloc, self.machine, &config)
     }
 
     fn stand(&self, alloc: Global, state: &State<K>) -> Result<Option<Seq<Standing>>, AllocError> {
         Ok(if_some(self.blocked(alloc, state)?))
+    }
+}
+
+impl<'t, 'a, K: Scheme + Send + Sync> BranchedWatched for Runs<'t, 'a, K> {
+    fn branched_events(
+        &self,
+        alloc: Global,
+        state: &State<K>,
+    ) -> Result<Vec<(Option<BranchPlace>, Option<StepPlace>)>, AllocError> {
+        let config = unpack(alloc, &state.packed)?;
+        branched_steps(alloc, self.machine, &config)
     }
 }
 

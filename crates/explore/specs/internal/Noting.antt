@@ -14,6 +14,11 @@ module _ {E X : Type 0} (eq : E → E → Bool) where
   note None at noted = noted
   note (Some e) at noted = if list_any (λ n. eq n.event e) noted then noted else noted ++ (record { event = e; at = at }) ∷ []
 
+-- what is noted, and what steps show from the state at a place, each given by its label and what it shows
+abbrev pub note_shown : {L E : Type 0} → (E → E → Bool) → ℕ → List (L × Option E) → List (Noted E (Step L)) → List (Noted E (Step L))
+note_shown eq place [] noted = noted
+note_shown eq place (p ∷ ps) noted = note_shown eq place ps (note eq p.1 (record { before = place; label = p.0 }) noted)
+
 module _ {C L E : Type 0} (g : Graph C L) (eq : E → E → Bool) where
   module _ (event : C → L → Option E) where
     -- what is noted, and what the steps of a state show by these labels

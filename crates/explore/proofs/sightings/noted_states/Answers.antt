@@ -2,7 +2,6 @@ use Rattle.std.proofs.Common.{◌≡◌, ◌+◌, ◌<◌, ◌++◌, ◌∷◌, 
 use Rattle.std.proofs.lemmas.List.{take_more}
 use Rattle.std.proofs.lemmas.Option.{get_or_from_slice_get}
 use Rattle.explore.proofs.Noting.{states-push}
-use Rattle.explore.proofs.LeastRuns.{note-moved}
 use Rattle.explore.specs.internal.Noting.{note, note_states}
 use Rattle.explore.proofs.sightings.noted_states.Goals as goal
 

@@ -1,8 +1,8 @@
 use Rattle.std.proofs.Common.{◌≡◌, ◌+◌, ◌<◌, ◌++◌, ◌∷◌, [], take, length, sym, ap, ◌∙◌, length-take, arith}
 use Rattle.std.proofs.lemmas.List.{take_more}
 use Rattle.std.proofs.lemmas.Option.{get_or_from_slice_get}
-use Rattle.explore.proofs.Noting.{steps-push}
-use Rattle.explore.specs.internal.Noting.{note_labels, note_steps}
+use Rattle.explore.proofs.Noting.{shown-labels, steps-push}
+use Rattle.explore.specs.internal.Noting.{note_labels, note_shown, note_steps}
 use Rattle.explore.proofs.sightings.noted_steps.Goals as goal
 
 pub loop-place-preserved : goal.loop-place-preserved
@@ -17,7 +17,10 @@ loop-place-preserved g c =
     let front : take at states ++ state ∷ [] ≡ take (at + 1) states =
     ap (λ s. take at states ++ s ∷ []) (sym (get_or_from_slice_get states at state state c.index.ensures)) ∙ sym (take_more states at state low) in
     let count : at ≡ 0 + length (take at states) = omega (arith, length-take at states, low) in
-    c.in_ok-note_labels.ensures
+    let before = c.loop-place.noted.items in
+    c.in_ok-note_shown.ensures
+    ∙ (λ i. note_shown eq at (c.in_ok-shown.ensures i) before)
+    ∙ shown-labels graph eq event at state (graph.enabled state) before
     ∙ (λ i. note_labels graph eq event (count i) state (graph.enabled state) (c.loop-place.invariant i))
     ∙ sym (steps-push graph eq event 0 (take at states) state [])
     ∙ ap (λ xs. note_steps graph eq event 0 xs []) front

@@ -1,0 +1,21 @@
+use Rattle.std.proofs.Common.{◌≡◌, ap, map, subst, sym, ◌∙◌}
+use Rattle.std.specs.Prelude.{IfOk}
+use Rattle.semantics.specs.Configurations.{Configuration}
+use Rattle.semantics.specs.Labels.{labels}
+use Rattle.ttcn_step.specs.Machines.{Fits, Machine, said}
+use Rattle.ttcnx_runs.proofs.Recalled.{machine-fits, state-fits}
+use Rattle.ttcnx_runs.proofs.sights.RunsWatched.events.Goals as goal
+use Rattle.ttcnx_runs.specs.Sights.{step_place}
+
+pub shown_steps-requires : goal.shown_steps-requires
+shown_steps-requires g c =
+    let machine = g.K.Scheme.machine in
+    subst (λ (m : Machine). Fits m c.in_ok-config.config) (sym c.args.self.now.is)
+    (subst (Fits machine) (sym c.in_ok-config.ensures) (machine-fits machine c.state.inside.packed (state-fits machine c.state.inside.packed c.args.state.now c.state.invariant.1 c.state.view_is c.requires)))
+
+pub returns : goal.returns
+returns g c =
+    let machine = g.K.Scheme.machine in
+    let config = c.in_ok-config.config in
+    subst (λ (s : Configuration). IfOk c.shown_steps.result (λ found. found.items ≡ map (λ label. (label, step_place machine.test s label)) (labels machine.test s))) (ap (said machine) c.in_ok-config.ensures ∙ c.state.view_is)
+    (subst (λ (m : Machine). IfOk c.shown_steps.result (λ found. found.items ≡ map (λ label. (label, step_place m.test (said m config) label)) (labels m.test (said m config)))) c.args.self.now.is c.shown_steps.ensures)
