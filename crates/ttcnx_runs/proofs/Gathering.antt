@@ -9,7 +9,7 @@ use Rattle.config_packed.specs.Pieces.{spell_key}
 use Rattle.config_parts.specs.declared.component.Component.{Component}
 use Rattle.config_parts.specs.declared.config.Going.{Going}
 use Rattle.laws_local.specs.Alone.{how_many}
-use Rattle.ttcnx_runs.specs.Recalls.{has_steps}
+use Rattle.ttcnx_runs.specs.internal.Recalls.{has_steps}
 use Rattle.ttcnx_runs.specs.declared.outcome.Outcome.{Outcome}
 
 -- ---- how many are of a kind

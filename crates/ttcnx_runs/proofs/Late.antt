@@ -1,18 +1,22 @@
 -- A step that was enabled before the last one already, and comes before it there, leads where that one leads behind it.
-use Rattle.std.proofs.Common.{◌≡◌, ℕ, zero, suc, ◌+◌, ◌<◌, arith, List, [], ◌∷◌, ◌++◌, map, get_or, length, Option, Some, refl, sym, ap, subst, ◌∙◌}
-use Rattle.std.proofs.lemmas.List.{length-map}
+use Rattle.std.proofs.Common.{◌≡◌, ℕ, zero, suc, ◌+◌, ◌<◌, ◌≤◌, arith, List, [], ◌∷◌, ◌++◌, map, get_or, length, Option, Some, refl, sym, ap, subst, ◌∙◌}
+use Rattle.std.proofs.lemmas.List.{append-nil, length-map}
 use Rattle.std.proofs.lemmas.List.Elements.{All-cons, All-nil}
 use Rattle.std.proofs.lemmas.List.Folds.{flat_map-map}
 use Rattle.std.proofs.lemmas.Option.{slice_get_within}
 use Rattle.std.specs.List.{All, Contains, flat_map}
 use Rattle.std.specs.Prelude.{slice_get}
+use Rattle.config_packed.proofs.ConfigsBack.{queue_back}
 use Rattle.config_packed.proofs.Keys.{keys-tell}
+use Rattle.config_packed.proofs.NumbersBack.{read-list-back}
 use Rattle.config_packed.specs.Pieces.{changed_going, spell_front, spell_key, front_at, with_verdict_and_own}
-use Rattle.config_packed.specs.Spelling.{spell_links, spell_list, spell_long, spell_name, spell_outline, spell_own, spell_verdict}
+use Rattle.config_packed.specs.Reading.{read_list, read_queue}
+use Rattle.config_packed.specs.Spelling.{spell_links, spell_list, spell_long, spell_name, spell_outline, spell_own, spell_queue, spell_verdict}
 use Rattle.config_parts.specs.Legend.{component_by, going_by}
 use Rattle.config_parts.specs.Views.{IsGoingWithin}
 use Rattle.config_parts.specs.internal.Changes.{changed_at, with_queues}
 use Rattle.config_parts.specs.declared.component.Component.{Component}
+use Rattle.config_parts.specs.declared.component.Queue.{Queue}
 use Rattle.config_parts.specs.declared.config.Config.TheVariants as config
 use Rattle.config_parts.specs.declared.config.Going.{Going}
 use Rattle.config_parts.specs.declared.frame.Data.{Data}
@@ -34,14 +38,14 @@ use Rattle.ttcnx_runs.proofs.Recalled.{keys-long, live-of, outcomes-shown, outco
 use Rattle.ttcnx_runs.specs.Codes.{code_of}
 use Rattle.ttcnx_runs.specs.CodesBack.{code_of_config}
 use Rattle.ttcnx_runs.specs.Laws.{after-fits}
-use Rattle.ttcnx_runs.specs.Makes.{step_of}
-use Rattle.ttcnx_runs.specs.Recalls.{AreKeys, FitsState}
+use Rattle.ttcnx_runs.specs.internal.Makes.{step_of}
+use Rattle.ttcnx_runs.specs.internal.Recalls.{AreKeys, FitsState}
 use Rattle.ttcnx_runs.specs.Remembered.{AreOutcomes, IsEffectWithin, led_to, shown, steps_of, without_front}
 use Rattle.ttcnx_runs.specs.Runs.{FitsRuns}
 use Rattle.ttcnx_runs.specs.Schemes.{IsMachine}
 use Rattle.search_ordinals.specs.Sparing.{IsEarly}
 use Rattle.ttcnx_runs.specs.internal.Apart.{AreApart}
-use Rattle.ttcnx_runs.specs.internal.Spared.{IsReached}
+use Rattle.ttcnx_runs.specs.internal.Spared.{AreFirstKeys, IsReached}
 use Rattle.ttcnx_runs.specs.declared.outcome.Effect.{Effect}
 use Rattle.ttcnx_runs.specs.declared.outcome.Effect.TheVariants as effect
 use Rattle.ttcnx_runs.specs.declared.outcome.Outcome.{Outcome}
@@ -110,6 +114,22 @@ module _ (machine : Machine) where
   saying-one is g h within other same =
       going-is (sym (code_of_config machine.lists machine.names is.lists is.names (config.Going g) within) ∙ ap (code_of machine.lists machine.names) same
       ∙ code_of_config machine.lists machine.names is.lists is.names (config.Going h) other)
+
+queues-seen : (qs : List Queue) → (read_list read_queue (spell_list spell_queue qs)).0 ≡ qs
+queues-seen qs =
+    ap (λ (bytes : List ℕ). (read_list read_queue bytes).0) (sym (append-nil (spell_list spell_queue qs)))
+    ∙ ap (λ (p : List Queue × List ℕ). p.0) (read-list-back spell_queue read_queue queue_back qs [])
+
+-- queues that are spelled alike are the same
+queues-tell : (qs rs : List Queue) → spell_list spell_queue qs ≡ spell_list spell_queue rs → qs ≡ rs
+queues-tell qs rs same = sym (queues-seen qs) ∙ ap (λ (bytes : List ℕ). (read_list read_queue bytes).0) same ∙ queues-seen rs
+
+-- a component sees the same, where no byte differs that tells what it sees
+pub key-of-bytes : (g h : Going) (at : ℕ) (c d : Component) → spell_outline g ≡ spell_outline h → spell_own c.verdict c.own ≡ spell_own d.verdict d.own → spell_list spell_queue c.queues ≡ spell_list spell_queue d.queues
+    → spell_key g at c ≡ spell_key h at d
+unfolding spell_key
+key-of-bytes g h at c d outlines owns queues =
+    (λ i. outlines i ++ spell_long at ++ owns i ++ spell_list spell_front (map front_at (queues-tell c.queues d.queues queues i)))
 
 -- behind a step of another component a component that stays sees the same
 key-left : (going : Going) (e : Effect) (j at : ℕ) (c : Component) → spell_key (going_behind e j going) at c ≡ spell_key going at c
@@ -252,17 +272,21 @@ component-at key all going at one keys below is =
     (here.0, here.1, some-is (sym (get-map key all at one (get-found all at one below is)) ∙ keys.each at here.0 here.1))
 
 module _ {A : Type 0} (machine : Machine) (key : A → List ℕ) (outcomes : A → List Outcome) (right : (a : A) → ∥ AreOutcomes machine (key a) (outcomes a) ∥₁)
-    (before : Going) (state : FitsState machine (config.Going before)) (known : List A) (keys : AreKeys before (map key known)) where
+    (before : Going) (state : FitsState machine (config.Going before)) (known : List A) (keys : AreFirstKeys before (map key known)) where
   live : IsLive (going_by (legend machine) before)
   live = live-of machine (config.Going before) before state refl
 
   -- the key of one at a place
   key-is : (at : ℕ) (one : List ℕ) (c : Component) → slice_get (map key known) at ≡ Some one → slice_get before.components at ≡ Some c → one ≡ spell_key before at c
-  key-is at one c there here = some-is (sym there ∙ keys.each at c here)
+  key-is at one c there here = some-is (sym there ∙ keys.each at c (get-within (map key known) at one there) here)
 
-  as-many : (at : ℕ) → before_those outcomes known at ≡ before_those (labels_at machine before) before.components at
-  as-many at =
-      as-many-before outcomes (labels_at machine before) known before.components at (keys-long key known before keys)
+  -- they are no more than there are components
+  no-more : length known ≤ length before.components
+  no-more = let long = length-map known key in let count = keys.count in omega (arith, long, count)
+
+  as-many : (at : ℕ) → at ≤ length known → before_those outcomes known at ≡ before_those (labels_at machine before) before.components at
+  as-many at within =
+      as-many-before outcomes (labels_at machine before) known before.components at within no-more
       (λ k one c there here. as-many-steps machine before k c (outcomes one) (outcomes-shown machine (key one) (outcomes one) (right one) before k c live here (key-is k (key one) c (get-map key known k one there) here)))
 
   known-step : (at : ℕ) (one : A) (c : Component) (n : ℕ) (o : Outcome) → slice_get before.components at ≡ Some c → key one ≡ spell_key before at c → slice_get (outcomes one) n ≡ Some o
@@ -283,13 +307,13 @@ late machine is key outcomes right before going nth known place e reached within
     all-by (λ o. AreApart place e o.effect → IsEarly (canonical_graph machine.test) (said machine (config.Going before)) nth (led_to machine going j d′ o.effect)) (outcomes one)
     (λ m b found apart.
     let step = reached.step in
-    let long = keys-long key known before reached.keys in
+    let long = no-more machine key outcomes right before reached.state known reached.keys in
     let below = slice_get_within known place step.one step.there in
     let mine = some-at before.components place (omega (arith, long, below)) in
     let theirs = some-at before.components j (omega (arith, long, below, less)) in
     let my-key : key step.one ≡ spell_key before place mine.0 = key-is machine key outcomes right before reached.state known reached.keys place (key step.one) mine.0 (get-map key known place step.one step.there) mine.1 in
     let their-key : key one ≡ spell_key before j theirs.0 = key-is machine key outcomes right before reached.state known reached.keys j (key one) theirs.0 same theirs.1 in
-    let many = as-many machine key outcomes right before reached.state known reached.keys place in
+    let many = as-many machine key outcomes right before reached.state known reached.keys place (omega (arith, below)) in
     let counted : nth ≡ before_those (labels_at machine before) before.components place + step.number = step.counted ∙ ap (λ (n : ℕ). n + step.number) many in
     subst (λ (n : ℕ). IsEarly (canonical_graph machine.test) (said machine (config.Going before)) n (led_to machine going j d′ b.effect)) (sym counted)
     (early machine is before going reached.state within place j mine.0 theirs.0 d′ (outcomes step.one) (outcomes one) step.number m step.outcome b

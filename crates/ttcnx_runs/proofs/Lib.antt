@@ -20,3 +20,4 @@ pub mod Commuting
 pub mod Numbering
 pub mod Late
 pub mod Zipped
+pub mod LastSteps

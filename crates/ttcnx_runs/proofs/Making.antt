@@ -42,7 +42,7 @@ use Rattle.ttcn_step.specs.Machines.{Machine, extent, legend, said}
 use Rattle.ttcn_step.specs.Telling.{sent_by}
 use Rattle.ttcn_step.specs.declared.telling.Sent as telling
 use Rattle.ttcnx_runs.proofs.SeenAlike.{all-alike, are-joined, changed-other, changed-said, joined-said, link-alike, look-alike, other-there, same-name, see-alike, sender_changed, sent-said, some-said}
-use Rattle.ttcnx_runs.specs.Makes.{EndsThere, Holds, IsAlone, IsEnding, IsFit, IsHere, IsMade, IsMadeOf, IsRemoved, IsSending, IsSent, LeadsTo, step_of}
+use Rattle.ttcnx_runs.specs.internal.Makes.{EndsThere, Holds, IsAlone, IsEnding, IsFit, IsHere, IsMade, IsMadeOf, IsRemoved, IsSending, IsSent, LeadsTo, step_of}
 use Rattle.ttcnx_runs.specs.Remembered.{CanJoin, joined_config, led_to, sent_going, shown, steps_of, without_front}
 use Rattle.ttcnx_runs.specs.declared.outcome.Effect.TheVariants as effect
 use Rattle.ttcnx_runs.specs.declared.outcome.Outcome.{Outcome}

@@ -1,5 +1,5 @@
 -- The numbers of labels, where the labels of one component come behind those of another one.
-use Rattle.std.proofs.Common.{◌≡◌, ℕ, zero, suc, ◌+◌, ◌<◌, arith, List, [], ◌∷◌, ◌++◌, map, take, length, Some, refl, sym, ap, subst, ◌∙◌}
+use Rattle.std.proofs.Common.{◌≡◌, ℕ, zero, suc, ◌+◌, ◌<◌, ◌≤◌, arith, List, [], ◌∷◌, ◌++◌, map, take, length, Some, refl, sym, ap, subst, ◌∙◌}
 use Rattle.std.proofs.lemmas.List.{length-append}
 use Rattle.std.specs.List.{Contains, flat_map}
 use Rattle.std.specs.Prelude.{slice_get}
@@ -95,17 +95,18 @@ module _ {A B : Type 0} (f : A → List B) where
   pub one-more : (xs : List A) (at : ℕ) (x : A) → slice_get xs at ≡ Some x → before_those xs (at + 1) ≡ before_those xs at + length (f x)
   one-more xs at x found = subst (λ k. before_those xs k ≡ before_those xs at + length (f x)) (let same : suc at ≡ at + 1 = omega arith in same) (next xs at x found)
 
--- as many come before, where the lists are as long
-pub as-many-before : {A B C D : Type 0} (f : A → List B) (h : C → List D) (xs : List A) (ys : List C) (at : ℕ) → length xs ≡ length ys
+-- as many come before, where one list has the items of the first part of the other one
+pub as-many-before : {A B C D : Type 0} (f : A → List B) (h : C → List D) (xs : List A) (ys : List C) (at : ℕ) → at ≤ length xs → length xs ≤ length ys
     → ((k : ℕ) (x : A) (y : C) → slice_get xs k ≡ Some x → slice_get ys k ≡ Some y → length (f x) ≡ length (h y)) → before_those f xs at ≡ before_those h ys at
-as-many-before f h [] [] zero long each = refl
-as-many-before f h [] [] (suc at) long each = refl
-as-many-before f h [] (y ∷ ys) at long each = absurd (let no = long in cc)
-as-many-before f h (x ∷ xs) [] at long each = absurd (let no = long in cc)
-as-many-before f h (x ∷ xs) (y ∷ ys) zero long each = refl
-as-many-before f h (x ∷ xs) (y ∷ ys) (suc at) long each =
+as-many-before f h [] [] zero within long each = refl
+as-many-before f h [] [] (suc at) within long each = refl
+as-many-before f h [] (y ∷ ys) zero within long each = refl
+as-many-before f h [] (y ∷ ys) (suc at) within long each = absurd (omega (arith, within))
+as-many-before f h (x ∷ xs) [] at within long each = absurd (omega (arith, long))
+as-many-before f h (x ∷ xs) (y ∷ ys) zero within long each = refl
+as-many-before f h (x ∷ xs) (y ∷ ys) (suc at) within long each =
     let here : length (f x) ≡ length (h y) = each 0 x y refl refl in
-    let rest = as-many-before f h xs ys at (let both = long in cc) (λ k a b one other. each (suc k) a b one other) in
+    let rest = as-many-before f h xs ys at (omega (arith, within)) (omega (arith, long)) (λ k a b one other. each (suc k) a b one other) in
     let many = longer f x xs at in
     let some = longer h y ys at in
     omega (arith, here, rest, many, some)

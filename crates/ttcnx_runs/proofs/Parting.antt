@@ -26,7 +26,7 @@ use Rattle.ttcn_step.specs.Machines.{Machine, extent, legend, said}
 use Rattle.ttcnx_runs.proofs.Making.{get-map}
 use Rattle.ttcnx_runs.proofs.SeenAlike.{changed-none, changed-said, sender-said, sender_changed, sent-said, unsent-said}
 use Rattle.ttcnx_runs.specs.Going.{GoesOn}
-use Rattle.ttcnx_runs.specs.Recalls.{active_in}
+use Rattle.ttcnx_runs.specs.internal.Recalls.{active_in}
 use Rattle.ttcnx_runs.specs.Remembered.{CanJoin, sent_going, without_front}
 use Rattle.ttcnx_runs.specs.declared.outcome.Sending.{Sending}
 

@@ -1,8 +1,8 @@
 -- What is recalled of all components is what the rules say of a configuration.
-use Rattle.std.proofs.Common.{◌≡◌, ℕ, zero, suc, ◌+◌, ◌<◌, arith, Bool, false, nat_lt, List, [], ◌∷◌, ◌++◌, map, take, length, get_or, Option, Some, refl, sym, ap, subst, ◌∙◌, if◌then◌else◌}
+use Rattle.std.proofs.Common.{◌≡◌, ℕ, zero, suc, ◌<◌, arith, Bool, false, nat_lt, List, [], ◌∷◌, ◌++◌, map, take, length, get_or, Option, Some, refl, sym, ap, subst, ◌∙◌, if◌then◌else◌}
 use Rattle.std.proofs.Math.Logic.{∥∥₁_elim}
 use Rattle.std.proofs.lemmas.Bool.{ltb-false}
-use Rattle.std.proofs.lemmas.List.{append-nil, append_assoc, length-map, map-append, map_push, take_more}
+use Rattle.std.proofs.lemmas.List.{append-nil, append_assoc, length-map, map-append, map_push}
 use Rattle.std.proofs.lemmas.List.Elements.{All-head, All-tail}
 use Rattle.std.specs.Coded.{Coded, Coded-set, Unit-prop, codes, le_prop}
 use Rattle.std.specs.List.{All, flat_map}
@@ -36,15 +36,15 @@ use Rattle.semantics.specs.Places.{branch_of}
 use Rattle.semantics.specs.Steps.{Label}
 use Rattle.ttcn_step.specs.Machines.{Fits, Machine, extent, legend, said}
 use Rattle.ttcnx_runs.proofs.Making.{after-is, get-map}
-use Rattle.ttcnx_runs.specs.Makes.{step_of}
-use Rattle.ttcnx_runs.specs.Recalls.{AreKeys, FitsState, active_in, has_steps}
+use Rattle.ttcnx_runs.specs.internal.Makes.{step_of}
+use Rattle.ttcnx_runs.specs.internal.Recalls.{AreKeys, FitsState, active_in, has_steps}
 use Rattle.ttcnx_runs.specs.Remembered.{AreOutcomes, CanJoin, IsEffectWithin, shown, steps_of}
 use Rattle.ttcnx_runs.specs.Runs.{FitsRuns}
 use Rattle.ttcnx_runs.specs.declared.outcome.Effect.{Effect}
 use Rattle.ttcnx_runs.specs.declared.outcome.Effect.TheVariants as effect
 use Rattle.ttcnx_runs.specs.declared.outcome.Outcome.{Outcome}
 use Rattle.ttcnx_runs.specs.declared.step.Step.{Step}
-use Rattle.ttcnx_runs.specs.WorkedOut.{IsStep}
+use Rattle.ttcnx_runs.specs.internal.WorkedOut.{IsStep}
 use Rattle.value_types.specs.declared.value.ComponentId.{ComponentId}
 
 -- ---- facts with one proof at most
@@ -103,13 +103,6 @@ if-some o a P holds is = subst (λ x. IfSome x P) is holds
 -- what holds of all elements holds of the one at a place
 pub one-of : {A : Type 0} (P : A → Type 0) (xs : List A) (at : ℕ) (x : A) → at < length xs → x ≡ get_or xs at x → All P xs → P x
 one-of P xs at x below is all = subst P (sym is) (all at x below)
-
--- one more element of a list is mapped
-pub mapped-more : {A B : Type 0} (f : A → B) (xs : List A) (i : ℕ) (x : A) (y : B) (start old new : List B) → i < length xs → x ≡ get_or xs i x → old ≡ start ++ map f (take i xs) → new ≡ old ++ y ∷ []
-    → y ≡ f x → new ≡ start ++ map f (take (i + 1) xs)
-mapped-more f xs i x y start old new below is before pushed same =
-    pushed ∙ ap (λ zs. zs ++ y ∷ []) before ∙ append_assoc start (map f (take i xs)) (y ∷ [])
-    ∙ ap (λ zs. start ++ zs) (ap (λ z. map f (take i xs) ++ z ∷ []) same ∙ sym (map_push f (take i xs) x) ∙ ap (map f) (ap (λ z. take i xs ++ z ∷ []) is ∙ sym (take_more xs i x below)))
 
 -- what is seen of two lists stays alike, where one more element of each is alike
 pub alike-pushed : {A B C : Type 0} (f : A → C) (h : B → C) (xs : List A) (x : A) (new : List A) (ys : List B) (y : B) → new ≡ xs ++ x ∷ [] → map f xs ≡ map h ys → f x ≡ h y → map f new ≡ map h (ys ++ y ∷ [])

@@ -19,9 +19,7 @@ use Rattle.ttcn_syntax.specs.declared.place.Span.{Span}
 use Rattle.ttcnx_runs.proofs.Recalled.{all-steps}
 use Rattle.ttcnx_runs.specs.Remembered.{steps_of}
 use Rattle.search_ordinals.specs.Sparing.{IsEarly, IsSparedAt}
-use Rattle.ttcnx_runs.specs.internal.Apart.{AreApart}
 use Rattle.ttcnx_runs.specs.internal.Spared.{IsLeft, IsSpared}
-use Rattle.ttcnx_runs.specs.declared.outcome.Effect.{Effect}
 
 -- one more step of a component
 pub zipped-more : {A S T : Type 0} (R : S → T → Type 0) (f : A → S) (xs : List A) (i : ℕ) (x : A) (y : T) (start : List S) (old new : List T) → i < length xs → x ≡ get_or xs i x
@@ -50,10 +48,10 @@ module _ {B : Type 0} (branch : rules.Configuration → Label → Option B) (g :
   none-spared (l ∷ ls) = ((refl, refl), none-spared ls)
 
 -- a state that is left out of those of a component is early
-pub one-left : {B : Type 0} (g : Graph rules.Configuration Label) (before : rules.Configuration) (nth : ℕ) (seen : Bool) (at : ℕ) (first second : Effect) (step : Option B × rules.Configuration) (b : Option B)
-    (after : Option rules.Configuration) → b ≡ step.0 → IsLeft seen at first second step.1 after → (seen ≡ true → AreApart at first second → IsEarly g before nth step.1) → IsSpared g before nth step (b, after)
-one-left g before nth seen at first second step b None branch left early = (branch, early left.0 left.1)
-one-left g before nth seen at first second step b (Some after) branch left early = (branch, left)
+pub one-left : {B : Type 0} (g : Graph rules.Configuration Label) (before : rules.Configuration) (nth : ℕ) (early : Bool) (step : Option B × rules.Configuration) (b : Option B) (after : Option rules.Configuration)
+    → b ≡ step.0 → IsLeft early step.1 after → (early ≡ true → IsEarly g before nth step.1) → IsSpared g before nth step (b, after)
+one-left g before nth early step b None branch left is = (branch, is left)
+one-left g before nth early step b (Some after) branch left is = (branch, left)
 
 -- what is spared of the steps of all components is spared of all labels, where no system port is mapped
 pub whole-spared : (machine : Machine) (before whole : Config) (b g : Going) (nth : ℕ) (ps : List (Option Span × Option rules.Configuration)) → before ≡ config.Going b → whole ≡ config.Going g → has_mappings g.links ≡ false

@@ -16,7 +16,4 @@ pub mod Extents
 pub mod Found
 pub mod Sums
 pub mod Remembered
-pub mod Recalls
-pub mod Makes
-pub mod WorkedOut
 pub mod internal

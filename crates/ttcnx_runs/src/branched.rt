@@ -10,14 +10,13 @@ ghost use Rattle.ttcn_step.specs.Answers.{IsSuccessor};
 ghost use Rattle.ttcn_step.specs.Machines.{Fits, said};
 ghost use Rattle.ttcnx_runs.specs.Runs.{FitsRuns};
 ghost use Rattle.search_ordinals.specs.Sparing.{IsSparedAt};
-ghost use Rattle.ttcnx_runs.specs.WorkedOut.{IsStep};
+ghost use Rattle.ttcnx_runs.specs.internal.WorkedOut.{IsStep};
 
 use crate::keys::BranchPlace;
-use crate::recalling::recalled_pairs;
 use crate::remembering::remember;
 use crate::runs::{Runs, state_of};
 use crate::scheme::Scheme;
-use crate::sparing::spared_pairs;
+use crate::sparing::recalled_pairs;
 use crate::state::State;
 use crate::step::Step;
 use search_ordinals::Branched;
@@ -73,7 +72,8 @@ fn pairs_of<K: Scheme>(
     Ok(pairs)
 }
 
-/// For each enabled label the branch that its step takes, if it takes one, and the state to which it leads.
+/// For each enabled label the branch that its step takes, if it takes one, and the state to which it leads, worked out and
+/// remembered.
 fn all_successors<K: Scheme>(
     runs: &Runs<'_, '_, K>,
     alloc: Global,
@@ -83,9 +83,6 @@ fn all_successors<K: Scheme>(
     ensures { IfOk result (λ pairs. pairs.items ≡ with_branch (rules.branch_of K.machine.test) (canonical_graph K.machine.test) state.now ((canonical_graph K.machine.test).enabled state.now)) }
 {
     let packed = &state.packed;
-    if let Some(pairs) = recalled_pairs(alloc, runs.machine, &runs.memory, packed)? {
-        return Ok(pairs);
-    }
     let config = unpack(alloc, packed)?;
     let found = runs.machine.successors(alloc, &config)?;
     let steps = steps_to(alloc, runs.machine, &config, found)?;
@@ -128,7 +125,7 @@ fn spared_successors<K: Scheme>(
     requires behind { (label : Label) × IsNth ((canonical_graph K.machine.test).enabled before.now) nth label × (state.now ≡ (canonical_graph K.machine.test).after before.now label) }
     ensures { IfOk result (λ found. AllZip (IsSparedAt (rules.branch_of K.machine.test) (canonical_graph K.machine.test) before.now nth state.now) ((canonical_graph K.machine.test).enabled state.now) found.items) }
 {
-    let spared = spared_pairs(
+    let recalled = recalled_pairs(
         alloc,
         runs.machine,
         &runs.memory,
@@ -136,7 +133,7 @@ fn spared_successors<K: Scheme>(
         nth,
         &state.packed,
     )?;
-    if let Some(pairs) = spared {
+    if let Some(pairs) = recalled {
         return Ok(pairs);
     }
     with_all_states(alloc, all_successors(runs, alloc, state)?)

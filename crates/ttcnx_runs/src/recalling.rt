@@ -11,7 +11,7 @@ ghost use Rattle.semantics.specs.Canonical.{canonical_graph};
 ghost use Rattle.semantics.specs.Labels.{labels};
 ghost use Rattle.semantics.specs.Places.{branch_of};
 ghost use Rattle.ttcn_step.specs.Machines.{Fits, said};
-ghost use Rattle.ttcnx_runs.specs.Recalls.{AreKeys, CanRecall, FitsState, has_steps};
+ghost use Rattle.ttcnx_runs.specs.internal.Recalls.{AreKeys, CanRecall, FitsState, has_steps};
 ghost use Rattle.ttcnx_runs.specs.Remembered.{IsEffectWithin, led_to, sent_going, shown, steps_of, without_front};
 ghost use Rattle.ttcnx_runs.specs.declared.outcome.Effect.TheVariants as effect;
 
@@ -203,56 +203,30 @@ impl<K: Scheme> Recall<'_, '_, '_, '_, '_, K> {
             Effect::Other(label) => next_state(self.alloc, self.machine, self.packed, label),
         }
     }
-
-    /// Adds what is remembered of the steps of the component at a place.
-    fn push_steps(
-        &self,
-        at: usize,
-        outcomes: &[Outcome],
-        pairs: &mut Vec<(Option<BranchPlace>, State<K>)>,
-    ) -> Result<(), AllocError>
-        requires is { self.now.machine.now ≡ K.machine }
-        requires can { CanRecall K.machine self.now.packed.now self.now.parts.now self.now.active }
-        requires here { (going : Going) → self.now.packed.now ≡ config.Going going → (component : Component) × (slice_get going.components at ≡ Some component) }
-        requires within { (going : Going) → self.now.packed.now ≡ config.Going going → All (λ outcome. IsEffectWithin K.machine going at outcome.effect) outcomes.now }
-        ensures { (going : Going) (component : Component) → self.now.packed.now ≡ config.Going going → slice_get going.components at ≡ Some component
-            → OnOk result (pairs.new.items ≡ pairs.old.items ++ map (shown K.machine going at component) outcomes.now) }
-    {
-        for outcome in outcomes {
-            let branch = copied(&outcome.branch);
-            let after = self.state_behind(at, &outcome.effect)?;
-            pairs.push((branch, after))?;
-        }
-        Ok(())
-    }
-
-    /// What is remembered of the steps of all components.
-    fn pairs_of(
-        &self,
-        all: &[&Remembered<K>],
-    ) -> Result<Vec<(Option<BranchPlace>, State<K>)>, AllocError>
-        requires is { self.now.machine.now ≡ K.machine }
-        requires can { CanRecall K.machine self.now.packed.now self.now.parts.now self.now.active }
-        requires keys { (going : Going) → self.now.packed.now ≡ config.Going going → AreKeys going (map (λ one. one.now.key.items) all.now) }
-        ensures { (going : Going) → self.now.packed.now ≡ config.Going going
-            → IfOk result (λ pairs. pairs.items ≡ flat_map (steps_of K.machine going) going.components) }
-    {
-        let mut pairs = Vec::new(self.alloc);
-        for at in 0..all.len() {
-            self.push_steps(at, all[at].outcomes.as_slice(), &mut pairs)?;
-        }
-        Ok(pairs)
-    }
 }
 
-/// How many bytes are asked for before a key is made: few need more.
-const KEY_ROOM: usize = 256;
+/// What is remembered of the component at a place. Its key is made in a buffer.
+pub(crate) fn recall_at<'m, K: Scheme>(
+    memory: &'m Memory<Remembered<K>>,
+    parts: &ConfigBytes<'_>,
+    key: &mut Vec<u8>,
+    at: usize,
+) -> Result<Option<&'m Remembered<K>>, AllocError>
+    requires { at < length parts.now.components.items }
+    ensures { (going : Going) (component : Component) → IsCut going parts.now → slice_get going.components at ≡ Some component
+        → IfOk result (λ found. IfSome found (λ one. one.now.key.items ≡ spell_key going at component)) }
+{
+    key.clear();
+    parts.put_key(key, at)?;
+    Ok(memory.find(key.as_slice()))
+}
 
 /// What is remembered of each component, where something is of all of them. Of a component that is the only one nothing is.
 pub(crate) fn recall_all<'m, K: Scheme>(
     alloc: Global,
     memory: &'m Memory<Remembered<K>>,
     parts: &ConfigBytes<'_>,
+    key: &mut Vec<u8>,
 ) -> Result<Option<Vec<&'m Remembered<K>>>, AllocError>
     ensures { (going : Going) → IsCut going parts.now → IfOk result (λ found. IfSome found (λ all. AreKeys going (map (λ one. one.now.key.items) all.items))) }
 {
@@ -260,11 +234,8 @@ pub(crate) fn recall_all<'m, K: Scheme>(
         return Ok(None);
     }
     let mut all = Vec::with_capacity(alloc, parts.components.len())?;
-    let mut key = Vec::with_capacity(alloc, KEY_ROOM)?;
     for at in 0..parts.components.len() {
-        key.clear();
-        parts.put_key(&mut key, at)?;
-        let Some(one) = memory.find(key.as_slice()) else {
+        let Some(one) = recall_at(memory, parts, key, at)? else {
             return Ok(None);
         };
         all.push(one)?;
@@ -283,41 +254,4 @@ pub(crate) fn active_among<K: Scheme>(all: &[&Remembered<K>]) -> usize
         }
     }
     count
-}
-
-/// For each enabled label the branch that its step takes, if it takes one, and the state to which it leads, where the steps of
-/// all components are remembered.
-pub(crate) fn recalled_pairs<K: Scheme>(
-    alloc: Global,
-    machine: &Machine<'_>,
-    memory: &Memory<Remembered<K>>,
-    packed: &Packed,
-) -> Result<Option<Vec<(Option<BranchPlace>, State<K>)>>, AllocError>
-    requires is { machine.now ≡ K.machine }
-    requires fits { FitsState K.machine packed.now }
-    ensures { IfOk result (λ found. IfSome found (λ pairs. pairs.items ≡ with_branch (branch_of K.machine.test) (canonical_graph K.machine.test) (said K.machine packed.now) (labels K.machine.test (said K.machine packed.now)))) }
-{
-    if memory.has_given_up() {
-        return Ok(None);
-    }
-    let Some(parts) = packed.parts(alloc)? else {
-        return Ok(None);
-    };
-    if parts.has_mappings {
-        return Ok(None);
-    }
-    let Some(all) = recall_all(alloc, memory, &parts)? else {
-        return Ok(None);
-    };
-    let recall = Recall {
-        alloc,
-        machine,
-        packed,
-        parts: &parts,
-        active: active_among(&all),
-        of: PhantomData,
-    };
-    let pairs = recall.pairs_of(&all)?;
-    memory.note_use(alloc)?;
-    Ok(Some(pairs))
 }

@@ -11,9 +11,9 @@ ghost use Rattle.config_parts.specs.declared.config.Going.{Going};
 ghost use Rattle.config_packed.specs.Pieces.{IsCut, spell_key};
 ghost use Rattle.laws_local.specs.Alone.{IsLive, is_of_path};
 ghost use Rattle.ttcn_step.specs.Machines.{Fits, extent, legend, said};
-ghost use Rattle.ttcnx_runs.specs.Makes.{EndsThere, IsAlone, IsEnding, IsFit, IsHere, IsMade, IsMadeOf, IsRemoved, IsSending, IsSent, LeadsTo};
-ghost use Rattle.ttcnx_runs.specs.WorkedOut.{AreSteps, IsStep};
-ghost use Rattle.ttcnx_runs.specs.Recalls.{FitsState};
+ghost use Rattle.ttcnx_runs.specs.internal.Makes.{EndsThere, IsAlone, IsEnding, IsFit, IsHere, IsMade, IsMadeOf, IsRemoved, IsSending, IsSent, LeadsTo};
+ghost use Rattle.ttcnx_runs.specs.internal.WorkedOut.{AreSteps, IsStep};
+ghost use Rattle.ttcnx_runs.specs.internal.Recalls.{FitsState};
 ghost use Rattle.ttcnx_runs.specs.Remembered.{AreOutcomes};
 
 use crate::keys::copied;

@@ -1,6 +1,8 @@
 -- What is left out of what is remembered of steps.
-use Rattle.std.specs.Prelude.{◌≡◌, ℕ, ◌+◌, Bool, true, List, Option, None, Some, length, map, slice_get, take}
+use Rattle.std.specs.Prelude.{◌≡◌, ℕ, ◌+◌, ◌<◌, ◌≤◌, Bool, true, List, Option, None, Some, length, map, slice_get, take}
 use Rattle.std.specs.List.{flat_map}
+use Rattle.config_packed.specs.Pieces.{spell_key}
+use Rattle.config_parts.specs.declared.component.Component.{Component}
 use Rattle.config_parts.specs.declared.config.Config.TheVariants as config
 use Rattle.config_parts.specs.declared.config.Going.{Going}
 use Rattle.search_ordinals.specs.Told.{IsNth}
@@ -10,9 +12,8 @@ use Rattle.semantics.specs.Labels.{labels}
 use Rattle.semantics.specs.Steps.{Label}
 use Rattle.summary.specs.Graph.{Graph}
 use Rattle.ttcn_step.specs.Machines.{Machine, said}
-use Rattle.ttcnx_runs.specs.Recalls.{AreKeys, FitsState}
+use Rattle.ttcnx_runs.specs.internal.Recalls.{FitsState}
 use Rattle.search_ordinals.specs.Sparing.{IsEarly}
-use Rattle.ttcnx_runs.specs.internal.Apart.{AreApart}
 use Rattle.ttcnx_runs.specs.declared.outcome.Effect.{Effect}
 use Rattle.ttcnx_runs.specs.declared.outcome.Outcome.{Outcome}
 
@@ -26,10 +27,15 @@ pub record IsStepAmong {A : Type 0} (outcomes : A → List Outcome) (all : List 
   pub is : outcome.effect ≡ effect
   pub counted : nth ≡ length (flat_map outcomes (take at all)) + number
 
--- a step with this effect, of the component at a place, leads from one configuration to another one; so many steps come before it, and this is what is remembered of the components before it
+-- the keys of the first components of a configuration, in their order
+pub record AreFirstKeys (going : Going) (keys : List (List ℕ)) : Type 0 where
+  pub count : length keys ≤ length going.components
+  pub each : (at : ℕ) (component : Component) → at < length keys → slice_get going.components at ≡ Some component → slice_get keys at ≡ Some (spell_key going at component)
+
+-- a step with this effect, of the component at a place, leads from one configuration to another one; so many steps come before it, and this is what is remembered of the first components before it
 pub record IsReached {A : Type 0} (machine : Machine) (key : A → List ℕ) (outcomes : A → List Outcome) (before : Going) (nth : ℕ) (known : List A) (at : ℕ) (effect : Effect) (going : Going) : Type 0 where
   pub state : FitsState machine (config.Going before)
-  pub keys : AreKeys before (map key known)
+  pub keys : AreFirstKeys before (map key known)
   pub step : IsStepAmong outcomes known nth at effect
   pub label : Label
   pub numbered : IsNth (labels machine.test (said machine (config.Going before))) nth label
@@ -40,7 +46,7 @@ abbrev pub IsSpared : {B : Type 0} → Graph rules.Configuration Label → rules
 IsSpared g before nth step (b, Some after) = (b ≡ step.0) × (after ≡ step.1)
 IsSpared g before nth step (b, None) = (b ≡ step.0) × IsEarly g before nth step.1
 
--- a state to which a step leads; none where the step is apart from the last one, before which its component saw the same
-abbrev pub IsLeft : Bool → ℕ → Effect → Effect → rules.Configuration → Option rules.Configuration → Type 0
-IsLeft seen at first second after None = (seen ≡ true) × AreApart at first second
-IsLeft seen at first second after (Some state) = state ≡ after
+-- a state to which a step leads, or none where it is early
+abbrev pub IsLeft : Bool → rules.Configuration → Option rules.Configuration → Type 0
+IsLeft early after None = early ≡ true
+IsLeft early after (Some state) = state ≡ after

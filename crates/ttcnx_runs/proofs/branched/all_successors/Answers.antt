@@ -9,10 +9,10 @@ use Rattle.semantics.specs.Labels.{labels}
 use Rattle.ttcn_step.specs.Answers.{IsSuccessor}
 use Rattle.ttcn_step.specs.Machines.{Fits, Machine, said}
 use Rattle.ttcn_syntax.specs.declared.place.Span.{Span}
-use Rattle.ttcnx_runs.proofs.Recalled.{if-some, machine-fits, state-fits, steps-lead}
+use Rattle.ttcnx_runs.proofs.Recalled.{machine-fits, state-fits, steps-lead}
 use Rattle.ttcnx_runs.proofs.branched.all_successors.Goals as goal
-use Rattle.ttcnx_runs.specs.Recalls.{FitsState}
-use Rattle.ttcnx_runs.specs.WorkedOut.{AreSteps}
+use Rattle.ttcnx_runs.specs.internal.Recalls.{FitsState}
+use Rattle.ttcnx_runs.specs.internal.WorkedOut.{AreSteps}
 
 pub returns : goal.returns
 returns g c =
@@ -28,18 +28,6 @@ returns g c =
     ∙ ap (with_branch (branch_of machine.test) (canonical_graph machine.test) (said machine config)) enabled
     ∙ ap (λ (s : Configuration). with_branch (branch_of machine.test) (canonical_graph machine.test) s (labels machine.test s)) state)
     c.pairs_of.ensures
-
-pub returns-in-Some : goal.returns-in-Some
-returns-in-Some g c =
-    let machine = g.K.Scheme.machine in
-    let packed : Config = c.state.inside.packed in
-    if-some c.in_ok-pairs.field-0 c.in-Some.pairs
-    (λ pairs. pairs.items ≡ with_branch (branch_of machine.test) (canonical_graph machine.test) (said machine packed) (labels machine.test (said machine packed)))
-    c.in_ok-pairs.ensures c.in-Some.is
-    ∙ ap (λ (s : Configuration). with_branch (branch_of machine.test) (canonical_graph machine.test) s (labels machine.test s)) c.state.view_is
-
-pub recalled_pairs-requires-clause-fits : goal.recalled_pairs-requires-clause-fits
-recalled_pairs-requires-clause-fits g c = state-fits g.K.Scheme.machine c.state.inside.packed c.args.state.now c.state.invariant.1 c.state.view_is c.requires
 
 pub steps_to-requires-clause-fits : goal.steps_to-requires-clause-fits
 steps_to-requires-clause-fits g c =
@@ -61,9 +49,6 @@ remember-requires-clause-steps g c =
     let enabled : map (λ step. step.label) c.in_ok-steps.steps.items ≡ labels machine.test (said machine config) =
     c.in_ok-steps.ensures.labels ∙ subst (λ (m : Machine). map (λ s. s.label) c.in_ok-found.found.items ≡ labels m.test (said m config)) c.args.runs.now.is c.in_ok-found.ensures.labels in
     subst (AreSteps machine config) (sym c.as_slice.ensures.value) (record { enabled = enabled; each = c.in_ok-steps.ensures.each })
-
-pub recalled_pairs-requires-clause-is : goal.recalled_pairs-requires-clause-is
-recalled_pairs-requires-clause-is g c = c.args.runs.now.is
 
 pub steps_to-requires-clause-is : goal.steps_to-requires-clause-is
 steps_to-requires-clause-is g c = c.args.runs.now.is

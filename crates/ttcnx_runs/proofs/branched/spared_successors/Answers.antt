@@ -20,9 +20,9 @@ returns-in-Some g c =
     let before : Config = c.before-2.inside.packed in
     subst (λ (s : rules.Configuration). AllZip (IsSparedAt (branch_of machine.test) (canonical_graph machine.test) s c.args.nth c.args.state.now) (labels machine.test c.args.state.now) c.in-Some.pairs.items) c.before-2.view_is
     (subst (λ (s : rules.Configuration). AllZip (IsSparedAt (branch_of machine.test) (canonical_graph machine.test) (said machine before) c.args.nth s) (labels machine.test s) c.in-Some.pairs.items) c.state.view_is
-    (if-some c.in_ok-spared.spared c.in-Some.pairs
+    (if-some c.in_ok-recalled.recalled c.in-Some.pairs
     (λ pairs. AllZip (IsSparedAt (branch_of machine.test) (canonical_graph machine.test) (said machine before) c.args.nth (said machine state)) (labels machine.test (said machine state)) pairs.items)
-    c.in_ok-spared.ensures c.in-Some.is))
+    c.in_ok-recalled.ensures c.in-Some.is))
 
 pub returns : goal.returns
 returns g c =
@@ -34,17 +34,17 @@ returns g c =
     (sym (is ∙ ap (map (λ pair. (pair.0, Some pair.1))) c.in_ok-all_successors.ensures))
     (none-spared (branch_of machine.test) (canonical_graph machine.test) c.args.before.now c.args.nth c.args.state.now (labels machine.test c.args.state.now)))
 
-pub spared_pairs-requires-clause-fits : goal.spared_pairs-requires-clause-fits
-spared_pairs-requires-clause-fits g c = state-fits g.K.Scheme.machine c.state.inside.packed c.args.state.now c.state.invariant.1 c.state.view_is c.requires.fits.0
+pub recalled_pairs-requires-clause-fits : goal.recalled_pairs-requires-clause-fits
+recalled_pairs-requires-clause-fits g c = state-fits g.K.Scheme.machine c.state.inside.packed c.args.state.now c.state.invariant.1 c.state.view_is c.requires.fits.0
 
-pub spared_pairs-requires-clause-fits_before : goal.spared_pairs-requires-clause-fits_before
-spared_pairs-requires-clause-fits_before g c = state-fits g.K.Scheme.machine c.before-2.inside.packed c.args.before.now c.before-2.invariant.1 c.before-2.view_is c.requires.fits.1
+pub recalled_pairs-requires-clause-fits_before : goal.recalled_pairs-requires-clause-fits_before
+recalled_pairs-requires-clause-fits_before g c = state-fits g.K.Scheme.machine c.before-2.inside.packed c.args.before.now c.before-2.invariant.1 c.before-2.view_is c.requires.fits.1
 
-pub spared_pairs-requires-clause-is : goal.spared_pairs-requires-clause-is
-spared_pairs-requires-clause-is g c = c.args.runs.now.is
+pub recalled_pairs-requires-clause-is : goal.recalled_pairs-requires-clause-is
+recalled_pairs-requires-clause-is g c = c.args.runs.now.is
 
-pub spared_pairs-requires-clause-behind : goal.spared_pairs-requires-clause-behind
-spared_pairs-requires-clause-behind g c =
+pub recalled_pairs-requires-clause-behind : goal.recalled_pairs-requires-clause-behind
+recalled_pairs-requires-clause-behind g c =
     let machine = g.K.Scheme.machine in
     let behind = c.requires.behind in
     let state : Config = c.state.inside.packed in

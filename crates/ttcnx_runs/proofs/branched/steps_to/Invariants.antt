@@ -1,7 +1,7 @@
 use Rattle.std.proofs.Common.{◌≡◌, map}
 use Rattle.std.specs.List.{All}
 use Rattle.ttcnx_runs.proofs.branched.steps_to.Given as goal
-use Rattle.ttcnx_runs.specs.WorkedOut.{IsStep}
+use Rattle.ttcnx_runs.specs.internal.WorkedOut.{IsStep}
 
 abbrev pub invariant-loop-label : goal.invariant-loop-label
 invariant-loop-label g l = record {

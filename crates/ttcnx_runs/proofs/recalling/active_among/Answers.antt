@@ -2,7 +2,7 @@ use Rattle.std.proofs.Common.{arith, sym, ◌∙◌}
 use Rattle.ttcnx_runs.proofs.Gathering.{have-none, have-steps, none-more, one-more}
 use Rattle.ttcnx_runs.proofs.recalling.active_among.Goals as goal
 use Rattle.ttcnx_runs.proofs.recalling.active_among.Goals.{else-not-is_empty, then-not-is_empty}
-use Rattle.ttcnx_runs.specs.Recalls.{has_steps}
+use Rattle.ttcnx_runs.specs.internal.Recalls.{has_steps}
 
 pub loop-one-preserved : goal.loop-one-preserved
 loop-one-preserved g c =

@@ -1,7 +1,7 @@
 use Rattle.std.proofs.Common.{◌≡◌, ◌≤◌, take}
 use Rattle.laws_local.specs.Alone.{how_many}
 use Rattle.ttcnx_runs.proofs.recalling.active_among.Given as goal
-use Rattle.ttcnx_runs.specs.Recalls.{has_steps}
+use Rattle.ttcnx_runs.specs.internal.Recalls.{has_steps}
 
 abbrev pub invariant-loop-one : goal.invariant-loop-one
 invariant-loop-one g l = record {

@@ -6,7 +6,7 @@ use Rattle.semantics.specs.Configurations as rules
 use Rattle.ttcn_step.specs.Machines.{Machine, said}
 use Rattle.ttcnx_runs.proofs.Making.{IsEnded, fit-ended, made-alone, made-ended, made-sending, told-of}
 use Rattle.ttcnx_runs.proofs.remembering.effect_of.Goals as goal
-use Rattle.ttcnx_runs.specs.Makes.{EndsThere, IsAlone, IsHere, IsSent, LeadsTo}
+use Rattle.ttcnx_runs.specs.internal.Makes.{EndsThere, IsAlone, IsHere, IsSent, LeadsTo}
 use Rattle.ttcnx_runs.specs.declared.outcome.Sending.{Sending}
 use Rattle.semantics.specs.Steps.{Label}
 use Rattle.config_parts.specs.declared.component.Component.{Component}

@@ -4,7 +4,7 @@ use Rattle.laws_local.specs.Alone.{is_of_path}
 use Rattle.ttcnx_runs.proofs.Making.{all-steps, here-of, none-more, one-more, steps-are}
 use Rattle.ttcnx_runs.proofs.remembering.outcomes_at.Goals as goal
 use Rattle.ttcnx_runs.proofs.remembering.outcomes_at.Goals.{then-is_of+in_ok-outcome_of+in_ok-push, else-is_of}
-use Rattle.ttcnx_runs.specs.Makes.{step_of}
+use Rattle.ttcnx_runs.specs.internal.Makes.{step_of}
 use Rattle.ttcnx_runs.specs.Remembered.{IsEffectWithin, shown}
 use Rattle.value_types.specs.declared.path.Path.{Path}
 

@@ -8,7 +8,7 @@ use Rattle.config_parts.specs.declared.config.Going.{Going}
 use Rattle.laws_local.specs.Alone.{IsLive, is_of_path}
 use Rattle.ttcn_step.specs.Machines.{legend}
 use Rattle.ttcnx_runs.proofs.remembering.outcomes_at.Given as goal
-use Rattle.ttcnx_runs.specs.Makes.{Holds, step_of}
+use Rattle.ttcnx_runs.specs.internal.Makes.{Holds, step_of}
 use Rattle.ttcnx_runs.specs.Remembered.{IsEffectWithin, shown}
 
 abbrev pub invariant-loop-step : goal.invariant-loop-step

@@ -3,7 +3,7 @@ use Rattle.config_parts.specs.declared.component.Component.{Component}
 use Rattle.ttcnx_runs.proofs.Making.{if-some, sent-is}
 use Rattle.ttcnx_runs.proofs.Parts.{if-ok}
 use Rattle.ttcnx_runs.proofs.remembering.sending_at.Goals as goal
-use Rattle.ttcnx_runs.specs.Makes.{IsSending}
+use Rattle.ttcnx_runs.specs.internal.Makes.{IsSending}
 
 pub returns-in-Reaches : goal.returns-in-Reaches
 returns-in-Reaches c =

@@ -10,8 +10,8 @@ use Rattle.ttcnx_runs.proofs.sparing.pairs_behind.Goals as goal
 use Rattle.ttcnx_runs.specs.Remembered.{shown, steps_of}
 use Rattle.ttcnx_runs.specs.internal.Spared.{IsSpared}
 
-pub push_spared-requires-clause-here : goal.push_spared-requires-clause-here
-push_spared-requires-clause-here g c going is =
+pub push_recalled-requires-clause-here : goal.push_recalled-requires-clause-here
+push_recalled-requires-clause-here g c going is =
     component-at (λ one. one.now.key.items) c.args.all.now going c.loop-at.at c.index-all-at.result (c.requires.keys going is) c.loop-at-test.true c.index-all-at.is
 
 pub loop-at-preserved : goal.loop-at-preserved
@@ -23,10 +23,10 @@ loop-at-preserved g c before going nth is reached =
     let live = live-of machine c.args.recall.now.packed.now going c.requires.can.state is in
     let steps : map (shown machine going at here.0) one.outcomes.items ≡ steps_of machine going here.0 = outcomes-shown machine one.key.items one.outcomes.items one.right going at here.0 live here.1 here.2 in
     let next : suc at ≡ at + 1 = omega arith in
-    subst (λ ss. AllZip (IsSpared (canonical_graph machine.test) (said machine (config.Going before)) nth) ss c.push_spared.new.pairs.items)
+    subst (λ ss. AllZip (IsSpared (canonical_graph machine.test) (said machine (config.Going before)) nth) ss c.push_recalled.new.pairs.items)
     (ap (λ zs. flat_map (steps_of machine going) (take at going.components) ++ zs) steps ∙ one-more (steps_of machine going) going.components at here.0 here.1
     ∙ ap (λ (n : ℕ). flat_map (steps_of machine going) (take n going.components)) next)
-    (c.in_ok-push_spared.ensures before going nth here.0 (flat_map (steps_of machine going) (take at going.components)) is here.1 reached (c.loop-at.invariant before going nth is reached))
+    (c.in_ok-push_recalled.ensures before going nth here.0 (flat_map (steps_of machine going) (take at going.components)) is here.1 reached (c.loop-at.invariant before going nth is reached))
 
 pub returns : goal.returns
 returns g c before going nth is reached =

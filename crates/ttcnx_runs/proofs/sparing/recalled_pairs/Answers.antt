@@ -1,4 +1,5 @@
 use Rattle.std.proofs.Common.{◌≡◌, ap, map, subst, sym, ◌∙◌}
+use Rattle.std.specs.Prelude.{IfSome}
 use Rattle.config_packed.specs.Pieces.{IsCut}
 use Rattle.config_parts.specs.Legend.{going_by}
 use Rattle.config_parts.specs.declared.config.Config.{Config}
@@ -9,12 +10,13 @@ use Rattle.search_ordinals.specs.Told.{IsNth}
 use Rattle.semantics.specs.Canonical.{canonical_graph}
 use Rattle.semantics.specs.Labels.{labels}
 use Rattle.ttcn_step.specs.Machines.{legend, said}
+use Rattle.ttcnx_runs.proofs.LastSteps.{some-as}
 use Rattle.ttcnx_runs.proofs.Parting.{parts-going}
 use Rattle.ttcnx_runs.proofs.Recalled.{active-recalled, if-some, live-of}
 use Rattle.ttcnx_runs.proofs.Zipped.{whole-spared}
-use Rattle.ttcnx_runs.proofs.sparing.spared_pairs.Goals as goal
-use Rattle.ttcnx_runs.specs.Recalls.{AreKeys, FitsState, active_in, has_steps}
-use Rattle.ttcnx_runs.specs.internal.Spared.{IsReached, IsStepAmong}
+use Rattle.ttcnx_runs.proofs.sparing.recalled_pairs.Goals as goal
+use Rattle.ttcnx_runs.specs.internal.Recalls.{AreKeys, FitsState, active_in, has_steps}
+use Rattle.ttcnx_runs.specs.internal.Spared.{IsReached}
 
 going-is : {a b : Going} → config.Going a ≡ config.Going b → a ≡ b
 going-is e = cc
@@ -22,35 +24,39 @@ going-is e = cc
 pub returns : goal.returns
 returns g c =
     let machine = g.K.Scheme.machine in
-    let whole = parts-going c.args.packed.now c.in_ok-parts.field-0 c.in-Some-3.parts c.in_ok-parts.ensures c.in-Some-3.is in
-    let earlier = parts-going c.args.before.now c.in_ok-parts_before.field-0 c.in-Some.parts_before c.in_ok-parts_before.ensures c.in-Some.is in
+    let whole = parts-going c.args.packed.now c.in_ok-parts.field-0 c.in-Some.parts c.in_ok-parts.ensures c.in-Some.is in
+    let earlier = parts-going c.args.before.now c.in_ok-parts_before.field-0 c.in-Some-2.parts_before c.in_ok-parts_before.ensures c.in-Some-2.is in
     let before : Going = earlier.0 in
-    let known = c.in-Some-2.known.items in
-    let keys : AreKeys before (map (λ one. one.now.key.items) known) =
-    if-some c.in_ok-known.field-0 c.in-Some-2.known (λ all. AreKeys before (map (λ one. one.now.key.items) all.items)) (c.in_ok-known.ensures before earlier.2) c.in-Some-2.is in
     let behind = c.requires.behind in
-    let step = c.in-Some-step_among in
-    let reached : IsReached machine (λ one. one.now.key.items) (λ one. one.now.outcomes.items) before c.args.nth c.deref-2.result.now step.at step.effect.now whole.0 = record {
+    let reached : IfSome c.in_ok-last.last
+    (λ last. IsReached machine (λ one. one.now.key.items) (λ one. one.now.outcomes.items) before c.args.nth last.known.items last.at last.effect.now whole.0) =
+    some-as c.in_ok-last.last _ _
+    (λ last made. record {
       state = subst (FitsState machine) earlier.1 c.requires.fits_before;
-      keys = subst (λ all. AreKeys before (map (λ one. one.now.key.items) all)) (sym c.deref-2.ensures.value) keys;
-      step = subst (λ all. IsStepAmong (λ one. one.now.outcomes.items) all c.args.nth step.at step.effect.now) (c.deref.ensures.value ∙ sym c.deref-2.ensures.value) step.ensures;
+      keys = made.0;
+      step = made.1;
       label = behind.0;
       numbered = subst (λ (s : Config). IsNth (labels machine.test (said machine s)) c.args.nth behind.0) earlier.1 behind.1;
       leads = ap (said machine) (sym whole.1) ∙ behind.2 ∙ ap (λ (s : Config). (canonical_graph machine.test).after (said machine s) behind.0) earlier.1;
-    } in
+    }) (c.in_ok-last.ensures before whole.0 earlier.2 whole.2) in
     whole-spared machine c.args.before.now c.args.packed.now before whole.0 c.args.nth c.in_ok-pairs.pairs.items earlier.1 whole.1 (sym whole.2.mappings ∙ c.if-parts.false)
     (c.in_ok-pairs.ensures before whole.0 c.args.nth whole.1 reached)
+
+pub last_step-requires : goal.last_step-requires
+last_step-requires g c going cut =
+    subst (λ xs. AreKeys going (map (λ one. one.now.key.items) xs)) (sym c.deref.ensures.value)
+    (if-some c.in_ok-all.field-0 c.in-Some-3.all (λ all. AreKeys going (map (λ one. one.now.key.items) all.items)) (c.in_ok-all.ensures going cut) c.in-Some-3.is)
 
 pub pairs_behind-requires-clause-can : goal.pairs_behind-requires-clause-can
 pairs_behind-requires-clause-can g c =
     let machine = g.K.Scheme.machine in
-    let whole = parts-going c.args.packed.now c.in_ok-parts.field-0 c.in-Some-3.parts c.in_ok-parts.ensures c.in-Some-3.is in
+    let whole = parts-going c.args.packed.now c.in_ok-parts.field-0 c.in-Some.parts c.in_ok-parts.ensures c.in-Some.is in
     let going = whole.0 in
-    let all = c.in-Some-4.all.items in
-    let keys : AreKeys going (map (λ one. one.now.key.items) all) = if-some c.in_ok-all.field-0 c.in-Some-4.all (λ all. AreKeys going (map (λ one. one.now.key.items) all.items)) (c.in_ok-all.ensures going whole.2) c.in-Some-4.is in
+    let all = c.in-Some-3.all.items in
+    let keys : AreKeys going (map (λ one. one.now.key.items) all) = if-some c.in_ok-all.field-0 c.in-Some-3.all (λ all. AreKeys going (map (λ one. one.now.key.items) all.items)) (c.in_ok-all.ensures going whole.2) c.in-Some-3.is in
     let live = live-of machine c.args.packed.now going c.requires.fits whole.1 in
     let many : c.active_among.result ≡ active_in machine (going_by (legend machine) going) =
-    c.active_among.ensures ∙ ap (how_many (λ one. has_steps one.now.outcomes.items)) c.deref-3.ensures.value
+    c.active_among.ensures ∙ ap (how_many (λ one. has_steps one.now.outcomes.items)) c.deref-2.ensures.value
     ∙ active-recalled machine (λ one. one.now.key.items) (λ one. one.now.outcomes.items) (λ one. one.now.right) all going live keys in
     record {
       going = going;
@@ -62,7 +68,7 @@ pairs_behind-requires-clause-can g c =
 
 pub pairs_behind-requires-clause-keys : goal.pairs_behind-requires-clause-keys
 pairs_behind-requires-clause-keys g c going is =
-    let whole = parts-going c.args.packed.now c.in_ok-parts.field-0 c.in-Some-3.parts c.in_ok-parts.ensures c.in-Some-3.is in
-    let cut : IsCut going c.in-Some-3.parts = subst (λ (w : Going). IsCut w c.in-Some-3.parts) (going-is (sym whole.1 ∙ is)) whole.2 in
-    subst (λ xs. AreKeys going (map (λ one. one.now.key.items) xs)) (sym c.deref-4.ensures.value)
-    (if-some c.in_ok-all.field-0 c.in-Some-4.all (λ all. AreKeys going (map (λ one. one.now.key.items) all.items)) (c.in_ok-all.ensures going cut) c.in-Some-4.is)
+    let whole = parts-going c.args.packed.now c.in_ok-parts.field-0 c.in-Some.parts c.in_ok-parts.ensures c.in-Some.is in
+    let cut : IsCut going c.in-Some.parts = subst (λ (w : Going). IsCut w c.in-Some.parts) (going-is (sym whole.1 ∙ is)) whole.2 in
+    subst (λ xs. AreKeys going (map (λ one. one.now.key.items) xs)) (sym c.deref-3.ensures.value)
+    (if-some c.in_ok-all.field-0 c.in-Some-3.all (λ all. AreKeys going (map (λ one. one.now.key.items) all.items)) (c.in_ok-all.ensures going cut) c.in-Some-3.is)

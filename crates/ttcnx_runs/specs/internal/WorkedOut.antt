@@ -6,7 +6,7 @@ use Rattle.semantics.specs.Configurations as rules
 use Rattle.semantics.specs.Labels.{labels}
 use Rattle.semantics.specs.Places.{branch_of}
 use Rattle.ttcn_step.specs.Machines.{Machine, said}
-use Rattle.ttcnx_runs.specs.Makes.{LeadsTo}
+use Rattle.ttcnx_runs.specs.internal.Makes.{LeadsTo}
 use Rattle.ttcnx_runs.specs.declared.step.Step.{Step}
 
 -- a label with the branch that its step takes from a configuration, and the state to which it leads
