@@ -1,5 +1,5 @@
 //! A system with ordinals in place of labels.
-ghost use Rattle.std.specs.Prelude.{◌≡◌, ◌∷◌, [], IfOk, map};
+ghost use Rattle.std.specs.Prelude.{◌≡◌};
 ghost use Rattle.search_ordinals.specs.OrdinalLaws.{holds_behind, ordinals_ascend};
 ghost use Rattle.search_ordinals.specs.Ordinals.{ordinal_graph};
 

@@ -7,7 +7,7 @@ ghost use Rattle.semantics.specs.Canonical.{canonical_graph};
 ghost use Rattle.semantics.specs.Places as rules;
 ghost use Rattle.semantics.specs.Steps.{Label};
 ghost use Rattle.ttcn_step.specs.Answers.{IsSuccessor};
-ghost use Rattle.ttcn_step.specs.Machines.{Fits, said};
+ghost use Rattle.ttcn_step.specs.Machines.{Fits};
 ghost use Rattle.ttcnx_runs.specs.Runs.{FitsRuns};
 ghost use Rattle.search_ordinals.specs.Sparing.{IsSparedAt};
 ghost use Rattle.ttcnx_runs.specs.internal.WorkedOut.{IsStep};

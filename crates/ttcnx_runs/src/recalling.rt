@@ -1,22 +1,18 @@
-//! Successors from what is remembered of each component, without unpacking the configuration.
-ghost use Rattle.std.specs.Prelude.{◌≡◌, ◌++◌, ◌<◌, ◌≤◌, ◌↔◌, ◌∷◌, [], ℕ, IfOk, IfSome, IsTrue, OnOk, Some, length, map, slice_get};
-ghost use Rattle.std.specs.List.{All, flat_map};
-ghost use Rattle.config_packed.specs.Pieces.{AreJoined, AreParts, IsCut, changed_going, joined_going, spell_key};
+//! What is remembered of components, and the states to which their steps lead, without unpacking the configuration.
+ghost use Rattle.std.specs.Prelude.{◌≡◌, ◌<◌, IfOk, IfSome, Some, length, map, slice_get};
+ghost use Rattle.config_packed.specs.Pieces.{AreJoined, IsCut, changed_going, joined_going, spell_key};
 ghost use Rattle.config_parts.specs.declared.component.Component.{Component};
 ghost use Rattle.config_parts.specs.declared.config.Config.TheVariants as config;
 ghost use Rattle.config_parts.specs.declared.config.Going.{Going};
 ghost use Rattle.laws_local.specs.Alone.{how_many};
-ghost use Rattle.search_ordinals.specs.Ordinals.{with_branch};
 ghost use Rattle.semantics.specs.Canonical.{canonical_graph};
 ghost use Rattle.semantics.specs.Labels.{labels};
-ghost use Rattle.semantics.specs.Places.{branch_of};
-ghost use Rattle.ttcn_step.specs.Machines.{Fits, said};
+ghost use Rattle.ttcn_step.specs.Machines.{said};
 ghost use Rattle.ttcnx_runs.specs.internal.Recalls.{AreKeys, CanRecall, FitsState, has_steps};
-ghost use Rattle.ttcnx_runs.specs.Remembered.{IsEffectWithin, led_to, sent_going, shown, steps_of, without_front};
+ghost use Rattle.ttcnx_runs.specs.Remembered.{IsEffectWithin, led_to, sent_going, without_front};
 ghost use Rattle.ttcnx_runs.specs.declared.outcome.Effect.TheVariants as effect;
 
-use crate::keys::{BranchPlace, copied};
-use crate::outcome::{Effect, Outcome, Sending};
+use crate::outcome::{Effect, Sending};
 use crate::remembered::Remembered;
 use crate::runs::state_of;
 use crate::scheme::Scheme;

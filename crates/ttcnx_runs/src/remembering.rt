@@ -1,6 +1,5 @@
 //! What is to be remembered of the steps of components.
-ghost use Rattle.std.specs.Prelude.{◌≡◌, ℕ, IfOk, IfSome, List, OnOk, Some, map, slice_get, take, true};
-ghost use Rattle.std.specs.List.{All, filter};
+ghost use Rattle.std.specs.Prelude.{◌≡◌, IfOk, IfSome, Some, slice_get, true};
 ghost use Rattle.std.specs.Option.{option_map};
 ghost use Rattle.config_parts.specs.Acts.{request_by};
 ghost use Rattle.config_parts.specs.Legend.{Legend, going_by};

@@ -1,16 +1,14 @@
 //! The runs of a test case, as a system.
-ghost use Rattle.std.specs.Prelude.{◌≡◌, IfOk, Contains, map};
+ghost use Rattle.std.specs.Prelude.{◌≡◌, IfOk, map};
 ghost use Rattle.std.specs.List.{All};
 ghost use Rattle.ttcnx_runs.specs.Laws.{after-fits, ascending, first-fits, marks-below};
 ghost use Rattle.ttcnx_runs.specs.Runs.{FitsRuns};
-ghost use Rattle.ttcnx_runs.specs.Schemes.{IsMachine};
 ghost use Rattle.ttcnx_runs.specs.SameConfigurations.{configuration_one};
 ghost use Rattle.semantics.specs.Canonical.{canonical_graph};
 ghost use Rattle.semantics.specs.Configurations.{badness};
 ghost use Rattle.semantics.specs.LiveParts.{live_part};
 ghost use Rattle.config_parts.specs.Legend.{config_by};
-ghost use Rattle.config_parts.specs.Views.{IsConfigWithin};
-ghost use Rattle.ttcn_step.specs.Machines.{Fits, extent, legend, said};
+ghost use Rattle.ttcn_step.specs.Machines.{Fits, legend, said};
 
 use crate::remembered::Remembered;
 use crate::scheme::Scheme;
@@ -21,7 +19,7 @@ use std::marker::PhantomData;
 use step_labels::Label;
 use summary::System;
 use ttcn_config::{Config, canon_owned, pack, unpack};
-use ttcn_step::{Machine, StepError, Successor};
+use ttcn_step::{Machine, Successor};
 use ttcn_syntax::Verdict;
 
 /// How many components are remembered at most, each as it sees something else, before that was of use.

@@ -1,5 +1,5 @@
 //! Runs to places of a test case, and to blocks.
-ghost use Rattle.std.specs.Prelude.{◌≡◌, ◌↔◌, [], false, IfOk, IsErrOf, OnOk, map};
+ghost use Rattle.std.specs.Prelude.{◌≡◌, ◌↔◌, false, IfOk, IsErrOf, OnOk, map};
 ghost use Rattle.search_layer.specs.Limits.{IsWithinLimits};
 ghost use Rattle.semantics.specs.Labels.{labels};
 ghost use Rattle.semantics.specs.Places as rules;

@@ -1,5 +1,4 @@
 //! What steps of a test case are of, where a bound is on expiries.
-ghost use Rattle.std.specs.Prelude.{◌≡◌};
 ghost use Rattle.laws_bounds.specs.BoundedParts.{kind_of};
 
 use crate::runs::Runs;
