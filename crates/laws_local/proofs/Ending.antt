@@ -90,7 +90,7 @@ over-in-seen : (p : Path) (xs : List Component) → over_in xs p ≡ over-seen p
 over-in-seen p [] = refl
 over-in-seen p (x ∷ xs) = over-first (same_path (path_of x) p) x (find (λ y. same_path (path_of y) p) xs) (over-seen p (map outside_of xs)) (over-in-seen p xs)
 
-over-alike : (p : Path) (xs ys : List Component) → map outside_of xs ≡ map outside_of ys → over_in xs p ≡ over_in ys p
+pub over-alike : (p : Path) (xs ys : List Component) → map outside_of xs ≡ map outside_of ys → over_in xs p ≡ over_in ys p
 over-alike p xs ys look = over-in-seen p xs ∙ ap (over-seen p) look ∙ sym (over-in-seen p ys)
 
 -- where components look alike, the same connections are live

@@ -195,6 +195,23 @@ front-none (y ∷ xs) ys e = absurd (let no = e in cc)
 some-left : (test : Test) (d : Going) → 1 ≤ how_many (has_labels test d) d.components → labels test (Goes d) ≡ [] → ⊥
 some-left test d some none = flat-some test d d.components some (front-none (flat_map (labels_of_component test d) d.components) (deliveries test d) none)
 
+one-at-least : (p : Component → Bool) (at : ℕ) (x : Component) (xs : List Component) → slice_get xs at ≡ Some x → p x ≡ true → 1 ≤ how_many p xs
+one-at-least p at x [] found is = absurd (let no = found in cc)
+one-at-least p zero x (y ∷ ys) found is = first (p y) (how_many p ys) (ap p (let e = found in let here : y ≡ x = cc in here) ∙ is)
+  where
+    first : (b : Bool) (n : ℕ) → b ≡ true → 1 ≤ (if b then suc n else n)
+    first true n is = omega arith
+    first false n is = absurd (let no = is in cc)
+one-at-least p (suc at) x (y ∷ ys) found is = behind (p y) (how_many p ys) (one-at-least p at x ys found is)
+  where
+    behind : (b : Bool) (n : ℕ) → 1 ≤ n → 1 ≤ (if b then suc n else n)
+    behind true n some = omega arith
+    behind false n some = some
+
+-- where a component has labels, there are some
+pub labels_some : (test : Test) (c : Going) (at : ℕ) (x : Component) → slice_get c.components at ≡ Some x → has_labels test c x ≡ true → labels test (Goes c) ≡ [] → ⊥
+labels_some test c at x found has = some-left test c (one-at-least (has_labels test c) at x c.components found has)
+
 -- where two components have labels, some are left whatever one of them becomes
 pub labels_left : (test : Test) (c : Going) (at : ℕ) (x z : Component) → slice_get c.components at ≡ Some x → outside_of z ≡ outside_of x → 2 ≤ how_many (has_labels test c) c.components
     → labels test (Goes (with_component_at at z c)) ≡ [] → ⊥

@@ -4,3 +4,4 @@ pub mod Stepping
 pub mod Grouping
 pub mod Sending
 pub mod Ending
+pub mod Telling
