@@ -16,7 +16,7 @@ use Rattle.ttcnx_runs.proofs.StepPlaces.{least-there}
 use Rattle.ttcnx_runs.specs.Aims.{is_at, stands_at}
 use Rattle.ttcnx_runs.specs.Sights.{AreBlocks, ArePlaces, block_in, step_place}
 use Rattle.ttcnx_runs.specs.declared.sights.Sights.{Sights}
-use Rattle.ttcnx_runs.specs.declared.sights.StepPlace.{StepPlace}
+use Rattle.ttcnx_runs.specs.declared.step_place.StepPlace.{StepPlace}
 
 pub reached-is-least : (test : Test) (sights : Sights) (a : Aim)
     → ArePlaces test sights.extent.steps sights.places.items → AreBlocks test sights.extent.steps sights.blocks.items

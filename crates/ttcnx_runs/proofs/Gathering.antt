@@ -4,7 +4,7 @@ use Rattle.std.specs.Bool.{◌==◌}
 use Rattle.std.specs.Prelude.{slice_get}
 use Rattle.std.proofs.Math.Nat.{eq-or-lt_of_le}
 use Rattle.std.proofs.lemmas.Bool.{eqb-true}
-use Rattle.std.proofs.lemmas.List.{take_more}
+use Rattle.std.proofs.lemmas.List.{append_assoc, map_push, take_more}
 use Rattle.config_packed.specs.Pieces.{spell_key}
 use Rattle.config_parts.specs.declared.component.Component.{Component}
 use Rattle.config_parts.specs.declared.config.Going.{Going}
@@ -91,3 +91,12 @@ keys-more items all one key going at is long before new k component below found 
         ap (slice_get (map key (items ++ one ∷ []))) (same ∙ sym long) ∙ key-last key items one
         ∙ ap Some (new component (subst (λ n. slice_get going.components n ≡ Some component) same found) ∙ ap (λ n. spell_key going n component) (sym same))
     by (inr less) = key-before key items (one ∷ []) k (spell_key going k component) (before k component less found)
+
+-- ---- what is shown of one more element
+
+pub more-behind : {A B : Type 0} (f : A → B) (xs : List A) (i : ℕ) (x : A) (start old new : List B) (y : B) → i < length xs → x ≡ get_or xs i x
+    → old ≡ start ++ map f (take i xs) → new ≡ old ++ y ∷ [] → y ≡ f x → new ≡ start ++ map f (take (i + 1) xs)
+more-behind f xs i x start old new y below is before pushed same =
+    pushed ∙ ap (λ zs. zs ++ y ∷ []) before ∙ append_assoc start (map f (take i xs)) (y ∷ [])
+    ∙ ap (λ zs. start ++ zs)
+    (ap (λ z. map f (take i xs) ++ z ∷ []) same ∙ sym (map_push f (take i xs) x) ∙ ap (map f) (ap (λ z. take i xs ++ z ∷ []) is ∙ sym (take_more xs i x below)))

@@ -26,27 +26,30 @@ use Rattle.laws_local.proofs.Grouping.{labels_by_path}
 use Rattle.laws_local.proofs.Seeing.{branches_alike, labels_alike}
 use Rattle.laws_local.proofs.Sending.{send_alone}
 use Rattle.laws_local.proofs.Stepping.{found-list, step_alone, there-now}
+use Rattle.laws_local.proofs.Telling.{places_alike, sent_alike}
 use Rattle.laws_local.proofs.Touching.{same-itself}
 use Rattle.laws_local.specs.Alone.{IsLive, IsOf, SendsAlone, StepsAlone, becoming, ends_itself, exchanged_at, is_of_path, is_own_request, is_stop_of, joined_with, receiving, removed_at, removed_by, steps_alone, with_component_at}
 use Rattle.semantics.specs.Canonical.{canonical_graph}
 use Rattle.semantics.specs.Configurations as rules
-use Rattle.semantics.specs.Labels.{labels}
+use Rattle.semantics.specs.Labels.{labels, labels_of_component}
 use Rattle.semantics.specs.LiveParts.{husk, live_part}
-use Rattle.semantics.specs.Places.{branch_in, branch_of, branch_of_component}
+use Rattle.semantics.specs.Places.{branch_in, branch_of, branch_of_component, place_of}
 use Rattle.semantics.specs.Runs.{option_elim}
 use Rattle.semantics.specs.Snapshots.{Test}
 use Rattle.semantics.specs.Statements.{Request}
 use Rattle.semantics.specs.Steps.{Delivery, Expiry, Label, Statement, next}
-use Rattle.semantics.specs.Telling.{request_of, request_of_component, sent_of}
+use Rattle.semantics.specs.Telling.{place_of_step, request_of, request_of_component, sent_of, sent_of_component}
 use Rattle.ttcn_step.specs.Machines.{Machine, extent, legend, said}
 use Rattle.ttcn_step.specs.Telling.{sent_by}
 use Rattle.ttcn_step.specs.declared.telling.Sent as telling
 use Rattle.ttcnx_runs.proofs.SeenAlike.{all-alike, are-joined, changed-other, changed-said, joined-said, link-alike, look-alike, other-there, same-name, see-alike, sender_changed, sent-said, some-said}
-use Rattle.ttcnx_runs.specs.internal.Makes.{EndsThere, Holds, IsAlone, IsEnding, IsFit, IsHere, IsMade, IsMadeOf, IsRemoved, IsSending, IsSent, LeadsTo, step_of}
-use Rattle.ttcnx_runs.specs.Remembered.{CanJoin, joined_config, led_to, sent_going, shown, steps_of, without_front}
+use Rattle.ttcnx_runs.specs.internal.Makes.{EndsThere, Holds, IsAlone, IsEnding, IsFit, IsHere, IsMade, IsMadeOf, IsPlaced, IsRemoved, IsSending, IsSent, LeadsTo}
+use Rattle.ttcnx_runs.specs.Remembered.{CanJoin, joined_config, led_to, place_at, sent_going, without_front}
+use Rattle.ttcnx_runs.specs.Sights.{either_of, is_lost, step_place}
 use Rattle.ttcnx_runs.specs.declared.outcome.Effect.TheVariants as effect
 use Rattle.ttcnx_runs.specs.declared.outcome.Outcome.{Outcome}
 use Rattle.ttcnx_runs.specs.declared.outcome.Sending.{Sending}
+use Rattle.ttcnx_runs.specs.declared.step_place.StepPlace.{StepPlace}
 use Rattle.value_types.specs.declared.path.Path.{Path}
 use Rattle.value_types.specs.declared.value.ComponentId.{ComponentId}
 
@@ -358,17 +361,46 @@ module _ (machine : Machine) where
       ∙ branch-found going at c label here.live here.here here.of g i d living found (keys-tell going g at i c d key) in
       λ j. (taken j, made g i d living found key j)
 
+  -- ---- where steps are
+
+  place-found : (going : Going) (at : ℕ) (c : Component) (label : Label) → IsLive (going_by (legend machine) going) → slice_get going.components at ≡ Some c → IsOf (component_by (legend machine) c) label
+      → (g : Going) (i : ℕ) (d : Component) → IsLive (going_by (legend machine) g) → slice_get g.components i ≡ Some d → SeeTheSame going g at i c d → place_at machine going label ≡ place_at machine g label
+  place-found going at c (Statement path) live here of g i d living found see =
+      let l : Legend = legend machine in
+      let test : Test = machine.test in
+      let look = look-alike l going g see.outline in
+      let alike = see-alike l going g at i c d see here found in
+      let one : rules.component_at (going_by l going) path ≡ Some (component_by l c) = ap (rules.component_at (going_by l going)) of ∙ component-found going at c live here in
+      let other : rules.component_at (going_by l g) path ≡ Some (component_by l d) =
+      ap (rules.component_at (going_by l g)) (of ∙ ap (λ id. id.path) alike.itself) ∙ component-found g i d living found in
+      let branch : branch_of test (rules.Goes (going_by l going)) (Statement path) ≡ branch_of test (rules.Goes (going_by l g)) (Statement path) = branch-found going at c (Statement path) live here of g i d living found see in
+      let place : place_of_step (rules.Goes (going_by l going)) (Statement path) ≡ place_of_step (rules.Goes (going_by l g)) (Statement path) =
+      ap (option_and_then place_of) one ∙ places_alike (component_by l c) (component_by l d) alike ∙ sym (ap (option_and_then place_of) other) in
+      let sent : sent_of test (rules.Goes (going_by l going)) (Statement path) ≡ sent_of test (rules.Goes (going_by l g)) (Statement path) =
+      ap (option_and_then (sent_of_component test (going_by l going))) one
+      ∙ sent_alike test (going_by l going) (going_by l g) (component_by l c) (component_by l d) look (link-alike l going g see.outline) alike
+      ∙ sym (ap (option_and_then (sent_of_component test (going_by l g))) other) in
+      λ j. option_map (λ p. record { place = p; lost = is_lost (sent j) }) (either_of (branch j) (place j))
+  place-found going at c (Expiry path number name) live here of g i d living found see = refl
+  place-found going at c (Delivery system_port) live here of g i d living found see = absurd of
+
+  pub placed-of : (configuration : Config) (going : Going) (at : ℕ) (c : Component) (label : Label) → IsHere machine configuration going at c label
+      → (event : Option StepPlace) → event ≡ step_place machine.test (said machine configuration) label → IsPlaced machine going at c label event
+  placed-of configuration going at c label here event is g i d living found key =
+      is ∙ ap (λ (s : rules.Configuration). step_place machine.test s label) (ap (said machine) here.is)
+      ∙ place-found going at c label here.live here.here here.of g i d living found (keys-tell going g at i c d key)
+
   -- ---- all steps of a component
 
-  pub steps-are : (configuration : Config) (going : Going) (at : ℕ) (c : Component) (path : List ℕ) → configuration ≡ config.Going going → IsLive (going_by (legend machine) going) → slice_get going.components at ≡ Some c
+  pub steps-are : {R : Type 0} (shows : Going → ℕ → Component → Outcome → R) (step : Going → Label → R) (configuration : Config) (going : Going) (at : ℕ) (c : Component) (path : List ℕ) → configuration ≡ config.Going going → IsLive (going_by (legend machine) going) → slice_get going.components at ≡ Some c
       → path ≡ c.itself.path.numbers → (ls : List Label) → ls ≡ labels machine.test (said machine configuration) → (outcomes : List Outcome)
-      → Holds machine going at c (λ g i d. map (shown machine g i d) outcomes ≡ map (step_of machine g) (filter (is_of_path (record { numbers = path })) ls))
-      → Holds machine going at c (λ g i d. map (shown machine g i d) outcomes ≡ steps_of machine g d)
-  steps-are configuration going at c path is live here of ls all outcomes made g i d living found key =
+      → Holds machine going at c (λ g i d. map (shows g i d) outcomes ≡ map (step g) (filter (is_of_path (record { numbers = path })) ls))
+      → Holds machine going at c (λ g i d. map (shows g i d) outcomes ≡ map (step g) (labels_of_component machine.test (going_by (legend machine) g) (component_by (legend machine) d)))
+  steps-are shows step configuration going at c path is live here of ls all outcomes made g i d living found key =
       let l : Legend = legend machine in
       let see : SeeTheSame going g at i c d = keys-tell going g at i c d key in
       made g i d living found key
-      ∙ ap (map (step_of machine g))
+      ∙ ap (map (step g))
       (ap (λ p. filter (is_of_path (record { numbers = p })) ls) of
       ∙ ap (filter (is_of_path c.itself.path)) (all ∙ ap (λ (s : Config). labels machine.test (said machine s)) is)
       ∙ labels_by_path machine.test (going_by l going) (component_by l c) at live (get-map (component_by l) going.components at c here)

@@ -1,5 +1,5 @@
 -- What is recalled of all components is what the rules say of a configuration.
-use Rattle.std.proofs.Common.{◌≡◌, ℕ, zero, suc, ◌<◌, arith, Bool, false, nat_lt, List, [], ◌∷◌, ◌++◌, map, take, length, get_or, Option, Some, refl, sym, ap, subst, ◌∙◌, if◌then◌else◌}
+use Rattle.std.proofs.Common.{◌≡◌, ℕ, zero, suc, ◌<◌, arith, Bool, true, false, nat_lt, List, [], ◌∷◌, ◌++◌, map, take, length, get_or, Option, Some, refl, sym, ap, subst, ◌∙◌, if◌then◌else◌}
 use Rattle.std.proofs.Math.Logic.{∥∥₁_elim}
 use Rattle.std.proofs.lemmas.Bool.{ltb-false}
 use Rattle.std.proofs.lemmas.List.{append-nil, append_assoc, length-map, map-append, map_push}
@@ -27,6 +27,7 @@ use Rattle.config_parts.specs.declared.connection.Links.{Links}
 use Rattle.config_parts.specs.declared.frame.Cells.{Cells}
 use Rattle.config_parts.specs.declared.frame.Data.{Data}
 use Rattle.config_parts.specs.declared.frame.Frame.{Frame}
+use Rattle.laws_local.proofs.Grouping.{labels_some}
 use Rattle.laws_local.specs.Alone.{IsLive, are_some, has_labels, how_many}
 use Rattle.search_ordinals.specs.Ordinals.{with_branch}
 use Rattle.semantics.specs.Canonical.{canonical_graph}
@@ -37,13 +38,14 @@ use Rattle.semantics.specs.Steps.{Label}
 use Rattle.ttcn_step.specs.Machines.{Fits, Machine, extent, legend, said}
 use Rattle.ttcnx_runs.proofs.Making.{after-is, get-map}
 use Rattle.ttcnx_runs.specs.internal.Makes.{step_of}
-use Rattle.ttcnx_runs.specs.internal.Recalls.{AreKeys, FitsState, active_in, has_steps}
-use Rattle.ttcnx_runs.specs.Remembered.{AreOutcomes, CanJoin, IsEffectWithin, shown, steps_of}
+use Rattle.ttcnx_runs.specs.internal.Recalls.{AreKeys, FitsState, active_in, branch_and_place, branch_and_place_of, has_steps}
+use Rattle.ttcnx_runs.specs.Remembered.{AreOutcomes, CanJoin, IsEffectWithin, place_at, places_of, shown, steps_of}
 use Rattle.ttcnx_runs.specs.Runs.{FitsRuns}
 use Rattle.ttcnx_runs.specs.declared.outcome.Effect.{Effect}
 use Rattle.ttcnx_runs.specs.declared.outcome.Effect.TheVariants as effect
 use Rattle.ttcnx_runs.specs.declared.outcome.Outcome.{Outcome}
 use Rattle.ttcnx_runs.specs.declared.step.Step.{Step}
+use Rattle.ttcnx_runs.specs.declared.step_place.StepPlace.{StepPlace}
 use Rattle.ttcnx_runs.specs.internal.WorkedOut.{IsStep}
 use Rattle.value_types.specs.declared.value.ComponentId.{ComponentId}
 
@@ -51,6 +53,9 @@ use Rattle.value_types.specs.declared.value.ComponentId.{ComponentId}
 
 coded-steps : Coded (List (Option Span × rules.Configuration))
 coded-steps = hlevel (codes, action.the_row.coded, branch.the_row.coded, statement.the_row.coded, template.the_row.coded, tree_value.the_row.coded, value.the_row.coded)
+
+coded-places : Coded (List (Option StepPlace))
+coded-places = hlevel codes
 
 coded-names : Coded (List (ComponentId × State))
 coded-names = hlevel codes
@@ -134,6 +139,12 @@ pub outcomes-shown : (machine : Machine) (key : List ℕ) (outcomes : List Outco
 outcomes-shown machine key outcomes right going at component live found is =
     ∥∥₁_elim right (Coded-set coded-steps _ _) (λ are. are.steps going at component live found is)
 
+pub outcomes-placed : (machine : Machine) (key : List ℕ) (outcomes : List Outcome) → ∥ AreOutcomes machine key outcomes ∥₁
+    → (going : Going) (at : ℕ) (component : Component) → IsLive (going_by (legend machine) going) → slice_get going.components at ≡ Some component → key ≡ spell_key going at component
+    → map (λ outcome. outcome.event) outcomes ≡ places_of machine going component
+outcomes-placed machine key outcomes right going at component live found is =
+    ∥∥₁_elim right (Coded-set coded-places _ _) (λ are. are.places going at component live found is)
+
 -- the key at a place
 pub key-at : {A : Type 0} (key : A → List ℕ) (xs : List A) (at : ℕ) (d : A) (wanted : List ℕ) → at < length xs → slice_get (map key xs) at ≡ Some wanted → key (get_or xs at d) ≡ wanted
 key-at key [] at d wanted below found = absurd (omega (arith, below))
@@ -194,17 +205,73 @@ each-step : {A B C D : Type 0} (h : C → D) (l : B → List C) (f : A → B) (x
 each-step h l f [] = refl
 each-step h l f (x ∷ xs) = ap (λ zs. map h (l (f x)) ++ zs) (each-step h l f xs) ∙ sym (map-append h (l (f x)) (flat_map l (map f xs)))
 
--- where no system port is mapped, the steps of all labels are those of the components
-pub all-steps : (machine : Machine) (going : Going) → has_mappings going.links ≡ false
-    → flat_map (steps_of machine going) going.components
-    ≡ with_branch (branch_of machine.test) (canonical_graph machine.test) (said machine (config.Going going)) (labels machine.test (said machine (config.Going going)))
-all-steps machine going none =
+-- where no system port is mapped, all labels are those of the components
+all-labels : {A : Type 0} (h : Label → A) (machine : Machine) (going : Going) → has_mappings going.links ≡ false
+    → flat_map (λ component. map h (labels_of_component machine.test (going_by (legend machine) going) (component_by (legend machine) component))) going.components
+    ≡ map h (labels machine.test (said machine (config.Going going)))
+all-labels h machine going none =
     let c : rules.Going = going_by (legend machine) going in
     let ls : List Label = flat_map (labels_of_component machine.test c) (map (component_by (legend machine)) going.components) in
     let left : flat_map (delivery machine.test c) (map (mapping_by (legend machine)) going.links.mappings) ≡ [] =
     ap (λ ms. flat_map (delivery machine.test c) (map (mapping_by (legend machine)) ms)) (none-mapped going.links none) in
-    each-step (step_of machine going) (labels_of_component machine.test c) (component_by (legend machine)) going.components
-    ∙ ap (map (step_of machine going)) (sym (append-nil ls) ∙ ap (λ zs. ls ++ zs) (sym left))
+    each-step h (labels_of_component machine.test c) (component_by (legend machine)) going.components
+    ∙ ap (map h) (sym (append-nil ls) ∙ ap (λ zs. ls ++ zs) (sym left))
+
+-- so their steps are
+pub all-steps : (machine : Machine) (going : Going) → has_mappings going.links ≡ false
+    → flat_map (steps_of machine going) going.components
+    ≡ with_branch (branch_of machine.test) (canonical_graph machine.test) (said machine (config.Going going)) (labels machine.test (said machine (config.Going going)))
+all-steps machine going none = all-labels (step_of machine going) machine going none
+
+-- ---- where all steps are
+
+head-is : {A : Type 0} (x y : A) (xs ys : List A) → x ∷ xs ≡ y ∷ ys → x ≡ y
+head-is x y xs ys same = let both = same in cc
+
+tail-is : {A : Type 0} (x y : A) (xs ys : List A) → x ∷ xs ≡ y ∷ ys → xs ≡ ys
+tail-is x y xs ys same = let both = same in cc
+
+both-alike : (machine : Machine) (going : Going) (at : ℕ) (component : Component) (outcomes : List Outcome) (ls : List Label) → map (shown machine going at component) outcomes ≡ map (step_of machine going) ls
+    → map (λ outcome. outcome.event) outcomes ≡ map (place_at machine going) ls → map branch_and_place outcomes ≡ map (branch_and_place_of machine (config.Going going)) ls
+both-alike machine going at component [] [] steps places = refl
+both-alike machine going at component [] (l ∷ ls) steps places = absurd (let no = steps in cc)
+both-alike machine going at component (o ∷ os) [] steps places = absurd (let no = steps in cc)
+both-alike machine going at component (o ∷ os) (l ∷ ls) steps places =
+    let step : shown machine going at component o ≡ step_of machine going l = head-is _ _ (map (shown machine going at component) os) (map (step_of machine going) ls) steps in
+    let place : o.event ≡ place_at machine going l = head-is _ _ (map (λ outcome. outcome.event) os) (map (place_at machine going) ls) places in
+    let rest = both-alike machine going at component os ls (tail-is (shown machine going at component o) (step_of machine going l) _ _ steps) (tail-is o.event (place_at machine going l) _ _ places) in
+    λ i. ((step i).0, place i) ∷ rest i
+
+flat-alike : {A B C : Type 0} (f : A → List C) (h : B → List C) (xs : List A) (ys : List B) → length xs ≡ length ys
+    → ((at : ℕ) (x : A) (y : B) → slice_get xs at ≡ Some x → slice_get ys at ≡ Some y → f x ≡ h y) → flat_map f xs ≡ flat_map h ys
+flat-alike f h [] [] long each = refl
+flat-alike f h [] (y ∷ ys) long each = absurd (let no = long in cc)
+flat-alike f h (x ∷ xs) [] long each = absurd (let no = long in cc)
+flat-alike f h (x ∷ xs) (y ∷ ys) long each =
+    let here : f x ≡ h y = each 0 x y refl refl in
+    let rest : flat_map f xs ≡ flat_map h ys = flat-alike f h xs ys (let both = long in cc) (λ at a b one other. each (suc at) a b one other) in
+    λ i. here i ++ rest i
+
+-- where no system port is mapped, what is remembered of all components tells where the steps of all labels are
+pub places-recalled : {A : Type 0} (machine : Machine) (key : A → List ℕ) (outcomes : A → List Outcome) → ((a : A) → ∥ AreOutcomes machine (key a) (outcomes a) ∥₁) → (all : List A) (whole : Config) (going : Going)
+    → whole ≡ config.Going going → IsLive (going_by (legend machine) going) → AreKeys going (map key all) → has_mappings going.links ≡ false
+    → flat_map (λ a. map branch_and_place (outcomes a)) all ≡ map (branch_and_place_of machine whole) (labels machine.test (said machine whole))
+places-recalled machine key outcomes right all whole going whole-is live keys none =
+    let labels-at : Component → List Label = λ component. labels_of_component machine.test (going_by (legend machine) going) (component_by (legend machine) component) in
+    flat-alike (λ a. map branch_and_place (outcomes a)) (λ component. map (branch_and_place_of machine (config.Going going)) (labels-at component)) all going.components (keys-long key all going keys)
+    (λ at a component there here.
+    let is : key a ≡ spell_key going at component = some-is (sym (get-map key all at a there) ∙ keys.each at component here) in
+    both-alike machine going at component (outcomes a) (labels-at component) (outcomes-shown machine (key a) (outcomes a) (right a) going at component live here is)
+    (outcomes-placed machine (key a) (outcomes a) (right a) going at component live here is))
+    ∙ all-labels (branch_and_place_of machine (config.Going going)) machine going none
+    ∙ ap (λ (w : Config). map (branch_and_place_of machine w) (labels machine.test (said machine w))) (sym whole-is)
+
+-- where something is remembered of the steps of a component, some label is enabled
+pub surely-enabled : (machine : Machine) (going : Going) (at : ℕ) (component : Component) (outcomes : List Outcome) → slice_get going.components at ≡ Some component
+    → map (shown machine going at component) outcomes ≡ steps_of machine going component → has_steps outcomes ≡ true → labels machine.test (said machine (config.Going going)) ≡ [] → ⊥
+surely-enabled machine going at component outcomes found same some =
+    labels_some machine.test (going_by (legend machine) going) at (component_by (legend machine) component) (get-map (component_by (legend machine)) going.components at component found)
+    (sym (active-alike machine going at component outcomes same) ∙ some)
 
 -- the branches of steps, and where they lead, are those of their labels
 pub steps-lead : (machine : Machine) (configuration : Config) (steps : List (Step rules.Configuration)) → All (IsStep machine configuration) steps

@@ -20,7 +20,7 @@ use Rattle.semantics.specs.Telling.{Sent, place_of_step}
 use Rattle.summary.specs.Run.{Run, Start, Then, end_of, labels_of}
 use Rattle.ttcn_syntax.specs.declared.place.Span.{Span}
 use Rattle.ttcnx_runs.specs.Sights.{block_in, either_of, if_some, is_lost, place_in_text, step_place}
-use Rattle.ttcnx_runs.specs.declared.sights.StepPlace.{StepPlace}
+use Rattle.ttcnx_runs.specs.declared.step_place.StepPlace.{StepPlace}
 
 rests : (s : State) → is_terminated_state s ≡ true → is_running_state s ≡ false
 rests Created e = refl

@@ -11,7 +11,7 @@ use Rattle.summary.specs.Run.{Run, Start, Then, end_of}
 use Rattle.ttcn_syntax.specs.declared.place.Span.{Span}
 use Rattle.ttcnx_runs.specs.Aims.{Gets, IsLeastTo, is_at}
 use Rattle.ttcnx_runs.specs.Sights.{is_lost, place_in_text, step_place}
-use Rattle.ttcnx_runs.specs.declared.sights.StepPlace.{StepPlace}
+use Rattle.ttcnx_runs.specs.declared.step_place.StepPlace.{StepPlace}
 
 abbrev placed : Bool → Span → StepPlace
 placed lost place = record { place = place; lost = lost }

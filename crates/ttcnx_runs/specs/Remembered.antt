@@ -17,13 +17,16 @@ use Rattle.semantics.specs.Canonical.{canonical_graph}
 use Rattle.semantics.specs.Configurations as rules
 use Rattle.semantics.specs.Labels.{labels_of_component}
 use Rattle.semantics.specs.Places.{branch_of}
+use Rattle.semantics.specs.Steps.{Label}
 use Rattle.ttcn_step.specs.Machines.{Machine, extent, legend, said}
 use Rattle.ttcn_syntax.specs.declared.place.Span.{Span}
 use Rattle.ttcn_syntax.specs.declared.tree.statement.Verdict.{Verdict}
+use Rattle.ttcnx_runs.specs.Sights.{step_place}
 use Rattle.ttcnx_runs.specs.declared.outcome.Effect.{Effect}
 use Rattle.ttcnx_runs.specs.declared.outcome.Effect.TheVariants as effect
 use Rattle.ttcnx_runs.specs.declared.outcome.Outcome.{Outcome}
 use Rattle.ttcnx_runs.specs.declared.outcome.Sending.{Sending}
+use Rattle.ttcnx_runs.specs.declared.step_place.StepPlace.{StepPlace}
 
 -- queues without the first message of a port, where a port is named
 abbrev pub without_front : Option ℕ → List Queue → List Queue
@@ -60,6 +63,14 @@ steps_of machine going component =
     with_branch (branch_of machine.test) (canonical_graph machine.test) (said machine (config.Going going))
     (labels_of_component machine.test (going_by (legend machine) going) (component_by (legend machine) component))
 
+-- by the rules, where the step of a label is
+abbrev pub place_at : Machine → Going → Label → Option StepPlace
+place_at machine going label = step_place machine.test (said machine (config.Going going)) label
+
+-- the same of each enabled label of the component
+abbrev pub places_of : Machine → Going → Component → List (Option StepPlace)
+places_of machine going component = map (place_at machine going) (labels_of_component machine.test (going_by (legend machine) going) (component_by (legend machine) component))
+
 -- a component and what all see can be taken from a configuration, which has positions and names
 abbrev pub CanJoin : Machine → Going → ℕ → Config → Type 0
 CanJoin machine going at (config.Ended v) = ⊥
@@ -76,5 +87,7 @@ IsEffectWithin machine going at (effect.Other label) = Unit {0}
 pub record AreOutcomes (machine : Machine) (key : List ℕ) (outcomes : List Outcome) : Type 0 where
   pub steps : (going : Going) (at : ℕ) (component : Component) → IsLive (going_by (legend machine) going) → slice_get going.components at ≡ Some component → key ≡ spell_key going at component
       → map (shown machine going at component) outcomes ≡ steps_of machine going component
+  pub places : (going : Going) (at : ℕ) (component : Component) → IsLive (going_by (legend machine) going) → slice_get going.components at ≡ Some component → key ≡ spell_key going at component
+      → map (λ outcome. outcome.event) outcomes ≡ places_of machine going component
   pub within : (going : Going) (at : ℕ) (component : Component) → IsLive (going_by (legend machine) going) → slice_get going.components at ≡ Some component → key ≡ spell_key going at component
       → All (λ outcome. IsEffectWithin machine going at outcome.effect) outcomes

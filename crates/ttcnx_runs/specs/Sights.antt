@@ -23,7 +23,7 @@ use Rattle.semantics.specs.Runs.{graph_of}
 use Rattle.semantics.specs.Snapshots.{Test}
 use Rattle.semantics.specs.Steps.{Label}
 use Rattle.semantics.specs.Telling.{Leaves, Lost, Reaches, Sent, Way, place_of_step, sent_of}
-use Rattle.ttcnx_runs.specs.declared.sights.StepPlace.{StepPlace}
+use Rattle.ttcnx_runs.specs.declared.step_place.StepPlace.{StepPlace}
 
 -- the first of two, where there is one, else the second
 abbrev pub either_of : {A : Type 0} → Option A → Option A → Option A

@@ -132,6 +132,7 @@ fn spared_successors<K: Scheme>(
         &before.packed,
         nth,
         &state.packed,
+        state.by,
     )?;
     if let Some(pairs) = recalled {
         return Ok(pairs);

@@ -18,6 +18,7 @@ mod sights;
 mod sparing;
 mod state;
 mod step;
+mod step_place;
 mod timed;
 
 pub use exploration::{Exploration, Extent, explore_runs, explore_runs_until, extent_of};
@@ -25,5 +26,6 @@ pub use keys::BranchPlace;
 pub use laws::canonical_forms_are_equal_for_equal_live_parts;
 pub use runs::{Runs, mark_of};
 pub use scheme::Scheme;
-pub use sights::{Sights, StepPlace, sight_runs};
+pub use sights::{Sights, sight_runs};
 pub use state::State;
+pub use step_place::StepPlace;

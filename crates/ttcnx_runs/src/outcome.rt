@@ -1,5 +1,6 @@
 //! What a component does in a step, as it is remembered.
 use crate::keys::BranchPlace;
+use crate::step_place::StepPlace;
 use step_labels::Label;
 use ttcn_config::{MessageBytes, OwnBytes, Packed};
 use value_types::Slot;
@@ -26,9 +27,10 @@ pub enum Effect {
     Other(Label),
 }
 
-/// A step: the branch that it takes, if it takes one, and what it changes.
+/// A step: the branch that it takes, if it takes one, where it is, if it is that of a statement, and what it changes.
 #[derive(Drop)]
 pub struct Outcome {
     pub branch: Option<BranchPlace>,
+    pub event: Option<StepPlace>,
     pub effect: Effect,
 }

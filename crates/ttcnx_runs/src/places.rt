@@ -1,7 +1,10 @@
 //! The branches and blocked components of a test case, where summaries ask for them.
+ghost use Rattle.std.specs.Prelude.{◌≡◌, IfOk};
 ghost use Rattle.semantics.specs.Places as rules;
+ghost use Rattle.ttcnx_runs.specs.Runs.{FitsRuns};
 
 use crate::keys::BranchPlace;
+use crate::recalling::surely_goes_on;
 use crate::runs::Runs;
 use crate::scheme::Scheme;
 use crate::state::State;
@@ -9,6 +12,22 @@ use std::alloc::{AllocError, Global};
 use step_labels::{Label, Standing};
 use summary::Located;
 use ttcn_config::unpack;
+
+/// The components that are blocked in a state of which isn't known whether some label is enabled.
+fn blocked_in<K: Scheme>(
+    runs: &Runs<'_, '_, K>,
+    alloc: Global,
+    state: &State<K>,
+) -> Result<Vec<Standing>, AllocError>
+    requires { FitsRuns state.now }
+    ensures { IfOk result (λ found. found.items ≡ rules.blocked K.machine.test state.now) }
+{
+    if surely_goes_on(alloc, &runs.memory, &state.packed)? {
+        return Ok(Vec::new(alloc));
+    }
+    let config = unpack(alloc, &state.packed)?;
+    runs.machine.blocked(alloc, &config)
+}
 
 impl<'t, 'a, K: Scheme + Send + Sync> Located for Runs<'t, 'a, K> {
     type Branch = BranchPlace;
@@ -34,7 +53,6 @@ impl<'t, 'a, K: Scheme + Send + Sync> Located for Runs<'t, 'a, K> {
         if state.goes_on {
             return Ok(Vec::new(alloc));
         }
-        let config = unpack(alloc, &state.packed)?;
-        self.machine.blocked(alloc, &config)
+        blocked_in(self, alloc, state)
     }
 }

@@ -1,22 +1,26 @@
 //! What is remembered of components, and the states to which their steps lead, without unpacking the configuration.
-ghost use Rattle.std.specs.Prelude.{◌≡◌, ◌<◌, IfOk, IfSome, Some, length, map, slice_get};
+ghost use Rattle.std.specs.Prelude.{◌≡◌, ◌++◌, ◌<◌, IfOk, IfSome, OnOk, Some, length, map, slice_get, true, []};
+ghost use Rattle.std.specs.List.{flat_map};
 ghost use Rattle.config_packed.specs.Pieces.{AreJoined, IsCut, changed_going, joined_going, spell_key};
+ghost use Rattle.config_parts.specs.Legend.{going_by};
 ghost use Rattle.config_parts.specs.declared.component.Component.{Component};
 ghost use Rattle.config_parts.specs.declared.config.Config.TheVariants as config;
 ghost use Rattle.config_parts.specs.declared.config.Going.{Going};
-ghost use Rattle.laws_local.specs.Alone.{how_many};
+ghost use Rattle.laws_local.specs.Alone.{IsLive, how_many};
 ghost use Rattle.semantics.specs.Canonical.{canonical_graph};
 ghost use Rattle.semantics.specs.Labels.{labels};
-ghost use Rattle.ttcn_step.specs.Machines.{said};
-ghost use Rattle.ttcnx_runs.specs.internal.Recalls.{AreKeys, CanRecall, FitsState, has_steps};
+ghost use Rattle.ttcn_step.specs.Machines.{legend, said};
+ghost use Rattle.ttcnx_runs.specs.internal.Recalls.{AreKeys, CanRecall, FitsState, branch_and_place, branch_and_place_of, has_steps};
 ghost use Rattle.ttcnx_runs.specs.Remembered.{IsEffectWithin, led_to, sent_going, without_front};
 ghost use Rattle.ttcnx_runs.specs.declared.outcome.Effect.TheVariants as effect;
 
+use crate::keys::{BranchPlace, copied};
 use crate::outcome::{Effect, Sending};
 use crate::remembered::Remembered;
 use crate::runs::state_of;
 use crate::scheme::Scheme;
-use crate::state::{State, hash_of};
+use crate::state::{State, hash_of, hint_of};
+use crate::step_place::{StepPlace, copied_place};
 use search_memory::Memory;
 use std::alloc::{AllocError, Global};
 use std::marker::PhantomData;
@@ -137,6 +141,7 @@ impl<K: Scheme> Recall<'_, '_, '_, '_, '_, K> {
             hash: hash_of(&packed),
             packed,
             goes_on: self.active >= 2,
+            by: hint_of(at),
             of: PhantomData,
         })
     }
@@ -161,6 +166,7 @@ impl<K: Scheme> Recall<'_, '_, '_, '_, '_, K> {
             hash: hash_of(&packed),
             packed,
             goes_on: self.active >= 3,
+            by: hint_of(at),
             of: PhantomData,
         })
     }
@@ -179,6 +185,7 @@ impl<K: Scheme> Recall<'_, '_, '_, '_, '_, K> {
             hash: hash_of(&packed),
             packed,
             goes_on: false,
+            by: hint_of(at),
             of: PhantomData,
         })
     }
@@ -200,6 +207,9 @@ impl<K: Scheme> Recall<'_, '_, '_, '_, '_, K> {
         }
     }
 }
+
+/// How many bytes are asked for before keys are made: few need more.
+pub(crate) const KEY_ROOM: usize = 256;
 
 /// What is remembered of the component at a place. Its key is made in a buffer.
 pub(crate) fn recall_at<'m, K: Scheme>(
@@ -237,6 +247,99 @@ pub(crate) fn recall_all<'m, K: Scheme>(
         all.push(one)?;
     }
     Ok(Some(all))
+}
+
+/// Adds the branches and places of the steps that are remembered of a component.
+fn push_places<K: Scheme>(
+    one: &Remembered<K>,
+    found: &mut Vec<(Option<BranchPlace>, Option<StepPlace>)>,
+) -> Result<(), AllocError>
+    ensures { OnOk result (found.new.items ≡ found.old.items ++ map branch_and_place one.now.outcomes.items) }
+{
+    for outcome in one.outcomes.as_slice() {
+        let branch = copied(&outcome.branch);
+        let event = copied_place(&outcome.event);
+        found.push((branch, event))?;
+    }
+    Ok(())
+}
+
+/// The branches and places of the steps that are remembered of all components.
+fn places_of<K: Scheme>(
+    alloc: Global,
+    all: &[&Remembered<K>],
+) -> Result<Vec<(Option<BranchPlace>, Option<StepPlace>)>, AllocError>
+    ensures { IfOk result (λ found. found.items ≡ flat_map (λ one. map branch_and_place one.now.outcomes.items) all.now) }
+{
+    let mut found = Vec::new(alloc);
+    for one in all {
+        push_places(one, &mut found)?;
+    }
+    Ok(found)
+}
+
+/// For each enabled label the branch that its step takes, if it takes one, and where the step is, and whether its message is
+/// lost, where the steps of all components are remembered.
+pub(crate) fn recalled_steps<K: Scheme>(
+    alloc: Global,
+    memory: &Memory<Remembered<K>>,
+    packed: &Packed,
+) -> Result<Option<Vec<(Option<BranchPlace>, Option<StepPlace>)>>, AllocError>
+    requires { FitsState K.machine packed.now }
+    ensures { IfOk result (λ found. IfSome found (λ steps. steps.items ≡ map (branch_and_place_of K.machine packed.now) (labels K.machine.test (said K.machine packed.now)))) }
+{
+    if memory.has_given_up() {
+        return Ok(None);
+    }
+    let Some(parts) = packed.parts(alloc)? else {
+        return Ok(None);
+    };
+    if parts.has_mappings {
+        return Ok(None);
+    }
+    let mut key = Vec::with_capacity(alloc, KEY_ROOM)?;
+    let Some(all) = recall_all(alloc, memory, &parts, &mut key)? else {
+        return Ok(None);
+    };
+    Ok(Some(places_of(alloc, &all)?))
+}
+
+/// Whether some component has steps, by what is remembered of it.
+fn has_active<K: Scheme>(
+    memory: &Memory<Remembered<K>>,
+    parts: &ConfigBytes<'_>,
+    key: &mut Vec<u8>,
+) -> Result<bool, AllocError>
+    ensures { IfOk result (λ active. active ≡ true → (going : Going) → IsCut going parts.now → IsLive (going_by (legend K.machine) going)
+        → ¬ (labels K.machine.test (said K.machine (config.Going going)) ≡ [])) }
+{
+    for at in 0..parts.components.len() {
+        if let Some(one) = recall_at(memory, parts, key, at)? {
+            if !one.outcomes.is_empty() {
+                return Ok(true);
+            }
+        }
+    }
+    Ok(false)
+}
+
+/// Whether some label is enabled, by what is remembered of a component.
+pub(crate) fn surely_goes_on<K: Scheme>(
+    alloc: Global,
+    memory: &Memory<Remembered<K>>,
+    packed: &Packed,
+) -> Result<bool, AllocError>
+    requires { FitsState K.machine packed.now }
+    ensures { IfOk result (λ active. active ≡ true → ¬ (labels K.machine.test (said K.machine packed.now) ≡ [])) }
+{
+    if memory.has_given_up() {
+        return Ok(false);
+    }
+    let Some(parts) = packed.parts(alloc)? else {
+        return Ok(false);
+    };
+    let mut key = Vec::with_capacity(alloc, KEY_ROOM)?;
+    has_active(memory, &parts, &mut key)
 }
 
 /// How many components have steps.

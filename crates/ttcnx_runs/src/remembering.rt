@@ -10,7 +10,7 @@ ghost use Rattle.config_parts.specs.declared.config.Going.{Going};
 ghost use Rattle.config_packed.specs.Pieces.{IsCut, spell_key};
 ghost use Rattle.laws_local.specs.Alone.{IsLive, is_of_path};
 ghost use Rattle.ttcn_step.specs.Machines.{Fits, extent, legend, said};
-ghost use Rattle.ttcnx_runs.specs.internal.Makes.{EndsThere, IsAlone, IsEnding, IsFit, IsHere, IsMade, IsMadeOf, IsRemoved, IsSending, IsSent, LeadsTo};
+ghost use Rattle.ttcnx_runs.specs.internal.Makes.{EndsThere, IsAlone, IsEnding, IsFit, IsHere, IsMade, IsMadeOf, IsPlaced, IsRemoved, IsSending, IsSent, LeadsTo};
 ghost use Rattle.ttcnx_runs.specs.internal.WorkedOut.{AreSteps, IsStep};
 ghost use Rattle.ttcnx_runs.specs.internal.Recalls.{FitsState};
 ghost use Rattle.ttcnx_runs.specs.Remembered.{AreOutcomes};
@@ -21,6 +21,7 @@ use crate::remembered::Remembered;
 use crate::scheme::Scheme;
 use crate::state::State;
 use crate::step::Step;
+use crate::step_place::place_of_step;
 use config_parts::{Request, Way};
 use search_memory::Memory;
 use std::alloc::{AllocError, Global};
@@ -243,11 +244,14 @@ fn outcome_of<K: Scheme>(
     requires fits { Fits K.machine config.now }
     requires step { IsStep K.machine config.now step.now }
     ensures made { IfOk result (λ outcome. (going : Going) (component : Component) → IsHere K.machine config.now going at component step.now.label → IsMadeOf K.machine going at component step.now.label outcome) }
+    ensures placed { IfOk result (λ outcome. (going : Going) (component : Component) → IsHere K.machine config.now going at component step.now.label → IsPlaced K.machine going at component step.now.label outcome.event) }
     ensures within { IfOk result (λ outcome. (going : Going) (component : Component) → IsHere K.machine config.now going at component step.now.label → IsFit K.machine going at component outcome.effect) }
 {
+    let event = place_of_step(alloc, machine, config, &step.label, &step.branch)?;
     let effect = effect_of(alloc, machine, config, at, step)?;
     Ok(Outcome {
         branch: copied(&step.branch),
+        event,
         effect,
     })
 }

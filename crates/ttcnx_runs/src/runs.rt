@@ -79,6 +79,7 @@ pub fn state_of<K: Scheme>(
         hash: hash_of(&packed),
         packed,
         goes_on,
+        by: u8::MAX,
         of: PhantomData,
     })
 }

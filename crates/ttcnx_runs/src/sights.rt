@@ -3,25 +3,25 @@ ghost use Rattle.std.specs.Prelude.{◌≡◌, ◌↔◌, false, IfOk, IsErrOf, 
 ghost use Rattle.search_layer.specs.Limits.{IsWithinLimits};
 ghost use Rattle.semantics.specs.Labels.{labels};
 ghost use Rattle.semantics.specs.Places as rules;
-ghost use Rattle.ttcnx_runs.specs.Sights.{AreBlocks, ArePlaces, block_in, if_some, is_lost, stands-itself, stands-one, step_place, step-place-itself, step-place-one};
+ghost use Rattle.ttcnx_runs.specs.Sights.{AreBlocks, ArePlaces, block_in, if_some, stands-itself, stands-one, step_place, step-place-itself, step-place-one};
 ghost use Rattle.ttcn_step.specs.Machines.{Fits, said};
-ghost use Rattle.ttcn_step.specs.Telling.{sent_by};
-ghost use Rattle.config_parts.specs.Legend.{Legend};
 ghost use Rattle.std.specs.List.{find};
 ghost use Rattle.std.specs.Option.{option_map};
 ghost use Rattle.ttcnx_runs.specs.Aims.{first_of, is_at, stands_at};
 ghost use Rattle.ttcnx_runs.specs.Answers.{IsMadeOf};
 ghost use Rattle.ttcnx_runs.specs.Endings.{AreTooMany};
 ghost use Rattle.ttcnx_runs.specs.Extents.{IsExtent};
+ghost use Rattle.ttcnx_runs.specs.Runs.{FitsRuns};
 ghost use Rattle.ttcnx_runs.specs.internal.Explored.{AreSights, IsExplored};
 
 use crate::exploration::{Extent, Shown, extent_of};
 use crate::keys::BranchPlace;
+use crate::recalling::recalled_steps;
 use crate::runs::Runs;
 use crate::scheme::Scheme;
 use crate::search::search_watched;
 use crate::state::State;
-use config_parts::Way;
+use crate::step_place::{StepPlace, step_shown};
 use explore::{ExploreError, Gate, Plan, Sighted, Sighting, Stops, Watched};
 use search_ordinals::BranchedWatched;
 use std::alloc::{AllocError, Global};
@@ -30,56 +30,8 @@ use std::thread::Threads;
 use step_labels::{Label, Standing};
 use summary::Located;
 use ttcn_config::{Config, unpack};
-use ttcn_step::{Machine, Sent};
+use ttcn_step::Machine;
 use ttcn_syntax::{Seq, Span};
-
-/// Where a step is, and whether the message that it sends is lost, since the component that it is meant for has ended.
-#[derive(Drop, PartialEq, Eq)]
-pub struct StepPlace {
-    /// The place of the branch that the step takes, else of the statement that it begins with.
-    pub place: BranchPlace,
-    pub lost: bool,
-}
-
-/// Whether there is a message, and it is lost.
-fn is_lost(sent: &Option<Sent>) -> bool
-    ensures { (legend : Legend) → result ≡ is_lost (option_map (sent_by legend) sent.now) }
-{
-    match sent {
-        None => false,
-        Some(sent) => match sent.way {
-            Way::Lost(_) => true,
-            Way::Reaches(_) | Way::Leaves(_) => false,
-        },
-    }
-}
-
-/// The branch that the step of a label takes, if it takes one, and where the step is, and whether its message is lost.
-fn step_shown(
-    alloc: Global,
-    machine: &Machine<'_>,
-    config: &Config,
-    label: &Label,
-) -> Result<(Option<BranchPlace>, Option<StepPlace>), AllocError>
-    requires { Fits machine.now config.now }
-    ensures branch { IfOk result (λ shown. shown.0 ≡ rules.branch_of machine.now.test (said machine.now config.now) label.now) }
-    ensures event { IfOk result (λ shown. shown.1 ≡ step_place machine.now.test (said machine.now config.now) label.now) }
-{
-    let branch = machine.branch(alloc, config, label)?;
-    let place = match branch {
-        Some(place) => Some(place),
-        None => machine.place(config, label),
-    };
-    let Some(place) = place else {
-        return Ok((branch.map(BranchPlace::new), None));
-    };
-    let lost = is_lost(&machine.sent(alloc, config, label)?);
-    let place = BranchPlace::new(place);
-    Ok((
-        branch.map(BranchPlace::new),
-        Some(StepPlace { place, lost }),
-    ))
-}
 
 /// The enabled labels, each with where its step is, and whether its message is lost.
 fn shown_steps(
@@ -114,6 +66,22 @@ fn branched_steps(
         found.push((branch, event))?;
     }
     Ok(found)
+}
+
+/// The same of a state, from what is remembered, else worked out.
+fn steps_from<K: Scheme>(
+    runs: &Runs<'_, '_, K>,
+    alloc: Global,
+    state: &State<K>,
+) -> Result<Vec<(Option<BranchPlace>, Option<StepPlace>)>, AllocError>
+    requires { FitsRuns state.now }
+    ensures { IfOk result (λ found. found.items ≡ map (λ label. (rules.branch_of K.machine.test state.now label, step_place K.machine.test state.now label)) (labels K.machine.test state.now)) }
+{
+    if let Some(found) = recalled_steps(alloc, &runs.memory, &state.packed)? {
+        return Ok(found);
+    }
+    let config = unpack(alloc, &state.packed)?;
+    branched_steps(alloc, runs.machine, &config)
 }
 
 /// Some, where there are some.
@@ -164,8 +132,7 @@ impl<'t, 'a, K: Scheme + Send + Sync> BranchedWatched for Runs<'t, 'a, K> {
         alloc: Global,
         state: &State<K>,
     ) -> Result<Vec<(Option<BranchPlace>, Option<StepPlace>)>, AllocError> {
-        let config = unpack(alloc, &state.packed)?;
-        branched_steps(alloc, self.machine, &config)
+        steps_from(self, alloc, state)
     }
 }
 

@@ -21,7 +21,7 @@ ghost use Rattle.ttcnx_runs.specs.internal.Spared.{AreFirstKeys, IsLeft, IsReach
 
 use crate::keys::{BranchPlace, copied};
 use crate::outcome::{Effect, Sending};
-use crate::recalling::{Recall, active_among, recall_all, recall_at};
+use crate::recalling::{KEY_ROOM, Recall, active_among, recall_all, recall_at};
 use crate::remembered::Remembered;
 use crate::scheme::Scheme;
 use crate::state::State;
@@ -149,6 +149,42 @@ fn last_step<'m, K: Scheme>(
     Ok(None)
 }
 
+/// Whether a component that comes before a place has steps.
+fn has_active_before<K: Scheme>(all: &[&Remembered<K>], place: u8) -> bool {
+    for at in 0..all.len().min(usize::from(place)) {
+        if !all[at].outcomes.is_empty() {
+            return true;
+        }
+    }
+    false
+}
+
+/// The step before which so many come in a configuration, where it is remembered, and a component that comes before the one that
+/// made it has steps.
+fn step_before<'m, K: Scheme>(
+    alloc: Global,
+    memory: &'m Memory<Remembered<K>>,
+    before: &Packed,
+    nth: u32,
+    parts: &ConfigBytes<'_>,
+    all: &[&'m Remembered<K>],
+    by: u8,
+    key: &mut Vec<u8>,
+) -> Result<Option<LastStep<'m, K>>, AllocError>
+    requires { (going : Going) → IsCut going parts.now → AreKeys going (map (λ one. one.now.key.items) all.now) }
+    ensures { (earlier going : Going) → before.now ≡ config.Going earlier → IsCut going parts.now
+        → IfOk result (λ found. IfSome found (λ last. AreFirstKeys earlier (map (λ one. one.now.key.items) last.known.items)
+        × IsStepAmong (λ one. one.now.outcomes.items) last.known.items nth last.at last.effect.now)) }
+{
+    if !has_active_before(all, by) {
+        return Ok(None);
+    }
+    match before.parts(alloc)? {
+        Some(before) => last_step(alloc, memory, &before, nth, parts, all, key),
+        None => Ok(None),
+    }
+}
+
 /// Whether a step of the component at a place comes before the last step where that one was taken, and the two are apart.
 fn is_early<K: Scheme>(
     last: &Option<LastStep<'_, K>>,
@@ -213,6 +249,15 @@ fn push_recalled<K: Scheme>(
     Ok(())
 }
 
+/// How many steps are remembered of all components.
+fn steps_among<K: Scheme>(all: &[&Remembered<K>]) -> usize {
+    let mut count: usize = 0;
+    for one in all {
+        count = count.saturating_add(one.outcomes.len());
+    }
+    count
+}
+
 /// What is remembered of the steps of all components, without states that are early.
 fn pairs_behind<K: Scheme>(
     recall: &Recall<'_, '_, '_, '_, '_, K>,
@@ -226,20 +271,18 @@ fn pairs_behind<K: Scheme>(
         → IfSome last.now (λ last. IsReached K.machine (λ one. one.now.key.items) (λ one. one.now.outcomes.items) before nth last.known.items last.at last.effect.now going)
         → IfOk result (λ pairs. AllZip (IsSpared (canonical_graph K.machine.test) (said K.machine (config.Going before)) nth) (flat_map (steps_of K.machine going) going.components) pairs.items) }
 {
-    let mut pairs = Vec::new(recall.alloc);
+    let mut pairs = Vec::with_capacity(recall.alloc, steps_among(all))?;
     for at in 0..all.len() {
         push_recalled(recall, last, at, all[at], &mut pairs)?;
     }
     Ok(pairs)
 }
 
-/// How many bytes are asked for before keys are made: few need more.
-const KEY_ROOM: usize = 256;
-
 /// For each enabled label the branch that its step takes, if it takes one, and the state to which it leads, where the steps of
 /// all components are remembered. Of a state behind a step, which is given by the configuration before it and by how many
 /// enabled labels come before its own, those states are left out to which two steps lead from the configuration before, of
-/// which the first one comes before that step.
+/// which the first one comes before that step. The place of the component that made the step is a hint: where a component before
+/// it has no steps, no state is left out.
 pub(crate) fn recalled_pairs<K: Scheme>(
     alloc: Global,
     machine: &Machine<'_>,
@@ -247,6 +290,7 @@ pub(crate) fn recalled_pairs<K: Scheme>(
     before: &Packed,
     nth: u32,
     packed: &Packed,
+    by: u8,
 ) -> Result<Option<Vec<(Option<BranchPlace>, Option<State<K>>)>>, AllocError>
     requires is { machine.now ≡ K.machine }
     requires fits { FitsState K.machine packed.now }
@@ -260,9 +304,6 @@ pub(crate) fn recalled_pairs<K: Scheme>(
     let Some(parts) = packed.parts(alloc)? else {
         return Ok(None);
     };
-    let Some(parts_before) = before.parts(alloc)? else {
-        return Ok(None);
-    };
     if parts.has_mappings {
         return Ok(None);
     }
@@ -270,7 +311,7 @@ pub(crate) fn recalled_pairs<K: Scheme>(
     let Some(all) = recall_all(alloc, memory, &parts, &mut key)? else {
         return Ok(None);
     };
-    let last = last_step(alloc, memory, &parts_before, nth, &parts, &all, &mut key)?;
+    let last = step_before(alloc, memory, before, nth, &parts, &all, by, &mut key)?;
     let recall = Recall {
         alloc,
         machine,

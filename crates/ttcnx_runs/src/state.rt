@@ -16,6 +16,8 @@ pub struct State<K: Scheme> {
     pub(crate) hash: u32,
     /// Where this is true, some label is enabled.
     pub(crate) goes_on: bool,
+    /// The place of the component whose step made it, or else 255. Nothing depends on it but the time that is taken.
+    pub(crate) by: u8,
     pub(crate) of: PhantomData<K>,
 }
 
@@ -51,6 +53,11 @@ pub(crate) fn hash_of(packed: &Packed) -> u32
     let mut hasher = FoldHasher::default();
     packed.hash(&mut hasher);
     (hasher.finish() >> 32) as u32
+}
+
+/// A place of a component in a byte, or else 255.
+pub(crate) fn hint_of(place: usize) -> u8 {
+    u8::try_from(place).unwrap_or(u8::MAX)
 }
 
 impl<K: Scheme> PartialEq for State<K> {

@@ -28,11 +28,11 @@ packed-sync = search (crosses, sendable) depth 60 fits 20000
 
 pub state-send : (K : RattleType) (g : Ghosts K.Denot) → IsSend (state.the_row K g)
 state-send K g = view_send (inside.the_row K g) _ _ _ _
-    (recorded_send (inside.the_field K g).row _ _ (inside.the_type K g).to_one (struct_send (shape (inside.the_type K g)) (packed-send, (search (crosses, sendable) depth 60 fits 20000, (search (crosses, sendable) depth 60 fits 20000, (phantom.the_field_send K, tt))))))
+    (recorded_send (inside.the_field K g).row _ _ (inside.the_type K g).to_one (struct_send (shape (inside.the_type K g)) (packed-send, (search (crosses, sendable) depth 60 fits 20000, (search (crosses, sendable) depth 60 fits 20000, (search (crosses, sendable) depth 60 fits 20000, (phantom.the_field_send K, tt)))))))
 
 pub state-sync : (K : RattleType) (g : Ghosts K.Denot) → IsSync (state.the_row K g)
 state-sync K g = view_sync (inside.the_row K g) _ _ _ _
-    (recorded_sync (inside.the_field K g).row _ _ (inside.the_type K g).to_one (struct_sync (shape (inside.the_type K g)) (packed-sync, (search (crosses, sendable) depth 60 fits 20000, (search (crosses, sendable) depth 60 fits 20000, (phantom.the_field_sync K, tt))))))
+    (recorded_sync (inside.the_field K g).row _ _ (inside.the_type K g).to_one (struct_sync (shape (inside.the_type K g)) (packed-sync, (search (crosses, sendable) depth 60 fits 20000, (search (crosses, sendable) depth 60 fits 20000, (search (crosses, sendable) depth 60 fits 20000, (phantom.the_field_sync K, tt)))))))
 
 pub messages-sync : IsSync (seq.the_field value.the_row).row
 messages-sync = search (crosses, values.crosses, sendable) depth 60 fits 20000

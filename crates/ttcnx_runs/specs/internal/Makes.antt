@@ -19,10 +19,11 @@ use Rattle.semantics.specs.Steps.{Label, next}
 use Rattle.semantics.specs.Telling.{Reaches, Sent, sent_of}
 use Rattle.ttcn_step.specs.Machines.{Machine, legend, said}
 use Rattle.ttcn_syntax.specs.declared.place.Span.{Span}
-use Rattle.ttcnx_runs.specs.Remembered.{IsEffectWithin, led_to, shown}
+use Rattle.ttcnx_runs.specs.Remembered.{IsEffectWithin, led_to, place_at, shown}
 use Rattle.ttcnx_runs.specs.declared.outcome.Effect.{Effect}
 use Rattle.ttcnx_runs.specs.declared.outcome.Outcome.{Outcome}
 use Rattle.ttcnx_runs.specs.declared.outcome.Sending.{Sending}
+use Rattle.ttcnx_runs.specs.declared.step_place.StepPlace.{StepPlace}
 use Rattle.value_types.specs.declared.path.Path.{Path}
 use Rattle.value_types.specs.declared.value.Value.{Value}
 
@@ -101,3 +102,7 @@ step_of machine going label = (branch_of machine.test (said machine (config.Goin
 -- wherever a component sees what it sees here, this is what is shown of the step of a label
 abbrev pub IsMadeOf : Machine → Going → ℕ → Component → Label → Outcome → Type 0
 IsMadeOf machine going at component label outcome = Holds machine going at component (λ g i c. shown machine g i c outcome ≡ step_of machine g label)
+
+-- wherever a component sees what it sees here, the step of a label is there
+abbrev pub IsPlaced : Machine → Going → ℕ → Component → Label → Option StepPlace → Type 0
+IsPlaced machine going at component label event = Holds machine going at component (λ g i c. event ≡ place_at machine g label)

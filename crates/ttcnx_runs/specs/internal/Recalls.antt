@@ -1,5 +1,5 @@
 -- Configurations whose successors are made from what is remembered.
-use Rattle.std.specs.Prelude.{◌≡◌, ℕ, Bool, true, false, List, [], ◌∷◌, Some, length, slice_get}
+use Rattle.std.specs.Prelude.{◌≡◌, ℕ, Bool, true, false, List, [], ◌∷◌, Option, Some, length, slice_get}
 use Rattle.config_packed.specs.Pieces.{IsCut, spell_key}
 use Rattle.config_packed.specs.declared.pieces.ConfigBytes.{ConfigBytes}
 use Rattle.config_parts.specs.Legend.{going_by}
@@ -10,9 +10,14 @@ use Rattle.config_parts.specs.declared.config.Config.TheVariants as config
 use Rattle.config_parts.specs.declared.config.Going.{Going}
 use Rattle.laws_local.specs.Alone.{has_labels, how_many}
 use Rattle.semantics.specs.Configurations as rules
+use Rattle.semantics.specs.Places.{branch_of}
+use Rattle.semantics.specs.Steps.{Label}
 use Rattle.ttcn_step.specs.Machines.{Machine, extent, legend, said}
+use Rattle.ttcn_syntax.specs.declared.place.Span.{Span}
 use Rattle.ttcnx_runs.specs.Runs.{FitsRuns}
+use Rattle.ttcnx_runs.specs.Sights.{step_place}
 use Rattle.ttcnx_runs.specs.declared.outcome.Outcome.{Outcome}
+use Rattle.ttcnx_runs.specs.declared.step_place.StepPlace.{StepPlace}
 
 -- a configuration of the code is one of a state
 pub record FitsState (machine : Machine) (configuration : Config) : Type 0 where
@@ -40,3 +45,11 @@ pub record AreKeys (going : Going) (keys : List (List ℕ)) : Type 0 where
 abbrev pub has_steps : List Outcome → Bool
 has_steps [] = false
 has_steps (outcome ∷ outcomes) = true
+
+-- the branch that a remembered step takes, and where the step is
+abbrev pub branch_and_place : Outcome → Option Span × Option StepPlace
+branch_and_place outcome = (outcome.branch, outcome.event)
+
+-- the same, by the rules, of a label
+abbrev pub branch_and_place_of : Machine → Config → Label → Option Span × Option StepPlace
+branch_and_place_of machine configuration label = (branch_of machine.test (said machine configuration) label, step_place machine.test (said machine configuration) label)

@@ -16,7 +16,7 @@ use Rattle.ttcnx_runs.proofs.sights.sight_within.Goals as goal
 use Rattle.ttcnx_runs.specs.Extents.{IsExtent}
 use Rattle.ttcnx_runs.specs.Sights.{AreBlocks, ArePlaces, block_in, step_place}
 use Rattle.ttcnx_runs.specs.declared.exploration.Extent.{Extent}
-use Rattle.ttcnx_runs.specs.declared.sights.StepPlace.{StepPlace}
+use Rattle.ttcnx_runs.specs.declared.step_place.StepPlace.{StepPlace}
 use Rattle.ttcnx_runs.specs.internal.Explored.{AreSights}
 
 pub search_watched-requires-sync-Y : goal.search_watched-requires-sync-Y

@@ -1,4 +1,4 @@
-use Rattle.std.proofs.Common.{◌≡◌, ap, map, subst, sym, ◌∙◌}
+use Rattle.std.proofs.Common.{◌≡◌, ℕ, refl, ap, map, subst, sym, ◌∙◌}
 use Rattle.std.specs.Prelude.{IfSome}
 use Rattle.config_packed.specs.Pieces.{IsCut}
 use Rattle.config_parts.specs.Legend.{going_by}
@@ -9,7 +9,8 @@ use Rattle.laws_local.specs.Alone.{how_many}
 use Rattle.search_ordinals.specs.Told.{IsNth}
 use Rattle.semantics.specs.Canonical.{canonical_graph}
 use Rattle.semantics.specs.Labels.{labels}
-use Rattle.ttcn_step.specs.Machines.{legend, said}
+use Rattle.semantics.specs.Steps.{Label}
+use Rattle.ttcn_step.specs.Machines.{Machine, legend, said}
 use Rattle.ttcnx_runs.proofs.LastSteps.{some-as}
 use Rattle.ttcnx_runs.proofs.Parting.{parts-going}
 use Rattle.ttcnx_runs.proofs.Recalled.{active-recalled, if-some, live-of}
@@ -21,13 +22,18 @@ use Rattle.ttcnx_runs.specs.internal.Spared.{IsReached}
 going-is : {a b : Going} → config.Going a ≡ config.Going b → a ≡ b
 going-is e = cc
 
+-- a configuration from which a step leads goes on
+goes-before : (machine : Machine) (configuration : Config) (nth : ℕ) (label : Label) → IsNth (labels machine.test (said machine configuration)) nth label → (going : Going) × (configuration ≡ config.Going going)
+goes-before machine (config.Ended v) nth label numbered = absurd numbered
+goes-before machine (config.Going going) nth label numbered = (going, refl)
+
 pub returns : goal.returns
 returns g c =
     let machine = g.K.Scheme.machine in
     let whole = parts-going c.args.packed.now c.in_ok-parts.field-0 c.in-Some.parts c.in_ok-parts.ensures c.in-Some.is in
-    let earlier = parts-going c.args.before.now c.in_ok-parts_before.field-0 c.in-Some-2.parts_before c.in_ok-parts_before.ensures c.in-Some-2.is in
-    let before : Going = earlier.0 in
     let behind = c.requires.behind in
+    let earlier = goes-before machine c.args.before.now c.args.nth behind.0 behind.1 in
+    let before : Going = earlier.0 in
     let reached : IfSome c.in_ok-last.last
     (λ last. IsReached machine (λ one. one.now.key.items) (λ one. one.now.outcomes.items) before c.args.nth last.known.items last.at last.effect.now whole.0) =
     some-as c.in_ok-last.last _ _
@@ -38,22 +44,22 @@ returns g c =
       label = behind.0;
       numbered = subst (λ (s : Config). IsNth (labels machine.test (said machine s)) c.args.nth behind.0) earlier.1 behind.1;
       leads = ap (said machine) (sym whole.1) ∙ behind.2 ∙ ap (λ (s : Config). (canonical_graph machine.test).after (said machine s) behind.0) earlier.1;
-    }) (c.in_ok-last.ensures before whole.0 earlier.2 whole.2) in
+    }) (c.in_ok-last.ensures before whole.0 earlier.1 whole.2) in
     whole-spared machine c.args.before.now c.args.packed.now before whole.0 c.args.nth c.in_ok-pairs.pairs.items earlier.1 whole.1 (sym whole.2.mappings ∙ c.if-parts.false)
     (c.in_ok-pairs.ensures before whole.0 c.args.nth whole.1 reached)
 
-pub last_step-requires : goal.last_step-requires
-last_step-requires g c going cut =
+pub step_before-requires : goal.step_before-requires
+step_before-requires g c going cut =
     subst (λ xs. AreKeys going (map (λ one. one.now.key.items) xs)) (sym c.deref.ensures.value)
-    (if-some c.in_ok-all.field-0 c.in-Some-3.all (λ all. AreKeys going (map (λ one. one.now.key.items) all.items)) (c.in_ok-all.ensures going cut) c.in-Some-3.is)
+    (if-some c.in_ok-all.field-0 c.in-Some-2.all (λ all. AreKeys going (map (λ one. one.now.key.items) all.items)) (c.in_ok-all.ensures going cut) c.in-Some-2.is)
 
 pub pairs_behind-requires-clause-can : goal.pairs_behind-requires-clause-can
 pairs_behind-requires-clause-can g c =
     let machine = g.K.Scheme.machine in
     let whole = parts-going c.args.packed.now c.in_ok-parts.field-0 c.in-Some.parts c.in_ok-parts.ensures c.in-Some.is in
     let going = whole.0 in
-    let all = c.in-Some-3.all.items in
-    let keys : AreKeys going (map (λ one. one.now.key.items) all) = if-some c.in_ok-all.field-0 c.in-Some-3.all (λ all. AreKeys going (map (λ one. one.now.key.items) all.items)) (c.in_ok-all.ensures going whole.2) c.in-Some-3.is in
+    let all = c.in-Some-2.all.items in
+    let keys : AreKeys going (map (λ one. one.now.key.items) all) = if-some c.in_ok-all.field-0 c.in-Some-2.all (λ all. AreKeys going (map (λ one. one.now.key.items) all.items)) (c.in_ok-all.ensures going whole.2) c.in-Some-2.is in
     let live = live-of machine c.args.packed.now going c.requires.fits whole.1 in
     let many : c.active_among.result ≡ active_in machine (going_by (legend machine) going) =
     c.active_among.ensures ∙ ap (how_many (λ one. has_steps one.now.outcomes.items)) c.deref-2.ensures.value
@@ -71,4 +77,4 @@ pairs_behind-requires-clause-keys g c going is =
     let whole = parts-going c.args.packed.now c.in_ok-parts.field-0 c.in-Some.parts c.in_ok-parts.ensures c.in-Some.is in
     let cut : IsCut going c.in-Some.parts = subst (λ (w : Going). IsCut w c.in-Some.parts) (going-is (sym whole.1 ∙ is)) whole.2 in
     subst (λ xs. AreKeys going (map (λ one. one.now.key.items) xs)) (sym c.deref-3.ensures.value)
-    (if-some c.in_ok-all.field-0 c.in-Some-3.all (λ all. AreKeys going (map (λ one. one.now.key.items) all.items)) (c.in_ok-all.ensures going cut) c.in-Some-3.is)
+    (if-some c.in_ok-all.field-0 c.in-Some-2.all (λ all. AreKeys going (map (λ one. one.now.key.items) all.items)) (c.in_ok-all.ensures going cut) c.in-Some-2.is)
