@@ -114,7 +114,13 @@ fn push_frames(
     let both = if old < new { old } else { new };
     if let Some(depth) = both.checked_sub(1) {
         if let (Some(before), Some(behind)) = (frame_at(before, depth), frame_at(behind, depth)) {
-            push_cells(alloc, names, &before.cells, &behind.cells, changes)?;
+            push_cells(
+                alloc,
+                names,
+                before.cells.get(),
+                behind.cells.get(),
+                changes,
+            )?;
         }
     }
     if old != new {

@@ -58,7 +58,7 @@ fn holder_of(component: &Component, path: &Path) -> Option<Slot> {
         return Some(slot);
     }
     for frame in own.calls.as_slice() {
-        if let Some(slot) = holder_in(&frame.cells, path) {
+        if let Some(slot) = holder_in(frame.cells.get(), path) {
             return Some(slot);
         }
     }

@@ -8,7 +8,7 @@ use Rattle.std.proofs.Math.Seq.{drop-cons}
 use Rattle.std.specs.List.{flat_map}
 use Rattle.config_packed.specs.internal.Cuts.{changed_at_place, changed_contents, changed_from, joined}
 use Rattle.config_packed.specs.Pieces.{AreJoined, IsCut, bytes_of, changed_going, joined_going, spelled_parts, with_verdict_and_own}
-use Rattle.config_packed.specs.Spelling.{name_of, spell_config, spell_content, spell_links, spell_list, spell_name, spell_outline, spell_own, spell_queue, spell_verdict}
+use Rattle.config_packed.specs.Spelling.{going_code, name_of, spell_config, spell_content, spell_head, spell_links, spell_list, spell_long, spell_name, spell_outline, spell_own, spell_queue, spell_sized, spell_verdict}
 use Rattle.config_packed.specs.declared.pieces.ComponentBytes.{ComponentBytes}
 use Rattle.config_packed.specs.declared.pieces.ConfigBytes.{ConfigBytes}
 use Rattle.value_types.specs.declared.value.ComponentId.{ComponentId}
@@ -96,6 +96,11 @@ module _ {A B : Type 0} (make : A → B) (change : A → A) where
   map-unchanged same (x ∷ xs) zero = ap (λ (y : B). y ∷ map make xs) (same x)
   map-unchanged same (x ∷ xs) (suc at) = ap (λ (ys : List B). make x ∷ ys) (map-unchanged same xs at)
 
+length-changed : {A : Type 0} (change : A → A) (xs : List A) (at : ℕ) → length (changed_at xs at change) ≡ length xs
+length-changed change [] at = refl
+length-changed change (x ∷ xs) zero = refl
+length-changed change (x ∷ xs) (suc at) = ap suc (length-changed change xs at)
+
 -- ---- both changes
 
 abbrev Parts : Type 0
@@ -145,17 +150,24 @@ module _ (going : Going) (at : ℕ) (v : Verdict) (own : Data) (behind : ℕ) (q
   outline-unchanged : spell_outline (changed_going going at v own behind qs) ≡ spell_outline going
   unfolding spell_outline
   outline-unchanged =
-      ap (λ (names : List (ComponentId × State)). 1 ∷ (spell_verdict going.forgotten ++ spell_links going.links ++ spell_list spell_name names)) (map-unchanged name_of (with_queues (λ old. qs)) (λ x. refl) once behind ∙ map-unchanged name_of (with_verdict_and_own v own) (λ x. refl) going.components at)
+      ap (λ (names : List (ComponentId × State)). spell_verdict going.forgotten ++ spell_links going.links ++ spell_list spell_name names) (map-unchanged name_of (with_queues (λ old. qs)) (λ x. refl) once behind ∙ map-unchanged name_of (with_verdict_and_own v own) (λ x. refl) going.components at)
+
+  head-unchanged : spell_head (changed_going going at v own behind qs) ≡ spell_head going
+  unfolding spell_head
+  head-unchanged =
+      let count : length (changed_going going at v own behind qs).components ≡ length going.components =
+      length-changed (with_queues (λ old. qs)) once behind ∙ length-changed (with_verdict_and_own v own) going.components at in
+      λ i. going_code going.links ∷ (spell_long (count i) ++ spell_sized (outline-unchanged i))
 
   -- the bytes that are put are those of the changed configuration
   pub changed-spelled : (parts : ConfigBytes) (own-bytes queue-bytes bytes : List ℕ)
       → IsCut going parts → own-bytes ≡ spell_own v own → queue-bytes ≡ spell_list spell_queue qs
-      → bytes ≡ parts.outline.now ++ changed_contents at own-bytes behind queue-bytes (map bytes_of parts.components.items)
+      → bytes ≡ parts.head.now ++ changed_contents at own-bytes behind queue-bytes (map bytes_of parts.components.items)
       → bytes ≡ spell_config (config.Going (changed_going going at v own behind qs))
   unfolding spell_config
   changed-spelled parts own-bytes queue-bytes bytes cut own-is queues-is put =
       let new = changed_going going at v own behind qs in
-      let begun : parts.outline.now ≡ spell_outline new = cut.outline ∙ sym outline-unchanged in
+      let begun : parts.head.now ≡ spell_head new = cut.head ∙ sym head-unchanged in
       let contents : changed_contents at own-bytes behind queue-bytes (map bytes_of parts.components.items) ≡ flat_map spell_content new.components =
       (λ i. changed_contents at (own-is i) behind (queues-is i) (cut.components i)) ∙ ap (flat_map joined) parts-changed ∙ contents-joined new.components in
       put ∙ (λ i. begun i ++ contents i)
@@ -168,11 +180,6 @@ module _ {A : Type 0} (f g : A → A) where
   twice-changed both [] at same = refl
   twice-changed both (x ∷ xs) zero same = ap (λ (y : A). y ∷ xs) (same (omega arith) x)
   twice-changed both (x ∷ xs) (suc at) same = ap (λ (ys : List A). x ∷ ys) (twice-changed both xs at (λ h. same (omega arith)))
-
-length-changed : {A : Type 0} (change : A → A) (xs : List A) (at : ℕ) → length (changed_at xs at change) ≡ length xs
-length-changed change [] at = refl
-length-changed change (x ∷ xs) zero = refl
-length-changed change (x ∷ xs) (suc at) = ap suc (length-changed change xs at)
 
 -- what is made of the element at a place
 made-at : {A B : Type 0} (make : A → B) (xs : List A) (at : ℕ) (x : A) → make (get_or xs at x) ≡ get_or (map make xs) at (make x)
@@ -204,7 +211,7 @@ module _ (going : Going) (at : ℕ) (other : Going) (are : AreJoined going at ot
   outline-joined : spell_outline (joined_going going at other) ≡ spell_outline other
   unfolding spell_outline
   outline-joined =
-      ap (λ (names : List (ComponentId × State)). 1 ∷ (spell_verdict other.forgotten ++ spell_links other.links ++ spell_list spell_name names)) are
+      ap (λ (names : List (ComponentId × State)). spell_verdict other.forgotten ++ spell_links other.links ++ spell_list spell_name names) are
 
   -- both have as many components
   lengths : length going.components ≡ length other.components
@@ -212,16 +219,23 @@ module _ (going : Going) (at : ℕ) (other : Going) (are : AreJoined going at ot
       sym (length-changed (λ old. get_or other.components at old) going.components at)
       ∙ sym (length-map (joined_going going at other).components name_of) ∙ ap length are ∙ length-map other.components name_of
 
+  head-joined : spell_head (joined_going going at other) ≡ spell_head other
+  unfolding spell_head
+  head-joined =
+      let count : length (joined_going going at other).components ≡ length other.components =
+      length-changed (λ old. get_or other.components at old) going.components at ∙ lengths in
+      λ i. going_code other.links ∷ (spell_long (count i) ++ spell_sized (outline-joined i))
+
   -- the bytes that are put are those of the joined configuration
   pub joined-spelled : (parts behind : ConfigBytes) (item : ComponentBytes) (bytes : List ℕ)
       → IsCut going parts → IsCut other behind
       → ((found : ComponentBytes) → slice_get behind.components.items at ≡ Some found → item ≡ found)
-      → bytes ≡ behind.outline.now ++ changed_contents at item.own.now at item.queues.now (map bytes_of parts.components.items)
+      → bytes ≡ behind.head.now ++ changed_contents at item.own.now at item.queues.now (map bytes_of parts.components.items)
       → bytes ≡ spell_config (config.Going (joined_going going at other))
   unfolding spell_config
   joined-spelled parts behind item bytes cut other-cut is put =
       let new = joined_going going at other in
-      let begun : behind.outline.now ≡ spell_outline new = other-cut.outline ∙ sym outline-joined in
+      let begun : behind.head.now ≡ spell_head new = other-cut.head ∙ sym head-joined in
       let count : length behind.components.items ≡ length other.components =
       sym (length-map behind.components.items bytes_of) ∙ ap length other-cut.components ∙ length-map other.components spelled_parts in
       let here : at < length going.components → (old : Parts) → bytes_of item ≡ get_or (map spelled_parts other.components) at old =

@@ -1,12 +1,12 @@
 -- Configurations are read back from the bytes that spell them, whatever follows.
-use Rattle.std.proofs.Common.{◌≡◌, ℕ, nat_eq, Bool, true, false, cond, List, [], ◌∷◌, ◌++◌, length, map, Option, Some, None, refl, sym, ap, ◌∙◌, arith, append_assoc}
+use Rattle.std.proofs.Common.{◌≡◌, ℕ, nat_eq, nat_lt, Bool, true, false, cond, if◌then◌else◌, List, [], ◌∷◌, ◌++◌, length, map, Option, Some, None, refl, sym, ap, ◌∙◌, arith, append_assoc}
 use Rattle.std.proofs.lemmas.Bool.{ne_eqb}
 use Rattle.std.proofs.lemmas.List.{append-nil}
 use Rattle.std.specs.Cmp.Lexicographic.{same_text}
 use Rattle.std.specs.List.{flat_map}
 use Rattle.config_packed.specs.Packs.{same_bytes, same_bytes_equiv}
 use Rattle.config_packed.specs.Reading.{Reads, config_in, identity_from, read_byte, read_cells, read_component, read_config, read_connection, read_contents, read_default, read_end, read_entry, read_frame, read_going, read_links, read_list, read_items, read_long, read_message, read_name, read_own, read_queue, read_sender, state_of, read_timer, read_value, read_verdict, verdict_of}
-use Rattle.config_packed.specs.Spelling.{name_of, spell_cells, spell_config, spell_connection, spell_content, spell_default, spell_end, spell_entry, spell_frame, spell_links, spell_list, spell_long, spell_message, spell_name, spell_outline, spell_own, spell_queue, spell_sender, spell_sized, state_code, spell_timer, spell_value, spell_verdict, verdict_code}
+use Rattle.config_packed.specs.Spelling.{name_of, spell_cells, spell_config, spell_connection, spell_content, spell_default, spell_end, spell_entry, spell_frame, spell_head, spell_links, spell_list, spell_long, spell_message, spell_name, spell_outline, spell_own, spell_queue, spell_sender, spell_sized, state_code, spell_timer, spell_value, spell_verdict, verdict_code}
 use Rattle.config_packed.proofs.NumbersBack.{items-back, read-list-back, read-long-back, read-long-pair-back, read-number-back, read-pair-back}
 use Rattle.config_packed.proofs.ValuesBack.{identity-begins, read-path-back, read-value-back}
 use Rattle.ttcn_syntax.specs.declared.tree.statement.Verdict.{Verdict}
@@ -104,8 +104,8 @@ unfolding read_message spell_message
 message_back message rest = simp (append_assoc, read-value-back, sender-back)
 
 pub queue_back : (queue : Queue) (rest : List ℕ) → read_queue (spell_queue queue ++ rest) ≡ (queue, rest)
-unfolding read_queue spell_queue
-queue_back queue rest = simp (append_assoc, read-pair-back, items-back spell_message read_message message_back)
+unfolding read_queue spell_queue spell_sized
+queue_back queue rest = simp (append_assoc, read-pair-back, read-long-back, items-back spell_message read_message message_back)
 
 end_back : (e : End) (rest : List ℕ) → read_end (spell_end e ++ rest) ≡ (e, rest)
 unfolding read_end spell_end
@@ -140,14 +140,21 @@ contents-back (c ∷ cs) rest =
     ∙ ap (λ (p : List Component × List ℕ). (c ∷ p.0, p.1)) (contents-back cs rest)
 
 going_back : (going : Going) (rest : List ℕ)
-    → read_going (((spell_verdict going.forgotten ++ spell_links going.links ++ spell_list spell_name (map name_of going.components)) ++ flat_map spell_content going.components) ++ rest) ≡ (going, rest)
-unfolding read_going
-going_back going rest = simp (append_assoc, verdict-back, links-back, read-list-back spell_name read_name name_back, contents-back)
+    → read_going (((spell_long (length going.components) ++ spell_sized (spell_outline going)) ++ flat_map spell_content going.components) ++ rest) ≡ (going, rest)
+unfolding read_going spell_sized spell_outline
+going_back going rest = simp (append_assoc, read-long-back, verdict-back, links-back, read-list-back spell_name read_name name_back, contents-back)
+
+-- a test case that goes on, behind either of its first bytes
+begun-back : (mapped : Bool) (going : Going) (rest : List ℕ)
+    → read_config (((if mapped then 2 else 1) ∷ (spell_long (length going.components) ++ spell_sized (spell_outline going)) ++ flat_map spell_content going.components) ++ rest) ≡ (config.Going going, rest)
+unfolding read_config read_byte
+begun-back true going rest = ap (λ (p : Going × List ℕ). (config.Going p.0, p.1)) (going_back going rest)
+begun-back false going rest = ap (λ (p : Going × List ℕ). (config.Going p.0, p.1)) (going_back going rest)
 
 pub read_config_back : (c : Config) (rest : List ℕ) → read_config (spell_config c ++ rest) ≡ (c, rest)
-unfolding read_config read_byte spell_config spell_outline
+unfolding read_config read_byte spell_config spell_head
 read_config_back (config.Ended v) rest = ap (λ (p : Verdict × List ℕ). (config.Ended p.0, p.1)) (verdict-back v rest)
-read_config_back (config.Going going) rest = ap (λ (p : Going × List ℕ). (config.Going p.0, p.1)) (going_back going rest)
+read_config_back (config.Going going) rest = begun-back (nat_lt 0 (length going.links.mappings)) going rest
 
 -- the bytes that spell a configuration spell no other
 pub config_back : (c : Config) → config_in (spell_config c) ≡ c

@@ -1,28 +1,25 @@
 -- What is cut of bytes is what was spelled.
-use Rattle.std.proofs.Common.{◌≡◌, ℕ, zero, suc, ◌+◌, ◌-◌, ◌<◌, Bool, cond, List, [], ◌∷◌, ◌++◌, length, map, min, take, drop, get_or, slice_get, Some, None, refl, sym, ap, ◌∙◌, arith, append_assoc, length-append}
+use Rattle.std.proofs.Common.{◌≡◌, ℕ, zero, suc, ◌+◌, ◌-◌, ◌<◌, Bool, true, false, nat_eq, if◌then◌else◌, List, [], ◌∷◌, ◌++◌, length, map, min, take, drop, get_or, slice_get, Some, None, refl, sym, ap, ◌∙◌, arith, append_assoc, length-append}
 use Rattle.std.proofs.lemmas.List.{append-nil, length-map, map-append}
 use Rattle.std.proofs.lemmas.List.Folds.{flat_map-map}
-use Rattle.std.proofs.Math.Dec.{eqb-suc-zero}
 use Rattle.std.proofs.Math.Seq.{drop-append_seam, take-append_seam}
 use Rattle.std.specs.List.{flat_map}
 use Rattle.std.specs.Option.{option_to_list}
-use Rattle.config_packed.specs.internal.Cuts.{bytes_read, cut_content, cut_front, first_of, since}
+use Rattle.config_packed.specs.internal.Cuts.{bytes_read, cut_content, cut_front, cut_sized, first_of, since}
 use Rattle.config_packed.specs.Pieces.{AreParts, IsCut, bytes_of, first_message, front_at, has_mappings, spell_front, spell_key, spelled_parts}
-use Rattle.config_packed.specs.Reading.{Reads, read_byte, read_items, read_links, read_list, read_long, read_message, read_name, read_queue, read_verdict}
-use Rattle.config_packed.specs.Spelling.{name_of, spell_config, spell_content, spell_links, spell_list, spell_long, spell_message, spell_name, spell_outline, spell_own, spell_pair, spell_queue, spell_sized, spell_verdict}
+use Rattle.config_packed.specs.Reading.{Reads, read_byte, read_items, read_long, read_message}
+use Rattle.config_packed.specs.Spelling.{going_code, spell_config, spell_content, spell_head, spell_list, spell_long, spell_message, spell_outline, spell_own, spell_pair, spell_queue, spell_sized}
 use Rattle.config_packed.specs.declared.pieces.ComponentBytes.{ComponentBytes}
 use Rattle.config_packed.specs.declared.pieces.ConfigBytes.{ConfigBytes}
-use Rattle.config_packed.proofs.ConfigsBack.{links-back, message_back, name_back, queue_back, verdict-back}
+use Rattle.config_packed.proofs.ConfigsBack.{message_back}
 use Rattle.config_packed.proofs.Items.{ahead, items-more}
-use Rattle.config_packed.proofs.NumbersBack.{items-seen, read-list-back, read-long-back, read-pair-back}
+use Rattle.config_packed.proofs.NumbersBack.{items-seen, read-long-back, read-pair-back}
 use Rattle.config_parts.specs.declared.component.Component.{Component}
 use Rattle.config_parts.specs.declared.component.Message.{Message}
 use Rattle.config_parts.specs.declared.component.Queue.{Queue}
 use Rattle.config_parts.specs.declared.config.Config.{Config}
 use Rattle.config_parts.specs.declared.config.Config.TheVariants as config
 use Rattle.config_parts.specs.declared.config.Going.{Going}
-use Rattle.config_parts.specs.declared.connection.Links.{Links}
-use Rattle.ttcn_syntax.specs.declared.tree.statement.Verdict.{Verdict}
 
 -- ---- bytes that are kept as bytes
 
@@ -35,28 +32,21 @@ pub bytes-read-back : {A : Type 0} (read : Reads A) (bytes rest : List ℕ) → 
 bytes-read-back read bytes rest behind =
     ap (λ (left : List ℕ). (since (bytes ++ rest) left, left)) behind ∙ ap (λ (kept : List ℕ). (kept, rest)) (since-back bytes rest)
 
-queues-kept : (qs : List Queue) (rest : List ℕ) → bytes_read (read_list read_queue) (spell_list spell_queue qs ++ rest) ≡ (spell_list spell_queue qs, rest)
-queues-kept qs rest = bytes-read-back (read_list read_queue) (spell_list spell_queue qs) rest (ap (λ p. p.1) (read-list-back spell_queue read_queue queue_back qs rest))
-
 message-kept : (message : Message) (rest : List ℕ) → bytes_read read_message (spell_message message ++ rest) ≡ (spell_message message, rest)
 message-kept message rest = bytes-read-back read_message (spell_message message) rest (ap (λ p. p.1) (message_back message rest))
 
 -- ---- components
 
--- what a component has of its own, and then its queues
-with_queues_read : List ℕ → List ℕ → (List ℕ × List ℕ) × List ℕ
-with_queues_read own bytes = ((own, (bytes_read (read_list read_queue) bytes).0), (bytes_read (read_list read_queue) bytes).1)
+pub cut-sized-back : (bytes rest : List ℕ) → cut_sized (spell_sized bytes ++ rest) ≡ (bytes, rest)
+unfolding cut_sized spell_sized
+cut-sized-back bytes rest =
+    ap cut_sized (append_assoc (spell_long (length bytes)) bytes rest)
+    ∙ ap (λ (p : ℕ × List ℕ). (take p.0 p.1, drop p.0 p.1)) (read-long-back (length bytes) (bytes ++ rest))
+    ∙ (λ i. (take-append_seam bytes rest i, drop-append_seam bytes rest i))
 
 pub cut-content-back : (c : Component) (rest : List ℕ) → cut_content (spell_content c ++ rest) ≡ (spelled_parts c, rest)
-unfolding cut_content spell_content spell_sized with_queues_read
-cut-content-back c rest =
-    let own = spell_own c.verdict c.own in
-    let queues = spell_list spell_queue c.queues in
-    let split : ((spell_long (length own) ++ own) ++ queues) ++ rest ≡ spell_long (length own) ++ (own ++ (queues ++ rest)) = simp append_assoc in
-    ap cut_content split
-    ∙ ap (λ (p : ℕ × List ℕ). with_queues_read (take p.0 p.1) (drop p.0 p.1)) (read-long-back (length own) (own ++ (queues ++ rest)))
-    ∙ (λ i. with_queues_read (take-append_seam own (queues ++ rest) i) (drop-append_seam own (queues ++ rest) i))
-    ∙ ap (λ (p : List ℕ × List ℕ). ((own, p.0), p.1)) (queues-kept c.queues rest)
+unfolding cut_content spell_content
+cut-content-back c rest = simp (append_assoc, cut-sized-back)
 
 pub contents-cut : (cs : List Component) (rest : List ℕ) → read_items cut_content (length cs) (flat_map spell_content cs ++ rest) ≡ (map spelled_parts cs, rest)
 contents-cut = items-seen spell_content cut_content spelled_parts cut-content-back
@@ -70,77 +60,65 @@ cut-more count turn before after whole items more x h pushed is rest e =
     items-more cut_content count turn before after whole (map bytes_of items) (bytes_of x) h is rest e
     ∙ ap (λ (xs : List (List ℕ × List ℕ)). ahead xs (read_items cut_content (count - (turn + 1)) after)) (sym (ap (map bytes_of) pushed ∙ map-append bytes_of items (x ∷ [])))
 
+-- whether system ports are mapped is told by the first byte
+mapped-told : (mapped : Bool) → nat_eq (if mapped then 2 else 1) 2 ≡ mapped
+mapped-told true = refl
+mapped-told false = refl
+
 -- the parts of a configuration that goes on are cut
 module _ (going : Going) where
-  abbrev verdict_part : List ℕ
-  verdict_part = spell_verdict going.forgotten
-
-  abbrev links_part : List ℕ
-  links_part = spell_links going.links
-
-  abbrev names_part : List ℕ
-  names_part = spell_list spell_name (map name_of going.components)
-
   abbrev contents_part : List ℕ
   contents_part = flat_map spell_content going.components
 
-  behind-tag : (bytes tagged : List ℕ) → bytes ≡ spell_config (config.Going going) → tagged ≡ (read_byte bytes).1
-      → tagged ≡ verdict_part ++ (links_part ++ (names_part ++ contents_part))
-  unfolding spell_config spell_outline read_byte
-  behind-tag bytes tagged is behind =
-      behind ∙ ap (λ (b : List ℕ). (read_byte b).1) is ∙ simp append_assoc
+  begins-with : (bytes : List ℕ) → bytes ≡ spell_config (config.Going going) → (read_byte bytes).0 ≡ going_code going.links
+  unfolding spell_config spell_head read_byte
+  begins-with bytes is = ap (λ (b : List ℕ). (read_byte b).0) is
 
-  behind-verdict : (tagged judged : List ℕ) → tagged ≡ verdict_part ++ (links_part ++ (names_part ++ contents_part)) → judged ≡ (read_verdict tagged).1
-      → judged ≡ links_part ++ (names_part ++ contents_part)
-  behind-verdict tagged judged is behind =
-      behind ∙ ap (λ (b : List ℕ). (read_verdict b).1) is ∙ ap (λ (p : Verdict × List ℕ). p.1) (verdict-back going.forgotten (links_part ++ (names_part ++ contents_part)))
+  behind-first : (bytes tagged : List ℕ) → bytes ≡ spell_config (config.Going going) → tagged ≡ (read_byte bytes).1
+      → tagged ≡ spell_long (length going.components) ++ (spell_sized (spell_outline going) ++ contents_part)
+  unfolding spell_config spell_head read_byte
+  behind-first bytes tagged is behind =
+      behind ∙ ap (λ (b : List ℕ). (read_byte b).1) is ∙ append_assoc (spell_long (length going.components)) (spell_sized (spell_outline going)) contents_part
 
-  whole-is : (bytes : List ℕ) → bytes ≡ spell_config (config.Going going) → bytes ≡ spell_outline going ++ contents_part
+  whole-is : (bytes : List ℕ) → bytes ≡ spell_config (config.Going going) → bytes ≡ spell_head going ++ contents_part
   unfolding spell_config
   whole-is bytes is = is
 
-  pub parts-cut : (bytes tagged judged linked named outline : List ℕ) (has : Bool) (count : ℕ) (parts : List (List ℕ × List ℕ))
+  pub parts-cut : (bytes tagged counted sized head outline : List ℕ) (tag count : ℕ) (parts : List (List ℕ × List ℕ))
       → bytes ≡ spell_config (config.Going going)
+      → tag ≡ (read_byte bytes).0
       → tagged ≡ (read_byte bytes).1
-      → judged ≡ (read_verdict tagged).1
-      → has ≡ has_mappings (read_links judged).0
-      → linked ≡ (read_links judged).1
-      → count ≡ length (read_list read_name linked).0
-      → named ≡ (read_list read_name linked).1
-      → outline ≡ since bytes named
-      → parts ≡ (read_items cut_content count named).0
-      → (outline ≡ spell_outline going) × (parts ≡ map spelled_parts going.components) × (has ≡ has_mappings going.links)
-  parts-cut bytes tagged judged linked named outline has count parts is a b c d e f k m =
-      let judged-is = behind-verdict tagged judged (behind-tag bytes tagged is a) b in
-      let links-read : read_links judged ≡ (going.links, names_part ++ contents_part) = ap read_links judged-is ∙ links-back going.links (names_part ++ contents_part) in
-      let linked-is : linked ≡ names_part ++ contents_part = d ∙ ap (λ (p : Links × List ℕ). p.1) links-read in
-      let names-read : read_list read_name linked ≡ (map name_of going.components, contents_part) = ap (read_list read_name) linked-is ∙ read-list-back spell_name read_name name_back (map name_of going.components) contents_part in
-      let named-is : named ≡ contents_part = f ∙ ap (λ p. p.1) names-read in
-      let count-is : count ≡ length going.components = e ∙ ap (λ p. length p.0) names-read ∙ length-map going.components name_of in (
-        k ∙ (λ i. since (whole-is bytes is i) (named-is i)) ∙ since-back (spell_outline going) contents_part,
-        m ∙ (λ i. (read_items cut_content (count-is i) (named-is i)).0) ∙ ap (λ (b : List ℕ). (read_items cut_content (length going.components) b).0) (sym (append-nil contents_part)) ∙ ap (λ p. p.0) (contents-cut going.components []),
-        c ∙ ap (λ (p : Links × List ℕ). has_mappings p.0) links-read,
+      → count ≡ (read_long tagged).0
+      → counted ≡ (read_long tagged).1
+      → outline ≡ (cut_sized counted).0
+      → sized ≡ (cut_sized counted).1
+      → head ≡ since bytes sized
+      → parts ≡ (read_items cut_content count sized).0
+      → (head ≡ spell_head going) × (outline ≡ spell_outline going) × (parts ≡ map spelled_parts going.components) × (nat_eq tag 2 ≡ has_mappings going.links)
+  parts-cut bytes tagged counted sized head outline tag count parts is a b c d e f h k =
+      let read : read_long tagged ≡ (length going.components, spell_sized (spell_outline going) ++ contents_part) =
+      ap read_long (behind-first bytes tagged is b) ∙ read-long-back (length going.components) (spell_sized (spell_outline going) ++ contents_part) in
+      let counted-is : counted ≡ spell_sized (spell_outline going) ++ contents_part = d ∙ ap (λ (p : ℕ × List ℕ). p.1) read in
+      let cut : cut_sized counted ≡ (spell_outline going, contents_part) = ap cut_sized counted-is ∙ cut-sized-back (spell_outline going) contents_part in
+      let sized-is : sized ≡ contents_part = f ∙ ap (λ (p : List ℕ × List ℕ). p.1) cut in
+      let count-is : count ≡ length going.components = c ∙ ap (λ (p : ℕ × List ℕ). p.0) read in (
+        h ∙ (λ i. since (whole-is bytes is i) (sized-is i)) ∙ since-back (spell_head going) contents_part,
+        e ∙ ap (λ (p : List ℕ × List ℕ). p.0) cut,
+        k ∙ (λ i. (read_items cut_content (count-is i) (sized-is i)).0) ∙ ap (λ (b : List ℕ). (read_items cut_content (length going.components) b).0) (sym (append-nil contents_part)) ∙ ap (λ p. p.0) (contents-cut going.components []),
+        ap (λ (n : ℕ). nat_eq n 2) (a ∙ begins-with bytes is) ∙ mapped-told (has_mappings going.links),
       )
 
 -- ---- fronts
 
--- all messages behind the first are passed
-pub messages-passed : (messages : List Message) (count : ℕ) (rest : List ℕ) → count ≡ length messages → (read_items read_message count (flat_map spell_message messages ++ rest)).1 ≡ rest
-messages-passed messages count rest is =
-    ap (λ n. (read_items read_message n (flat_map spell_message messages ++ rest)).1) is
-    ∙ ap (λ p. p.1) (items-seen spell_message read_message (λ m. m) message_back messages rest)
+take-of-none : (count : ℕ) → ◌≡◌ {A = List ℕ} (take count []) []
+take-of-none zero = refl
+take-of-none (suc count) = refl
 
 -- the first message of those that are spelled
-first-back : (messages : List Message) (rest : List ℕ) → first_of (length messages) (flat_map spell_message messages ++ rest) ≡ (flat_map spell_message (option_to_list (first_message messages)), rest)
-first-back [] rest = refl
-first-back (message ∷ messages) rest =
-    let count = suc (length messages) in
-    let behind = flat_map spell_message messages ++ rest in
-    let left : count - 1 ≡ length messages = omega arith in
-    ap (first_of count) (append_assoc (spell_message message) (flat_map spell_message messages) rest)
-    ∙ ap (λ (none : Bool). cond {A = Reads (List ℕ)} none (λ bytes. ([], bytes)) (λ bytes. ((bytes_read read_message bytes).0, (read_items read_message (count - 1) (bytes_read read_message bytes).1).1)) (spell_message message ++ behind)) (eqb-suc-zero (length messages))
-    ∙ ap (λ (p : List ℕ × List ℕ). (p.0, (read_items read_message (count - 1) p.1).1)) (message-kept message behind)
-    ∙ (λ i. (sym (append-nil (spell_message message)) i, messages-passed messages (count - 1) rest left i))
+first-back : (messages : List Message) → first_of (flat_map spell_message messages) ≡ flat_map spell_message (option_to_list (first_message messages))
+first-back [] = take-of-none _
+first-back (message ∷ messages) =
+    ap (λ (p : List ℕ × List ℕ). p.0) (message-kept message (flat_map spell_message messages)) ∙ sym (append-nil (spell_message message))
 
 first-counted : (messages : List Message) → min (length messages) 1 ≡ length (option_to_list (first_message messages))
 first-counted [] = refl
@@ -151,11 +129,10 @@ unfolding cut_front spell_queue spell_front
 cut-front-back q rest =
     let count = length q.messages in
     let messages = flat_map spell_message q.messages in
-    let first = flat_map spell_message (option_to_list (first_message q.messages)) in
-    ap cut_front (append_assoc (spell_pair count q.port) messages rest)
-    ∙ ap (λ (p : (ℕ × ℕ) × List ℕ). (spell_pair (min p.0.0 1) p.0.1 ++ (first_of p.0.0 p.1).0, (first_of p.0.0 p.1).1)) (read-pair-back count q.port (messages ++ rest))
-    ∙ ap (λ (p : List ℕ × List ℕ). (spell_pair (min count 1) q.port ++ p.0, p.1)) (first-back q.messages rest)
-    ∙ ap (λ (n : ℕ). (spell_pair n q.port ++ first, rest)) (first-counted q.messages)
+    ap cut_front (append_assoc (spell_pair count q.port) (spell_sized messages) rest)
+    ∙ ap (λ (p : (ℕ × ℕ) × List ℕ). (spell_pair (min p.0.0 1) p.0.1 ++ spell_sized (first_of (cut_sized p.1).0), (cut_sized p.1).1)) (read-pair-back count q.port (spell_sized messages ++ rest))
+    ∙ ap (λ (p : List ℕ × List ℕ). (spell_pair (min count 1) q.port ++ spell_sized (first_of p.0), p.1)) (cut-sized-back messages rest)
+    ∙ (λ i. (spell_pair (first-counted q.messages i) q.port ++ spell_sized (first-back q.messages i), rest))
 
 abbrev front_bytes : Queue → List ℕ
 front_bytes queue = spell_front (front_at queue)
@@ -234,14 +211,17 @@ key-put going at component outline own start one two three four a b c d e f =
 
 -- ---- configurations
 
+-- the byte before a test case that goes on isn't 0
+code-not-zero : (mapped : Bool) → ◌≡◌ {A = ℕ} (if mapped then 2 else 1) 0 → ⊥
+code-not-zero true zero-byte = absurd (omega arith)
+code-not-zero false zero-byte = absurd (omega arith)
+
 pub begins-ended : (whole : Config) (bytes : List ℕ) → bytes ≡ spell_config whole → (read_byte bytes).0 ≡ 0 → AreParts whole None
-unfolding spell_config spell_outline read_byte
 begins-ended (config.Ended v) bytes is zero-byte = tt
-begins-ended (config.Going going) bytes is zero-byte =
-    absurd (let e = ap (λ (b : List ℕ). (read_byte b).0) is in omega arith)
+begins-ended (config.Going going) bytes is zero-byte = code-not-zero (has_mappings going.links) (sym (begins-with going bytes is) ∙ zero-byte)
 
 pub begins-going : (whole : Config) (bytes : List ℕ) (parts : ConfigBytes) → bytes ≡ spell_config whole → ((read_byte bytes).0 ≡ 0 → ⊥)
     → ((going : Going) → bytes ≡ spell_config (config.Going going) → IsCut going parts) → AreParts whole (Some parts)
-unfolding spell_config spell_outline read_byte
+unfolding spell_config read_byte
 begins-going (config.Ended v) bytes parts is some cut = some (ap (λ (b : List ℕ). (read_byte b).0) is)
 begins-going (config.Going going) bytes parts is some cut = cut going is

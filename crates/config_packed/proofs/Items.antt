@@ -1,5 +1,5 @@
 -- Lists of items, spelled and read one item after another.
-use Rattle.std.proofs.Common.{◌≡◌, ℕ, zero, suc, ◌+◌, ◌-◌, ◌<◌, ◌≤◌, List, [], ◌∷◌, ◌++◌, length, get_or, map, take, refl, sym, ap, ◌∙◌, arith, append_assoc}
+use Rattle.std.proofs.Common.{◌≡◌, ℕ, suc, ◌+◌, ◌-◌, ◌<◌, ◌≤◌, List, [], ◌∷◌, ◌++◌, length, get_or, map, take, sym, ap, ◌∙◌, arith, append_assoc}
 use Rattle.std.proofs.lemmas.List.{append-nil, flat_map_more, length-map, take_all, take_more}
 use Rattle.std.proofs.lemmas.List.Folds.{flat_map-map}
 use Rattle.std.specs.List.{flat_map}
@@ -101,17 +101,6 @@ unfolding read_list
 list-passed read start before after count turn is behind all e =
     let f : read_items read (read_long start).0 (read_long start).1 ≡ read_items read count before = λ i. read_items read (sym is i) (sym behind i) in
     sym (ap (λ p. p.1) f ∙ items-behind read count turn after (read_items read count before).1 all e)
-
--- ---- how many items are read
-
-pub items-count : {A : Type 0} (read : Reads A) (count : ℕ) (bytes : List ℕ) → length (read_items read count bytes).0 ≡ count
-unfolding read_items
-items-count read zero bytes = refl
-items-count read (suc count) bytes = ap suc (items-count read count (read bytes).1)
-
-pub listed : {A : Type 0} (read : Reads A) (bytes : List ℕ) → length (read_list read bytes).0 ≡ (read_long bytes).0
-unfolding read_list
-listed read bytes = items-count read (read_long bytes).0 (read_long bytes).1
 
 -- ---- components by their names
 

@@ -1,9 +1,9 @@
 -- What a component sees is read back from its key.
-use Rattle.std.proofs.Common.{◌≡◌, ℕ, List, [], ◌∷◌, ◌++◌, map, Option, Some, None, refl, sym, ap, ◌∙◌, append_assoc}
+use Rattle.std.proofs.Common.{◌≡◌, ℕ, List, [], ◌++◌, map, Option, Some, None, refl, sym, ap, ◌∙◌, append_assoc}
 use Rattle.std.proofs.lemmas.List.{append-nil}
 use Rattle.std.specs.Option.{option_to_list}
 use Rattle.config_packed.specs.Pieces.{SeeTheSame, ShareOutline, first_message, front_at, spell_front, spell_key}
-use Rattle.config_packed.specs.Reading.{Reads, ◌>>=◌, done, read_byte, read_links, read_list, read_long, read_name, read_own, read_queue, read_verdict}
+use Rattle.config_packed.specs.Reading.{Reads, ◌>>=◌, done, read_links, read_list, read_long, read_name, read_own, read_queue, read_verdict}
 use Rattle.config_packed.specs.Spelling.{name_of, spell_name, spell_outline}
 use Rattle.config_packed.proofs.ConfigsBack.{links-back, name_back, own_back, queue_back, verdict-back}
 use Rattle.config_packed.proofs.NumbersBack.{read-list-back, read-long-back}
@@ -17,10 +17,6 @@ use Rattle.config_parts.specs.declared.config.Going.{Going}
 use Rattle.config_parts.specs.declared.connection.Links.{Links}
 use Rattle.config_parts.specs.declared.frame.Data.{Data}
 
-byte-back : (byte : ℕ) (rest : List ℕ) → read_byte (byte ∷ rest) ≡ (byte, rest)
-unfolding read_byte
-byte-back byte rest = refl
-
 -- ---- outlines
 
 abbrev Outline : Type 0
@@ -31,7 +27,6 @@ outline_of going = (going.forgotten, going.links, map name_of going.components)
 
 read_outline : Reads Outline
 read_outline = do
-  tag ← read_byte
   forgotten ← read_verdict
   links ← read_links
   names ← read_list read_name
@@ -39,7 +34,7 @@ read_outline = do
 
 outline-back : (going : Going) (rest : List ℕ) → read_outline (spell_outline going ++ rest) ≡ (outline_of going, rest)
 unfolding read_outline spell_outline
-outline-back going rest = simp (append_assoc, byte-back, verdict-back, links-back, read-list-back spell_name read_name name_back)
+outline-back going rest = simp (append_assoc, verdict-back, links-back, read-list-back spell_name read_name name_back)
 
 same-outline : (g h : Going) → outline_of g ≡ outline_of h → ShareOutline g h
 same-outline g h same = record { forgotten = ap (λ (o : Outline). o.0) same; links = ap (λ (o : Outline). o.1) same; names = ap (λ (o : Outline). o.2) same }

@@ -4,11 +4,11 @@ use Rattle.std.proofs.lemmas.Bool.{ne_eqb}
 use Rattle.std.proofs.lemmas.Grind.{flat_map-append}
 use Rattle.std.proofs.lemmas.List.{append-nil}
 use Rattle.std.specs.List.{flat_map}
-use Rattle.config_packed.specs.internal.Cuts.{AreAt, IsWithout, since}
-use Rattle.config_packed.specs.Reading.{read_items, read_long, read_message, read_pair}
-use Rattle.config_packed.specs.Spelling.{spell_list, spell_long, spell_message, spell_pair, spell_queue}
+use Rattle.config_packed.specs.internal.Cuts.{AreAt, IsWithout, cut_sized, since}
+use Rattle.config_packed.specs.Reading.{read_long, read_message, read_pair}
+use Rattle.config_packed.specs.Spelling.{spell_list, spell_long, spell_message, spell_pair, spell_queue, spell_sized}
 use Rattle.config_packed.proofs.ConfigsBack.{message_back}
-use Rattle.config_packed.proofs.Cutting.{messages-passed, since-back}
+use Rattle.config_packed.proofs.Cutting.{cut-sized-back, since-back}
 use Rattle.config_packed.proofs.NumbersBack.{read-long-back, read-pair-back}
 use Rattle.config_parts.specs.internal.Changes.{change_queue, with_message, without_first, without_message}
 use Rattle.config_parts.specs.declared.component.Message.{Message}
@@ -41,31 +41,31 @@ stands-first port qs queues start behind count is begins counts rest =
       skips = λ change. refl;
     }
 
-queue-begins : (q : Queue) (rest : List ℕ) → read_pair (spell_queue q ++ rest) ≡ ((length q.messages, q.port), flat_map spell_message q.messages ++ rest)
+queue-begins : (q : Queue) (rest : List ℕ) → read_pair (spell_queue q ++ rest) ≡ ((length q.messages, q.port), spell_sized (flat_map spell_message q.messages) ++ rest)
 unfolding spell_queue
 queue-begins q rest =
-    ap read_pair (append_assoc (spell_pair (length q.messages) q.port) (flat_map spell_message q.messages) rest)
-    ∙ read-pair-back (length q.messages) q.port (flat_map spell_message q.messages ++ rest)
+    ap read_pair (append_assoc (spell_pair (length q.messages) q.port) (spell_sized (flat_map spell_message q.messages)) rest)
+    ∙ read-pair-back (length q.messages) q.port (spell_sized (flat_map spell_message q.messages) ++ rest)
 
 next-of : (port : ℕ) (qs passed others : List Queue) (left : ℕ) (head : ℕ × ℕ) (bytes numbered after : List ℕ)
     → qs ≡ passed ++ others → length others ≡ suc left → bytes ≡ flat_map spell_queue others
     → ((change : List Message → List Message) → change_queue port change qs ≡ passed ++ change_queue port change others)
-    → head ≡ (read_pair bytes).0 → numbered ≡ (read_pair bytes).1 → after ≡ (read_items read_message head.0 numbered).1
+    → head ≡ (read_pair bytes).0 → numbered ≡ (read_pair bytes).1 → after ≡ (cut_sized numbered).1
     → (head.1 ≡ port → ⊥)
     → StandsBehind port qs left after
 next-of port qs passed [] left head bytes numbered after split count here skips is behind rest other = absurd (omega arith)
 next-of port qs passed (q ∷ os) left head bytes numbered after split count here skips is behind rest other =
     let begins = ap read_pair here ∙ queue-begins q (flat_map spell_queue os) in
     let head-is : head ≡ (length q.messages, q.port) = is ∙ ap (λ (p : (ℕ × ℕ) × List ℕ). p.0) begins in
-    let numbered-is : numbered ≡ flat_map spell_message q.messages ++ flat_map spell_queue os = behind ∙ ap (λ (p : (ℕ × ℕ) × List ℕ). p.1) begins in
+    let numbered-is : numbered ≡ spell_sized (flat_map spell_message q.messages) ++ flat_map spell_queue os = behind ∙ ap (λ (p : (ℕ × ℕ) × List ℕ). p.1) begins in
     let differs : nat_eq q.port port ≡ _ = ne_eqb q.port port (λ e. other (ap (λ (p : ℕ × ℕ). p.1) head-is ∙ e)) in
     record {
       passed = passed ++ q ∷ [];
       others = os;
       split = split ∙ sym (append_assoc passed (q ∷ []) os);
       count = omega arith;
-      here = rest ∙ ap (λ (b : List ℕ). (read_items read_message head.0 b).1) numbered-is
-          ∙ messages-passed q.messages head.0 (flat_map spell_queue os) (ap (λ (p : ℕ × ℕ). p.0) head-is);
+      here = rest ∙ ap (λ (b : List ℕ). (cut_sized b).1) numbered-is
+          ∙ ap (λ (p : List ℕ × List ℕ). p.1) (cut-sized-back (flat_map spell_message q.messages) (flat_map spell_queue os));
       skips = λ change.
           skips change
           ∙ ap (λ (b : Bool). passed ++ (if b then record { port = q.port; messages = change q.messages } ∷ os else q ∷ change_queue port change os)) differs
@@ -74,7 +74,7 @@ next-of port qs passed (q ∷ os) left head bytes numbered after split count her
 
 -- the next queue isn't of the port
 pub stands-next : (port : ℕ) (qs : List Queue) (count turn : ℕ) (head : ℕ × ℕ) (bytes numbered after : List ℕ)
-    → turn < count → head ≡ (read_pair bytes).0 → numbered ≡ (read_pair bytes).1 → after ≡ (read_items read_message head.0 numbered).1
+    → turn < count → head ≡ (read_pair bytes).0 → numbered ≡ (read_pair bytes).1 → after ≡ (cut_sized numbered).1
     → (head.1 ≡ port → ⊥)
     → StandsBehind port qs (count - turn) bytes → StandsBehind port qs (count - (turn + 1)) after
 stands-next port qs count turn head bytes numbered after h is behind rest other s =
@@ -147,14 +147,15 @@ changed-behind port qs queues start front new change is at since-is new-is =
 -- the bytes behind the head of a queue
 module _ (port : ℕ) (messages : List Message) (behind start counted : List ℕ) (head : ℕ × ℕ)
     (is : start ≡ spell_queue (record { port = port; messages = messages }) ++ behind) (counts : head ≡ (read_pair start).0) (rest : counted ≡ (read_pair start).1) where
-  head-read : read_pair start ≡ ((length messages, port), flat_map spell_message messages ++ behind)
+  head-read : read_pair start ≡ ((length messages, port), spell_sized (flat_map spell_message messages) ++ behind)
   head-read = ap read_pair is ∙ queue-begins (record { port = port; messages = messages }) behind
 
   count-is : head.0 ≡ length messages
   count-is = ap (λ (p : ℕ × ℕ). p.0) (counts ∙ ap (λ (p : (ℕ × ℕ) × List ℕ). p.0) head-read)
 
-  counted-is : counted ≡ flat_map spell_message messages ++ behind
-  counted-is = rest ∙ ap (λ (p : (ℕ × ℕ) × List ℕ). p.1) head-read
+  messages-cut : cut_sized counted ≡ (flat_map spell_message messages, behind)
+  messages-cut =
+      ap cut_sized (rest ∙ ap (λ (p : (ℕ × ℕ) × List ℕ). p.1) head-read) ∙ cut-sized-back (flat_map spell_message messages) behind
 
 gone-none : (messages : List Message) → length messages ≡ 0 → without_first messages ≡ messages
 gone-none [] none = refl
@@ -169,57 +170,64 @@ first-gone-none port qs queues start counted bytes head is at counts rest none e
     e ∙ is ∙ at.whole ∙ ap (λ (b : List ℕ). at.front ++ b) (at.here ∙ ap (λ (ms : List Message). spell_queue (record { port = port; messages = ms }) ++ at.behind) (sym same))
     ∙ sym (at.changed without_first)
 
-gone-some : (port : ℕ) (messages : List Message) (behind counted after : List ℕ) (count : ℕ)
-    → count ≡ length messages → counted ≡ flat_map spell_message messages ++ behind
-    → (count ≡ 0 → ⊥) → after ≡ (read_message counted).1
-    → spell_pair (count - 1) port ++ after ≡ spell_queue (record { port = port; messages = without_first messages }) ++ behind
+gone-some : (port : ℕ) (messages : List Message) (behind waiting left after : List ℕ) (count : ℕ)
+    → count ≡ length messages → waiting ≡ flat_map spell_message messages → after ≡ behind
+    → (count ≡ 0 → ⊥) → left ≡ (read_message waiting).1
+    → spell_pair (count - 1) port ++ (spell_sized left ++ after) ≡ spell_queue (record { port = port; messages = without_first messages }) ++ behind
 unfolding spell_queue
-gone-some port [] behind counted after count count-is counted-is some passed = absurd (some count-is)
-gone-some port (m ∷ ms) behind counted after count count-is counted-is some passed =
+gone-some port [] behind waiting left after count count-is waiting-is after-is some passed = absurd (some count-is)
+gone-some port (m ∷ ms) behind waiting left after count count-is waiting-is after-is some passed =
     let others = flat_map spell_message ms in
-    let left : count - 1 ≡ length ms = omega arith in
-    (λ i. spell_pair (left i) port ++ (passed ∙ ap (λ (b : List ℕ). (read_message b).1) (counted-is ∙ append_assoc (spell_message m) others behind) ∙ ap (λ (p : Message × List ℕ). p.1) (message_back m (others ++ behind))) i)
-    ∙ sym (append_assoc (spell_pair (length ms) port) others behind)
+    let one-less : count - 1 ≡ length ms = omega arith in
+    let left-is : left ≡ others =
+    passed ∙ ap (λ (b : List ℕ). (read_message b).1) waiting-is ∙ ap (λ (p : Message × List ℕ). p.1) (message_back m others) in
+    (λ i. spell_pair (one-less i) port ++ (spell_sized (left-is i) ++ after-is i))
+    ∙ sym (append_assoc (spell_pair (length ms) port) (spell_sized others) behind)
 
 -- the first message is gone
-pub first-gone : (port : ℕ) (qs : List Queue) (queues start counted after front one two three four : List ℕ) (head : ℕ × ℕ)
+pub first-gone : (port : ℕ) (qs : List Queue) (queues start counted waiting left after front one two three four five : List ℕ) (head : ℕ × ℕ)
     → queues ≡ spell_list spell_queue qs → AreAt port qs start → front ≡ since queues start
-    → head ≡ (read_pair start).0 → counted ≡ (read_pair start).1 → (head.0 ≡ 0 → ⊥) → after ≡ (read_message counted).1
-    → one ≡ [] → two ≡ one ++ front → three ≡ two ++ spell_pair (head.0 - 1) port → four ≡ three ++ after
-    → four ≡ spell_list spell_queue (without_message port qs)
-first-gone port qs queues start counted after front one two three four head is at since-is counts rest some passed a b c d =
-    let left = spell_pair (head.0 - 1) port in
-    d ∙ ap (λ (bytes : List ℕ). bytes ++ after) (c ∙ ap (λ (bytes : List ℕ). bytes ++ left) (b ∙ ap (λ (bytes : List ℕ). bytes ++ front) a))
-    ∙ append_assoc front left after
-    ∙ changed-behind port qs queues start front (left ++ after) without_first is at since-is
-    (gone-some port at.messages at.behind counted after head.0 (count-is port at.messages at.behind start counted head at.here counts rest) (counted-is port at.messages at.behind start counted head at.here counts rest) some passed)
+    → head ≡ (read_pair start).0 → counted ≡ (read_pair start).1 → (head.0 ≡ 0 → ⊥)
+    → waiting ≡ (cut_sized counted).0 → after ≡ (cut_sized counted).1 → left ≡ (read_message waiting).1
+    → one ≡ [] → two ≡ one ++ front → three ≡ two ++ spell_pair (head.0 - 1) port → four ≡ three ++ spell_sized left → five ≡ four ++ after
+    → five ≡ spell_list spell_queue (without_message port qs)
+first-gone port qs queues start counted waiting left after front one two three four five head is at since-is counts rest some cut behind passed a b c d e =
+    let all = messages-cut port at.messages at.behind start counted head at.here counts rest in
+    let put : five ≡ ((front ++ spell_pair (head.0 - 1) port) ++ spell_sized left) ++ after = rw (e, d, c, b, a) refl in
+    let regroup : ((front ++ spell_pair (head.0 - 1) port) ++ spell_sized left) ++ after ≡ front ++ (spell_pair (head.0 - 1) port ++ (spell_sized left ++ after)) = simp append_assoc in
+    put ∙ regroup
+    ∙ changed-behind port qs queues start front (spell_pair (head.0 - 1) port ++ (spell_sized left ++ after)) without_first is at since-is
+    (gone-some port at.messages at.behind waiting left after head.0 (count-is port at.messages at.behind start counted head at.here counts rest)
+    (cut ∙ ap (λ (p : List ℕ × List ℕ). p.0) all) (behind ∙ ap (λ (p : List ℕ × List ℕ). p.1) all) some passed)
 
-came : (port : ℕ) (messages : List Message) (message : Message) (behind counted after kept sent : List ℕ) (count more : ℕ)
-    → count ≡ length messages → counted ≡ flat_map spell_message messages ++ behind
-    → after ≡ (read_items read_message count counted).1 → kept ≡ since counted after → more ≡ count + 1 → sent ≡ spell_message message
-    → spell_pair more port ++ (kept ++ (sent ++ after)) ≡ spell_queue (record { port = port; messages = messages ++ message ∷ [] }) ++ behind
-unfolding spell_queue
-came port messages message behind counted after kept sent count more count-is counted-is passed since-is more-is sent-is =
+came : (port : ℕ) (messages : List Message) (message : Message) (behind waiting sent after : List ℕ) (count more size : ℕ)
+    → count ≡ length messages → waiting ≡ flat_map spell_message messages → after ≡ behind → more ≡ count + 1 → size ≡ length waiting + length sent → sent ≡ spell_message message
+    → spell_pair more port ++ (spell_long size ++ (waiting ++ (sent ++ after))) ≡ spell_queue (record { port = port; messages = messages ++ message ∷ [] }) ++ behind
+unfolding spell_queue spell_sized
+came port messages message behind waiting sent after count more size count-is waiting-is after-is more-is size-is sent-is =
     let all = flat_map spell_message messages in
-    let after-is : after ≡ behind = passed ∙ ap (λ (b : List ℕ). (read_items read_message count b).1) counted-is ∙ messages-passed messages count behind count-is in
-    let kept-is : kept ≡ all = since-is ∙ (λ i. since (counted-is i) (after-is i)) ∙ since-back all behind in
+    let new = flat_map spell_message (messages ++ message ∷ []) in
     let m : more ≡ length (messages ++ message ∷ []) = more-is ∙ ap (λ k. k + 1) count-is ∙ sym (length-append messages (message ∷ [])) in
-    let each : all ++ spell_message message ≡ flat_map spell_message (messages ++ message ∷ []) =
-    ap (λ (b : List ℕ). all ++ b) (sym (append-nil (spell_message message))) ∙ sym (flat_map-append spell_message messages (message ∷ [])) in
+    let each : waiting ++ sent ≡ new =
+    (λ i. waiting-is i ++ sent-is i) ∙ ap (λ (b : List ℕ). all ++ b) (sym (append-nil (spell_message message))) ∙ sym (flat_map-append spell_message messages (message ∷ [])) in
+    let s : size ≡ length new = size-is ∙ sym (length-append waiting sent) ∙ ap length each in
     let head = spell_pair (length (messages ++ message ∷ [])) port in
-    (λ i. spell_pair (m i) port ++ (kept-is i ++ (sent-is i ++ after-is i)))
-    ∙ ap (λ (b : List ℕ). head ++ b) (sym (append_assoc all (spell_message message) behind) ∙ ap (λ (b : List ℕ). b ++ behind) each)
-    ∙ sym (append_assoc head (flat_map spell_message (messages ++ message ∷ [])) behind)
+    (λ i. spell_pair (m i) port ++ (spell_long (s i) ++ (waiting ++ (sent ++ after-is i))))
+    ∙ ap (λ (b : List ℕ). head ++ (spell_long (length new) ++ b)) (sym (append_assoc waiting sent behind) ∙ ap (λ (b : List ℕ). b ++ behind) each)
+    ∙ ap (λ (b : List ℕ). head ++ b) (sym (append_assoc (spell_long (length new)) new behind))
+    ∙ sym (append_assoc head (spell_long (length new) ++ new) behind)
 
 -- a message came
-pub message-came : (port : ℕ) (message : Message) (qs : List Queue) (queues start counted after front kept sent one two three four five six : List ℕ) (head : ℕ × ℕ) (more : ℕ)
+pub message-came : (port : ℕ) (message : Message) (qs : List Queue) (queues start counted waiting after front sent one two three four five six seven : List ℕ) (head : ℕ × ℕ) (more size : ℕ)
     → queues ≡ spell_list spell_queue qs → sent ≡ spell_message message → AreAt port qs start → front ≡ since queues start
-    → head ≡ (read_pair start).0 → counted ≡ (read_pair start).1 → after ≡ (read_items read_message head.0 counted).1 → kept ≡ since counted after → more ≡ head.0 + 1
-    → one ≡ [] → two ≡ one ++ front → three ≡ two ++ spell_pair more port → four ≡ three ++ kept → five ≡ four ++ sent → six ≡ five ++ after
-    → six ≡ spell_list spell_queue (with_message port message qs)
-message-came port message qs queues start counted after front kept sent one two three four five six head more is sent-is at since-is counts rest passed kept-is more-is a b c d e f =
-    let put : six ≡ (((front ++ spell_pair more port) ++ kept) ++ sent) ++ after = rw (f, e, d, c, b, a) refl in
-    let regroup : (((front ++ spell_pair more port) ++ kept) ++ sent) ++ after ≡ front ++ (spell_pair more port ++ (kept ++ (sent ++ after))) = simp append_assoc in
+    → head ≡ (read_pair start).0 → counted ≡ (read_pair start).1 → waiting ≡ (cut_sized counted).0 → after ≡ (cut_sized counted).1 → more ≡ head.0 + 1 → size ≡ length waiting + length sent
+    → one ≡ [] → two ≡ one ++ front → three ≡ two ++ spell_pair more port → four ≡ three ++ spell_long size → five ≡ four ++ waiting → six ≡ five ++ sent → seven ≡ six ++ after
+    → seven ≡ spell_list spell_queue (with_message port message qs)
+message-came port message qs queues start counted waiting after front sent one two three four five six seven head more size is sent-is at since-is counts rest cut behind more-is size-is a b c d e f g =
+    let all = messages-cut port at.messages at.behind start counted head at.here counts rest in
+    let put : seven ≡ ((((front ++ spell_pair more port) ++ spell_long size) ++ waiting) ++ sent) ++ after = rw (g, f, e, d, c, b, a) refl in
+    let regroup : ((((front ++ spell_pair more port) ++ spell_long size) ++ waiting) ++ sent) ++ after ≡ front ++ (spell_pair more port ++ (spell_long size ++ (waiting ++ (sent ++ after)))) = simp append_assoc in
     put ∙ regroup
-    ∙ changed-behind port qs queues start front (spell_pair more port ++ (kept ++ (sent ++ after))) (λ messages. messages ++ message ∷ []) is at since-is
-    (came port at.messages message at.behind counted after kept sent head.0 more (count-is port at.messages at.behind start counted head at.here counts rest) (counted-is port at.messages at.behind start counted head at.here counts rest) passed kept-is more-is sent-is)
+    ∙ changed-behind port qs queues start front (spell_pair more port ++ (spell_long size ++ (waiting ++ (sent ++ after)))) (λ messages. messages ++ message ∷ []) is at since-is
+    (came port at.messages message at.behind waiting sent after head.0 more size (count-is port at.messages at.behind start counted head at.here counts rest)
+    (cut ∙ ap (λ (p : List ℕ × List ℕ). p.0) all) (behind ∙ ap (λ (p : List ℕ × List ℕ). p.1) all) more-is size-is sent-is)

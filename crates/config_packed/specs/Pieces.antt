@@ -11,7 +11,7 @@ use Rattle.config_parts.specs.declared.config.Going.{Going}
 use Rattle.config_parts.specs.declared.connection.Links.{Links}
 use Rattle.config_parts.specs.declared.frame.Data.{Data}
 use Rattle.config_parts.specs.internal.Changes.{changed_at, with_queues}
-use Rattle.config_packed.specs.Spelling.{name_of, spell_list, spell_long, spell_outline, spell_own, spell_queue}
+use Rattle.config_packed.specs.Spelling.{name_of, spell_head, spell_list, spell_long, spell_outline, spell_own, spell_queue}
 use Rattle.config_packed.specs.declared.pieces.ComponentBytes.{ComponentBytes}
 use Rattle.config_packed.specs.declared.pieces.ConfigBytes.{ConfigBytes}
 
@@ -31,6 +31,7 @@ has_mappings links = nat_lt 0 (length links.mappings)
 
 -- the parts of the bytes of a configuration that goes on
 pub record IsCut (going : Going) (parts : ConfigBytes) : Type 0 where
+  pub head : parts.head.now ≡ spell_head going
   pub outline : parts.outline.now ≡ spell_outline going
   pub components : map bytes_of parts.components.items ≡ map spelled_parts going.components
   pub mappings : parts.has_mappings ≡ has_mappings going.links

@@ -276,10 +276,11 @@ read_message = do
   sender ← read_sender
   done (record { value = value; sender = sender })
 
--- how many messages wait at a port and the port, and then the messages
+-- how many messages wait at a port and the port, and then the messages: their length is passed over
 unfoldable pub read_queue : Reads Queue
 read_queue = do
   head ← read_pair
+  size ← read_long
   messages ← read_items read_message head.0
   done (record { port = head.1; messages = messages })
 
@@ -324,11 +325,12 @@ read_own = do
   defaults ← read_items read_default last.0
   done (verdict_of head.0, record { members = members; calls = calls; defaults = defaults; activations = last.1; children = head.1 })
 
--- a component of this name, from its content: the length of what it has of its own is passed over
+-- a component of this name, from its content: lengths are passed over
 unfoldable pub read_component : ComponentId × State → Reads Component
 read_component name = do
   size ← read_long
   own ← read_own
+  room ← read_long
   queues ← read_list read_queue
   done (record { itself = name.0; own = own.1; state = name.1; verdict = own.0; queues = queues })
 
@@ -340,9 +342,11 @@ read_contents (name ∷ names) = do
   components ← read_contents names
   done (component ∷ components)
 
--- a test case that goes on, behind the first byte
+-- a test case that goes on, behind the first byte: how many components it has, and the length of what all of them see, are passed over
 unfoldable pub read_going : Reads Going
 read_going = do
+  count ← read_long
+  size ← read_long
   forgotten ← read_verdict
   links ← read_links
   names ← read_list read_name

@@ -67,6 +67,10 @@ spell_pair a b = both_in spell_number a b
 unfoldable pub spell_long_pair : ℕ → ℕ → List ℕ
 spell_long_pair a b = both_in spell_long a b
 
+-- bytes behind their length
+unfoldable pub spell_sized : List ℕ → List ℕ
+spell_sized bytes = spell_long (length bytes) ++ bytes
+
 -- ---- lists
 
 -- how many items there are, and then the items
@@ -179,9 +183,9 @@ spell_sender (Some component) = spell_identity component
 unfoldable pub spell_message : Message → List ℕ
 spell_message message = spell_value message.value ++ spell_sender message.sender
 
--- how many messages wait at a port and the port, and then the messages
+-- how many messages wait at a port and the port, and then the messages, behind their length
 unfoldable pub spell_queue : Queue → List ℕ
-spell_queue queue = spell_pair (length queue.messages) queue.port ++ flat_map spell_message queue.messages
+spell_queue queue = spell_pair (length queue.messages) queue.port ++ spell_sized (flat_map spell_message queue.messages)
 
 -- a component's port
 unfoldable pub spell_end : End → List ℕ
@@ -211,23 +215,27 @@ spell_own v own =
     spell_pair (verdict_code v) own.children ++ spell_cells own.members ++ spell_list spell_frame own.calls
     ++ spell_pair (length own.defaults) own.activations ++ flat_map spell_default own.defaults
 
--- bytes behind their length
-unfoldable pub spell_sized : List ℕ → List ℕ
-spell_sized bytes = spell_long (length bytes) ++ bytes
-
--- what only a component itself sees: what it has of its own, behind its length, and then its queues
+-- what only a component itself sees: what it has of its own, and then its queues, each behind its length
 unfoldable pub spell_content : Component → List ℕ
-spell_content component = spell_sized (spell_own component.verdict component.own) ++ spell_list spell_queue component.queues
+spell_content component = spell_sized (spell_own component.verdict component.own) ++ spell_sized (spell_list spell_queue component.queues)
 
 -- the contents of components, one behind the other
 abbrev pub spell_contents : List Component → List ℕ
 spell_contents components = flat_map spell_content components
 
--- what all components see: the byte 1, the verdict of the components that are forgotten, how ports are linked and what came in there, and the components' names
+-- what all components see: the verdict of the components that are forgotten, how ports are linked and what came in there, and the components' names
 unfoldable pub spell_outline : Going → List ℕ
-spell_outline going = 1 ∷ (spell_verdict going.forgotten ++ spell_links going.links ++ spell_list spell_name (map name_of going.components))
+spell_outline going = spell_verdict going.forgotten ++ spell_links going.links ++ spell_list spell_name (map name_of going.components)
 
--- a configuration: the byte 0 stands before the verdict of a test case that ended, and the outline before the contents of the components of one that goes on
+-- the byte before a test case that goes on: 2 where system ports are mapped, and else 1
+abbrev pub going_code : Links → ℕ
+going_code links = if nat_lt 0 (length links.mappings) then 2 else 1
+
+-- what stands before the contents of components: that byte, how many they are, and what all of them see, behind its length
+unfoldable pub spell_head : Going → List ℕ
+spell_head going = going_code going.links ∷ (spell_long (length going.components) ++ spell_sized (spell_outline going))
+
+-- a configuration: the byte 0 stands before the verdict of a test case that ended, and the head before the contents of the components of one that goes on
 unfoldable pub spell_config : Config → List ℕ
 spell_config (config.Ended v) = 0 ∷ spell_verdict v
-spell_config (config.Going going) = spell_outline going ++ spell_contents going.components
+spell_config (config.Going going) = spell_head going ++ spell_contents going.components

@@ -10,6 +10,7 @@ mod packed;
 mod parts;
 mod pieces;
 mod queues;
+mod sized;
 mod skip;
 mod spelled;
 mod value;

@@ -8,10 +8,11 @@ use crate::number::{
     put_long, put_long_pair, put_number, put_pair, take_long, take_long_pair, take_number,
     take_pair,
 };
+use crate::sized::put_sized;
 use crate::spelled::{Spelled, put_items, take_items};
 use crate::value::take_identity_from;
 use config_parts::{
-    ActiveDefault, Cells, Connection, Data, End, Frame, Links, Message, Queue, State,
+    ActiveDefault, Cells, Connection, Data, End, Frame, Links, Message, Queue, Shared, State,
 };
 use std::alloc::{AllocError, Global};
 use ttcn_syntax::{Seq, Verdict};
@@ -82,14 +83,17 @@ impl Spelled for Frame {
     #[tactic(auto, unfolding(crate::specs::Spelling::spell_frame))]
     fn put(&self, bytes: &mut Vec<u8>) -> Result<(), AllocError> {
         put_long(bytes, self.remaining)?;
-        self.cells.put(bytes)
+        self.cells.get().put(bytes)
     }
 
     #[tactic(auto, unfolding(crate::specs::Reading::read_frame))]
     fn take(alloc: Global, reader: &mut ByteReader<'_>) -> Result<Frame, AllocError> {
         let remaining = take_long(reader);
         let cells = Cells::take(alloc, reader)?;
-        Ok(Frame { remaining, cells })
+        Ok(Frame {
+            remaining,
+            cells: Shared::new(alloc, cells)?,
+        })
     }
 }
 
@@ -255,13 +259,17 @@ impl Spelled for Queue {
 
     #[tactic(auto, unfolding(crate::specs::Spelling::spell_queue))]
     fn put(&self, bytes: &mut Vec<u8>) -> Result<(), AllocError> {
+        // spelled apart first, so that their length is known
+        let mut messages = Vec::new(*bytes.allocator());
+        put_items(&mut messages, self.messages.as_slice())?;
         put_pair(bytes, self.messages.len(), self.port)?;
-        put_items(bytes, self.messages.as_slice())
+        put_sized(bytes, messages.as_slice())
     }
 
     #[tactic(auto, unfolding(crate::specs::Reading::read_queue))]
     fn take(alloc: Global, reader: &mut ByteReader<'_>) -> Result<Queue, AllocError> {
         let (count, port) = take_pair(reader);
+        let _size = take_long(reader);
         let messages = take_items(alloc, reader, count)?;
         Ok(Queue { port, messages })
     }

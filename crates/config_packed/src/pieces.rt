@@ -1,6 +1,6 @@
 //! The bytes of a configuration that goes on, in parts.
-ghost use Rattle.std.specs.Prelude.{◌≡◌, ◌++◌, ℕ, ◌<◌, IfOk, List, OnOk, Option, Some, length, map, slice_get};
-ghost use Rattle.config_packed.specs.internal.Cuts.{changed_at_place, changed_contents, cut_content, cut_front, joined};
+ghost use Rattle.std.specs.Prelude.{◌≡◌, ◌++◌, ◌<◌, IfOk, List, OnOk, Some, length, map, slice_get};
+ghost use Rattle.config_packed.specs.internal.Cuts.{changed_at_place, changed_contents, cut_content, cut_front, first_of, joined};
 ghost use Rattle.config_packed.specs.Pieces.{AreJoined, AreSpelled, IsCut, bytes_of, changed_going, front_at, joined_going, spell_front, spell_key};
 ghost use Rattle.config_packed.specs.Reading.{read_items};
 ghost use Rattle.config_packed.specs.Spelling.{spell_config, spell_list, spell_own, spell_queue};
@@ -13,12 +13,11 @@ ghost use Rattle.config_parts.specs.declared.frame.Data.{Data};
 use crate::byte_reader::ByteReader;
 use crate::number::{LONG_ROOM, put_long, put_pair, size_of_long, take_long, take_pair};
 use crate::packed::Packed;
-use crate::parts::{Name, take_verdict};
-use crate::skip::{Skip, skip_items, skip_links, skip_list};
-use crate::whole::put_sized;
-use config_parts::{Config, Message, Queue};
+use crate::sized::{put_sized, take_sized};
+use crate::skip::Skip;
+use config_parts::{Config, Message};
 use std::alloc::{AllocError, Global};
-use ttcn_syntax::{Seq, Verdict};
+use ttcn_syntax::Verdict;
 
 /// The bytes of a component: those of its verdict and its data, and those of its queues.
 #[derive(Clone, Copy)]
@@ -30,6 +29,8 @@ pub struct ComponentBytes<'a> {
 /// The bytes of a configuration that goes on, in parts.
 #[derive(Drop)]
 pub struct ConfigBytes<'a> {
+    /// What stands before the bytes of the components, the outline at its end.
+    pub head: &'a [u8],
     /// What all components see: how ports are linked, and the names and states of the components.
     pub outline: &'a [u8],
     pub components: Vec<ComponentBytes<'a>>,
@@ -45,11 +46,8 @@ fn take_component<'a>(reader: &mut ByteReader<'a>) -> ComponentBytes<'a>
     ensures value { bytes_of result ≡ (cut_content reader.old).0 }
     ensures rest { reader.new ≡ (cut_content reader.old).1 }
 {
-    let size = take_long(reader);
-    let own = reader.bytes(size);
-    let behind = reader.rest();
-    Seq::<Queue>::skip(reader);
-    let queues = reader.since(behind);
+    let own = take_sized(reader);
+    let queues = take_sized(reader);
     ComponentBytes { own, queues }
 }
 
@@ -73,20 +71,29 @@ pub fn take_parts<'a>(alloc: Global, bytes: &'a [u8]) -> Result<ConfigBytes<'a>,
     ensures { (going : Going) → bytes.now ≡ spell_config (Config.Going going) → IfOk result (λ parts. IsCut going parts) }
 {
     let mut reader = ByteReader::new(bytes);
-    let _tag = reader.byte();
-    let _forgotten = take_verdict(&mut reader);
-    let has_mappings = skip_links(&mut reader);
-    let count = skip_list::<Name>(&mut reader);
-    let outline = reader.since(bytes);
+    let tag = reader.byte();
+    let count = take_long(&mut reader);
+    let outline = take_sized(&mut reader);
+    let head = reader.since(bytes);
     let components = take_components(alloc, &mut reader, count)?;
     Ok(ConfigBytes {
+        head,
         outline,
         components,
-        has_mappings,
+        has_mappings: tag == 2,
     })
 }
 
 // ---- keys
+
+/// The bytes of the first of messages. Of none there are none.
+fn first_of(messages: &[u8]) -> &[u8]
+    ensures { result.now ≡ first_of messages.now }
+{
+    let mut reader = ByteReader::new(messages);
+    Message::skip(&mut reader);
+    reader.since(messages)
+}
 
 /// The port and the first message of the next queue.
 #[tactic(auto, unfolding(crate::specs::internal::Cuts::cut_front))]
@@ -95,15 +102,9 @@ fn put_front(key: &mut Vec<u8>, reader: &mut ByteReader<'_>) -> Result<(), Alloc
     ensures rest { OnOk result (reader.new ≡ (cut_front reader.old).1) }
 {
     let (count, port) = take_pair(reader);
+    let messages = take_sized(reader);
     put_pair(key, count.min(1), port)?;
-    if count == 0 {
-        return Ok(());
-    }
-    let message = reader.rest();
-    Message::skip(reader);
-    key.extend_from_slice(reader.since(message))?;
-    skip_items::<Message>(reader, count - 1);
-    Ok(())
+    put_sized(key, first_of(messages))
 }
 
 /// The port and the first message of each queue, from the bytes of the queues.
@@ -143,7 +144,10 @@ impl Change<'_, '_> {
         } else {
             component.queues.len()
         };
-        size_of_long(own).saturating_add(own).saturating_add(queues)
+        size_of_long(own)
+            .saturating_add(own)
+            .saturating_add(size_of_long(queues))
+            .saturating_add(queues)
     }
 
     /// The bytes of the component at a place.
@@ -161,9 +165,9 @@ impl Change<'_, '_> {
             put_sized(bytes, component.own)?;
         }
         if place == self.behind {
-            bytes.extend_from_slice(self.queues)
+            put_sized(bytes, self.queues)
         } else {
-            bytes.extend_from_slice(component.queues)
+            put_sized(bytes, component.queues)
         }
     }
 }
@@ -203,26 +207,26 @@ impl<'a> ConfigBytes<'a> {
             .saturating_add(LONG_ROOM)
     }
 
-    /// How many bytes the components take with a change, behind an outline.
-    fn changed_room(&self, outline: &[u8], change: &Change<'_, '_>) -> usize {
-        let mut room = outline.len();
+    /// How many bytes the components take with a change, behind a head.
+    fn changed_room(&self, head: &[u8], change: &Change<'_, '_>) -> usize {
+        let mut room = head.len();
         for (place, component) in self.components.iter().enumerate() {
             room = room.saturating_add(change.room(place, component));
         }
         room
     }
 
-    /// The bytes of the components with a change, behind an outline.
+    /// The bytes of the components with a change, behind a head.
     fn changed_bytes(
         &self,
         alloc: Global,
-        outline: &[u8],
+        head: &[u8],
         change: &Change<'_, '_>,
     ) -> Result<Vec<u8>, AllocError>
-        ensures { IfOk result (λ bytes. bytes.items ≡ outline.now ++ changed_contents change.now.at change.now.own.now change.now.behind change.now.queues.now (map bytes_of self.now.components.items)) }
+        ensures { IfOk result (λ bytes. bytes.items ≡ head.now ++ changed_contents change.now.at change.now.own.now change.now.behind change.now.queues.now (map bytes_of self.now.components.items)) }
     {
-        let mut bytes = Vec::with_capacity(alloc, self.changed_room(outline, change))?;
-        bytes.extend_from_slice(outline)?;
+        let mut bytes = Vec::with_capacity(alloc, self.changed_room(head, change))?;
+        bytes.extend_from_slice(head)?;
         for (place, component) in self.components.iter().enumerate() {
             change.put(&mut bytes, place, component)?;
         }
@@ -248,7 +252,7 @@ impl<'a> ConfigBytes<'a> {
             behind,
             queues,
         };
-        let bytes = self.changed_bytes(alloc, self.outline, &change)?;
+        let bytes = self.changed_bytes(alloc, self.head, &change)?;
         Ok(Packed::from_bytes(bytes))
     }
 
@@ -283,7 +287,7 @@ impl<'a> ConfigBytes<'a> {
             behind: at,
             queues: component.queues,
         };
-        let bytes = self.changed_bytes(alloc, behind.outline, &change)?;
+        let bytes = self.changed_bytes(alloc, behind.head, &change)?;
         Ok(Packed::from_bytes(bytes))
     }
 }

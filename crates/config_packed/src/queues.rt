@@ -1,5 +1,5 @@
 //! The messages that wait for a component, as bytes.
-ghost use Rattle.std.specs.Prelude.{◌≡◌, ◌++◌, IfOk, List, MatchOption};
+ghost use Rattle.std.specs.Prelude.{◌≡◌, IfOk, List, MatchOption};
 ghost use Rattle.config_packed.specs.internal.Cuts.{AreAt, IsWithout};
 ghost use Rattle.config_packed.specs.Spelling.{spell_list, spell_queue};
 ghost use Rattle.config_parts.specs.declared.component.Queue.{Queue};
@@ -7,8 +7,9 @@ ghost use Rattle.config_parts.specs.internal.Changes.{with_message, without_mess
 
 use crate::byte_reader::ByteReader;
 use crate::message::MessageBytes;
-use crate::number::{PAIR_ROOM, put_pair, take_long, take_pair};
-use crate::skip::{Skip, skip_items};
+use crate::number::{LONG_ROOM, PAIR_ROOM, put_long, put_pair, take_long, take_pair};
+use crate::sized::{put_sized, take_sized};
+use crate::skip::Skip;
 use config_parts::Message;
 use std::alloc::{AllocError, Global};
 use value_types::Slot;
@@ -21,11 +22,11 @@ fn from_queue<'a>(queues: &'a [u8], port: Slot) -> Option<ByteReader<'a>>
     let count = take_long(&mut reader);
     for _turn in 0..count {
         let here = reader.rest();
-        let (messages, found) = take_pair(&mut reader);
+        let (_count, found) = take_pair(&mut reader);
         if found == port {
             return Some(ByteReader::new(here));
         }
-        skip_items::<Message>(&mut reader, messages);
+        let _messages = take_sized(&mut reader);
     }
     None
 }
@@ -42,10 +43,12 @@ pub fn queues_without_first(alloc: Global, queues: &[u8], port: Slot) -> Result<
     if count == 0 {
         return Vec::from_slice(alloc, queues);
     }
-    Message::skip(&mut reader);
+    let mut messages = ByteReader::new(take_sized(&mut reader));
+    Message::skip(&mut messages);
     let mut bytes = Vec::with_capacity(alloc, queues.len())?;
     bytes.extend_from_slice(front)?;
     put_pair(&mut bytes, count - 1, port)?;
+    put_sized(&mut bytes, messages.rest())?;
     bytes.extend_from_slice(reader.rest())?;
     Ok(bytes)
 }
@@ -69,16 +72,20 @@ pub fn queues_with_message(
     let Some(more) = count.checked_add(1) else {
         return Err(AllocError);
     };
-    let messages = reader.rest();
-    skip_items::<Message>(&mut reader, count);
+    let waiting = take_sized(&mut reader);
+    let Some(size) = waiting.len().checked_add(message.len()) else {
+        return Err(AllocError);
+    };
     let room = queues
         .len()
         .saturating_add(message.len())
-        .saturating_add(PAIR_ROOM);
+        .saturating_add(PAIR_ROOM)
+        .saturating_add(LONG_ROOM);
     let mut bytes = Vec::with_capacity(alloc, room)?;
     bytes.extend_from_slice(front)?;
     put_pair(&mut bytes, more, port)?;
-    bytes.extend_from_slice(reader.since(messages))?;
+    put_long(&mut bytes, size)?;
+    bytes.extend_from_slice(waiting)?;
     bytes.extend_from_slice(message)?;
     bytes.extend_from_slice(reader.rest())?;
     Ok(bytes)

@@ -1,14 +1,13 @@
 //! Going past parts of configurations without keeping them.
-ghost use Rattle.std.specs.Prelude.{◌≡◌, length};
-ghost use Rattle.config_packed.specs.Pieces.{has_mappings};
-ghost use Rattle.config_packed.specs.Reading.{identity_from, path_from, read_enumerated, read_field, read_integer, read_items, read_links, read_list, read_record, read_sender, read_value_within};
+ghost use Rattle.std.specs.Prelude.{◌≡◌};
+ghost use Rattle.config_packed.specs.Reading.{identity_from, path_from, read_enumerated, read_field, read_integer, read_items, read_list, read_record, read_sender, read_value_within};
 
 use crate::byte_reader::ByteReader;
-use crate::number::{take_long, take_long_pair, take_number, take_pair};
+use crate::number::{take_long, take_number};
 use crate::spelled::Spelled;
-use config_parts::{Connection, End, Message, Queue, State};
+use config_parts::Message;
 use ttcn_syntax::Seq;
-use value_types::{ComponentId, Path, Slot, Value};
+use value_types::{ComponentId, Value};
 
 /// What can be gone past, without memory for it.
 pub trait Skip: Spelled {
@@ -25,12 +24,6 @@ impl Skip for u32 {
     }
 }
 
-impl Skip for usize {
-    fn skip(reader: &mut ByteReader<'_>) {
-        let _number = take_long(reader);
-    }
-}
-
 /// Goes past this many items.
 pub fn skip_items<T: Skip>(reader: &mut ByteReader<'_>, count: usize)
     ensures { reader.new ≡ (read_items T.read count reader.old).1 }
@@ -40,28 +33,11 @@ pub fn skip_items<T: Skip>(reader: &mut ByteReader<'_>, count: usize)
     }
 }
 
-/// Goes past a list, and says how many items it has.
-#[tactic(auto, using(crate::proofs::Items::listed), unfolding(crate::specs::Reading::read_list))]
-pub fn skip_list<T: Skip>(reader: &mut ByteReader<'_>) -> usize
-    ensures count { result ≡ length (read_list T.read reader.old).0 }
-    ensures rest { reader.new ≡ (read_list T.read reader.old).1 }
-{
-    let count = take_long(reader);
-    skip_items::<T>(reader, count);
-    count
-}
-
 impl<T: Skip> Skip for Seq<T> {
+    #[tactic(auto, unfolding(crate::specs::Reading::read_list))]
     fn skip(reader: &mut ByteReader<'_>) {
-        let _count = skip_list::<T>(reader);
-    }
-}
-
-impl<T: Skip> Skip for (Slot, T) {
-    #[tactic(auto, unfolding(crate::specs::Reading::read_entry))]
-    fn skip(reader: &mut ByteReader<'_>) {
-        let _slot = take_number(reader);
-        T::skip(reader);
+        let count = take_long(reader);
+        skip_items::<T>(reader, count);
     }
 }
 
@@ -72,14 +48,6 @@ fn skip_path_from(reader: &mut ByteReader<'_>, first: u8)
 {
     if first > 100 {
         Seq::<u32>::skip(reader);
-    }
-}
-
-impl Skip for Path {
-    #[tactic(auto, unfolding(crate::specs::Reading::read_path))]
-    fn skip(reader: &mut ByteReader<'_>) {
-        let first = reader.byte();
-        skip_path_from(reader, first);
     }
 }
 
@@ -169,7 +137,7 @@ impl Skip for Value {
     }
 }
 
-// ---- what components have
+// ---- messages
 
 #[tactic(auto, unfolding(crate::specs::Reading::read_sender))]
 fn skip_sender(reader: &mut ByteReader<'_>)
@@ -187,50 +155,4 @@ impl Skip for Message {
         Value::skip(reader);
         skip_sender(reader);
     }
-}
-
-impl Skip for Queue {
-    #[tactic(auto, unfolding(crate::specs::Reading::read_queue))]
-    fn skip(reader: &mut ByteReader<'_>) {
-        let (count, _port) = take_pair(reader);
-        skip_items::<Message>(reader, count);
-    }
-}
-
-impl Skip for (ComponentId, State) {
-    #[tactic(auto, unfolding(crate::specs::Reading::read_name))]
-    fn skip(reader: &mut ByteReader<'_>) {
-        Path::skip(reader);
-        let _kind = take_long_pair(reader);
-    }
-}
-
-// ---- connections and mappings
-
-impl Skip for End {
-    #[tactic(auto, unfolding(crate::specs::Reading::read_end))]
-    fn skip(reader: &mut ByteReader<'_>) {
-        Path::skip(reader);
-        let _port = take_number(reader);
-    }
-}
-
-impl Skip for Connection {
-    #[tactic(auto, unfolding(crate::specs::Reading::read_connection))]
-    fn skip(reader: &mut ByteReader<'_>) {
-        End::skip(reader);
-        End::skip(reader);
-    }
-}
-
-/// Goes past the links, and says whether system ports are mapped.
-#[tactic(auto, unfolding(crate::specs::Reading::read_links))]
-pub fn skip_links(reader: &mut ByteReader<'_>) -> bool
-    ensures value { result ≡ has_mappings (read_links reader.old).0 }
-    ensures rest { reader.new ≡ (read_links reader.old).1 }
-{
-    Seq::<Connection>::skip(reader);
-    let mappings = skip_list::<(Slot, End)>(reader);
-    Seq::<(Slot, usize)>::skip(reader);
-    0 < mappings
 }

@@ -1,11 +1,12 @@
 //! Whole configurations as bytes: what all components see, and then what only each of them sees.
 ghost use Rattle.std.specs.Prelude.{◌≡◌, ◌++◌, IfOk, OnOk, map};
 ghost use Rattle.config_packed.specs.Reading.{read_component, read_config, read_contents, read_going};
-ghost use Rattle.config_packed.specs.Spelling.{name_of, spell_config, spell_content, spell_contents, spell_list, spell_name, spell_outline, spell_sized};
+ghost use Rattle.config_packed.specs.Spelling.{going_code, name_of, spell_config, spell_content, spell_contents, spell_head, spell_list, spell_name, spell_outline};
 
 use crate::byte_reader::ByteReader;
 use crate::number::{put_long, take_long};
 use crate::parts::{Name, put_name, put_own, put_verdict, take_own, take_verdict};
+use crate::sized::put_sized;
 use crate::spelled::Spelled;
 use config_parts::{Component, Config, Going, Links, Shared};
 use std::alloc::{AllocError, Global};
@@ -32,22 +33,31 @@ fn put_names(bytes: &mut Vec<u8>, components: &[Component]) -> Result<(), AllocE
 fn put_outline(bytes: &mut Vec<u8>, going: &Going) -> Result<(), AllocError>
     ensures { OnOk result (bytes.new.items ≡ bytes.old.items ++ spell_outline going.now) }
 {
-    bytes.push(1)?;
     put_verdict(bytes, going.forgotten)?;
     going.links.put(bytes)?;
     put_names(bytes, going.components.as_slice())
 }
 
-/// Bytes behind their length.
-#[tactic(auto, unfolding(crate::specs::Spelling::spell_sized))]
-pub fn put_sized(bytes: &mut Vec<u8>, sized: &[u8]) -> Result<(), AllocError>
-    ensures { OnOk result (bytes.new.items ≡ bytes.old.items ++ spell_sized sized.now) }
+/// The byte before a test case that goes on.
+fn going_code(links: &Links) -> u8
+    ensures { result ≡ going_code links.now }
 {
-    put_long(bytes, sized.len())?;
-    bytes.extend_from_slice(sized)
+    if 0 < links.mappings.len() { 2 } else { 1 }
 }
 
-/// What only a component itself sees. What it has of its own is spelled apart first, so that its length is known.
+/// What stands before the contents of components. What all of them see is spelled apart first, so that its length is known.
+#[tactic(auto, unfolding(crate::specs::Spelling::spell_head))]
+fn put_head(bytes: &mut Vec<u8>, apart: &mut Vec<u8>, going: &Going) -> Result<(), AllocError>
+    ensures { OnOk result (bytes.new.items ≡ bytes.old.items ++ spell_head going.now) }
+{
+    bytes.push(going_code(&going.links))?;
+    put_long(bytes, going.components.len())?;
+    apart.clear();
+    put_outline(apart, going)?;
+    put_sized(bytes, apart.as_slice())
+}
+
+/// What only a component itself sees. Its parts are spelled apart first, so that their lengths are known.
 #[tactic(auto, unfolding(crate::specs::Spelling::spell_content))]
 fn put_content(
     bytes: &mut Vec<u8>,
@@ -59,20 +69,21 @@ fn put_content(
     apart.clear();
     put_own(apart, component.verdict, &component.own)?;
     put_sized(bytes, apart.as_slice())?;
-    component.queues.put(bytes)
+    apart.clear();
+    component.queues.put(apart)?;
+    put_sized(bytes, apart.as_slice())
 }
 
 /// What only each component itself sees.
 fn put_contents(
-    alloc: Global,
     bytes: &mut Vec<u8>,
+    apart: &mut Vec<u8>,
     components: &[Component],
 ) -> Result<(), AllocError>
     ensures { OnOk result (bytes.new.items ≡ bytes.old.items ++ spell_contents components.now) }
 {
-    let mut apart = Vec::with_capacity(alloc, ROOM)?;
     for component in components {
-        put_content(bytes, &mut apart, component)?;
+        put_content(bytes, apart, component)?;
     }
     Ok(())
 }
@@ -87,8 +98,9 @@ pub fn put_config(alloc: Global, bytes: &mut Vec<u8>, config: &Config) -> Result
             put_verdict(bytes, *verdict)
         }
         Config::Going(going) => {
-            put_outline(bytes, going)?;
-            put_contents(alloc, bytes, going.components.as_slice())
+            let mut apart = Vec::with_capacity(alloc, ROOM)?;
+            put_head(bytes, &mut apart, going)?;
+            put_contents(bytes, &mut apart, going.components.as_slice())
         }
     }
 }
@@ -109,6 +121,7 @@ fn take_component(
     let _size = take_long(reader);
     let (verdict, own) = take_own(alloc, reader)?;
     let own = Shared::new(alloc, own)?;
+    let _room = take_long(reader);
     let queues = Shared::new(alloc, Seq::take(alloc, reader)?)?;
     Ok(Component {
         itself,
@@ -141,6 +154,8 @@ fn take_going(alloc: Global, reader: &mut ByteReader<'_>) -> Result<Going, Alloc
     ensures value { IfOk result (λ going. going ≡ (read_going reader.old).0) }
     ensures rest { OnOk result (reader.new ≡ (read_going reader.old).1) }
 {
+    let _count = take_long(reader);
+    let _size = take_long(reader);
     let forgotten = take_verdict(reader);
     let links = Shared::new(alloc, Links::take(alloc, reader)?)?;
     let names = Seq::take(alloc, reader)?;

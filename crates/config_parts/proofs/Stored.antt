@@ -185,8 +185,8 @@ last-position legend at (frame ∷ frames) = refl
 
 -- names that are taken out, changed and put back are changed
 pub stored : (legend : Legend) (f : Cells → Cells) (g : rules.Frame → rules.Frame) → IsAlike legend f g → (last : Bool) (own bare new : Data) (taken cells : Cells)
-    → taken ≡ cells_in last own → bare ≡ with_cells_in last no_cells own → cells ≡ f taken → new ≡ with_cells_in last cells bare
+    → taken ≡ cells_in last own → ((c : Cells) → with_cells_in last c bare ≡ with_cells_in last c own) → cells ≡ f taken → new ≡ with_cells_in last cells bare
     → data_by legend new ≡ storing.in_frame last g (data_by legend own)
 stored legend f g alike last own bare new taken cells took left changed is =
-    ap (data_by legend) (is ∙ ap (with_cells_in last cells) left ∙ put-twice last cells no_cells own ∙ ap (λ c. with_cells_in last c own) (changed ∙ ap f took))
+    ap (data_by legend) (is ∙ left cells ∙ ap (λ c. with_cells_in last c own) (changed ∙ ap f took))
     ∙ changed-by legend f g alike last own

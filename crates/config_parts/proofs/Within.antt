@@ -106,10 +106,10 @@ changed-within size f keeps false own all = record { members = keeps own.members
 
 -- names that are taken out, changed and put back
 pub stored-within : (size : Extent) (f : Cells → Cells) → Keeps size.names f → (last : Bool) (own bare new : Data) (taken cells : Cells)
-    → taken ≡ cells_in last own → bare ≡ with_cells_in last no_cells own → cells ≡ f taken → new ≡ with_cells_in last cells bare → IsWithin size own → IsWithin size new
+    → taken ≡ cells_in last own → ((c : Cells) → with_cells_in last c bare ≡ with_cells_in last c own) → cells ≡ f taken → new ≡ with_cells_in last cells bare → IsWithin size own → IsWithin size new
 stored-within size f keeps last own bare new taken cells took left changed is all =
     subst (IsWithin size)
-    (sym (is ∙ ap (with_cells_in last cells) left ∙ put-twice last cells no_cells own ∙ ap (λ c. with_cells_in last c own) (changed ∙ ap f took)))
+    (sym (is ∙ left cells ∙ ap (λ c. with_cells_in last c own) (changed ∙ ap f took)))
     (changed-within size f keeps last own all)
 
 pub position-within : (size : Extent) (at : ℕ) (calls : List Frame) → at < size.lists → All (IsFrameWithin size) calls → All (IsFrameWithin size) (in_last (with_position at) calls)

@@ -53,10 +53,10 @@ impl TryClone for Cells {
 }
 
 impl TryClone for Frame {
-    fn try_clone(&self, alloc: Global) -> Result<Frame, AllocError> {
+    fn try_clone(&self, _alloc: Global) -> Result<Frame, AllocError> {
         Ok(Frame {
             remaining: self.remaining,
-            cells: self.cells.try_clone(alloc)?,
+            cells: self.cells.share()?,
         })
     }
 }

@@ -4,9 +4,12 @@ ghost use Rattle.semantics.specs.Entries.{put};
 ghost use Rattle.semantics.specs.Storing as rules;
 ghost use Rattle.config_parts.specs.Legend.{IsLegend, Legend, data_by};
 ghost use Rattle.config_parts.specs.Views.{Extent, IsWithin};
+ghost use Rattle.config_parts.specs.declared.frame.Cells.{Cells};
 ghost use Rattle.config_parts.specs.internal.Stored as spec;
 
+use crate::copy::TryClone;
 use crate::frame::{Cells, Data, Frame};
+use crate::shared::Shared;
 use std::alloc::{AllocError, Global};
 use std::mem;
 use ttcn_syntax::Seq;
@@ -24,36 +27,41 @@ fn with_position(calls: Seq<Frame>, position: usize) -> Seq<Frame>
 }
 
 impl Data {
-    /// Takes the names out of the last frame, or out of frame 0.
-    fn take_cells(&mut self, alloc: Global, last: bool) -> Cells
-        ensures taken { result ≡ spec.cells_in last self.old }
-        ensures left { self.new ≡ spec.with_cells_in last spec.no_cells self.old }
+    /// The names of the last frame, which other configurations may share.
+    fn last_cells(&self, alloc: Global) -> Result<Cells, AllocError>
+        ensures { IfOk result (λ cells. cells ≡ spec.last_cells self.now.calls) }
     {
-        if !last {
-            return mem::replace(&mut self.members, Cells::new(alloc));
+        match self.calls.as_slice().first() {
+            Some(frame) => frame.cells.get().try_clone(alloc),
+            None => Ok(Cells::new(alloc)),
         }
-        let mut calls = mem::replace(&mut self.calls, Seq::new(alloc)).into_vec();
-        let cells = match calls.first_mut() {
-            Some(frame) => mem::replace(&mut frame.cells, Cells::new(alloc)),
-            None => Cells::new(alloc),
-        };
-        self.calls = Seq::from_vec(calls);
-        cells
+    }
+
+    /// Takes the names out of the last frame, or out of frame 0.
+    fn take_cells(&mut self, alloc: Global, last: bool) -> Result<Cells, AllocError>
+        ensures taken { IfOk result (λ cells. cells ≡ spec.cells_in last self.old) }
+        ensures left { OnOk result ((cells : Cells) → spec.with_cells_in last cells self.new ≡ spec.with_cells_in last cells self.old) }
+    {
+        if last {
+            return self.last_cells(alloc);
+        }
+        Ok(mem::replace(&mut self.members, Cells::new(alloc)))
     }
 
     /// Puts names into the last frame, or into frame 0.
-    fn put_cells(&mut self, alloc: Global, last: bool, cells: Cells)
-        ensures { self.new ≡ spec.with_cells_in last cells self.old }
+    fn put_cells(&mut self, alloc: Global, last: bool, cells: Cells) -> Result<(), AllocError>
+        ensures { OnOk result (self.new ≡ spec.with_cells_in last cells self.old) }
     {
         if !last {
             self.members = cells;
-            return;
+            return Ok(());
         }
         let mut calls = mem::replace(&mut self.calls, Seq::new(alloc)).into_vec();
         if let Some(frame) = calls.first_mut() {
-            frame.cells = cells;
+            frame.cells = Shared::new(alloc, cells)?;
         }
         self.calls = Seq::from_vec(calls);
+        Ok(())
     }
 
     /// A name of the last frame, or of frame 0, has a value.
@@ -67,9 +75,9 @@ impl Data {
         ensures changed { (legend : Legend) → IsLegend legend → OnOk result (data_by legend self.new ≡ rules.in_frame last (λ frame. rules.with_values (put (legend.names slot) value frame.values) frame) (data_by legend self.old)) }
         ensures within { (size : Extent) → slot < size.names → IsWithin size self.old → OnOk result (IsWithin size self.new) }
     {
-        let cells = self.take_cells(alloc, last).set_value(slot, value)?;
-        self.put_cells(alloc, last, cells);
-        Ok(())
+        let taken = self.take_cells(alloc, last)?;
+        let cells = taken.set_value(slot, value)?;
+        self.put_cells(alloc, last, cells)
     }
 
     /// A timer of the last frame, or of frame 0, is in a state.
@@ -83,18 +91,19 @@ impl Data {
         ensures changed { (legend : Legend) → IsLegend legend → OnOk result (data_by legend self.new ≡ rules.in_frame last (λ frame. rules.with_timers (put (legend.names slot) state frame.timers) frame) (data_by legend self.old)) }
         ensures within { (size : Extent) → slot < size.names → IsWithin size self.old → OnOk result (IsWithin size self.new) }
     {
-        let cells = self.take_cells(alloc, last).set_timer(slot, state)?;
-        self.put_cells(alloc, last, cells);
-        Ok(())
+        let taken = self.take_cells(alloc, last)?;
+        let cells = taken.set_timer(slot, state)?;
+        self.put_cells(alloc, last, cells)
     }
 
     /// A name is declared in the last frame, without value.
-    pub fn forget(&mut self, alloc: Global, slot: Slot)
-        ensures changed { (legend : Legend) → IsLegend legend → data_by legend self.new ≡ rules.in_frame true (rules.forget (legend.names slot)) (data_by legend self.old) }
-        ensures within { (size : Extent) → IsWithin size self.old → IsWithin size self.new }
+    pub fn forget(&mut self, alloc: Global, slot: Slot) -> Result<(), AllocError>
+        ensures changed { (legend : Legend) → IsLegend legend → OnOk result (data_by legend self.new ≡ rules.in_frame true (rules.forget (legend.names slot)) (data_by legend self.old)) }
+        ensures within { (size : Extent) → IsWithin size self.old → OnOk result (IsWithin size self.new) }
     {
-        let cells = self.take_cells(alloc, true).forget(slot);
-        self.put_cells(alloc, true, cells);
+        let taken = self.take_cells(alloc, true)?;
+        let cells = taken.forget(slot);
+        self.put_cells(alloc, true, cells)
     }
 
     /// A name is declared in the last frame with a value.
@@ -102,9 +111,9 @@ impl Data {
         ensures changed { (legend : Legend) → IsLegend legend → OnOk result (data_by legend self.new ≡ rules.in_frame true (rules.declare (legend.names slot) value) (data_by legend self.old)) }
         ensures within { (size : Extent) → slot < size.names → IsWithin size self.old → OnOk result (IsWithin size self.new) }
     {
-        let cells = self.take_cells(alloc, true).declare(slot, value)?;
-        self.put_cells(alloc, true, cells);
-        Ok(())
+        let taken = self.take_cells(alloc, true)?;
+        let cells = taken.declare(slot, value)?;
+        self.put_cells(alloc, true, cells)
     }
 
     /// A timer is declared in the last frame.
@@ -112,9 +121,9 @@ impl Data {
         ensures changed { (legend : Legend) → IsLegend legend → OnOk result (data_by legend self.new ≡ rules.in_frame true (rules.declare_timer (legend.names slot)) (data_by legend self.old)) }
         ensures within { (size : Extent) → slot < size.names → IsWithin size self.old → OnOk result (IsWithin size self.new) }
     {
-        let cells = self.take_cells(alloc, true).declare_timer(slot)?;
-        self.put_cells(alloc, true, cells);
-        Ok(())
+        let taken = self.take_cells(alloc, true)?;
+        let cells = taken.declare_timer(slot)?;
+        self.put_cells(alloc, true, cells)
     }
 
     /// What remains in the last frame is at this position.

@@ -77,6 +77,17 @@ impl Cells {
     }
 }
 
+impl Frame {
+    fn expire(&mut self, alloc: Global, slot: Slot) -> Result<(), AllocError>
+        ensures { OnOk result (self.new ≡ spec.with_expired slot self.old) }
+    {
+        let mut cells = self.cells.get().try_clone(alloc)?;
+        cells.expire(alloc, slot)?;
+        self.cells = Shared::new(alloc, cells)?;
+        Ok(())
+    }
+}
+
 impl Data {
     /// Whether a timer of a frame runs. Frame 0 is the component's own.
     fn runs(&self, number: u32, slot: Slot) -> bool
@@ -101,7 +112,7 @@ impl Data {
         }
         let mut calls = mem::replace(&mut self.calls, Seq::new(alloc)).into_vec();
         if let Some(at) = place_of_frame(&calls, number) {
-            calls[at].cells.expire(alloc, slot)?;
+            calls[at].expire(alloc, slot)?;
         }
         self.calls = Seq::from_vec(calls);
         Ok(())

@@ -1,4 +1,5 @@
 //! What a component has of its own.
+use crate::shared::Shared;
 use ttcn_syntax::Seq;
 use value_types::{Slot, TimerState, Value};
 
@@ -10,11 +11,11 @@ pub struct Cells {
     pub timers: Seq<(Slot, TimerState)>,
 }
 
-/// The position of what remains to be done in a frame, and the frame's names.
+/// The position of what remains to be done in a frame, and the frame's names. A copy shares the names.
 #[derive(Drop, PartialEq, Eq, Hash)]
 pub struct Frame {
     pub remaining: usize,
-    pub cells: Cells,
+    pub cells: Shared<Cells>,
 }
 
 /// An activated default: the number of the activation, the altstep, and its arguments (ES 201 873-1, 20.5).

@@ -78,7 +78,7 @@ fn push_calls(
     ensures { OnOk result (labels.new.items ≡ labels.old.items ++ said_labels.call_expiries path.now (map (frame_by (legend_by test.now)) calls.now)) }
 {
     for below in 0..calls.len() {
-        let cells = &calls[calls.len() - 1 - below].cells;
+        let cells = calls[calls.len() - 1 - below].cells.get();
         push_frame(alloc, test, path, below as u32 + 1, cells, labels)?;
     }
     Ok(())

@@ -27,7 +27,7 @@ use crate::arguments::call_arguments;
 use crate::event::try_event;
 use crate::taken::{Deed, Taken};
 use check_scope::names::Meaning;
-use config_parts::{Cells, Frame};
+use config_parts::{Cells, Frame, Shared};
 use std::alloc::Global;
 use step_snapshot::{Snapshot, TestCase, argument_cells};
 use ttcn_graph::EventFacts;
@@ -252,7 +252,7 @@ pub(crate) fn choose_altstep<'t, 'a>(
     let branches = altstep.branches.as_slice();
     let facts = altstep_facts(snapshot.test, at);
     match choose_branches(alloc, snapshot, at, &inner, branches, facts, levels - 1) {
-        Ok(Some(taken)) => through(snapshot, way, at, inner, taken),
+        Ok(Some(taken)) => through(alloc, snapshot, way, at, inner, taken),
         Ok(None) => Ok(None),
         Err(fault) => Err(fault),
     }
@@ -260,6 +260,7 @@ pub(crate) fn choose_altstep<'t, 'a>(
 
 /// A branch that is taken of the altstep at a position, from a call of the altstep: there is one more frame.
 fn through<'t, 'a>(
+    alloc: Global,
     snapshot: &Snapshot<'t, 'a>,
     way: usize,
     at: usize,
@@ -283,7 +284,7 @@ fn through<'t, 'a>(
     };
     frames.push(Frame {
         remaining,
-        cells: inner,
+        cells: Shared::new(alloc, inner)?,
     })?;
     Ok(Some(Taken {
         place,

@@ -59,7 +59,7 @@ fn new_mtc(
     let mut calls = Seq::new(alloc);
     calls.push(Frame {
         remaining: position,
-        cells: Cells::new(alloc),
+        cells: Shared::new(alloc, Cells::new(alloc))?,
     })?;
     let mut mtc = new_component(alloc, test, test.mtc.try_clone(alloc)?, members)?;
     let mut own = mtc.own.try_clone(alloc)?;

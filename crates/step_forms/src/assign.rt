@@ -113,7 +113,7 @@ pub fn act_variable(
         stand.snapshot.test,
         &variable.name,
         stand.done(alloc)?,
-    );
+    )?;
     match &variable.value {
         None => Ok(Some(Act {
             request: Request::Continues,

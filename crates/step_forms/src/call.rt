@@ -17,7 +17,7 @@ ghost use Rattle.step_snapshot.specs.Tests.{extent_of};
 use crate::stand::Stand;
 use check_rules::behaviour_meant;
 use check_scope::names::Meaning;
-use config_parts::{Act, Data, Frame, Request};
+use config_parts::{Act, Data, Frame, Request, Shared};
 use std::alloc::Global;
 use step_data::{activate, enter};
 use step_snapshot::{TestCase, argument_cells};
@@ -49,7 +49,10 @@ pub fn frame_of_call(alloc: Global, stand: &Stand<'_, '_>, call: &Call) -> Resul
     };
     let values = stand.arguments(alloc, at, call)?;
     let cells = argument_cells(alloc, test, at, values)?;
-    Ok(Frame { remaining, cells })
+    Ok(Frame {
+        remaining,
+        cells: Shared::new(alloc, cells)?,
+    })
 }
 
 /// A function is entered: the list at a position remains behind it.

@@ -28,7 +28,7 @@ impl<'t, 'a> Stand<'t, 'a> {
     fn reads(&self) -> Frame<'a>
         ensures { reading result ≡ said.reads (stand_by self.now) (site_of self.now) }
     {
-        self.snapshot.frame(self.behaviour, &self.frame.cells)
+        self.snapshot.frame(self.behaviour, self.frame.cells.get())
     }
 
     /// A value, where one of a type is wanted.

@@ -46,16 +46,21 @@ pub fn store_at(
 }
 
 /// A name is declared in the last frame, without value.
-pub fn forget(alloc: Global, test: &TestCase<'_>, name: &Name, own: Data) -> Data
+pub fn forget(
+    alloc: Global,
+    test: &TestCase<'_>,
+    name: &Name,
+    own: Data,
+) -> Result<Data, AllocError>
     requires known { IsKnown test.now.names name.now }
     requires within { IsWithin (extent_of test.now) own }
-    ensures changed { data_by (legend_by test.now) result ≡ storing.in_frame true (storing.forget name.now) (data_by (legend_by test.now) own) }
-    ensures within { IsWithin (extent_of test.now) result }
+    ensures changed { IfOk result (λ new. data_by (legend_by test.now) new ≡ storing.in_frame true (storing.forget name.now) (data_by (legend_by test.now) own)) }
+    ensures within { IfOk result (IsWithin (extent_of test.now)) }
 {
     test.slots_are_in_order();
     let mut own = own;
-    own.forget(alloc, test.slot_of(name));
-    own
+    own.forget(alloc, test.slot_of(name))?;
+    Ok(own)
 }
 
 /// A name is declared in the last frame with a value.

@@ -145,7 +145,7 @@ impl<'t, 'a> Snapshot<'t, 'a> {
         ensures seen { view_by (legend_by self.now.test.now) result.now ≡ record { values = last_values (own_by self.now).calls; timers = (seen_by self.now).timers } }
     {
         match self.component.own.calls.as_slice().first() {
-            Some(frame) => &frame.cells,
+            Some(frame) => frame.cells.get(),
             None => &self.test.nothing,
         }
     }

@@ -48,7 +48,7 @@ fn data(alloc: Global, value: Value, remaining: usize) -> Result<Data, AllocErro
     let mut calls = Seq::new(alloc);
     calls.push(Frame {
         remaining,
-        cells: no_cells(alloc),
+        cells: Shared::new(alloc, no_cells(alloc))?,
     })?;
     Ok(Data {
         members: cells(alloc, value)?,
@@ -163,7 +163,7 @@ pub fn large(alloc: Global, forgotten: Verdict) -> Result<Config, AllocError> {
     let mut own = data(alloc, record(alloc)?, 5)?;
     own.calls.push(Frame {
         remaining: 17_000,
-        cells: cells(alloc, Value::Integer(-1))?,
+        cells: Shared::new(alloc, cells(alloc, Value::Integer(-1))?)?,
     })?;
     own.defaults.push(active_default(alloc)?)?;
     own.activations = 2;
@@ -189,7 +189,7 @@ pub fn long(alloc: Global) -> Result<Config, AllocError> {
     for remaining in 0..10_000 {
         own.calls.push(Frame {
             remaining,
-            cells: no_cells(alloc),
+            cells: Shared::new(alloc, no_cells(alloc))?,
         })?;
     }
     let mut messages = queue(alloc, 8);

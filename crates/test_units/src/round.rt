@@ -15,7 +15,8 @@ fn comes_back(alloc: Global, config: &Config) -> Result<bool, AllocError> {
 
 /// One component, its parts in their order, each part as it is spelled.
 const SMALL: &[u8] = &[
-    1, // goes on
+    1, // goes on, and no system ports are mapped
+    1, 7, // one component, and what all components see takes 7 bytes
     0, 0, 0, 0, // nothing forgotten, no connections, no mappings, nothing delivered
     1, 0, 33, // one component: no numbers in its path, type 2 (times 16) and running
     11, // what it has of its own takes 11 bytes
@@ -23,7 +24,8 @@ const SMALL: &[u8] = &[
     17, 3, 18, 4, 1, // a value (times 16) and a timer: in slot 3 the integer -5, and in slot 4 a timer that runs
     1, 192, 200, 0, // a frame at position 200, without names
     0, // no defaults, none activated
-    1, 7, // a queue of port 7, empty
+    3, // its queues take 3 bytes
+    1, 7, 0, // a queue of port 7, without messages, which take no bytes
 ];
 
 #[test]

@@ -135,7 +135,7 @@ key-of-bytes g h at c d outlines owns queues =
 key-left : (going : Going) (e : Effect) (j at : ℕ) (c : Component) → spell_key (going_behind e j going) at c ≡ spell_key going at c
 unfolding spell_key spell_outline
 key-left going e j at c =
-    ap (λ names. (1 ∷ (spell_verdict going.forgotten ++ spell_links going.links ++ spell_list spell_name names)) ++ spell_long at ++ spell_own c.verdict c.own ++ spell_list spell_front (map front_at c.queues))
+    ap (λ names. (spell_verdict going.forgotten ++ spell_links going.links ++ spell_list spell_name names) ++ spell_long at ++ spell_own c.verdict c.own ++ spell_list spell_front (map front_at c.queues))
     (names-left e j going.components)
 
 -- ---- the numbers of labels

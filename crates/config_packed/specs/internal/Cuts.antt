@@ -4,7 +4,7 @@ use Rattle.std.specs.List.{flat_map}
 use Rattle.config_parts.specs.declared.component.Message.{Message}
 use Rattle.config_parts.specs.declared.component.Queue.{Queue}
 use Rattle.config_parts.specs.internal.Changes.{change_queue}
-use Rattle.config_packed.specs.Reading.{Reads, ◌>>=◌, done, read_items, read_list, read_long, read_message, read_pair, read_queue}
+use Rattle.config_packed.specs.Reading.{Reads, ◌>>=◌, done, read_long, read_message, read_pair}
 use Rattle.config_packed.specs.Spelling.{spell_list, spell_pair, spell_queue, spell_sized}
 
 -- the bytes before those that are left
@@ -19,31 +19,34 @@ read_bytes count bytes = (take count bytes, drop count bytes)
 abbrev pub bytes_read : {A : Type 0} → Reads A → Reads (List ℕ)
 bytes_read read bytes = (since bytes (read bytes).1, (read bytes).1)
 
+-- the bytes that stand behind their length
+unfoldable pub cut_sized : Reads (List ℕ)
+cut_sized = do
+  size ← read_long
+  bytes ← read_bytes size
+  done bytes
+
 -- the bytes of what a component has of its own, and those of its queues
 unfoldable pub cut_content : Reads (List ℕ × List ℕ)
 cut_content = do
-  size ← read_long
-  own ← read_bytes size
-  queues ← bytes_read (read_list read_queue)
+  own ← cut_sized
+  queues ← cut_sized
   done (own, queues)
 
--- of this many messages the bytes of the first, if there is one
-abbrev pub first_of : ℕ → Reads (List ℕ)
-first_of count = if count == 0 then done [] else (do
-  first ← bytes_read read_message
-  others ← read_items read_message (count - 1)
-  done first)
+-- of the bytes of messages those of the first: of none there are none
+abbrev pub first_of : List ℕ → List ℕ
+first_of messages = (bytes_read read_message messages).0
 
 -- of a queue the bytes of its port and its first message, as a queue with at most one message
 unfoldable pub cut_front : Reads (List ℕ)
 cut_front = do
   head ← read_pair
-  first ← first_of head.0
-  done (spell_pair (min head.0 1) head.1 ++ first)
+  messages ← cut_sized
+  done (spell_pair (min head.0 1) head.1 ++ spell_sized (first_of messages))
 
 -- the bytes of a component from its parts
 abbrev pub joined : List ℕ × List ℕ → List ℕ
-joined parts = spell_sized parts.0 ++ parts.1
+joined parts = spell_sized parts.0 ++ spell_sized parts.1
 
 -- the parts of the component at a place, where those of its own are changed at one place and those of its queues at one
 abbrev pub changed_at_place : ℕ → List ℕ → ℕ → List ℕ → ℕ → List ℕ × List ℕ → List ℕ × List ℕ

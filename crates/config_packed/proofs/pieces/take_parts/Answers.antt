@@ -6,14 +6,14 @@ use Rattle.config_packed.proofs.pieces.take_parts.Goals as goal
 
 pub returns : goal.returns
 returns c going is =
-    let cut = parts-cut going c.args.bytes.now c.byte-tag.new.self c.take_verdict-forgotten.new.reader c.skip_links-has_mappings.new.reader c.skip_list-count.new.reader c.since-outline.result.now c.skip_links-has_mappings.result c.skip_list-count.result (map bytes_of c.in_ok-components.components.items)
+    let cut = parts-cut going c.args.bytes.now c.byte-tag.new.self c.take_long-count.new.reader c.take_sized-outline.new.reader c.since-head.result.now c.take_sized-outline.result.now c.byte-tag.result c.take_long-count.result (map bytes_of c.in_ok-components.components.items)
     is
+    (c.byte-tag.ensures.value ∙ ap (λ (bytes : List ℕ). (read_byte bytes).0) c.new-reader.ensures)
     (c.byte-tag.ensures.rest ∙ ap (λ (bytes : List ℕ). (read_byte bytes).1) c.new-reader.ensures)
-    c.take_verdict-forgotten.ensures.rest
-    c.skip_links-has_mappings.ensures.value
-    c.skip_links-has_mappings.ensures.rest
-    c.skip_list-count.ensures.count
-    c.skip_list-count.ensures.rest
-    c.since-outline.ensures
+    c.take_long-count.ensures.value
+    c.take_long-count.ensures.rest
+    c.take_sized-outline.ensures.value
+    c.take_sized-outline.ensures.rest
+    c.since-head.ensures
     c.in_ok-components.ensures in
-    record { outline = cut.0; components = cut.1; mappings = cut.2 }
+    record { head = cut.0; outline = cut.1; components = cut.2; mappings = cut.3 }

@@ -11,13 +11,13 @@ loop-turn-init c qs is =
 pub returns-then-found-port : goal.returns-then-found-port
 returns-then-found-port c qs is =
     subst (AreAt c.args.port qs) (sym (c.new.ensures ∙ c.rest-here.ensures))
-    (stands-found c.args.port qs c.take_long-count.result c.loop-turn._turn c.take_pair-messages.result c.loop-turn.reader
-    c.loop-turn-test.true c.take_pair-messages.ensures.value c.if-found-port.true (c.loop-turn.invariant qs is))
+    (stands-found c.args.port qs c.take_long-count.result c.loop-turn._turn c.take_pair-count.result c.loop-turn.reader
+    c.loop-turn-test.true c.take_pair-count.ensures.value c.if-found-port.true (c.loop-turn.invariant qs is))
 
 pub loop-turn-preserved : goal.loop-turn-preserved
 loop-turn-preserved c qs is =
-    stands-next c.args.port qs c.take_long-count.result c.loop-turn._turn c.take_pair-messages.result c.loop-turn.reader c.take_pair-messages.new.reader c.skip_items.new.reader
-    c.loop-turn-test.true c.take_pair-messages.ensures.value c.take_pair-messages.ensures.rest c.skip_items.ensures c.if-found-port.false (c.loop-turn.invariant qs is)
+    stands-next c.args.port qs c.take_long-count.result c.loop-turn._turn c.take_pair-count.result c.loop-turn.reader c.take_pair-count.new.reader c.take_sized-messages.new.reader
+    c.loop-turn-test.true c.take_pair-count.ensures.value c.take_pair-count.ensures.rest c.take_sized-messages.ensures.rest c.if-found-port.false (c.loop-turn.invariant qs is)
 
 pub returns : goal.returns
 returns c qs is =

@@ -1,5 +1,6 @@
-use Rattle.std.proofs.Common.{◌≡◌, ◌∙◌}
+use Rattle.std.proofs.Common.{◌≡◌, ℕ, List, ap, ◌∙◌}
 use Rattle.std.proofs.lemmas.Result.{IfOk-weaker}
+use Rattle.config_packed.specs.Reading.{read_message}
 use Rattle.config_packed.specs.Spelling.{spell_list, spell_queue}
 use Rattle.config_packed.proofs.Waiting.{first-gone, first-gone-none}
 use Rattle.config_parts.specs.internal.Changes.{without_message}
@@ -14,7 +15,8 @@ returns-then-count-eq0 c qs is =
 
 pub returns : goal.returns
 returns c qs is =
-    first-gone c.args.port qs c.args.queues.now c.in-Some.reader c.take_pair-count.new.reader c.rest.result.now c.since-front.result.now c.in_ok-bytes.bytes.items c.extend_from_slice.new.self.items c.put_pair.new.bytes.items c.extend_from_slice-2.new.self.items c.take_pair-count.result
+    first-gone c.args.port qs c.args.queues.now c.in-Some.reader c.take_pair-count.new.reader c.take_sized.result.now c.rest.result.now c.rest-2.result.now c.since-front.result.now c.in_ok-bytes.bytes.items c.extend_from_slice.new.self.items c.put_pair.new.bytes.items c.put_sized.new.bytes.items c.extend_from_slice-2.new.self.items c.take_pair-count.result
     is (c.in-Some.ensures qs is) c.since-front.ensures
-    c.take_pair-count.ensures.value c.take_pair-count.ensures.rest c.if-count-eq0.false (c.rest.ensures ∙ c.skip.ensures)
-    c.in_ok-bytes.ensures.items c.in_ok-extend_from_slice.ensures.items c.in_ok-put_pair.ensures c.in_ok-extend_from_slice-2.ensures.items
+    c.take_pair-count.ensures.value c.take_pair-count.ensures.rest c.if-count-eq0.false
+    c.take_sized.ensures.value (c.rest-2.ensures ∙ c.take_sized.ensures.rest) (c.rest.ensures ∙ c.skip.ensures ∙ ap (λ (bytes : List ℕ). (read_message bytes).1) c.new-messages.ensures)
+    c.in_ok-bytes.ensures.items c.in_ok-extend_from_slice.ensures.items c.in_ok-put_pair.ensures c.in_ok-put_sized.ensures c.in_ok-extend_from_slice-2.ensures.items

@@ -1,4 +1,4 @@
-use Rattle.std.proofs.Common.{◌≡◌, [], ◌∷◌, nat_eq, sym, ap, ◌∙◌}
+use Rattle.std.proofs.Common.{◌≡◌, nat_eq, sym, ap, ◌∙◌}
 use Rattle.std.proofs.lemmas.Bool.{eq-eqb, ne_eqb}
 use Rattle.config_parts.proofs.Changed.{overwritten}
 use Rattle.config_parts.proofs.Places.{placed}

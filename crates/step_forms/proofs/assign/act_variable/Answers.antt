@@ -18,4 +18,4 @@ returns-in-Some-clause-asks c =
     subst (λ (v : Option Rhs). Asks (legend_of s) (said.act_initial stand site c.args.of name v) c.assign.result) (sym c.in-Some.is)
     (subst (λ (t : Target). Asks (legend_of s) (said.assign stand site t c.args.of (said.declared stand (forget name)) c.in-Some.right) c.assign.result) c.declared_target-target.ensures
     (subst (λ (d : Data). Asks (legend_of s) (said.assign stand site (target_of c.declared_target-target.result) c.args.of d c.in-Some.right) c.assign.result)
-    (c.forget-own.ensures.changed ∙ ap (in_frame true (forget name)) c.in_ok-done.ensures.own) c.assign.ensures.asks))
+    (c.in_ok-own.ensures.changed ∙ ap (in_frame true (forget name)) c.in_ok-done.ensures.own) c.assign.ensures.asks))

@@ -7,7 +7,7 @@ use Rattle.config_parts.specs.Legend.{data_by}
 pub returns-clause-changed : goal.returns-clause-changed
 returns-clause-changed c =
     let legend = legend_by c.args.test.now in
-    c.forget.ensures.changed legend c.slots_are_in_order.ensures ∙ ap (λ n. rules.in_frame true (rules.forget n) (data_by legend c.args.own)) c.slot_of.ensures.named
+    c.in_ok-forget.ensures.changed legend c.slots_are_in_order.ensures ∙ ap (λ n. rules.in_frame true (rules.forget n) (data_by legend c.args.own)) c.slot_of.ensures.named
 
 pub returns-clause-within : goal.returns-clause-within
-returns-clause-within c = c.forget.ensures.within (extent_of c.args.test.now) c.requires.within
+returns-clause-within c = c.in_ok-forget.ensures.within (extent_of c.args.test.now) c.requires.within

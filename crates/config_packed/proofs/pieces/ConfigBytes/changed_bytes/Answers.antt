@@ -8,5 +8,5 @@ loop-place-preserved c =
 
 pub returns : goal.returns
 returns c =
-    changed-all c.args.change.now.at c.args.change.now.own.now c.args.change.now.behind c.args.change.now.queues.now c.args.self.now c.args.outline.now c.in_ok-bytes.bytes.items c.extend_from_slice.new.self.items c.loop-place.bytes.items c.deref-component-items.result.now c.loop-place.place
+    changed-all c.args.change.now.at c.args.change.now.own.now c.args.change.now.behind c.args.change.now.queues.now c.args.self.now c.args.head.now c.in_ok-bytes.bytes.items c.extend_from_slice.new.self.items c.loop-place.bytes.items c.deref-component-items.result.now c.loop-place.place
     c.in_ok-bytes.ensures.items c.in_ok-extend_from_slice.ensures.items c.deref-component-items.ensures.value c.loop-place-test.false c.loop-place.invariant

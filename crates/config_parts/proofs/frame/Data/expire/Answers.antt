@@ -3,7 +3,6 @@ use Rattle.config_parts.proofs.Changed.{overwritten}
 use Rattle.config_parts.proofs.Expired.{expired-nowhere, expired-other, expired-there}
 use Rattle.config_parts.specs.internal.Changes.{with_calls}
 use Rattle.config_parts.specs.internal.Expiries.{expired_above, place_above, with_expired}
-use Rattle.config_parts.specs.internal.Stored.{with_cells}
 use Rattle.config_parts.proofs.frame.Data.expire.Goals.{in-Some+in_ok-expire, in_default}
 use Rattle.config_parts.proofs.frame.Data.expire.Goals as goal
 
@@ -15,7 +14,7 @@ returns c =
     elim c.match-place_of_frame.branch [
       | in-Some+in_ok-expire w ↦
           ap (λ v. v.items) w.calls-is
-          ∙ ap (λ cells. slice_set items w.in-Some.at (with_cells cells w.index_mut.result.now)) w.in_ok-expire.ensures
+          ∙ ap (slice_set items w.in-Some.at) w.in_ok-expire.ensures
           ∙ overwritten items w.in-Some.at w.index_mut.result.now (with_expired c.args.slot) w.index_mut.ensures.value
           ∙ expired-there c.args.number c.args.slot items w.in-Some.at (found ∙ w.in-Some.is)
       | in_default w ↦ ap (λ v. v.items) w.calls-is ∙ expired-nowhere c.args.number c.args.slot items (found ∙ w.in_default.is)

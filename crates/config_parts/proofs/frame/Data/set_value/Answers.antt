@@ -1,13 +1,18 @@
+use Rattle.std.proofs.lemmas.Result.{on_ok_weaker}
 use Rattle.config_parts.proofs.Stored.{stored, value-alike}
 use Rattle.config_parts.proofs.Within.{stored-within, value-keeps}
 use Rattle.config_parts.proofs.frame.Data.set_value.Goals as goal
 
 pub returns-clause-changed : goal.returns-clause-changed
 returns-clause-changed c legend is =
-    stored legend _ _ (value-alike legend is c.args.slot c.args.value) c.args.last c.args.self.now c.take_cells.new.self c.put_cells.new.self c.take_cells.result c.in_ok-cells.cells
-    c.take_cells.ensures.taken c.take_cells.ensures.left c.in_ok-cells.ensures c.put_cells.ensures
+    on_ok_weaker c.put_cells.result
+    (stored legend _ _ (value-alike legend is c.args.slot c.args.value) c.args.last c.args.self.now c.take_cells.new.self c.put_cells.new.self c.in_ok-taken.taken c.in_ok-cells.cells
+    c.in_ok-taken.ensures.taken c.in_ok-taken.ensures.left c.in_ok-cells.ensures)
+    c.put_cells.ensures
 
 pub returns-clause-within : goal.returns-clause-within
 returns-clause-within c size less all =
-    stored-within size _ (value-keeps size.names c.args.slot c.args.value less) c.args.last c.args.self.now c.take_cells.new.self c.put_cells.new.self c.take_cells.result c.in_ok-cells.cells
-    c.take_cells.ensures.taken c.take_cells.ensures.left c.in_ok-cells.ensures c.put_cells.ensures all
+    on_ok_weaker c.put_cells.result
+    (λ put. stored-within size _ (value-keeps size.names c.args.slot c.args.value less) c.args.last c.args.self.now c.take_cells.new.self c.put_cells.new.self c.in_ok-taken.taken c.in_ok-cells.cells
+    c.in_ok-taken.ensures.taken c.in_ok-taken.ensures.left c.in_ok-cells.ensures put all)
+    c.put_cells.ensures
