@@ -349,8 +349,8 @@ class Comparison:
         return words + (["--patient-timers"] if self.bound.patient else [])
 
     def compare_run(self, seed, made, file, steps, report, choices):
-        plan = ["--workers", str(choices.choice([1, 1, 2, 3])),
-                "--piece", str(choices.choice([1, 2, 7, 256]))]
+        plan = ["--workers", str(choices.choice([1, 2, 3, 4])),
+                "--piece", str(choices.choice([1, 2, 7, 64, 256]))]
         words = ["run", str(file), "--testcase", made.testcase, "--steps", str(steps),
                  "--limit", str(LIMIT)] + plan + self.with_script(made) + self.within_bound()
         expected = printed_by_reference(report)
