@@ -1,34 +1,13 @@
 ghost use Rattle.std.specs.Prelude.{◌≡◌, IfSome};
 
+use crate::cells::{cell_at, empty_cells, hash_of};
 use crate::keyed::Keyed;
 use once_cell::race::OnceBox;
 use std::alloc::{AllocError, Global};
-use std::hash::{FoldHasher, Hasher};
 use std::marker::Model;
 
 /// In how many places, one behind the other, an item may stand.
-const TRIES: u64 = 8;
-
-fn hash_of(key: &[u8]) -> u64 {
-    let mut hasher = FoldHasher::default();
-    hasher.write(key);
-    hasher.finish()
-}
-
-/// The cell of a hash, where so many others come before it.
-fn cell_at<T>(cells: &[OnceBox<T>], hash: u64, before: u64) -> Option<&OnceBox<T>> {
-    let place = hash.wrapping_add(before).checked_rem(cells.len() as u64)?;
-    cells.get(place as usize)
-}
-
-/// So many cells with nothing in them.
-fn empty_cells<T: Drop>(alloc: Global, places: usize) -> Result<Box<Vec<OnceBox<T>>>, AllocError> {
-    let mut cells = Vec::with_capacity(alloc, places)?;
-    for _ in 0..places {
-        cells.push(OnceBox::new(alloc))?;
-    }
-    Ok(Box::new(alloc, cells)?)
-}
+const TRIES: usize = 8;
 
 /// Puts an item in, where one of its places is free. Answers whether one was.
 fn put<T: Keyed>(alloc: Global, cells: &[OnceBox<T>], item: T) -> Result<bool, AllocError> {

@@ -1,5 +1,5 @@
 //! What is kept in a memory is found again, by threads that share it too.
-use search_memory::{Keyed, Memory};
+use search_memory::{Interner, Keyed, Memory};
 use std::alloc::{AllocError, Global};
 use std::test::Fail;
 use std::thread::join;
@@ -137,4 +137,46 @@ fn two_threads(rt: HostRuntime) -> Result<(), Fail> {
     assert!(rt; there == Ok(100) && here == Ok(100));
     assert_eq!(rt; count_found(&memory), 100);
     Ok(())
+}
+
+/// Whether the bytes of so many numbers, and of none, are what an interner gives for them, one time after the other.
+fn are_interned(alloc: Global, interner: &Interner, count: u32) -> Result<bool, AllocError> {
+    for number in 0..count {
+        let bytes = number.to_le_bytes();
+        for length in 0..bytes.len() {
+            let wanted = &bytes[..length];
+            if interner.intern(alloc, wanted)?.as_bytes() != wanted {
+                return Ok(false);
+            }
+        }
+    }
+    Ok(true)
+}
+
+#[test]
+fn bytes_are_interned(rt: HostRuntime) -> Result<(), Fail> {
+    let alloc = rt.alloc();
+    let interner = Interner::new(alloc);
+    // more than the first table has places for
+    assert!(rt; are_interned(alloc, &interner, 3_000)?);
+    assert!(rt; are_interned(alloc, &interner, 3_000)?);
+    let one = interner.intern(alloc, b"one")?;
+    let again = interner.intern(alloc, b"one")?;
+    let other = interner.intern(alloc, b"two")?;
+    assert!(rt; *one == *again);
+    assert_eq!(rt; one.hash(), again.hash());
+    assert!(rt; *one != *other);
+    Ok(())
+}
+
+#[test]
+fn two_threads_intern(rt: HostRuntime) {
+    let alloc = rt.alloc();
+    let interner = Interner::new(alloc);
+    let (there, here) = join(
+        &rt,
+        || are_interned(alloc, &interner, 1_000),
+        || are_interned(alloc, &interner, 1_000),
+    );
+    assert!(rt; there == Ok(true) && here == Ok(true));
 }
