@@ -1,19 +1,22 @@
 -- What is cut of bytes is what was spelled.
-use Rattle.std.proofs.Common.{◌≡◌, ℕ, zero, suc, ◌+◌, ◌-◌, ◌<◌, Bool, true, false, nat_eq, if◌then◌else◌, List, [], ◌∷◌, ◌++◌, length, map, min, take, drop, get_or, slice_get, Some, None, refl, sym, ap, ◌∙◌, arith, append_assoc, length-append}
-use Rattle.std.proofs.lemmas.List.{append-nil, length-map, map-append}
+use Rattle.std.proofs.Common.{◌≡◌, ℕ, zero, suc, ◌+◌, ◌-◌, ◌<◌, ◌≤◌, Bool, true, false, nat_eq, if◌then◌else◌, List, [], ◌∷◌, ◌++◌, length, map, min, take, drop, get_or, slice_get, Some, None, refl, sym, ap, ◌∙◌, arith, append_assoc, length-append}
+use Rattle.std.proofs.lemmas.List.{append-nil, length-map, map-append, take-append-drop}
 use Rattle.std.proofs.lemmas.List.Folds.{flat_map-map}
 use Rattle.std.proofs.Math.Seq.{drop-append_seam, take-append_seam}
 use Rattle.std.specs.List.{flat_map}
 use Rattle.std.specs.Option.{option_to_list}
 use Rattle.config_packed.specs.internal.Cuts.{bytes_read, cut_content, cut_front, cut_sized, first_of, since}
+use Rattle.config_packed.specs.Packs.{verdict_in}
 use Rattle.config_packed.specs.Pieces.{AreParts, IsCut, bytes_of, first_message, front_at, has_mappings, spell_front, spell_key, spelled_parts}
-use Rattle.config_packed.specs.Reading.{Reads, read_byte, read_items, read_long, read_message}
-use Rattle.config_packed.specs.Spelling.{going_code, spell_config, spell_content, spell_head, spell_list, spell_long, spell_message, spell_outline, spell_own, spell_pair, spell_queue, spell_sized}
+use Rattle.config_packed.specs.Reading.{Reads, read_byte, read_items, read_long, read_message, read_verdict}
+use Rattle.config_packed.specs.Shares.{half, head_of}
+use Rattle.config_packed.specs.Spelling.{going_code, spell_config, spell_content, spell_contents, spell_head, spell_list, spell_long, spell_message, spell_outline, spell_own, spell_pair, spell_queue, spell_sized, spell_verdict}
 use Rattle.config_packed.specs.declared.pieces.ComponentBytes.{ComponentBytes}
 use Rattle.config_packed.specs.declared.pieces.ConfigBytes.{ConfigBytes}
-use Rattle.config_packed.proofs.ConfigsBack.{message_back}
+use Rattle.config_packed.proofs.ConfigsBack.{message_back, verdict-back}
 use Rattle.config_packed.proofs.Items.{ahead, items-more}
 use Rattle.config_packed.proofs.NumbersBack.{items-seen, read-long-back, read-pair-back}
+use Rattle.ttcn_syntax.specs.declared.tree.statement.Verdict.{Verdict}
 use Rattle.config_parts.specs.declared.component.Component.{Component}
 use Rattle.config_parts.specs.declared.component.Message.{Message}
 use Rattle.config_parts.specs.declared.component.Queue.{Queue}
@@ -65,6 +68,35 @@ mapped-told : (mapped : Bool) → nat_eq (if mapped then 2 else 1) 2 ≡ mapped
 mapped-told true = refl
 mapped-told false = refl
 
+-- what stands before the components is cut
+module _ (going : Going) where
+  head-begins : (head : List ℕ) → head ≡ spell_head going → (read_byte head).0 ≡ going_code going.links
+  unfolding spell_head read_byte
+  head-begins head is = ap (λ (b : List ℕ). (read_byte b).0) is
+
+  behind-first : (head tagged : List ℕ) → head ≡ spell_head going → tagged ≡ (read_byte head).1 → tagged ≡ spell_long (length going.components) ++ spell_sized (spell_outline going)
+  unfolding spell_head read_byte
+  behind-first head tagged is behind = behind ∙ ap (λ (b : List ℕ). (read_byte b).1) is
+
+  -- it tells how many components there are
+  pub head-counts : (head tagged : List ℕ) (count : ℕ) → head ≡ spell_head going → tagged ≡ (read_byte head).1 → count ≡ (read_long tagged).0 → count ≡ length going.components
+  head-counts head tagged count is behind counts =
+      counts ∙ ap (λ (t : List ℕ). (read_long t).0) (behind-first head tagged is behind) ∙ ap (λ (p : ℕ × List ℕ). p.0) (read-long-back (length going.components) (spell_sized (spell_outline going)))
+
+  pub head-cut : (head tagged counted outline : List ℕ) (tag : ℕ)
+      → head ≡ spell_head going
+      → tag ≡ (read_byte head).0
+      → tagged ≡ (read_byte head).1
+      → counted ≡ (read_long tagged).1
+      → outline ≡ (cut_sized counted).0
+      → (outline ≡ spell_outline going) × (nat_eq tag 2 ≡ has_mappings going.links)
+  head-cut head tagged counted outline tag is a b c d =
+      let sized = spell_sized (spell_outline going) in
+      let counted-is : counted ≡ sized = c ∙ ap (λ (t : List ℕ). (read_long t).1) (behind-first head tagged is b) ∙ ap (λ (p : ℕ × List ℕ). p.1) (read-long-back (length going.components) sized) in (
+        d ∙ ap (λ (s : List ℕ). (cut_sized s).0) (counted-is ∙ sym (append-nil sized)) ∙ ap (λ (p : List ℕ × List ℕ). p.0) (cut-sized-back (spell_outline going) []),
+        ap (λ (n : ℕ). nat_eq n 2) (a ∙ head-begins head is) ∙ mapped-told (has_mappings going.links),
+      )
+
 -- the parts of a configuration that goes on are cut
 module _ (going : Going) where
   abbrev contents_part : List ℕ
@@ -74,10 +106,10 @@ module _ (going : Going) where
   unfolding spell_config spell_head read_byte
   begins-with bytes is = ap (λ (b : List ℕ). (read_byte b).0) is
 
-  behind-first : (bytes tagged : List ℕ) → bytes ≡ spell_config (config.Going going) → tagged ≡ (read_byte bytes).1
+  tagged-is : (bytes tagged : List ℕ) → bytes ≡ spell_config (config.Going going) → tagged ≡ (read_byte bytes).1
       → tagged ≡ spell_long (length going.components) ++ (spell_sized (spell_outline going) ++ contents_part)
   unfolding spell_config spell_head read_byte
-  behind-first bytes tagged is behind =
+  tagged-is bytes tagged is behind =
       behind ∙ ap (λ (b : List ℕ). (read_byte b).1) is ∙ append_assoc (spell_long (length going.components)) (spell_sized (spell_outline going)) contents_part
 
   whole-is : (bytes : List ℕ) → bytes ≡ spell_config (config.Going going) → bytes ≡ spell_head going ++ contents_part
@@ -97,7 +129,7 @@ module _ (going : Going) where
       → (head ≡ spell_head going) × (outline ≡ spell_outline going) × (parts ≡ map spelled_parts going.components) × (nat_eq tag 2 ≡ has_mappings going.links)
   parts-cut bytes tagged counted sized head outline tag count parts is a b c d e f h k =
       let read : read_long tagged ≡ (length going.components, spell_sized (spell_outline going) ++ contents_part) =
-      ap read_long (behind-first bytes tagged is b) ∙ read-long-back (length going.components) (spell_sized (spell_outline going) ++ contents_part) in
+      ap read_long (tagged-is bytes tagged is b) ∙ read-long-back (length going.components) (spell_sized (spell_outline going) ++ contents_part) in
       let counted-is : counted ≡ spell_sized (spell_outline going) ++ contents_part = d ∙ ap (λ (p : ℕ × List ℕ). p.1) read in
       let cut : cut_sized counted ≡ (spell_outline going, contents_part) = ap cut_sized counted-is ∙ cut-sized-back (spell_outline going) contents_part in
       let sized-is : sized ≡ contents_part = f ∙ ap (λ (p : List ℕ × List ℕ). p.1) cut in
@@ -107,6 +139,41 @@ module _ (going : Going) where
         k ∙ (λ i. (read_items cut_content (count-is i) (sized-is i)).0) ∙ ap (λ (b : List ℕ). (read_items cut_content (length going.components) b).0) (sym (append-nil contents_part)) ∙ ap (λ p. p.0) (contents-cut going.components []),
         ap (λ (n : ℕ). nat_eq n 2) (a ∙ begins-with bytes is) ∙ mapped-told (has_mappings going.links),
       )
+
+-- ---- halves of the components
+
+take-long : {A : Type 0} (n : ℕ) (xs : List A) → n ≤ length xs → length (take n xs) ≡ n
+take-long zero xs h = refl
+take-long (suc n) [] h = absurd (omega arith)
+take-long (suc n) (x ∷ xs) h = ap suc (take-long n xs (omega arith))
+
+drop-long : {A : Type 0} (n : ℕ) (xs : List A) → length (drop n xs) ≡ length xs - n
+drop-long zero xs = omega arith
+drop-long (suc n) [] = omega arith
+drop-long (suc n) (x ∷ xs) = drop-long n xs ∙ omega arith
+
+half-below : (n : ℕ) → half n ≤ n
+half-below n = omega arith
+
+counted-cut : (n : ℕ) (cs : List Component) (bytes : List ℕ) → bytes ≡ spell_contents cs → n ≡ length cs → (read_items cut_content n bytes).0 ≡ map spelled_parts cs
+counted-cut n cs bytes is counts =
+    (λ i. (read_items cut_content (counts i) (is i)).0)
+    ∙ ap (λ (b : List ℕ). (read_items cut_content (length cs) b).0) (sym (append-nil (spell_contents cs)))
+    ∙ ap (λ (p : List (List ℕ × List ℕ) × List ℕ). p.0) (contents-cut cs [])
+
+-- both halves are cut, one behind the other
+pub halves-cut : (cs : List Component) (count first : ℕ) (front back : List ℕ) (none some all : List (List ℕ × List ℕ))
+    → count ≡ length cs → first ≡ half count → front ≡ spell_contents (take (half (length cs)) cs) → back ≡ spell_contents (drop (half (length cs)) cs)
+    → none ≡ [] → some ≡ none ++ (read_items cut_content first front).0 → all ≡ some ++ (read_items cut_content (count - first) back).0
+    → all ≡ map spelled_parts cs
+halves-cut cs count first front back none some all counts halved is-front is-back empty put put-too =
+    let h = half (length cs) in
+    let first-is : first ≡ h = halved ∙ ap half counts in
+    let ahead-long : first ≡ length (take h cs) = first-is ∙ sym (take-long h cs (half-below (length cs))) in
+    let behind-long : count - first ≡ length (drop h cs) = (λ i. counts i - first-is i) ∙ sym (drop-long h cs) in
+    let some-is : some ≡ map spelled_parts (take h cs) = put ∙ (λ i. empty i ++ counted-cut first (take h cs) front is-front ahead-long i) in
+    put-too ∙ (λ i. some-is i ++ counted-cut (count - first) (drop h cs) back is-back behind-long i)
+    ∙ sym (map-append spelled_parts (take h cs) (drop h cs)) ∙ ap (map spelled_parts) (take-append-drop h cs)
 
 -- ---- fronts
 
@@ -215,6 +282,31 @@ key-put going at component outline own start one two three four a b c d e f =
 code-not-zero : (mapped : Bool) → ◌≡◌ {A = ℕ} (if mapped then 2 else 1) 0 → ⊥
 code-not-zero true zero-byte = absurd (omega arith)
 code-not-zero false zero-byte = absurd (omega arith)
+
+pub going-begins : (going : Going) (head : List ℕ) → head ≡ spell_head going → (read_byte head).0 ≡ 0 → ⊥
+going-begins going head is zero-byte = code-not-zero (has_mappings going.links) (sym (head-begins going head is) ∙ zero-byte)
+
+pub head-ended : (whole : Config) (head : List ℕ) → head ≡ head_of whole → (read_byte head).0 ≡ 0 → AreParts whole None
+head-ended (config.Ended v) head is zero-byte = tt
+head-ended (config.Going going) head is zero-byte = going-begins going head is zero-byte
+
+-- where the first byte isn't 0, the test case goes on
+pub head-going : (whole : Config) (head : List ℕ) → head ≡ head_of whole → ((read_byte head).0 ≡ 0 → ⊥) → (going : Going) × (whole ≡ config.Going going)
+unfolding spell_config read_byte
+head-going (config.Ended v) head is some = absurd (some (ap (λ (b : List ℕ). (read_byte b).0) is))
+head-going (config.Going going) head is some = (going, refl)
+
+-- the verdict stands behind the byte 0
+pub verdict-ended : (whole : Config) (head behind : List ℕ) → head ≡ head_of whole → (read_byte head).0 ≡ 0 → behind ≡ (read_byte head).1 → Some (read_verdict behind).0 ≡ verdict_in whole
+unfolding spell_config read_byte
+verdict-ended (config.Ended v) head behind is zero-byte rest =
+    ap (λ (b : List ℕ). Some (read_verdict b).0) (rest ∙ ap (λ (b : List ℕ). (read_byte b).1) is ∙ sym (append-nil (spell_verdict v))) ∙ ap (λ (p : Verdict × List ℕ). Some p.0) (verdict-back v [])
+verdict-ended (config.Going going) head behind is zero-byte rest = absurd (going-begins going head is zero-byte)
+
+pub verdict-none : (whole : Config) (head : List ℕ) → head ≡ head_of whole → ((read_byte head).0 ≡ 0 → ⊥) → None ≡ verdict_in whole
+unfolding spell_config read_byte
+verdict-none (config.Ended v) head is some = absurd (some (ap (λ (b : List ℕ). (read_byte b).0) is))
+verdict-none (config.Going going) head is some = refl
 
 pub begins-ended : (whole : Config) (bytes : List ℕ) → bytes ≡ spell_config whole → (read_byte bytes).0 ≡ 0 → AreParts whole None
 begins-ended (config.Ended v) bytes is zero-byte = tt

@@ -4,6 +4,7 @@ pub mod Values
 pub mod NumbersBack
 pub mod ValuesBack
 pub mod ConfigsBack
+pub mod Shares
 pub mod Cutting
 pub mod Changing
 pub mod Waiting

@@ -90,10 +90,10 @@ changed_going going at v own behind queues = record {
   forgotten = going.forgotten;
 }
 
--- the bytes of a configuration in parts, bytes of what a component has of its own, and bytes of queues
-abbrev pub AreSpelled : ConfigBytes → List ℕ → List ℕ → Type 0
-AreSpelled parts own queues =
-    ((going : Going) × IsCut going parts) × ((v : Verdict) × ((d : Data) × (own ≡ spell_own v d))) × ((qs : List Queue) × (queues ≡ spell_list spell_queue qs))
+-- a configuration and its bytes in parts, bytes of what a component has of its own, and bytes of queues
+abbrev pub AreSpelled : Config → ConfigBytes → List ℕ → List ℕ → Type 0
+AreSpelled c parts own queues =
+    ((going : Going) × (c ≡ config.Going going) × IsCut going parts) × ((v : Verdict) × ((d : Data) × (own ≡ spell_own v d))) × ((qs : List Queue) × (queues ≡ spell_list spell_queue qs))
 
 -- the component at a place, and what all components see, are those of another configuration; where that has no component there, all components stay
 abbrev pub joined_going : Going → ℕ → Going → Going

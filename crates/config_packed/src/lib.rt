@@ -2,6 +2,9 @@
 #![tactic(auto)]
 
 mod byte_reader;
+mod change;
+mod halves;
+mod interned;
 mod laws;
 mod message;
 mod number;
@@ -16,6 +19,7 @@ mod spelled;
 mod value;
 mod whole;
 
+pub use interned::InternedConfig;
 pub use laws::{
     configs_are_spelled_apart, keys_tell_what_is_seen, outlines_tell_what_all_see,
     same_bytes_are_one, spelled_configs_are_read_back,

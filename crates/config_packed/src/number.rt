@@ -12,18 +12,6 @@ pub const LONG_ROOM: usize = 9;
 /// No two numbers take more bytes, of which one has 32 bits.
 pub const PAIR_ROOM: usize = 15;
 
-/// How many bytes a number takes.
-#[inline]
-pub fn size_of_long(number: usize) -> usize {
-    if number < 192 {
-        1
-    } else if number < 16128 {
-        2
-    } else {
-        LONG_ROOM
-    }
-}
-
 // ---- spelling
 
 /// A number in four bytes, the lowest one first.

@@ -89,13 +89,6 @@ impl Packed {
         None
     }
 
-    /// The same bytes in memory of their own.
-    pub fn try_clone(&self, alloc: Global) -> Result<Packed, AllocError>
-        ensures { IfOk result (λ packed. packed ≡ self.now) }
-    {
-        Ok(Packed::from_bytes(Vec::from_slice(alloc, self.bytes.as_slice())?))
-    }
-
     /// The bytes in parts, where the test case goes on.
     pub fn parts(&self, alloc: Global) -> Result<Option<ConfigBytes<'_>>, AllocError>
         ensures { IfOk result (λ parts. AreParts self.now parts) }

@@ -47,7 +47,7 @@ fn going_code(links: &Links) -> u8
 
 /// What stands before the contents of components. What all of them see is spelled apart first, so that its length is known.
 #[tactic(auto, unfolding(crate::specs::Spelling::spell_head))]
-fn put_head(bytes: &mut Vec<u8>, apart: &mut Vec<u8>, going: &Going) -> Result<(), AllocError>
+pub fn put_head(bytes: &mut Vec<u8>, apart: &mut Vec<u8>, going: &Going) -> Result<(), AllocError>
     ensures { OnOk result (bytes.new.items ≡ bytes.old.items ++ spell_head going.now) }
 {
     bytes.push(going_code(&going.links))?;
@@ -75,7 +75,7 @@ fn put_content(
 }
 
 /// What only each component itself sees.
-fn put_contents(
+pub fn put_contents(
     bytes: &mut Vec<u8>,
     apart: &mut Vec<u8>,
     components: &[Component],

@@ -1,8 +1,11 @@
 //! Parts of configurations that are kept as bytes.
 use crate::parts::{large, small};
+use search_memory::Interner;
 use std::alloc::{AllocError, Global};
 use std::test::Fail;
-use ttcn_config::{Config, Message, MessageBytes, pack, queues_with_message, queues_without_first};
+use ttcn_config::{
+    Config, InternedConfig, Message, MessageBytes, queues_with_message, queues_without_first,
+};
 use ttcn_syntax::Verdict;
 use ttcn_values::Value;
 
@@ -18,8 +21,10 @@ const KEY: &[u8] = &[
 #[test]
 fn of_a_component(rt: HostRuntime) -> Result<(), Fail> {
     let alloc = rt.alloc();
-    let packed = pack(alloc, &small(alloc, Value::Integer(-5), 200)?)?;
-    let Some(parts) = packed.parts(alloc)? else {
+    let interner = Interner::new(alloc);
+    let config = small(alloc, Value::Integer(-5), 200)?;
+    let interned = InternedConfig::new(alloc, &interner, &config)?;
+    let Some(parts) = interned.parts(alloc)? else {
         return Err(Fail::new("no parts"));
     };
     assert!(rt; !parts.has_mappings);
@@ -36,8 +41,10 @@ fn of_a_component(rt: HostRuntime) -> Result<(), Fail> {
 #[test]
 fn of_two_components(rt: HostRuntime) -> Result<(), Fail> {
     let alloc = rt.alloc();
-    let packed = pack(alloc, &large(alloc, Verdict::Pass)?)?;
-    let Some(parts) = packed.parts(alloc)? else {
+    let interner = Interner::new(alloc);
+    let config = large(alloc, Verdict::Pass)?;
+    let interned = InternedConfig::new(alloc, &interner, &config)?;
+    let Some(parts) = interned.parts(alloc)? else {
         return Err(Fail::new("no parts"));
     };
     assert!(rt; parts.has_mappings);
@@ -47,15 +54,16 @@ fn of_two_components(rt: HostRuntime) -> Result<(), Fail> {
         room = room.saturating_add(component.own.len());
         room = room.saturating_add(component.queues.len());
     }
-    assert!(rt; room < packed.as_bytes().len());
+    assert!(rt; room < interned.to_bytes(alloc)?.len());
     Ok(())
 }
 
 #[test]
 fn of_what_has_ended(rt: HostRuntime) -> Result<(), Fail> {
     let alloc = rt.alloc();
-    let packed = pack(alloc, &Config::Ended(Verdict::Pass))?;
-    assert!(rt; packed.parts(alloc)?.is_none());
+    let interner = Interner::new(alloc);
+    let interned = InternedConfig::new(alloc, &interner, &Config::Ended(Verdict::Pass))?;
+    assert!(rt; interned.parts(alloc)?.is_none());
     Ok(())
 }
 

@@ -1,16 +1,20 @@
-//! What is packed is unpacked again.
+//! What is packed is unpacked again, and what is interned is read again.
 use crate::parts::{large, small};
+use search_memory::Interner;
 use std::alloc::{AllocError, Global};
 use std::hash::{FoldHasher, Hash, Hasher};
 use std::test::Fail;
-use ttcn_config::{Config, pack, unpack};
+use ttcn_config::{Config, InternedConfig, pack, unpack};
 use ttcn_syntax::Verdict;
 use ttcn_values::Value;
 
-/// Whether a configuration that is packed is unpacked again.
+/// Whether a configuration that is packed is unpacked again, and one that is interned is read again, from the same bytes.
 fn comes_back(alloc: Global, config: &Config) -> Result<bool, AllocError> {
     let packed = pack(alloc, config)?;
-    Ok(unpack(alloc, &packed)? == *config)
+    let interner = Interner::new(alloc);
+    let interned = InternedConfig::new(alloc, &interner, config)?;
+    let same_bytes = interned.to_bytes(alloc)?.as_slice() == packed.as_bytes();
+    Ok(same_bytes && unpack(alloc, &packed)? == *config && interned.config(alloc)? == *config)
 }
 
 /// One component, its parts in their order, each part as it is spelled.
@@ -105,7 +109,10 @@ fn verdicts(rt: HostRuntime) -> Result<(), Fail> {
         let packed = pack(alloc, &config)?;
         assert_eq!(rt; packed.as_bytes(), *bytes);
         assert_eq!(rt; packed.verdict(), Some(*verdict));
-        assert!(rt; unpack(alloc, &packed)? == config);
+        assert!(rt; comes_back(alloc, &config)?);
+        let interner = Interner::new(alloc);
+        let interned = InternedConfig::new(alloc, &interner, &config)?;
+        assert_eq!(rt; interned.verdict(), Some(*verdict));
     }
     Ok(())
 }
@@ -127,5 +134,24 @@ fn equal_ones(rt: HostRuntime) -> Result<(), Fail> {
     assert!(rt; one != other);
     assert!(rt; one.as_bytes() != other.as_bytes());
     assert_eq!(rt; hash_of(&one), hash_of(&again));
+    Ok(())
+}
+
+#[test]
+fn equal_ones_of_an_interner(rt: HostRuntime) -> Result<(), Fail> {
+    let alloc = rt.alloc();
+    let interner = Interner::new(alloc);
+    let elsewhere = Interner::new(alloc);
+    let one = InternedConfig::new(alloc, &interner, &large(alloc, Verdict::None)?)?;
+    let again = InternedConfig::new(alloc, &interner, &large(alloc, Verdict::None)?)?;
+    let there = InternedConfig::new(alloc, &elsewhere, &large(alloc, Verdict::None)?)?;
+    let other = InternedConfig::new(alloc, &interner, &large(alloc, Verdict::Fail)?)?;
+    assert!(rt; one == again);
+    assert!(rt; one == there);
+    assert!(rt; unpack(alloc, &one.to_packed(alloc)?)? == one.config(alloc)?);
+    assert!(rt; one != other);
+    assert_eq!(rt; one.hash(), again.hash());
+    assert_eq!(rt; one.hash(), there.hash());
+    assert_eq!(rt; one.verdict(), None);
     Ok(())
 }

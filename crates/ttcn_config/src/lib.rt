@@ -3,8 +3,8 @@
 
 pub use config_canonical::{canon, canon_owned};
 pub use config_packed::{
-    ComponentBytes, ConfigBytes, MessageBytes, OwnBytes, Packed, pack, queues_with_message,
-    queues_without_first, unpack,
+    ComponentBytes, ConfigBytes, InternedConfig, MessageBytes, OwnBytes, Packed, pack,
+    queues_with_message, queues_without_first, unpack,
 };
 pub use config_parts::{
     ActiveDefault, Cells, Component, Config, Connection, Data, End, Frame, Going, Links, Message,

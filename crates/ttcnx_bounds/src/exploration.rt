@@ -9,6 +9,7 @@ ghost use Rattle.ttcnx_bounds.specs.internal.BoundedExplored.{IsExploredBounded}
 use crate::search::search_within;
 use explore::{ExploreError, Gate, Plan, Stops};
 use search_bounds::Bound;
+use search_memory::Interner;
 use std::alloc::{AllocError, Global};
 use std::marker::Brand;
 use std::thread::Threads;
@@ -83,8 +84,9 @@ fn explore_kept<K: Scheme + Send + Sync, G: Gate, R: Threads + Sync>(
     requires { machine.now ≡ K.machine }
     ensures { IsExploredBounded K.machine.test bound plan.now stops.now result }
 {
-    let runs = Runs::<K>::new(alloc, machine);
-    match search_within::<Runs<'_, '_, K>, G, R>(rt, alloc, &runs, bound, plan, stops, gate) {
+    let interner = Interner::new(alloc);
+    let runs = Runs::<K>::new(alloc, machine, &interner);
+    match search_within::<Runs<'_, '_, '_, K>, G, R>(rt, alloc, &runs, bound, plan, stops, gate) {
         Ok(reached) => match extent_of(alloc, reached) {
             Ok(extent) => Ok(extent),
             Err(AllocError) => Err(ExploreError::Memory),

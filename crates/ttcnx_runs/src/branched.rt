@@ -19,18 +19,20 @@ use crate::scheme::Scheme;
 use crate::sparing::recalled_pairs;
 use crate::state::State;
 use crate::step::Step;
+use search_memory::Interner;
 use search_ordinals::Branched;
 use std::alloc::{AllocError, Global};
-use ttcn_config::{Config, unpack};
+use ttcn_config::Config;
 use ttcn_step::{Machine, Successor};
 
 /// The steps from a configuration to its successors.
-fn steps_to<K: Scheme>(
+fn steps_to<'p, K: Scheme>(
     alloc: Global,
     machine: &Machine<'_>,
+    interner: &'p Interner,
     config: &Config,
     found: Vec<Successor>,
-) -> Result<Vec<Step<State<K>>>, AllocError>
+) -> Result<Vec<Step<State<'p, K>>>, AllocError>
     requires is { machine.now ≡ K.machine }
     requires fits { Fits K.machine config.now }
     requires leads { All (IsSuccessor K.machine config.now) found.items }
@@ -44,7 +46,7 @@ fn steps_to<K: Scheme>(
         config: next,
     } in found {
         let place = machine.branch(alloc, config, &label)?;
-        let after = state_of(alloc, machine, next)?;
+        let after = state_of(alloc, machine, interner, next)?;
         steps.push(Step {
             label,
             branch: place.map(BranchPlace::new),
@@ -55,11 +57,11 @@ fn steps_to<K: Scheme>(
 }
 
 /// The branches of steps, and the states to which they lead.
-fn pairs_of<K: Scheme>(
+fn pairs_of<'p, K: Scheme>(
     alloc: Global,
-    steps: Vec<Step<State<K>>>,
-) -> Result<Vec<(Option<BranchPlace>, State<K>)>, AllocError>
-    ensures { IfOk result (λ pairs. pairs.items ≡ map (λ step. (step.branch, step.after)) steps.items) }
+    steps: Vec<Step<State<'p, K>>>,
+) -> Result<Vec<(Option<BranchPlace>, State<'p, K>)>, AllocError>
+    ensures { IfOk result (λ pairs. pairs.items ≡ map (λ step. (step.branch, step.after)) steps.entry.items) }
 {
     let mut pairs = Vec::with_capacity(alloc, steps.len())?;
     for Step {
@@ -74,18 +76,18 @@ fn pairs_of<K: Scheme>(
 
 /// For each enabled label the branch that its step takes, if it takes one, and the state to which it leads, worked out and
 /// remembered.
-fn all_successors<K: Scheme>(
-    runs: &Runs<'_, '_, K>,
+fn all_successors<'p, K: Scheme>(
+    runs: &Runs<'_, '_, 'p, K>,
     alloc: Global,
-    state: &State<K>,
-) -> Result<Vec<(Option<BranchPlace>, State<K>)>, AllocError>
+    state: &State<'p, K>,
+) -> Result<Vec<(Option<BranchPlace>, State<'p, K>)>, AllocError>
     requires { FitsRuns state.now }
     ensures { IfOk result (λ pairs. pairs.items ≡ with_branch (rules.branch_of K.machine.test) (canonical_graph K.machine.test) state.now ((canonical_graph K.machine.test).enabled state.now)) }
 {
     let packed = &state.packed;
-    let config = unpack(alloc, packed)?;
+    let config = packed.config(alloc)?;
     let found = runs.machine.successors(alloc, &config)?;
-    let steps = steps_to(alloc, runs.machine, &config, found)?;
+    let steps = steps_to(alloc, runs.machine, runs.interner, &config, found)?;
     remember(
         alloc,
         runs.machine,
@@ -98,11 +100,11 @@ fn all_successors<K: Scheme>(
 }
 
 /// The same branches and states, where no state is left out.
-fn with_all_states<K: Scheme>(
+fn with_all_states<'p, K: Scheme>(
     alloc: Global,
-    found: Vec<(Option<BranchPlace>, State<K>)>,
-) -> Result<Vec<(Option<BranchPlace>, Option<State<K>>)>, AllocError>
-    ensures { IfOk result (λ pairs. pairs.items ≡ map (λ pair. (pair.0, Some pair.1)) found.items) }
+    found: Vec<(Option<BranchPlace>, State<'p, K>)>,
+) -> Result<Vec<(Option<BranchPlace>, Option<State<'p, K>>)>, AllocError>
+    ensures { IfOk result (λ pairs. pairs.items ≡ map (λ pair. (pair.0, Some pair.1)) found.entry.items) }
 {
     let mut pairs = Vec::with_capacity(alloc, found.len())?;
     for (branch, after) in found {
@@ -114,13 +116,13 @@ fn with_all_states<K: Scheme>(
 /// The same of a state that is behind a step, which is given by the state before it and by how many enabled labels come before
 /// its own. A state may be left out where two steps lead there from the state before, of which the first one comes before
 /// that step.
-fn spared_successors<K: Scheme>(
-    runs: &Runs<'_, '_, K>,
+fn spared_successors<'p, K: Scheme>(
+    runs: &Runs<'_, '_, 'p, K>,
     alloc: Global,
-    state: &State<K>,
-    before: &State<K>,
+    state: &State<'p, K>,
+    before: &State<'p, K>,
     nth: u32,
-) -> Result<Vec<(Option<BranchPlace>, Option<State<K>>)>, AllocError>
+) -> Result<Vec<(Option<BranchPlace>, Option<State<'p, K>>)>, AllocError>
     requires fits { FitsRuns state.now × FitsRuns before.now }
     requires behind { (label : Label) × IsNth ((canonical_graph K.machine.test).enabled before.now) nth label × (state.now ≡ (canonical_graph K.machine.test).after before.now label) }
     ensures { IfOk result (λ found. AllZip (IsSparedAt (rules.branch_of K.machine.test) (canonical_graph K.machine.test) before.now nth state.now) ((canonical_graph K.machine.test).enabled state.now) found.items) }
@@ -128,6 +130,7 @@ fn spared_successors<K: Scheme>(
     let recalled = recalled_pairs(
         alloc,
         runs.machine,
+        runs.interner,
         &runs.memory,
         &before.packed,
         nth,
@@ -140,26 +143,28 @@ fn spared_successors<K: Scheme>(
     with_all_states(alloc, all_successors(runs, alloc, state)?)
 }
 
-impl<'t, 'a, K: Scheme + Send + Sync> Branched for Runs<'t, 'a, K> {
+impl<'t, 'a, 'p, K: Scheme + Send + Sync> Branched for Runs<'t, 'a, 'p, K> {
     fn branched_successors(
         &self,
         alloc: Global,
-        state: &State<K>,
-    ) -> Result<Vec<(Option<BranchPlace>, State<K>)>, AllocError> {
+        state: &State<'p, K>,
+    ) -> Result<Vec<(Option<BranchPlace>, State<'p, K>)>, AllocError> {
         all_successors(self, alloc, state)
     }
 
     fn sparing_branches(
         &self,
         alloc: Global,
-        state: &State<K>,
-        before: &State<K>,
+        state: &State<'p, K>,
+        before: &State<'p, K>,
         nth: u32,
-    ) -> Result<Vec<(Option<BranchPlace>, Option<State<K>>)>, AllocError> {
+    ) -> Result<Vec<(Option<BranchPlace>, Option<State<'p, K>>)>, AllocError> {
         spared_successors(self, alloc, state, before, nth)
     }
 
-    fn copy_branch(branch: &BranchPlace) -> BranchPlace {
+    fn copy_branch(branch: &BranchPlace) -> BranchPlace
+        ensures { result ≡ branch.now }
+    {
         BranchPlace::new(branch.place())
     }
 }

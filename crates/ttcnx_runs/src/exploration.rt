@@ -13,6 +13,7 @@ ghost use Rattle.laws_live.specs.Parts.{CountsParts, IsCompleteByParts};
 use crate::search::search;
 use crate::{BranchPlace, Runs, Scheme};
 use explore::{Answer, Ending, ExploreError, Gate, Plan, Reached, Stops};
+use search_memory::Interner;
 use std::alloc::{AllocError, Global};
 use std::marker::Brand;
 use std::thread::Threads;
@@ -107,8 +108,9 @@ fn explore_within<K: Scheme + Send + Sync, G: Gate, R: Threads + Sync>(
     requires { machine.now ≡ K.machine }
     ensures { IsExplored K.machine.test plan.now stops.now (IsExtent K.machine.test plan.now stops.now) result }
 {
-    let runs = Runs::<K>::new(alloc, machine);
-    match search::<Runs<'_, '_, K>, G, R>(rt, alloc, &runs, plan, stops, gate) {
+    let interner = Interner::new(alloc);
+    let runs = Runs::<K>::new(alloc, machine, &interner);
+    match search::<Runs<'_, '_, '_, K>, G, R>(rt, alloc, &runs, plan, stops, gate) {
         Ok(reached) => match extent_of(alloc, reached) {
             Ok(extent) => Ok(extent),
             Err(AllocError) => Err(ExploreError::Memory),

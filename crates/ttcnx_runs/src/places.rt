@@ -11,13 +11,12 @@ use crate::state::State;
 use std::alloc::{AllocError, Global};
 use step_labels::{Label, Standing};
 use summary::Located;
-use ttcn_config::unpack;
 
 /// The components that are blocked in a state of which isn't known whether some label is enabled.
-fn blocked_in<K: Scheme>(
-    runs: &Runs<'_, '_, K>,
+fn blocked_in<'p, K: Scheme>(
+    runs: &Runs<'_, '_, 'p, K>,
     alloc: Global,
-    state: &State<K>,
+    state: &State<'p, K>,
 ) -> Result<Vec<Standing>, AllocError>
     requires { FitsRuns state.now }
     ensures { IfOk result (λ found. found.items ≡ rules.blocked K.machine.test state.now) }
@@ -25,11 +24,11 @@ fn blocked_in<K: Scheme>(
     if surely_goes_on(alloc, &runs.memory, &state.packed)? {
         return Ok(Vec::new(alloc));
     }
-    let config = unpack(alloc, &state.packed)?;
+    let config = state.packed.config(alloc)?;
     runs.machine.blocked(alloc, &config)
 }
 
-impl<'t, 'a, K: Scheme + Send + Sync> Located for Runs<'t, 'a, K> {
+impl<'t, 'a, 'p, K: Scheme + Send + Sync> Located for Runs<'t, 'a, 'p, K> {
     type Branch = BranchPlace;
 
     type Standing = Standing;
@@ -41,15 +40,15 @@ impl<'t, 'a, K: Scheme + Send + Sync> Located for Runs<'t, 'a, K> {
     fn branch(
         &self,
         alloc: Global,
-        state: &State<K>,
+        state: &State<'p, K>,
         label: &Label,
     ) -> Result<Option<BranchPlace>, AllocError> {
-        let config = unpack(alloc, &state.packed)?;
+        let config = state.packed.config(alloc)?;
         let place = self.machine.branch(alloc, &config, label)?;
         Ok(place.map(BranchPlace::new))
     }
 
-    fn blocked(&self, alloc: Global, state: &State<K>) -> Result<Vec<Standing>, AllocError> {
+    fn blocked(&self, alloc: Global, state: &State<'p, K>) -> Result<Vec<Standing>, AllocError> {
         if state.goes_on {
             return Ok(Vec::new(alloc));
         }

@@ -21,113 +21,139 @@ use crate::runs::state_of;
 use crate::scheme::Scheme;
 use crate::state::{State, hash_of, hint_of};
 use crate::step_place::{StepPlace, copied_place};
-use search_memory::Memory;
+use search_memory::{Interner, Memory};
 use std::alloc::{AllocError, Global};
 use std::marker::PhantomData;
 use step_labels::Label;
 use ttcn_config::{
-    ConfigBytes, OwnBytes, Packed, queues_with_message, queues_without_first, unpack,
+    ConfigBytes, InternedConfig, OwnBytes, Packed, queues_with_message, queues_without_first,
 };
 use ttcn_step::Machine;
 use value_types::Slot;
 
 /// The state to which a label leads.
-pub(crate) fn next_state<K: Scheme>(
+pub(crate) fn next_state<'p, K: Scheme>(
     alloc: Global,
     machine: &Machine<'_>,
-    packed: &Packed,
+    interner: &'p Interner,
+    packed: &InternedConfig<'_>,
     label: &Label,
-) -> Result<State<K>, AllocError>
+) -> Result<State<'p, K>, AllocError>
     requires is { machine.now ≡ K.machine }
     requires fits { FitsState K.machine packed.now }
     ensures { IfOk result (λ state. state ≡ (canonical_graph K.machine.test).after (said K.machine packed.now) label.now) }
 {
-    let config = unpack(alloc, packed)?;
+    let config = packed.config(alloc)?;
     match machine.next(alloc, &config, label) {
-        Ok(after) => state_of(alloc, machine, after),
+        Ok(after) => state_of(alloc, machine, interner, after),
         Err(_) => Err(AllocError),
     }
 }
 
-/// The bytes where a component alone changed.
-fn changed_alone(
+/// The configuration where a component alone changed.
+fn changed_alone<'p>(
     alloc: Global,
+    interner: &'p Interner,
+    packed: &InternedConfig<'p>,
     parts: &ConfigBytes<'_>,
     at: usize,
     own: &OwnBytes,
     removed: Option<Slot>,
-) -> Result<Packed, AllocError>
-    requires { (going : Going) × (component : Component) × IsCut going parts.now × (slice_get going.components at ≡ Some component) }
-    ensures { (going : Going) (component : Component) → IsCut going parts.now → slice_get going.components at ≡ Some component
+) -> Result<InternedConfig<'p>, AllocError>
+    requires { (going : Going) × (component : Component) × IsCut going parts.now × (slice_get going.components at ≡ Some component) × (packed.now ≡ config.Going going) }
+    ensures { (going : Going) (component : Component) → IsCut going parts.now → slice_get going.components at ≡ Some component → packed.now ≡ config.Going going
         → IfOk result (λ packed. packed ≡ config.Going (changed_going going at own.now.0 own.now.1 at (without_front removed component.queues))) }
 {
     let queues = parts.components[at].queues;
     match removed {
-        None => parts.pack_changed(alloc, at, own.as_bytes(), at, queues),
+        None => packed.changed(alloc, interner, parts, at, own.as_bytes(), at, queues),
         Some(port) => {
             let queues = queues_without_first(alloc, queues, port)?;
-            parts.pack_changed(alloc, at, own.as_bytes(), at, queues.as_slice())
+            packed.changed(
+                alloc,
+                interner,
+                parts,
+                at,
+                own.as_bytes(),
+                at,
+                queues.as_slice(),
+            )
         }
     }
 }
 
-/// The bytes where a component changed and sent a message. Where no component is at its place, nobody gets it.
-fn changed_by_sending(
+/// The configuration where a component changed and sent a message. Where no component is at its place, nobody gets it.
+fn changed_by_sending<'p>(
     alloc: Global,
+    interner: &'p Interner,
+    packed: &InternedConfig<'p>,
     parts: &ConfigBytes<'_>,
     at: usize,
     own: &OwnBytes,
     sending: &Sending,
-) -> Result<Packed, AllocError>
-    requires { (going : Going) × (component : Component) × IsCut going parts.now × (slice_get going.components at ≡ Some component) }
-    ensures { (going : Going) (component : Component) → IsCut going parts.now → slice_get going.components at ≡ Some component
+) -> Result<InternedConfig<'p>, AllocError>
+    requires { (going : Going) × (component : Component) × IsCut going parts.now × (slice_get going.components at ≡ Some component) × (packed.now ≡ config.Going going) }
+    ensures { (going : Going) (component : Component) → IsCut going parts.now → slice_get going.components at ≡ Some component → packed.now ≡ config.Going going
         → IfOk result (λ packed. packed ≡ config.Going (sent_going going at own.now sending.now)) }
 {
     if sending.to >= parts.components.len() {
         let queues = parts.components[at].queues;
-        return parts.pack_changed(alloc, at, own.as_bytes(), at, queues);
+        return packed.changed(alloc, interner, parts, at, own.as_bytes(), at, queues);
     }
     let waiting = parts.components[sending.to].queues;
     let queues = queues_with_message(alloc, waiting, sending.port, &sending.message)?;
-    parts.pack_changed(alloc, at, own.as_bytes(), sending.to, queues.as_slice())
+    let queues = queues.as_slice();
+    packed.changed(
+        alloc,
+        interner,
+        parts,
+        at,
+        own.as_bytes(),
+        sending.to,
+        queues,
+    )
 }
 
-/// The bytes where a component ended: it, and what all components see, are those of another configuration.
-fn changed_by_ending(
+/// The configuration where a component ended: it, and what all components see, are those of another one.
+fn changed_by_ending<'p>(
     alloc: Global,
+    interner: &'p Interner,
+    packed: &InternedConfig<'p>,
     parts: &ConfigBytes<'_>,
     at: usize,
     behind: &Packed,
-) -> Result<Packed, AllocError>
-    requires { (going : Going) × (other : Going) × IsCut going parts.now × (behind.now ≡ config.Going other) × AreJoined going at other }
-    ensures { (going other : Going) → IsCut going parts.now → behind.now ≡ config.Going other → AreJoined going at other → IfOk result (λ packed. packed ≡ config.Going (joined_going going at other)) }
+) -> Result<InternedConfig<'p>, AllocError>
+    requires { (going : Going) × (other : Going) × IsCut going parts.now × (behind.now ≡ config.Going other) × AreJoined going at other × (packed.now ≡ config.Going going) }
+    ensures { (going other : Going) → IsCut going parts.now → behind.now ≡ config.Going other → AreJoined going at other → packed.now ≡ config.Going going
+        → IfOk result (λ packed. packed ≡ config.Going (joined_going going at other)) }
 {
     match behind.parts(alloc)? {
-        Some(others) => parts.pack_joined(alloc, at, &others),
+        Some(others) => packed.joined_with(alloc, interner, parts, at, &others),
         None => unreachable!(),
     }
 }
 
 /// A configuration whose successors are made from what is remembered.
 #[derive(Drop)]
-pub(crate) struct Recall<'m, 't, 'k, 'p, 'b, K: Scheme> {
+pub(crate) struct Recall<'m, 't, 'k, 'b, 'p, K: Scheme> {
     pub(crate) alloc: Global,
     pub(crate) machine: &'m Machine<'t>,
-    pub(crate) packed: &'k Packed,
-    pub(crate) parts: &'p ConfigBytes<'b>,
+    pub(crate) interner: &'p Interner,
+    pub(crate) packed: &'k InternedConfig<'p>,
+    pub(crate) parts: &'k ConfigBytes<'b>,
     /// How many components have enabled labels. Where several have, some are left whatever one does.
     pub(crate) active: usize,
     pub(crate) of: PhantomData<K>,
 }
 
-impl<K: Scheme> Recall<'_, '_, '_, '_, '_, K> {
+impl<'p, K: Scheme> Recall<'_, '_, '_, '_, 'p, K> {
     /// The state to which a step leads that changes the component at a place alone.
     fn state_alone(
         &self,
         at: usize,
         own: &OwnBytes,
         removed: Option<Slot>,
-    ) -> Result<State<K>, AllocError>
+    ) -> Result<State<'p, K>, AllocError>
         requires is { self.now.machine.now ≡ K.machine }
         requires can { CanRecall K.machine self.now.packed.now self.now.parts.now self.now.active }
         requires here { (going : Going) → self.now.packed.now ≡ config.Going going → (component : Component) × (slice_get going.components at ≡ Some component) }
@@ -136,7 +162,15 @@ impl<K: Scheme> Recall<'_, '_, '_, '_, '_, K> {
             → IfOk result (λ state. state ≡ led_to K.machine going at component (effect.Alone own.now removed)) }
     {
         self.machine.lists_and_names_differ();
-        let packed = changed_alone(self.alloc, self.parts, at, own, removed)?;
+        let packed = changed_alone(
+            self.alloc,
+            self.interner,
+            self.packed,
+            self.parts,
+            at,
+            own,
+            removed,
+        )?;
         Ok(State {
             hash: hash_of(&packed),
             packed,
@@ -152,7 +186,7 @@ impl<K: Scheme> Recall<'_, '_, '_, '_, '_, K> {
         at: usize,
         own: &OwnBytes,
         sending: &Sending,
-    ) -> Result<State<K>, AllocError>
+    ) -> Result<State<'p, K>, AllocError>
         requires is { self.now.machine.now ≡ K.machine }
         requires can { CanRecall K.machine self.now.packed.now self.now.parts.now self.now.active }
         requires here { (going : Going) → self.now.packed.now ≡ config.Going going → (component : Component) × (slice_get going.components at ≡ Some component) }
@@ -161,7 +195,15 @@ impl<K: Scheme> Recall<'_, '_, '_, '_, '_, K> {
             → IfOk result (λ state. state ≡ led_to K.machine going at component (effect.Sends own.now sending.now)) }
     {
         self.machine.lists_and_names_differ();
-        let packed = changed_by_sending(self.alloc, self.parts, at, own, sending)?;
+        let packed = changed_by_sending(
+            self.alloc,
+            self.interner,
+            self.packed,
+            self.parts,
+            at,
+            own,
+            sending,
+        )?;
         Ok(State {
             hash: hash_of(&packed),
             packed,
@@ -172,7 +214,7 @@ impl<K: Scheme> Recall<'_, '_, '_, '_, '_, K> {
     }
 
     /// The state to which a step leads that ends the component at a place.
-    fn state_ended(&self, at: usize, behind: &Packed) -> Result<State<K>, AllocError>
+    fn state_ended(&self, at: usize, behind: &Packed) -> Result<State<'p, K>, AllocError>
         requires is { self.now.machine.now ≡ K.machine }
         requires can { CanRecall K.machine self.now.packed.now self.now.parts.now self.now.active }
         requires within { (going : Going) → self.now.packed.now ≡ config.Going going → IsEffectWithin K.machine going at (effect.Ends behind.now) }
@@ -180,7 +222,14 @@ impl<K: Scheme> Recall<'_, '_, '_, '_, '_, K> {
             → IfOk result (λ state. state ≡ led_to K.machine going at component (effect.Ends behind.now)) }
     {
         self.machine.lists_and_names_differ();
-        let packed = changed_by_ending(self.alloc, self.parts, at, behind)?;
+        let packed = changed_by_ending(
+            self.alloc,
+            self.interner,
+            self.packed,
+            self.parts,
+            at,
+            behind,
+        )?;
         Ok(State {
             hash: hash_of(&packed),
             packed,
@@ -191,7 +240,11 @@ impl<K: Scheme> Recall<'_, '_, '_, '_, '_, K> {
     }
 
     /// The state to which a step of the component at a place leads.
-    pub(crate) fn state_behind(&self, at: usize, effect: &Effect) -> Result<State<K>, AllocError>
+    pub(crate) fn state_behind(
+        &self,
+        at: usize,
+        effect: &Effect,
+    ) -> Result<State<'p, K>, AllocError>
         requires is { self.now.machine.now ≡ K.machine }
         requires can { CanRecall K.machine self.now.packed.now self.now.parts.now self.now.active }
         requires here { (going : Going) → self.now.packed.now ≡ config.Going going → (component : Component) × (slice_get going.components at ≡ Some component) }
@@ -203,7 +256,13 @@ impl<K: Scheme> Recall<'_, '_, '_, '_, '_, K> {
             Effect::Alone(own, removed) => self.state_alone(at, own, *removed),
             Effect::Sends(own, sending) => self.state_sending(at, own, sending),
             Effect::Ends(behind) => self.state_ended(at, behind),
-            Effect::Other(label) => next_state(self.alloc, self.machine, self.packed, label),
+            Effect::Other(label) => next_state(
+                self.alloc,
+                self.machine,
+                self.interner,
+                self.packed,
+                label,
+            ),
         }
     }
 }
@@ -283,7 +342,7 @@ fn places_of<K: Scheme>(
 pub(crate) fn recalled_steps<K: Scheme>(
     alloc: Global,
     memory: &Memory<Remembered<K>>,
-    packed: &Packed,
+    packed: &InternedConfig<'_>,
 ) -> Result<Option<Vec<(Option<BranchPlace>, Option<StepPlace>)>>, AllocError>
     requires { FitsState K.machine packed.now }
     ensures { IfOk result (λ found. IfSome found (λ steps. steps.items ≡ map (branch_and_place_of K.machine packed.now) (labels K.machine.test (said K.machine packed.now)))) }
@@ -327,7 +386,7 @@ fn has_active<K: Scheme>(
 pub(crate) fn surely_goes_on<K: Scheme>(
     alloc: Global,
     memory: &Memory<Remembered<K>>,
-    packed: &Packed,
+    packed: &InternedConfig<'_>,
 ) -> Result<bool, AllocError>
     requires { FitsState K.machine packed.now }
     ensures { IfOk result (λ active. active ≡ true → ¬ (labels K.machine.test (said K.machine packed.now) ≡ [])) }

@@ -27,7 +27,9 @@ use search_memory::Memory;
 use std::alloc::{AllocError, Global};
 use std::marker::PhantomData;
 use step_labels::Label;
-use ttcn_config::{Component, Config, ConfigBytes, End, Message, MessageBytes, OwnBytes, Packed};
+use ttcn_config::{
+    Component, Config, ConfigBytes, End, InternedConfig, Message, MessageBytes, OwnBytes, Packed,
+};
 use ttcn_step::{Machine, Sent};
 use value_types::{Path, Slot, Value};
 
@@ -63,7 +65,11 @@ fn removed_at(
 }
 
 /// What the component at a place has of its own.
-fn own_at(alloc: Global, packed: &Packed, at: usize) -> Result<Option<OwnBytes>, AllocError>
+fn own_at(
+    alloc: Global,
+    packed: &InternedConfig<'_>,
+    at: usize,
+) -> Result<Option<OwnBytes>, AllocError>
     ensures { IfOk result (λ found. IfSome found (λ own. (going : Going) × (component : Component) × (packed.now ≡ form.Going going) × (slice_get going.components at ≡ Some component)
         × (own ≡ (component.verdict, component.own)))) }
 {
@@ -80,7 +86,7 @@ fn own_at(alloc: Global, packed: &Packed, at: usize) -> Result<Option<OwnBytes>,
 /// What the component at a place of a state has of its own.
 fn own_behind<K: Scheme>(
     alloc: Global,
-    state: &State<K>,
+    state: &State<'_, K>,
     at: usize,
 ) -> Result<Option<OwnBytes>, AllocError>
     ensures { IfOk result (λ found. IfSome found (λ own. (going : Going) × (component : Component) × (state.now ≡ said K.machine (form.Going going)) × (slice_get going.components at ≡ Some component)
@@ -190,12 +196,15 @@ fn ends_at(
 }
 
 /// The configuration of a state, where the test case goes on.
-fn going_behind<K: Scheme>(alloc: Global, state: &State<K>) -> Result<Option<Packed>, AllocError>
+fn going_behind<K: Scheme>(
+    alloc: Global,
+    state: &State<'_, K>,
+) -> Result<Option<Packed>, AllocError>
     ensures { IfOk result (λ found. IfSome found (λ packed. (going : Going) × (packed ≡ form.Going going) × (state.now ≡ said K.machine (form.Going going)) × IsGoingWithin (extent K.machine) going)) }
 {
     match state.packed.verdict() {
         Some(_) => Ok(None),
-        None => Ok(Some(state.packed.try_clone(alloc)?)),
+        None => Ok(Some(state.packed.to_packed(alloc)?)),
     }
 }
 
@@ -205,7 +214,7 @@ fn effect_of<K: Scheme>(
     machine: &Machine<'_>,
     config: &Config,
     at: usize,
-    step: &Step<State<K>>,
+    step: &Step<State<'_, K>>,
 ) -> Result<Effect, AllocError>
     requires is { machine.now ≡ K.machine }
     requires fits { Fits K.machine config.now }
@@ -238,7 +247,7 @@ fn outcome_of<K: Scheme>(
     machine: &Machine<'_>,
     config: &Config,
     at: usize,
-    step: &Step<State<K>>,
+    step: &Step<State<'_, K>>,
 ) -> Result<Outcome, AllocError>
     requires is { machine.now ≡ K.machine }
     requires fits { Fits K.machine config.now }
@@ -274,7 +283,7 @@ fn outcomes_at<K: Scheme>(
     config: &Config,
     at: usize,
     path: &Path,
-    steps: &[Step<State<K>>],
+    steps: &[Step<State<'_, K>>],
 ) -> Result<Vec<Outcome>, AllocError>
     requires is { machine.now ≡ K.machine }
     requires fits { Fits K.machine config.now }
@@ -300,7 +309,7 @@ fn remember_at<K: Scheme>(
     parts: &ConfigBytes<'_>,
     at: usize,
     path: &Path,
-    steps: &[Step<State<K>>],
+    steps: &[Step<State<'_, K>>],
 ) -> Result<(), AllocError>
     requires is { machine.now ≡ K.machine }
     requires fits { Fits K.machine config.now }
@@ -324,13 +333,13 @@ fn remember_at<K: Scheme>(
 
 /// Remembers the steps of all components of a configuration, where there are several: one alone is hardly ever met again as
 /// it is.
-pub(crate) fn remember<K: Scheme>(
+pub(crate) fn remember<'p, K: Scheme>(
     alloc: Global,
     machine: &Machine<'_>,
     memory: &Memory<Remembered<K>>,
-    packed: &Packed,
+    packed: &InternedConfig<'p>,
     config: &Config,
-    steps: &[Step<State<K>>],
+    steps: &[Step<State<'p, K>>],
 ) -> Result<(), AllocError>
     requires is { machine.now ≡ K.machine }
     requires fits { FitsState K.machine config.now }

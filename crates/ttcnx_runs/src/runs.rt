@@ -13,12 +13,12 @@ ghost use Rattle.ttcn_step.specs.Machines.{Fits, legend, said};
 use crate::remembered::Remembered;
 use crate::scheme::Scheme;
 use crate::state::{State, hash_of};
-use search_memory::Memory;
+use search_memory::{Interner, Memory};
 use std::alloc::{AllocError, Global};
 use std::marker::PhantomData;
 use step_labels::Label;
 use summary::System;
-use ttcn_config::{Config, canon_owned, pack, unpack};
+use ttcn_config::{Config, InternedConfig, canon_owned};
 use ttcn_step::{Machine, Successor};
 use ttcn_syntax::Verdict;
 
@@ -30,19 +30,26 @@ const PLACES: usize = 65_536;
 
 /// The runs of the test case of a machine, which `K` names.
 #[derive(Drop)]
-pub struct Runs<'t, 'a, K: Scheme> {
+pub struct Runs<'t, 'a, 'p, K: Scheme> {
     pub(crate) machine: &'a Machine<'t>,
+    /// Keeps the bytes of which configurations consist.
+    pub(crate) interner: &'p Interner,
     /// What components do, by what they see.
     pub(crate) memory: Memory<Remembered<K>>,
     ghost is: { machine.now ≡ K.machine },
 }
 
-impl<'t, 'a, K: Scheme> Runs<'t, 'a, K> {
-    pub fn new(alloc: Global, machine: &'a Machine<'t>) -> Runs<'t, 'a, K>
+impl<'t, 'a, 'p, K: Scheme> Runs<'t, 'a, 'p, K> {
+    pub fn new(
+        alloc: Global,
+        machine: &'a Machine<'t>,
+        interner: &'p Interner,
+    ) -> Runs<'t, 'a, 'p, K>
         requires { machine.now ≡ K.machine }
     {
         Runs {
             machine,
+            interner,
             memory: Memory::new(alloc, TRIAL, PLACES),
         }
     }
@@ -62,11 +69,12 @@ pub fn mark_of(verdict: Verdict) -> u8
 }
 
 /// The state of the canonical form of a configuration.
-pub fn state_of<K: Scheme>(
+pub fn state_of<'p, K: Scheme>(
     alloc: Global,
     machine: &Machine<'_>,
+    interner: &'p Interner,
     config: Config,
-) -> Result<State<K>, AllocError>
+) -> Result<State<'p, K>, AllocError>
     requires is { machine.now ≡ K.machine }
     requires fits { Fits machine.now config }
     ensures { IfOk result (λ state. state ≡ live_part (config_by (legend K.machine) config)) }
@@ -74,7 +82,7 @@ pub fn state_of<K: Scheme>(
     machine.lists_and_names_differ();
     let goes_on = !machine.is_stuck(alloc, &config)?;
     let config = canon_owned(alloc, config)?;
-    let packed = pack(alloc, &config)?;
+    let packed = InternedConfig::new(alloc, interner, &config)?;
     Ok(State {
         hash: hash_of(&packed),
         packed,
@@ -85,25 +93,26 @@ pub fn state_of<K: Scheme>(
 }
 
 /// Enabled labels, each with the state to which it leads.
-fn pairs_of<K: Scheme>(
+fn pairs_of<'p, K: Scheme>(
     alloc: Global,
     machine: &Machine<'_>,
+    interner: &'p Interner,
     found: Vec<Successor>,
-) -> Result<Vec<(Label, State<K>)>, AllocError>
+) -> Result<Vec<(Label, State<'p, K>)>, AllocError>
     requires is { machine.now ≡ K.machine }
     requires fits { All (λ s. Fits machine.now s.config) found.items }
     ensures { IfOk result (λ pairs. pairs.items ≡ map (λ s. (s.label, live_part (said K.machine s.config))) found.items) }
 {
     let mut pairs = Vec::with_capacity(alloc, found.len())?;
     for Successor { label, config } in found {
-        let after = state_of(alloc, machine, config)?;
+        let after = state_of(alloc, machine, interner, config)?;
         pairs.push((label, after))?;
     }
     Ok(pairs)
 }
 
-impl<'t, 'a, K: Scheme + Send + Sync> System for Runs<'t, 'a, K> {
-    type State = State<K>;
+impl<'t, 'a, 'p, K: Scheme + Send + Sync> System for Runs<'t, 'a, 'p, K> {
+    type State = State<'p, K>;
 
     type Label = Label;
 
@@ -111,20 +120,25 @@ impl<'t, 'a, K: Scheme + Send + Sync> System for Runs<'t, 'a, K> {
 
     ghost fits = { λ _ state. FitsRuns state };
 
-    fn start(&self, alloc: Global) -> Result<State<K>, AllocError> {
+    fn start(&self, alloc: Global) -> Result<State<'p, K>, AllocError> {
         let config = self.machine.start(alloc)?;
-        state_of(alloc, self.machine, config)
+        state_of(alloc, self.machine, self.interner, config)
     }
 
-    fn labels(&self, alloc: Global, state: &State<K>) -> Result<Vec<Label>, AllocError> {
-        let config = unpack(alloc, &state.packed)?;
+    fn labels(&self, alloc: Global, state: &State<'p, K>) -> Result<Vec<Label>, AllocError> {
+        let config = state.packed.config(alloc)?;
         self.machine.labels(alloc, &config)
     }
 
-    fn next(&self, alloc: Global, state: &State<K>, label: &Label) -> Result<State<K>, AllocError> {
-        let config = unpack(alloc, &state.packed)?;
+    fn next(
+        &self,
+        alloc: Global,
+        state: &State<'p, K>,
+        label: &Label,
+    ) -> Result<State<'p, K>, AllocError> {
+        let config = state.packed.config(alloc)?;
         match self.machine.next(alloc, &config, label) {
-            Ok(after) => state_of(alloc, self.machine, after),
+            Ok(after) => state_of(alloc, self.machine, self.interner, after),
             Err(_) => Err(AllocError),
         }
     }
@@ -132,18 +146,18 @@ impl<'t, 'a, K: Scheme + Send + Sync> System for Runs<'t, 'a, K> {
     fn successors(
         &self,
         alloc: Global,
-        state: &State<K>,
-    ) -> Result<Vec<(Label, State<K>)>, AllocError> {
-        let config = unpack(alloc, &state.packed)?;
+        state: &State<'p, K>,
+    ) -> Result<Vec<(Label, State<'p, K>)>, AllocError> {
+        let config = state.packed.config(alloc)?;
         let found = self.machine.successors(alloc, &config)?;
-        pairs_of(alloc, self.machine, found)
+        pairs_of(alloc, self.machine, self.interner, found)
     }
 
     fn copy(&self, alloc: Global, label: &Label) -> Result<Label, AllocError> {
         label.try_clone(alloc)
     }
 
-    fn mark(&self, state: &State<K>) -> Option<u8> {
+    fn mark(&self, state: &State<'p, K>) -> Option<u8> {
         state.packed.verdict().map(mark_of)
     }
 

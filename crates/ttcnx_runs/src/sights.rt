@@ -23,13 +23,14 @@ use crate::search::search_watched;
 use crate::state::State;
 use crate::step_place::{StepPlace, step_shown};
 use explore::{ExploreError, Gate, Plan, Sighted, Sighting, Stops, Watched};
+use search_memory::Interner;
 use search_ordinals::BranchedWatched;
 use std::alloc::{AllocError, Global};
 use std::marker::Brand;
 use std::thread::Threads;
 use step_labels::{Label, Standing};
 use summary::Located;
-use ttcn_config::{Config, unpack};
+use ttcn_config::Config;
 use ttcn_step::Machine;
 use ttcn_syntax::{Seq, Span};
 
@@ -69,10 +70,10 @@ fn branched_steps(
 }
 
 /// The same of a state, from what is remembered, else worked out.
-fn steps_from<K: Scheme>(
-    runs: &Runs<'_, '_, K>,
+fn steps_from<'p, K: Scheme>(
+    runs: &Runs<'_, '_, 'p, K>,
     alloc: Global,
-    state: &State<K>,
+    state: &State<'p, K>,
 ) -> Result<Vec<(Option<BranchPlace>, Option<StepPlace>)>, AllocError>
     requires { FitsRuns state.now }
     ensures { IfOk result (λ found. found.items ≡ map (λ label. (rules.branch_of K.machine.test state.now label, step_place K.machine.test state.now label)) (labels K.machine.test state.now)) }
@@ -80,7 +81,7 @@ fn steps_from<K: Scheme>(
     if let Some(found) = recalled_steps(alloc, &runs.memory, &state.packed)? {
         return Ok(found);
     }
-    let config = unpack(alloc, &state.packed)?;
+    let config = state.packed.config(alloc)?;
     branched_steps(alloc, runs.machine, &config)
 }
 
@@ -95,7 +96,7 @@ fn if_some(standings: Vec<Standing>) -> Option<Seq<Standing>>
     }
 }
 
-impl<'t, 'a, K: Scheme + Send + Sync> Watched for Runs<'t, 'a, K> {
+impl<'t, 'a, 'p, K: Scheme + Send + Sync> Watched for Runs<'t, 'a, 'p, K> {
     type Event = StepPlace;
 
     type Stand = Seq<Standing>;
@@ -115,22 +116,26 @@ impl<'t, 'a, K: Scheme + Send + Sync> Watched for Runs<'t, 'a, K> {
     fn events(
         &self,
         alloc: Global,
-        state: &State<K>,
+        state: &State<'p, K>,
     ) -> Result<Vec<(Label, Option<StepPlace>)>, AllocError> {
-        let config = unpack(alloc, &state.packed)?;
+        let config = state.packed.config(alloc)?;
         shown_steps(alloc, self.machine, &config)
     }
 
-    fn stand(&self, alloc: Global, state: &State<K>) -> Result<Option<Seq<Standing>>, AllocError> {
+    fn stand(
+        &self,
+        alloc: Global,
+        state: &State<'p, K>,
+    ) -> Result<Option<Seq<Standing>>, AllocError> {
         Ok(if_some(self.blocked(alloc, state)?))
     }
 }
 
-impl<'t, 'a, K: Scheme + Send + Sync> BranchedWatched for Runs<'t, 'a, K> {
+impl<'t, 'a, 'p, K: Scheme + Send + Sync> BranchedWatched for Runs<'t, 'a, 'p, K> {
     fn branched_events(
         &self,
         alloc: Global,
-        state: &State<K>,
+        state: &State<'p, K>,
     ) -> Result<Vec<(Option<BranchPlace>, Option<StepPlace>)>, AllocError> {
         steps_from(self, alloc, state)
     }
@@ -181,8 +186,9 @@ fn sight_within<K: Scheme + Send + Sync, G: Gate, R: Threads + Sync>(
     requires { machine.now ≡ K.machine }
     ensures { IsExplored K.machine.test plan.now stops.now (AreSights K.machine.test plan.now stops.now) result }
 {
-    let runs = Runs::<K>::new(alloc, machine);
-    match search_watched::<Runs<'_, '_, K>, G, R>(rt, alloc, &runs, plan, stops, gate) {
+    let interner = Interner::new(alloc);
+    let runs = Runs::<K>::new(alloc, machine, &interner);
+    match search_watched::<Runs<'_, '_, '_, K>, G, R>(rt, alloc, &runs, plan, stops, gate) {
         Ok(sighted) => match sights_of(alloc, sighted) {
             Ok(sights) => Ok(sights),
             Err(AllocError) => Err(ExploreError::Memory),

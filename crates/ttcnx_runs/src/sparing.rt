@@ -25,10 +25,10 @@ use crate::recalling::{KEY_ROOM, Recall, active_among, recall_all, recall_at};
 use crate::remembered::Remembered;
 use crate::scheme::Scheme;
 use crate::state::State;
-use search_memory::Memory;
+use search_memory::{Interner, Memory};
 use std::alloc::{AllocError, Global};
 use std::marker::PhantomData;
-use ttcn_config::{ConfigBytes, Packed};
+use ttcn_config::{ConfigBytes, InternedConfig};
 use ttcn_step::Machine;
 
 // ---- steps that are apart
@@ -164,7 +164,7 @@ fn has_active_before<K: Scheme>(all: &[&Remembered<K>], place: u8) -> bool {
 fn step_before<'m, K: Scheme>(
     alloc: Global,
     memory: &'m Memory<Remembered<K>>,
-    before: &Packed,
+    before: &InternedConfig<'_>,
     nth: u32,
     parts: &ConfigBytes<'_>,
     all: &[&'m Remembered<K>],
@@ -204,12 +204,12 @@ fn is_early<K: Scheme>(
 // ---- successors
 
 /// The state to which a step of the component at a place leads, unless it is early.
-fn state_unless_early<K: Scheme>(
-    recall: &Recall<'_, '_, '_, '_, '_, K>,
+fn state_unless_early<'p, K: Scheme>(
+    recall: &Recall<'_, '_, '_, '_, 'p, K>,
     early: bool,
     at: usize,
     effect: &Effect,
-) -> Result<Option<State<K>>, AllocError>
+) -> Result<Option<State<'p, K>>, AllocError>
     requires is { recall.now.machine.now ≡ K.machine }
     requires can { CanRecall K.machine recall.now.packed.now recall.now.parts.now recall.now.active }
     requires here { (going : Going) → recall.now.packed.now ≡ config.Going going → (component : Component) × (slice_get going.components at ≡ Some component) }
@@ -224,12 +224,12 @@ fn state_unless_early<K: Scheme>(
 }
 
 /// Adds what is remembered of the steps of the component at a place, without states that are early.
-fn push_recalled<K: Scheme>(
-    recall: &Recall<'_, '_, '_, '_, '_, K>,
+fn push_recalled<'p, K: Scheme>(
+    recall: &Recall<'_, '_, '_, '_, 'p, K>,
     last: &Option<LastStep<'_, K>>,
     at: usize,
     one: &Remembered<K>,
-    pairs: &mut Vec<(Option<BranchPlace>, Option<State<K>>)>,
+    pairs: &mut Vec<(Option<BranchPlace>, Option<State<'p, K>>)>,
 ) -> Result<(), AllocError>
     requires is { recall.now.machine.now ≡ K.machine }
     requires can { CanRecall K.machine recall.now.packed.now recall.now.parts.now recall.now.active }
@@ -259,11 +259,11 @@ fn steps_among<K: Scheme>(all: &[&Remembered<K>]) -> usize {
 }
 
 /// What is remembered of the steps of all components, without states that are early.
-fn pairs_behind<K: Scheme>(
-    recall: &Recall<'_, '_, '_, '_, '_, K>,
+fn pairs_behind<'p, K: Scheme>(
+    recall: &Recall<'_, '_, '_, '_, 'p, K>,
     last: &Option<LastStep<'_, K>>,
     all: &[&Remembered<K>],
-) -> Result<Vec<(Option<BranchPlace>, Option<State<K>>)>, AllocError>
+) -> Result<Vec<(Option<BranchPlace>, Option<State<'p, K>>)>, AllocError>
     requires is { recall.now.machine.now ≡ K.machine }
     requires can { CanRecall K.machine recall.now.packed.now recall.now.parts.now recall.now.active }
     requires keys { (going : Going) → recall.now.packed.now ≡ config.Going going → AreKeys going (map (λ one. one.now.key.items) all.now) }
@@ -283,15 +283,16 @@ fn pairs_behind<K: Scheme>(
 /// enabled labels come before its own, those states are left out to which two steps lead from the configuration before, of
 /// which the first one comes before that step. The place of the component that made the step is a hint: where a component before
 /// it has no steps, no state is left out.
-pub(crate) fn recalled_pairs<K: Scheme>(
+pub(crate) fn recalled_pairs<'p, K: Scheme>(
     alloc: Global,
     machine: &Machine<'_>,
+    interner: &'p Interner,
     memory: &Memory<Remembered<K>>,
-    before: &Packed,
+    before: &InternedConfig<'p>,
     nth: u32,
-    packed: &Packed,
+    packed: &InternedConfig<'p>,
     by: u8,
-) -> Result<Option<Vec<(Option<BranchPlace>, Option<State<K>>)>>, AllocError>
+) -> Result<Option<Vec<(Option<BranchPlace>, Option<State<'p, K>>)>>, AllocError>
     requires is { machine.now ≡ K.machine }
     requires fits { FitsState K.machine packed.now }
     requires fits_before { FitsState K.machine before.now }
@@ -315,6 +316,7 @@ pub(crate) fn recalled_pairs<K: Scheme>(
     let recall = Recall {
         alloc,
         machine,
+        interner,
         packed,
         parts: &parts,
         active: active_among(&all),

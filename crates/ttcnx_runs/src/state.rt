@@ -4,14 +4,14 @@ ghost use Rattle.ttcnx_runs.specs.States.{fed, fed_alike, hash_code};
 ghost use Rattle.ttcnx_runs.specs.SameConfigurations.{same_configuration, same_configuration_equiv, same_configuration_laws};
 
 use crate::scheme::Scheme;
-use std::hash::{FoldHasher, Hash, Hasher};
+use std::hash::{Hash, Hasher};
 use std::marker::{Model, PhantomData};
-use ttcn_config::Packed;
+use ttcn_config::InternedConfig;
 
 /// A configuration of the machine that `K` names. Contracts see that of the rules for which it stands.
 #[derive(Drop)]
-pub struct State<K: Scheme> {
-    pub(crate) packed: Packed,
+pub struct State<'p, K: Scheme> {
+    pub(crate) packed: InternedConfig<'p>,
     /// What its bytes are hashed to, once.
     pub(crate) hash: u32,
     /// Where this is true, some label is enabled.
@@ -21,7 +21,7 @@ pub struct State<K: Scheme> {
     pub(crate) of: PhantomData<K>,
 }
 
-impl<K: Scheme> Model for State<K> {
+impl<'p, K: Scheme> Model for State<'p, K> {
     ghost use Rattle.std.specs.Coded.{codes};
     ghost use Rattle.ttcn_syntax.specs.contracts.tree.statement.Action as action;
     ghost use Rattle.ttcn_syntax.specs.contracts.tree.statement.Branch as branch;
@@ -47,12 +47,10 @@ impl<K: Scheme> Model for State<K> {
 }
 
 /// The upper half of what the bytes of a configuration are hashed to.
-pub(crate) fn hash_of(packed: &Packed) -> u32
+pub(crate) fn hash_of(packed: &InternedConfig<'_>) -> u32
     ensures { result ≡ hash_code packed.now }
 {
-    let mut hasher = FoldHasher::default();
-    packed.hash(&mut hasher);
-    (hasher.finish() >> 32) as u32
+    (packed.hash() >> 32) as u32
 }
 
 /// A place of a component in a byte, or else 255.
@@ -60,21 +58,21 @@ pub(crate) fn hint_of(place: usize) -> u8 {
     u8::try_from(place).unwrap_or(u8::MAX)
 }
 
-impl<K: Scheme> PartialEq for State<K> {
+impl<K: Scheme> PartialEq for State<'_, K> {
     ghost eq = { same_configuration };
 
     ghost laws = { same_configuration_laws };
 
-    fn eq(&self, other: &State<K>) -> bool {
+    fn eq(&self, other: &State<'_, K>) -> bool {
         self.packed == other.packed
     }
 }
 
-impl<K: Scheme> Eq for State<K> {
+impl<K: Scheme> Eq for State<'_, K> {
     ghost laws = { same_configuration_equiv };
 }
 
-impl<K: Scheme> Hash for State<K> {
+impl<K: Scheme> Hash for State<'_, K> {
     ghost hash_input = { fed K.machine };
 
     ghost respects_eq = { fed_alike K.machine };

@@ -57,9 +57,13 @@ abbrev pub changed_from : ℕ → List ℕ → ℕ → List ℕ → ℕ → List
 changed_from at own behind queues place [] = []
 changed_from at own behind queues place (parts ∷ others) = changed_at_place at own behind queues place parts ∷ changed_from at own behind queues (place + 1) others
 
--- the bytes of components from their parts, with the same changes
-abbrev pub changed_contents : ℕ → List ℕ → ℕ → List ℕ → List (List ℕ × List ℕ) → List ℕ
-changed_contents at own behind queues parts = flat_map joined (changed_from at own behind queues 0 parts)
+-- the bytes of components from a place on, from their parts, with the same changes
+abbrev pub changed_contents : ℕ → List ℕ → ℕ → List ℕ → ℕ → List (List ℕ × List ℕ) → List ℕ
+changed_contents at own behind queues place parts = flat_map joined (changed_from at own behind queues place parts)
+
+-- those from one place on, and before another one
+abbrev pub some_of : {A : Type 0} → ℕ → ℕ → List A → List A
+some_of from to xs = take (to - from) (drop from xs)
 
 -- ---- queues
 

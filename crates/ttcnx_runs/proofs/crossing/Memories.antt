@@ -4,6 +4,7 @@ use denote.Param.Send.{IsSync, recorded_sync, sendable, struct_sync, view_sync}
 use denote.Struct.Declared.{shape}
 use Rattle.once_cell.proofs.race.once_box.OnceBox.TheSendSync as cells
 use Rattle.std.proofs.Crossing.{crosses}
+use Rattle.search_memory.specs.contracts.interner.Interner as interner
 use Rattle.search_memory.specs.contracts.memory.Memory as memory
 use Rattle.search_memory.specs.contracts.memory.Memory.TheInside as inside
 use Rattle.ttcnx_runs.proofs.remembered.Remembered.TheSendSync as remembering
@@ -29,3 +30,6 @@ module _ (K : RattleType) (g : Ghosts K.Denot) where
           ),
         ),
       )))
+
+pub interner-sync : IsSync interner.the_row
+interner-sync = search (cells.the_send, cells.the_sync, crosses, sendable) depth 60 fits 20000

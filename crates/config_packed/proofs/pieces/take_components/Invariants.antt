@@ -7,4 +7,6 @@ use Rattle.config_packed.proofs.pieces.take_components.Given as goal
 
 -- the parts of all components are those so far, and then those that are left
 abbrev pub invariant-loop-turn : goal.invariant-loop-turn
-invariant-loop-turn l = read_items cut_content l.count l.initial.reader ≡ ahead (map bytes_of l.components.items) (read_items cut_content (l.count - l._turn) l.reader)
+invariant-loop-turn l =
+    ahead (map bytes_of l.initial.components.items) (read_items cut_content l.count l.initial.reader)
+    ≡ ahead (map bytes_of l.components.items) (read_items cut_content (l.count - l._turn) l.reader)

@@ -2,22 +2,21 @@ use Rattle.std.proofs.Common.{ap, subst, sym}
 use Rattle.std.specs.Prelude.{Err}
 use Rattle.ttcnx_runs.specs.Extents.{IsExtent}
 use Rattle.ttcnx_runs.specs.declared.exploration.Extent.{Extent}
-use denote.Exit
-use denote.Param.{param}
-use denote.Param.Send.{arg_send, arg_sync, param_send, param_sync}
+use denote.Param.Send.{sendable}
+use Rattle.std.proofs.Crossing.{crosses}
 use Rattle.ttcnx_runs.proofs.Assembly.{answer-explored, extent-found, refused-explored}
 use Rattle.ttcnx_runs.proofs.crossing.States.{state-send, state-sync}
 use Rattle.ttcnx_runs.proofs.crossing.Systems.{runs-row-sync}
 use Rattle.ttcnx_runs.proofs.exploration.explore_within.Goals as goal
 
 pub search-requires-send-Y-State : goal.search-requires-send-Y-State
-search-requires-send-Y-State g c κs within = param_send _ _ (arg_send _ Exit.no _ (state-send (param 0 g.row.K) g.K.Scheme))
+search-requires-send-Y-State g c κs within = search (state-send, crosses, sendable) depth 60 fits 20000
 
 pub search-requires-sync-Y-State : goal.search-requires-sync-Y-State
-search-requires-sync-Y-State g c κs within = param_sync _ _ (arg_sync _ Exit.no _ (state-sync (param 0 g.row.K) g.K.Scheme))
+search-requires-sync-Y-State g c κs within = search (state-sync, crosses, sendable) depth 60 fits 20000
 
 pub search-requires-sync-Y : goal.search-requires-sync-Y
-search-requires-sync-Y g c κs within = param_sync _ _ (arg_sync _ Exit.no _ (runs-row-sync _ _ (param 0 g.row.K) g.K.Scheme))
+search-requires-sync-Y g c κs within = search (runs-row-sync, crosses, sendable) depth 60 fits 20000
 
 pub returns-in-Ok-extent_of : goal.returns-in-Ok-extent_of
 returns-in-Ok-extent_of g c =

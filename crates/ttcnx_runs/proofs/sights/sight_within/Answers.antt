@@ -1,7 +1,7 @@
 use Rattle.std.proofs.Common.{ℕ, List, ap, subst, sym}
 use Rattle.std.specs.Prelude.{Err}
-use denote.Param.{param}
-use mir.Syntax.{named}
+use denote.Param.Send.{sendable}
+use Rattle.std.proofs.Crossing.{crosses}
 use Rattle.explore.specs.Sightings.{shown_at_end, shown_by_step}
 use Rattle.explore.specs.declared.sightings.Sighting.{Sighting}
 use Rattle.semantics.specs.Canonical.{canonical_graph}
@@ -20,9 +20,7 @@ use Rattle.ttcnx_runs.specs.declared.step_place.StepPlace.{StepPlace}
 use Rattle.ttcnx_runs.specs.internal.Explored.{AreSights}
 
 pub search_watched-requires-sync-Y : goal.search_watched-requires-sync-Y
-search_watched-requires-sync-Y g c κs within = record {
-  shared = (runs-row-sync (record { mir = named 14; lft = κs.1.1.1.1.1.1.1.1.1.1.1.1.1.1.0 }) (record { mir = named 15; lft = κs.1.1.1.1.1.1.1.1.1.1.1.1.1.1.1.0 }) (param 0 g.row.K) g.K.Scheme).shared;
-}
+search_watched-requires-sync-Y g c κs within = search (runs-row-sync, crosses, sendable) depth 60 fits 20000
 
 pub returns-in-Ok-sights_of : goal.returns-in-Ok-sights_of
 returns-in-Ok-sights_of g c =

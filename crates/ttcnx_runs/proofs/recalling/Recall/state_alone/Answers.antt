@@ -23,7 +23,7 @@ invariant_of-result g c =
     let own = c.args.own.now in
     let removed = c.args.removed in
     let behind : Config = config.Going (changed_going going at own.0 own.1 at (without_front removed here.0.queues)) in
-    let packed : c.in_ok-packed.packed ≡ behind = c.in_ok-packed.ensures going here.0 can.cut here.1 in (
+    let packed : c.in_ok-packed.packed ≡ behind = c.in_ok-packed.ensures going here.0 can.cut here.1 can.is in (
       is,
       subst (IsConfigWithin (extent machine)) (sym packed)
           (within-changed (extent machine) going at own.0 own.1 at (without_front removed here.0.queues) (subst (IsConfigWithin (extent machine)) can.is can.state.within) (c.requires.within going can.is)),

@@ -17,7 +17,7 @@ invariant_of-result g c =
     let at = c.args.at in
     let joins = can-join machine going at c.args.behind.now (c.requires.within going can.is) in
     let other : Going = joins.0 in
-    let packed : c.in_ok-packed.packed ≡ config.Going (joined_going going at other) = c.in_ok-packed.ensures going other can.cut joins.1 joins.2 in (
+    let packed : c.in_ok-packed.packed ≡ config.Going (joined_going going at other) = c.in_ok-packed.ensures going other can.cut joins.1 joins.2 can.is in (
       is,
       subst (IsConfigWithin (extent machine)) (sym packed) (within-joined (extent machine) going at other (subst (IsConfigWithin (extent machine)) can.is can.state.within) joins.3),
       not-known machine.test (said machine c.in_ok-packed.packed),

@@ -22,7 +22,7 @@ invariant_of-result g c =
     let own = c.args.own.now in
     let sending = c.args.sending.now in
     let behind : Config = config.Going (sent_going going at own sending) in
-    let packed : c.in_ok-packed.packed ≡ behind = c.in_ok-packed.ensures going here.0 can.cut here.1 in (
+    let packed : c.in_ok-packed.packed ≡ behind = c.in_ok-packed.ensures going here.0 can.cut here.1 can.is in (
       is,
       subst (IsConfigWithin (extent machine)) (sym packed)
           (within-sent (extent machine) going at own sending (subst (IsConfigWithin (extent machine)) can.is can.state.within) (c.requires.within going can.is)),
