@@ -42,11 +42,12 @@ module _ {C L : Type 0} (g : Graph C L) (cmp : L → L → Ordering) (states : L
     standing = get_or_from_slice_get states at here g.first is
 
     -- what is given where there is no last step
-    pub no-step : (pairs : List (L × Option C)) (made : List (L × C)) → pairs ≡ all_given made → made ≡ with_after g here (g.enabled here) → IsExpanded g states steps cmp at at pairs
-    no-step pairs made given are =
+    pub no-step : (number : ℕ) (pairs : List (L × Option C)) (made : List (L × C)) → number ≡ at → pairs ≡ all_given made → made ≡ with_after g here (g.enabled here)
+        → IsExpanded g states steps cmp at number pairs
+    no-step number pairs made same given are =
         let whole : pairs ≡ all_given (with_after g here (g.enabled here)) = given ∙ ap all_given are in
         record {
-          is_place = refl;
+          is_place = same;
           labels = ap (λ (ps : List (L × Option C)). map (λ p. p.0) ps) whole ∙ labels (g.enabled here) ∙ ap g.enabled (sym standing);
           given = subst (All (Given at)) (sym whole) (each-all (Given at) (all_given (with_after g here (g.enabled here))) (each (g.enabled here)));
         }
@@ -70,9 +71,10 @@ module _ {C L : Type 0} (g : Graph C L) (cmp : L → L → Ordering) (states : L
           (subst (λ s. Contains (g.enabled s) step.label) standing-before behind.enabled, sym standing ∙ behind.leads ∙ ap (λ s. g.after s step.label) standing-before)
 
       -- what is given behind it
-      pub behind-step : (pairs : List (L × Option C)) → map (λ p. p.0) pairs ≡ g.enabled here → All (IsSpared g cmp there step.label here) pairs → IsExpanded g states steps cmp at at pairs
-      behind-step pairs labels spared = record {
-        is_place = refl;
+      pub behind-step : (number : ℕ) (pairs : List (L × Option C)) → number ≡ at → map (λ p. p.0) pairs ≡ g.enabled here → All (IsSpared g cmp there step.label here) pairs
+          → IsExpanded g states steps cmp at number pairs
+      behind-step number pairs same labels spared = record {
+        is_place = same;
         labels = labels ∙ ap g.enabled (sym standing);
         given = each-all (Given at) pairs (each pairs (all-each (IsSpared g cmp there step.label here) pairs spared));
       }

@@ -5,7 +5,7 @@ ghost use Rattle.explore.specs.internal.Expansion.{all_given, candidates_with, c
 
 use rayon::prelude::*;
 use search_layer::{Candidate, Leftovers, Sparing, Step};
-use search_shards::ShardedSet;
+use search_shards::{ShardedSet, number_of};
 use std::alloc::{AllocError, Global};
 use std::thread;
 use std::thread::Threads;
@@ -16,7 +16,7 @@ const FEWEST: usize = 32;
 /// The state at a place, by the labels that lead on from it and what is given of the states that they lead to.
 #[derive(Drop)]
 pub struct Expanded<S, L> {
-    pub place: usize,
+    pub place: u32,
     pub successors: Vec<(L, S)>,
 }
 
@@ -51,7 +51,7 @@ impl<S: Send + Drop, L: Send + Drop> FromParallelIterator<Expanded<S, L>> for Ca
 /// Adds a candidate for each successor of the state at a place.
 fn add_candidates<S: Drop, L: Drop>(
     candidates: &mut Vec<Candidate<S, L>>,
-    place: usize,
+    place: u32,
     successors: Vec<(L, S)>,
 ) -> Result<(), AllocError>
     ensures { OnOk result (candidates.new.items ≡ candidates.old.items ++ candidates_with place successors.items) }
@@ -103,15 +103,19 @@ pub fn expand_layer<Y: Sparing, R: Threads + Sync>(
                 requires { (place < length states.now.keys) × All (Y.fits system.now) states.now.keys × AreKept (Y.graph system.now) states.now.keys steps.now }
                 ensures { IfOk result (λ e. IsExpanded (Y.graph system.entry.now) states.entry.now.keys steps.entry.now Y.Label.cmp place e.place e.successors.items) }
             {
+                let number = number_of(place)?;
                 let state = &states[place];
                 let successors = match &steps[place] {
                     Some(step) => {
-                        let before = &states[step.before];
+                        let before = &states[step.before as usize];
                         system.sparing_successors(alloc, state, before, &step.label)?
                     }
                     None => all_given(alloc, system.successors(alloc, state)?)?,
                 };
-                Ok(Expanded { place, successors })
+                Ok(Expanded {
+                    place: number,
+                    successors,
+                })
             },
         )
         .collect::<Result<Candidates<Option<Y::State>, Y::Label>, AllocError>>(rt, alloc)??;

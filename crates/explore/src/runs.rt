@@ -75,7 +75,7 @@ pub fn run_to<Y: System>(
     let mut at = place;
     while let Some(step) = &steps[at] {
         labels.push(system.copy(alloc, &step.label)?)?;
-        at = step.before;
+        at = step.before as usize;
     }
     labels.reverse();
     Ok(labels)

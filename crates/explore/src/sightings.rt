@@ -8,7 +8,7 @@ ghost use Rattle.summary.specs.Run.{Run};
 use crate::runs::run_to;
 use crate::watched::Watched;
 use search_layer::Step;
-use search_shards::ShardedSet;
+use search_shards::{ShardedSet, number_of};
 use std::alloc::{AllocError, Global};
 
 /// What runs show, with the labels of the least run that shows it.
@@ -51,7 +51,7 @@ fn note<E: PartialEq + Drop, X: Drop>(
 /// Notes what the steps from the state at a place show, each given by its label and what it shows.
 fn note_shown<E: PartialEq + Drop, L: Drop>(
     noted: &mut Vec<Noted<E, Step<L>>>,
-    place: usize,
+    place: u32,
     shown: Vec<(L, Option<E>)>,
 ) -> Result<(), AllocError>
     ensures { OnOk result (noted.new.items ≡ note_shown E.eq place shown.items noted.old.items) }
@@ -76,8 +76,9 @@ pub(crate) fn noted_steps<Y: Watched>(
 {
     let mut noted = Vec::new(alloc);
     for place in 0..to {
+        let number = number_of(place)?;
         let shown = system.events(alloc, &states[place])?;
-        note_shown(&mut noted, place, shown)?;
+        note_shown(&mut noted, number, shown)?;
     }
     Ok(noted)
 }
@@ -114,7 +115,7 @@ pub(crate) fn runs_by<Y: Watched>(
     for one in noted {
         let Noted { event, at } = one;
         let Step { before, label } = at;
-        let mut run = run_to(alloc, system, steps, before)?;
+        let mut run = run_to(alloc, system, steps, before as usize)?;
         run.push(label)?;
         sightings.push(Sighting { event, run })?;
     }

@@ -10,7 +10,7 @@ use std::thread::Threads;
 /// The last step of a run: the place of the state before it, and its label.
 #[derive(Debug, Drop)]
 pub struct Step<L> {
-    pub before: usize,
+    pub before: u32,
     pub label: L,
 }
 
@@ -18,7 +18,7 @@ pub struct Step<L> {
 /// left out: it is found without this candidate.
 #[derive(Debug, Drop)]
 pub struct Candidate<S, L> {
-    pub before: usize,
+    pub before: u32,
     pub label: L,
     pub state: S,
 }

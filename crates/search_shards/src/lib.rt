@@ -5,4 +5,5 @@ mod place;
 mod set;
 mod shard;
 
+pub use place::number_of;
 pub use set::ShardedSet;

@@ -10,8 +10,8 @@ pub(crate) struct Place {
     pub(crate) index: u32,
 }
 
-/// A number of a place. More than 2^32 shards or values in one are want of memory.
-pub(crate) fn number_of(number: usize) -> Result<u32, AllocError>
+/// The number of a place in four bytes. More than 2^32 places are want of memory.
+pub fn number_of(number: usize) -> Result<u32, AllocError>
     ensures { IfOk result (λ n. n ≡ number) }
 {
     match u32::try_from(number) {

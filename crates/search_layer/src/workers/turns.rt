@@ -66,7 +66,7 @@ impl<'l, 's, Y: System, G: Gate> Work<'l, 's, Y, G> {
             → s ≡ with_steps U.joins (U.observation self.now.system.now) (Y.graph self.now.system.now) self.now.visited.now.keys summary (c ∷ [])) }
     {
         let candidate = &self.candidates[at];
-        let before = &self.visited[candidate.before];
+        let before = &self.visited[candidate.before as usize];
         summary.join(alloc, U::by(alloc, self.system, before, &candidate.label)?)
     }
 

@@ -19,7 +19,7 @@ loop-place-preserved g c =
     let count : at ≡ 0 + length (take at states) = omega (arith, length-take at states, low) in
     let before = c.loop-place.noted.items in
     c.in_ok-note_shown.ensures
-    ∙ (λ i. note_shown eq at (c.in_ok-shown.ensures i) before)
+    ∙ (λ i. note_shown eq (c.in_ok-number.ensures i) (c.in_ok-shown.ensures i) before)
     ∙ shown-labels graph eq event at state (graph.enabled state) before
     ∙ (λ i. note_labels graph eq event (count i) state (graph.enabled state) (c.loop-place.invariant i))
     ∙ sym (steps-push graph eq event 0 (take at states) state [])

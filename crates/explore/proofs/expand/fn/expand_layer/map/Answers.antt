@@ -34,14 +34,16 @@ returns g c =
     let steps = c.captures.steps.now in
     let many = c.requires.2.as_many in
     let low = c.requires.0 in
+    let number = c.in_ok-number.number in
+    let same = c.in_ok-number.ensures in
     elim c.match-steps-place.branch [
       | in-Some+in_ok-successors-in-Some w ↦
           let last = last-step graph cmp keys steps c.args.place c.index-steps-place.result w.in-Some.step (omega arith) c.index-steps-place.is w.in-Some.is in
-          subst (λ (found : _). IsExpanded graph keys steps cmp c.args.place c.args.place found.items) (sym w.successors-is)
+          subst (λ (found : _). IsExpanded graph keys steps cmp c.args.place number found.items) (sym w.successors-is)
           (behind-step graph cmp keys steps c.args.place c.index-state.result.now c.index-state.ensures w.in-Some.step w.index-before.result.now w.index-before.ensures last
-          w.in_ok-successors-in-Some.successors.items w.in_ok-successors-in-Some.ensures.labels w.in_ok-successors-in-Some.ensures.states)
+          number w.in_ok-successors-in-Some.successors.items same w.in_ok-successors-in-Some.ensures.labels w.in_ok-successors-in-Some.ensures.states)
       | in-None+in_ok-successors-in-None+in_ok-successors-in-None-2 w ↦
-          subst (λ (found : _). IsExpanded graph keys steps cmp c.args.place c.args.place found.items) (sym w.successors-is)
+          subst (λ (found : _). IsExpanded graph keys steps cmp c.args.place number found.items) (sym w.successors-is)
           (no-step graph cmp keys steps c.args.place c.index-state.result.now c.index-state.ensures
-          w.in_ok-successors-in-None-2.successors.items w.in_ok-successors-in-None.field-0.items w.in_ok-successors-in-None-2.ensures w.in_ok-successors-in-None.ensures)
+          number w.in_ok-successors-in-None-2.successors.items w.in_ok-successors-in-None.field-0.items same w.in_ok-successors-in-None-2.ensures w.in_ok-successors-in-None.ensures)
     ]
