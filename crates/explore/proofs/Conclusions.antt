@@ -146,9 +146,6 @@ module _ {S : Type 0} (j : Join S) (laws : IsSemilattice j) where
   pub below-same : (x y : S) → Below x y → Below y x → x ≡ y
   below-same x y h k = sym k ∙ laws.commutes y x ∙ h
 
-  pub below-itself : (x : S) → Below x x
-  below-itself x = laws.repeats x
-
   pub in-below : (xs : List S) (x : S) → In x xs → Below x (join_all j xs)
   in-below [] x i = absurd i
   in-below (y ∷ ys) x (inl e) = subst (λ z. Below z (join_all j (y ∷ ys))) e (below-left y (join_all j ys))

@@ -1,34 +1,17 @@
 -- Whether a component stands at an `alt`.
-use Rattle.std.proofs.Common.{◌≡◌, ℕ, Bool, true, false, ◌&&◌, List, [], ◌∷◌, map, slice_get, Some, None, refl, sym, ap, ◌∙◌}
-use Rattle.std.proofs.lemmas.Option.{same_Some}
-use Rattle.laws_fine.specs.Fine.{begins_with_alt, is_at_alt, is_found, is_of_alt, stands_at_alt}
-use Rattle.semantics.specs.Configurations.{is_running_state}
+use Rattle.std.proofs.Common.{◌≡◌, ℕ, Bool, false, List, Some, None, sym, ap, ◌∙◌}
+use Rattle.laws_fine.specs.Fine.{is_found, is_of_alt, stands_at_alt}
 use Rattle.semantics.specs.Snapshots.{Test}
 use Rattle.semantics.specs.Steps.{Delivery, Expiry, Label, Statement}
-use Rattle.config_parts.specs.Legend.{Legend, component_by, frame_by, going_by, state_by}
+use Rattle.config_parts.specs.Legend.{Legend, component_by, going_by}
 use Rattle.config_parts.specs.declared.component.Component.{Component}
 use Rattle.config_parts.specs.declared.config.Going.{Going}
-use Rattle.config_parts.specs.declared.frame.Frame.{Frame}
 use Rattle.ttcn_step.proofs.Found.{Searched, said-found}
 use Rattle.value_types.specs.declared.path.Path.{Path}
 
 -- ---- the last frame
 
-pub alt-first : (l : Legend) (test : Test) (calls : List Frame) (frame : Frame) → slice_get calls 0 ≡ Some frame → begins_with_alt test (l.lists frame.remaining) ≡ is_at_alt test (map (frame_by l) calls)
-alt-first l test [] frame e = absurd (let no = e in cc)
-alt-first l test (first ∷ frames) frame e = ap (λ (f : Frame). begins_with_alt test (l.lists f.remaining)) (sym (same_Some first frame e))
-
-pub alt-none : (l : Legend) (test : Test) (calls : List Frame) → slice_get calls 0 ≡ None → false ≡ is_at_alt test (map (frame_by l) calls)
-alt-none l test [] e = refl
-alt-none l test (first ∷ frames) e = absurd (let no = e in cc)
-
 -- ---- components
-
-pub stands-running : (l : Legend) (test : Test) (x : Component) (b : Bool) → is_running_state (state_by x.state) ≡ true → b ≡ is_at_alt test (map (frame_by l) x.own.calls) → b ≡ stands_at_alt test (component_by l x)
-stands-running l test x b runs is = is ∙ ap (λ r. r && is_at_alt test (map (frame_by l) x.own.calls)) (sym runs)
-
-pub stands-not : (l : Legend) (test : Test) (x : Component) → is_running_state (state_by x.state) ≡ false → false ≡ stands_at_alt test (component_by l x)
-stands-not l test x rests = ap (λ r. r && is_at_alt test (map (frame_by l) x.own.calls)) (sym rests)
 
 -- ---- labels
 

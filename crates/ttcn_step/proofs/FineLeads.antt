@@ -128,9 +128,6 @@ module _ (machine : Machine) (going : Going) (stored : List Stored) (label : Lab
   abbrev At : rules.Going
   At = going_by (legend machine) going
 
-  pub plain-alt : is_of_alt machine.test At label ≡ true → hold_next machine.test Before (Plain label) ≡ None
-  plain-alt is = ap (λ b. if b then None else option_map (λ d. hold_behind d (map (noted label) (map (held_by (legend machine)) stored))) (next machine.test (rules.Goes At) label)) is
-
   pub plain-none : is_of_alt machine.test At label ≡ false → next machine.test (rules.Goes At) label ≡ None → hold_next machine.test Before (Plain label) ≡ None
   plain-none is none =
       ap (λ b. if b then None else option_map (λ d. hold_behind d (map (noted label) (map (held_by (legend machine)) stored))) (next machine.test (rules.Goes At) label)) is

@@ -1,6 +1,5 @@
 pub mod AtAlt
 pub mod Branching
-pub mod Choosing
 pub mod Coarsening
 pub mod Doubling
 pub mod Enabled

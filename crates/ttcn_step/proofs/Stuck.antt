@@ -63,10 +63,6 @@ pub none-enabled : {A : Type 0} (found : List Label) (standing : List A) → fou
 none-enabled [] standing none = refl
 none-enabled (label ∷ found) standing none = cc
 
-pub some-enabled : {A : Type 0} (found : List Label) (standing : List A) → ¬ (found ≡ []) → if_none found standing ≡ []
-some-enabled [] standing some = absurd (some refl)
-some-enabled (label ∷ found) standing some = refl
-
 -- ---- lists that are tested to be empty
 
 empties-list : {X : Type 0} (items : List X) → true ≡ (length items == 0) → items ≡ []
@@ -94,8 +90,3 @@ module _ (test : Test) where
   pub blocked-stuck : (c : Configuration) (r : Result (Vec Standing Global) AllocError) → labels test c ≡ []
       → IfOk r (λ found. found.items ≡ standing_of c) → IfOk r (λ found. found.items ≡ blocked test c)
   blocked-stuck c r none is = subst (λ (to : List Standing). IfOk r (λ found. found.items ≡ to)) (standing-blocked c none) is
-
-  -- where one is, none is blocked
-  pub none-blocked : (c : Configuration) → ¬ (labels test c ≡ []) → [] ≡ blocked test c
-  none-blocked (Ended v) some = refl
-  none-blocked (Goes c) some = sym (some-enabled (labels test (Goes c)) (standings c) some)

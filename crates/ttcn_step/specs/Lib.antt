@@ -1,5 +1,4 @@
 pub mod Answers
-pub mod Choosing
 pub mod FineAnswers
 pub mod FrameLimit
 pub mod Machines

@@ -1,5 +1,5 @@
 //! Machines, which run test cases (ES 201 873-4).
-ghost use Rattle.std.specs.Prelude.{◌≡◌, ◌↔◌, [], false, get_or, IfOk, IsTrue, map};
+ghost use Rattle.std.specs.Prelude.{◌≡◌, ◌↔◌, [], false, IfOk, IsTrue, map};
 ghost use Rattle.std.specs.List.{All};
 ghost use Rattle.graph_numbers.specs.Lists.{AreDifferent};
 ghost use Rattle.semantics.specs.Labels as rules;
@@ -11,7 +11,6 @@ ghost use Rattle.std.specs.Option.{option_map};
 ghost use Rattle.config_parts.specs.Acts.{request_by};
 ghost use Rattle.config_parts.specs.Names.{AreInOrder};
 ghost use Rattle.ttcn_step.specs.Answers.{Ends, IsSuccessor, Leads};
-ghost use Rattle.ttcn_step.specs.Choosing.{TakesNone};
 ghost use Rattle.ttcn_step.specs.FineAnswers.{Coarsens, Doubles, IsDoubling, StandsFor};
 ghost use Rattle.ttcn_step.specs.Machines.{Fits, legend, said};
 ghost use Rattle.ttcn_step.specs.Standing.{standing_of};
@@ -22,8 +21,7 @@ use crate::error::{CoarsenError, ReplayError, StepError};
 use crate::successor::Successor;
 use crate::telling::Sent;
 use crate::{
-    branches, coarsen, double, labels, places, plain, replay, start, step, successors, telling,
-    testcases,
+    branches, coarsen, double, labels, places, replay, start, step, successors, telling, testcases,
 };
 use check_rules::{Program, TestId};
 use config_parts::{Config, Request};
@@ -223,14 +221,6 @@ impl<'a> Machine<'a> {
         ensures { result.now ≡ self.now.names }
     {
         self.test.names.as_slice()
-    }
-
-    /// Whether a component whose last frame is at a position may take a branch in its step: whether an `alt`, or what stands
-    /// for one, comes first there.
-    pub fn may_take_branch(&self, position: usize) -> bool
-        ensures { result ≡ false → TakesNone (get_or self.now.lists position []) }
-    {
-        !plain::is_plain_at(&self.test, position)
     }
 
     /// Whether no label of a configuration is enabled.

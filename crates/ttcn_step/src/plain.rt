@@ -1,13 +1,11 @@
-//! Whether a component stands at an `alt`: elsewhere it has a step, and takes no branch (ES 201 873-1, 20.2).
-ghost use Rattle.std.specs.Prelude.{◌≡◌, ◌∷◌, [], List, None, get_or, true};
+//! Whether a component stands at an `alt`: elsewhere it has a step (ES 201 873-1, 20.2).
+ghost use Rattle.std.specs.Prelude.{◌≡◌, ◌∷◌, [], List, get_or, true};
 ghost use Rattle.graph_items.specs.Begun.{item_at};
 ghost use Rattle.graph_items.specs.Standing.{part_of};
 ghost use Rattle.semantics.specs.Items.{Doing, Item, action_of};
 ghost use Rattle.semantics.specs.Sites.{Site};
-ghost use Rattle.semantics.specs.Statements as said;
 ghost use Rattle.step_snapshot.specs.Tests.{legend_by, test_by};
 ghost use Rattle.config_parts.specs.Legend.{component_by};
-ghost use Rattle.ttcn_step.specs.Choosing.{TakesNone};
 ghost use Rattle.ttcn_step.specs.internal.Plain.{HasStep, IsPlain, IsPlainFirst};
 
 use config_parts::Component;
@@ -17,8 +15,7 @@ use ttcn_syntax::{Action, Statement};
 
 /// Whether a statement is no `alt`, and stands for none. A call may be one of an altstep.
 fn is_plain(statement: &Statement) -> bool
-    ensures plain { result ≡ true → IsPlain (action_of statement.now) }
-    ensures none { result ≡ true → (stand : said.Stand) (site : Site) → said.choice_at stand site statement.now ≡ None }
+    ensures { result ≡ true → IsPlain (action_of statement.now) }
 {
     match &statement.action {
         Action::Call(_) => false,
@@ -30,8 +27,7 @@ fn is_plain(statement: &Statement) -> bool
 
 /// Whether a part of a statement is no `alt`: only the whole of one is.
 fn is_plain_part(statement: &Statement, part: Part) -> bool
-    ensures plain { result ≡ true → (site : Site) (rest : List Item) → IsPlainFirst (Doing site statement.now (part_of part) ∷ rest) }
-    ensures none { result ≡ true → (site : Site) (rest : List Item) → TakesNone (Doing site statement.now (part_of part) ∷ rest) }
+    ensures { result ≡ true → (site : Site) (rest : List Item) → IsPlainFirst (Doing site statement.now (part_of part) ∷ rest) }
 {
     match part {
         Part::Whole => is_plain(statement),
@@ -45,8 +41,7 @@ fn is_plain_part(statement: &Statement, part: Part) -> bool
 
 /// Whether what stands first is no `alt`.
 fn is_plain_first(first: First<'_, '_>) -> bool
-    ensures plain { result ≡ true → (site : Site) (rest : List Item) → IsPlainFirst (item_at site first.entry ∷ rest) }
-    ensures none { result ≡ true → (site : Site) (rest : List Item) → TakesNone (item_at site first.entry ∷ rest) }
+    ensures { result ≡ true → (site : Site) (rest : List Item) → IsPlainFirst (item_at site first.entry ∷ rest) }
 {
     match first {
         First::Doing {
@@ -61,8 +56,7 @@ fn is_plain_first(first: First<'_, '_>) -> bool
 
 /// Whether no `alt` stands first at a position.
 pub(crate) fn is_plain_at(test: &TestCase<'_>, position: usize) -> bool
-    ensures plain { result ≡ true → IsPlainFirst (get_or test.now.graphs.lists position []) }
-    ensures none { result ≡ true → TakesNone (get_or test.now.graphs.lists position []) }
+    ensures { result ≡ true → IsPlainFirst (get_or test.now.graphs.lists position []) }
 {
     if position >= test.graphs.len() {
         return true;

@@ -1,25 +1,22 @@
 -- What the getters of clap's matches read, by the rows.
-use Rattle.std.proofs.Common.{◌≡◌, ◌∙◌, ◌≤◌, ◌||◌, ℕ, Bool, inl, inr, true, false, refl, sym, ap, subst, List, [], ◌∷◌, Option, Some, None, Result, Ok, Err, IsSome, is_some, codes, map, option_map}
-use Rattle.std.specs.List.{find}
+use Rattle.std.proofs.Common.{◌≡◌, ◌∙◌, ◌≤◌, ◌||◌, ℕ, Bool, inl, inr, true, false, refl, sym, ap, subst, List, Option, Some, None, Result, Ok, Err, IsSome, is_some, codes, map, option_map}
 use Rattle.std.specs.Option.{option_map_or}
-use Rattle.std.specs.Prelude.{option_and_then, slice_get}
 use Rattle.std.specs.Borrow.{Bor}
 use Rattle.std.specs.Str.{bytes_eq}
 use Rattle.std.specs.Str.Parse.{ParsesUnsigned, digits_value, without_leading_plus}
 use Rattle.std.proofs.lemmas.Slice.Eq.{bytes_eq-Decides}
 use Rattle.clap.specs.Matches.{ReadsOne, first_value, matched_of, one_text, raw_values}
-use Rattle.clap.specs.Values.{IsUnsignedIn, bool_text, read_as}
-use Rattle.clap.specs.Walk.{Row, Text, first_of, one_of, row_text, rows_of}
+use Rattle.clap.specs.Values.{IsUnsignedIn, bool_text}
+use Rattle.clap.specs.Walk.{Row, Text, first_of, rows_of}
 use Rattle.clap.specs.declared.parser.matches.Found.{Found}
 use Rattle.clap.proofs.WalkLemmas.{first_value-rows, one_text-rows, raw_values-rows}
 use Rattle.ttcn_syntax.specs.declared.tree.statement.Verdict.{Verdict}
-use Rattle.ttcn_syntax.specs.declared.tree.statement.Verdict.TheVariants as verdict
-use Rattle.ttcnx_command_line.specs.Command.{AreSteps, AreStepsIf, AreTexts, IsFlag, IsFormat, IsLintFormat, IsNumber, IsNumberIfGiven, IsText, IsTextIfGiven, IsVerdictIfGiven, bound_fault, format_word, is_set, lint_format_word, most_steps, verdict_word}
+use Rattle.ttcnx_command_line.specs.Command.{AreTexts, IsFlag, IsFormat, IsLintFormat, IsNumber, IsNumberIfGiven, IsText, IsTextIfGiven, IsVerdictIfGiven, format_word, is_set, lint_format_word, verdict_word}
 use Rattle.ttcnx_command_line.specs.declared.command.LintFormat.{LintFormat}
 use Rattle.ttcnx_command_line.specs.declared.command.LintFormat.TheVariants as lint_format
 use Rattle.ttcnx_command_line.specs.declared.command.Format.{Format}
 use Rattle.ttcnx_command_line.specs.declared.command.Format.TheVariants as format
-use Rattle.ttcnx_command_line.specs.internal.Given.{GivesFlag, GivesFormat, GivesLintFormat, GivesNumber, GivesText, GivesTexts, HasOneBound, MayGiveNumber, MayGiveVerdict}
+use Rattle.ttcnx_command_line.specs.internal.Given.{GivesFlag, GivesFormat, GivesLintFormat, GivesNumber, GivesText, GivesTexts, MayGiveNumber, MayGiveVerdict}
 
 -- `get_str` has a text where the argument has one
 pub text-there : (f : Found) (id : Text) (o : Option (Bor Text)) → option_map (λ s. s.now) o ≡ first_value f id → GivesText (rows_of f) id → IsSome o
@@ -110,53 +107,7 @@ number-if-read G f id low high o left read only (inr given) =
     let number = number-read G f id low high o read only given in
     number.2 ∙ sym number.1
 
--- which is in the range of the argument
-pub number-most : (matches : List Row) (id : Text) (low high n : ℕ) → MayGiveNumber matches id low high → IsNumberIfGiven matches id (Some n) → n ≤ high
-number-most matches id low high n (inl none) is =
-    let no : None ≡ Some n = sym (ap (option_map (λ t. digits_value 10 (without_leading_plus t))) none.0) ∙ is in
-    cc
-number-most matches id low high n (inr given) is = (number-within matches id low high n given is).1
-
--- what has a number has a text
-text-of-one : (matches : List Row) (id text : Text) → one_of id matches ≡ Some text → is_some (first_of id matches) ≡ true
-text-of-one matches id text is = go (find (λ r. bytes_eq r.id id) matches) is
-  where
-    values : (r : Row) (vs : List Text) → option_map (read_as r.reading) (slice_get vs 0) ≡ Some text → is_some (slice_get vs 0) ≡ true
-    values r [] e = cc
-    values r (v ∷ vs) e = refl
-
-    go : (o : Option Row) → option_and_then row_text o ≡ Some text → is_some (option_and_then (λ r. slice_get r.values 0) o) ≡ true
-    go None e = cc
-    go (Some r) e = values r r.values e
-
 -- ---- the steps of a plan
-
-bound-of-steps : (until : Bool) → bound_fault true until ≡ [] → until ≡ false
-bound-of-steps true one = cc
-bound-of-steps false one = refl
-
-bound-of-none : (until : Bool) → bound_fault false until ≡ [] → until ≡ true
-bound-of-none true one = refl
-bound-of-none false one = cc
-
-pub steps-given : (matches : List Row) (n : ℕ) → MayGiveNumber matches (codes "steps") 0 100000 → HasOneBound matches → IsNumberIfGiven matches (codes "steps") (Some n)
-    → AreSteps matches n
-steps-given matches n (inl none) one is =
-    let no : None ≡ Some n = sym (ap (option_map (λ t. digits_value 10 (without_leading_plus t))) none.0) ∙ is in
-    cc
-steps-given matches n (inr given) one is =
-    let there = text-of-one matches (codes "steps") given.0 given.1 in
-    let until = bound-of-steps _ (subst (λ b. bound_fault b (is_set (codes "until-complete") matches) ≡ []) there one) in
-    subst (λ b. AreStepsIf b matches n) (sym until) is
-
-pub steps-left : (matches : List Row) → MayGiveNumber matches (codes "steps") 0 100000 → HasOneBound matches → IsNumberIfGiven matches (codes "steps") None
-    → AreSteps matches most_steps
-steps-left matches (inl none) one is =
-    let until = bound-of-none _ (subst (λ o. bound_fault (is_some o) (is_set (codes "until-complete") matches) ≡ []) none.1 one) in
-    subst (λ b. AreStepsIf b matches most_steps) (sym until) (none.1, refl)
-steps-left matches (inr given) one is =
-    let no : Some (digits_value 10 (without_leading_plus given.0)) ≡ None = sym (ap (option_map (λ t. digits_value 10 (without_leading_plus t))) given.1) ∙ is in
-    cc
 
 -- ---- what a bound is tested by
 
@@ -186,18 +137,6 @@ verdict-there f id o s got is (inr given) =
 pub verdict-read : (f : Found) (id : Text) (o : Option (Bor Text)) (s : Bor Text) (v : Verdict) → option_map (λ x. x.now) o ≡ first_value f id → o ≡ Some s
     → s.now ≡ verdict_word v → IsVerdictIfGiven (rows_of f) id (Some v)
 verdict-read f id o s v got is named = text-copied f id o s s.now got is refl ∙ ap Some named
-
--- a verdict that is named by another word than these four is `error`
-pub verdict-left : (word : Text) → (v : Verdict) × (word ≡ verdict_word v) → (word ≡ codes "none" → ⊥) → (word ≡ codes "pass" → ⊥) → (word ≡ codes "inconc" → ⊥)
-    → (word ≡ codes "fail" → ⊥) → word ≡ verdict_word verdict.Error
-verdict-left word named none pass inconc fail = go named.0 named.1
-  where
-    go : (v : Verdict) → word ≡ verdict_word v → word ≡ verdict_word verdict.Error
-    go verdict.None is = absurd (none is)
-    go verdict.Pass is = absurd (pass is)
-    go verdict.Inconc is = absurd (inconc is)
-    go verdict.Fail is = absurd (fail is)
-    go verdict.Error is = is
 
 -- ---- formats of findings
 

@@ -117,15 +117,6 @@ run-fault None rows named is = cc
 run-fault (Some p) rows named is =
     ap (λ b. cond b (fault_of_run p.1) []) (run-name p.0 (same_Some p.0 (codes "run") named)) ∙ ap fault_of_run (same_Some p.1 rows is)
 
--- where another command was given, it has no such fault
-pub no-run-fault : (given : Option (Text × List Row)) → (option_map (λ p. p.0) given ≡ Some (codes "run") → ⊥) → run_fault given ≡ []
-no-run-fault None other = refl
-no-run-fault (Some p) other = go (bytes_eq p.0 (codes "run")) refl
-  where
-    go : (b : Bool) → bytes_eq p.0 (codes "run") ≡ b → cond b (fault_of_run p.1) [] ≡ []
-    go true hit = absurd (other (ap Some ((bytes_eq-Decides p.0 (codes "run")).0 hit)))
-    go false miss = refl
-
 -- ---- the faults of clap, and those of the bound behind them
 
 pub no-faults : (a b : Kinds) → a ≡ [] → b ≡ [] → or_else a b ≡ []
@@ -229,7 +220,3 @@ explain-is f explain bounded is_explain is_bounded = ap₂ explain_fault (flag-s
 
 pub explain-refused : (explain bounded : Bool) → explain ≡ true → bounded ≡ true → HasRefusal (explain_fault explain bounded)
 explain-refused explain bounded is_explain is_bounded = subst HasRefusal (sym (ap₂ explain_fault is_explain is_bounded)) (ArgumentConflict, inl refl, no-conflict-request)
-
-pub nothing-bounded : (explain : Bool) → explain_fault explain false ≡ []
-nothing-bounded true = refl
-nothing-bounded false = refl

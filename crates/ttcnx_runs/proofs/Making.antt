@@ -334,9 +334,6 @@ module _ (machine : Machine) where
   fit-ended configuration going at c label other is behind behind-is within g i d living found key =
       subst (CanJoin machine g i) (sym behind-is) ((ended-steps configuration going at c label other is g i d living found key).1, within)
 
-  pub made-other : (going : Going) (at : ℕ) (c : Component) (label : Label) → IsMade machine going at c label (effect.Other label)
-  made-other going at c label g i d living found key = refl
-
   -- ---- branches
 
   branch-found : (going : Going) (at : ℕ) (c : Component) (label : Label) → IsLive (going_by (legend machine) going) → slice_get going.components at ≡ Some c → IsOf (component_by (legend machine) c) label

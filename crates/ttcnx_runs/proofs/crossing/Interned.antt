@@ -8,13 +8,9 @@ use Rattle.std.specs.declared.hash.Hash as hash
 use Rattle.graph_numbers.specs.contracts.names.Names as names
 use Rattle.ttcnx_runs.proofs.crossing.Trees.{name-sync}
 use Rattle.graph_numbers.specs.contracts.lists.Lists as lists
-use Rattle.graph_numbers.specs.contracts.slots.Slots as slots
 
 pub slot-names-sync : IsSync names.the_field.row
 slot-names-sync = search (name-sync, crosses, sendable) depth 60 fits 20000
 
 pub lists-sync : (T : RattleType) (e : eq.Ghosts T.Denot) (h : hash.Ghosts T.Denot) (q : equiv.Ghosts T.Denot) → IsSync T → IsSync (lists.the_field T e h q).row
 lists-sync T e h q s = search (crosses, sendable) depth 60 fits 20000
-
-pub slots-sync : (T : RattleType) (e : eq.Ghosts T.Denot) (h : hash.Ghosts T.Denot) → IsSync T → IsSync (slots.the_field T e h).row
-slots-sync T e h s = search (crosses, sendable) depth 60 fits 20000

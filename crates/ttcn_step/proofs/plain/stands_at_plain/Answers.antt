@@ -9,4 +9,4 @@ pub returns-in-Some : goal.returns-in-Some
 returns-in-Some c = λ plain.
     let t = c.args.test.now in
     plain-frame-has-step (legend_by t) (test_by t) c.args.component.now c.in-Some.frame.now (c.in-Some.ensures.value ∙ ap (λ (calls : List Frame). slice_get calls 0) (c.as_slice.ensures ∙ ap (λ (own : Data). own.calls) c.deref.ensures))
-    (c.is_plain_at.ensures.plain plain)
+    (c.is_plain_at.ensures plain)

@@ -1,5 +1,5 @@
 use Rattle.std.proofs.Common.{ap, sym, subst, ◌∙◌}
-use Rattle.ttcnx_runs.proofs.Choosing.{goes-on}
+use Rattle.ttcnx_runs.proofs.GoingOn.{goes-on}
 use Rattle.ttcnx_runs.proofs.runs.state_of.Goals as goal
 use Rattle.ttcnx_runs.specs.Schemes.{IsMachine}
 use Rattle.config_parts.specs.Views.{IsConfigWithin}
