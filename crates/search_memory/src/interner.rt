@@ -28,7 +28,7 @@ const PLACES: [usize; TABLES] = [
     1 << 28,
 ];
 
-/// Bytes that are kept once. Contracts see the bytes.
+/// Bytes that an interner keeps. Contracts see the bytes.
 #[derive(Drop)]
 pub struct Interned {
     bytes: Vec<u8>,
