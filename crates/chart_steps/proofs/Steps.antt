@@ -3,7 +3,6 @@ use Rattle.std.proofs.Common.{◌≡◌, ℕ, suc, arith, ◌+◌, ◌-◌, ◌<
 use Rattle.std.specs.List.{find}
 use Rattle.std.specs.Result.{IsErrAnd}
 use Rattle.std.proofs.lemmas.Option.{same_Some}
-use Rattle.ttcn_syntax.specs.declared.tree.statement.Verdict.{Verdict}
 use Rattle.chart_steps.specs.Stories.{AreTold, IsTold, Refuses, last_of, verdict_at}
 use Rattle.chart_steps.specs.internal.Telling.{TellsStep}
 use Rattle.chart_steps.specs.declared.story.Told.{Told}

@@ -12,7 +12,7 @@ use Rattle.ttcn_syntax.specs.declared.tree.expression.Link.{Link, fold_out-Link,
 use Rattle.ttcn_syntax.specs.declared.tree.expression.Reference.{Reference}
 use Rattle.check_rules.specs.internal.Findings.{free_before, finding, with_before}
 use Rattle.check_scope.specs.internal.Checking.{least}
-use Rattle.check_rules.specs.Expressions.{Judgement, Judge, after, check_component, check_ispresent, check_running, between, join_links, expression, expression_step, fine, join_link, link, link_step, of_type, operand}
+use Rattle.check_rules.specs.Expressions.{Judgement, Judge, after, check_ispresent, check_running, between, join_links, expression, expression_step, fine, join_link, link, link_step, of_type, operand}
 use Rattle.check_scope.specs.Names.{Scope}
 use Rattle.check_scope.specs.Typings.{compares}
 use Rattle.check_rules.specs.declared.finding.Finding.{Finding}
@@ -25,17 +25,8 @@ use Rattle.check_scope.proofs.Lookups.{drop-next}
 -- ---- forms
 
 module _ (scope : Scope) (free : Bool) where
-  pub expression-Int : (n : ℕ) → expression (form.Int n) scope free ≡ fine (typing.Known type.Integer)
-  expression-Int n = ap (λ (j : Judge). j scope free) (ap expression (sym (form.rolls-Int n)) ∙ fold-roll-Expr Judge (Operator × Judge) expression_step link_step (Expr-F.Int n))
-
-  pub expression-Bool : (b : Bool) → expression (form.Bool b) scope free ≡ fine (typing.Known type.Boolean)
-  expression-Bool b = ap (λ (j : Judge). j scope free) (ap expression (sym (form.rolls-Bool b)) ∙ fold-roll-Expr Judge (Operator × Judge) expression_step link_step (Expr-F.Bool b))
-
   pub expression-Null : expression form.Null scope free ≡ fine typing.Null
   expression-Null = ap (λ (j : Judge). j scope free) (ap expression (sym form.rolls-Null) ∙ fold-roll-Expr Judge (Operator × Judge) expression_step link_step Expr-F.Null)
-
-  pub expression-Reference : (reference : ComponentRef) → expression (form.Reference reference) scope free ≡ check_component scope reference free
-  expression-Reference reference = ap (λ (j : Judge). j scope free) (ap expression (sym (form.rolls-Reference reference)) ∙ fold-roll-Expr Judge (Operator × Judge) expression_step link_step (Expr-F.Reference reference))
 
   pub expression-Running : (reference : ComponentRef) → expression (form.Running reference) scope free ≡ check_running scope reference
   expression-Running reference = ap (λ (j : Judge). j scope free) (ap expression (sym (form.rolls-Running reference)) ∙ fold-roll-Expr Judge (Operator × Judge) expression_step link_step (Expr-F.Running reference))

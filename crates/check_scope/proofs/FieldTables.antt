@@ -43,22 +43,9 @@ fields-end found fields i past = ap (fields_after found) (drop_all i fields past
 same-name : (a b : List ℕ) → bytes_eq a b ≡ true → a ≡ b
 same-name a b = (bytes_eq-Decides a b).0
 
-or-some : {A : Type 0} (o other : Option A) → is_some o ≡ true → o ≡ option_or o other
-or-some (Some x) other is = refl
-or-some None other is = absurd (true≢false (sym is))
-
 or-none : {A : Type 0} (o : Option A) (x : A) → is_some o ≡ false → Some x ≡ option_or o (Some x)
 or-none None x is = refl
 or-none (Some y) x is = absurd (true≢false is)
-
-there-at : (found : Fields) (field : Field) (name : List ℕ) → is_some (found field.name) ≡ true → (b : Bool) → bytes_eq field.name name ≡ b
-    → found name ≡ option_or (found name) (if b then Some field else None)
-there-at found field name there true same = or-some (found name) (Some field) (ap (λ n. is_some (found n)) (sym (same-name field.name name same)) ∙ there)
-there-at found field name there false other = sym (or-None (found name))
-
--- one of its name is there
-pub field-is-there : (found : Fields) (field : Field) → is_some (found field.name) ≡ true → found ≡ (λ name. option_or (found name) (alone field name))
-field-is-there found field there = fun_ext (λ name. there-at found field name there (bytes_eq field.name name) refl)
 
 new-at : (found : Fields) (field : Field) (name : List ℕ) → is_some (found field.name) ≡ false → (b : Bool) → bytes_eq field.name name ≡ b
     → (if b then Some field else found name) ≡ option_or (found name) (if b then Some field else None)

@@ -1,5 +1,5 @@
 -- What definitions break inside, part by part.
-use Rattle.std.proofs.Common.{◌≡◌, ℕ, ◌+◌, ◌<◌, ◌≤◌, Bool, true, false, not, ◌&&◌, ◌||◌, if◌then◌else◌, List, [], ◌∷◌, ◌++◌, length, get_or, drop, bytes_eq, nat_eq, refl, arith, sym, ap, ◌∙◌}
+use Rattle.std.proofs.Common.{◌≡◌, ℕ, ◌+◌, ◌<◌, ◌≤◌, Bool, true, false, not, ◌&&◌, ◌||◌, if◌then◌else◌, List, [], ◌∷◌, ◌++◌, length, get_or, drop, bytes_eq, nat_eq, arith, sym, ap, ◌∙◌}
 use Rattle.std.proofs.lemmas.Bool.Decides.{nat_tests}
 use Rattle.std.proofs.lemmas.List.{drop_all}
 use Rattle.std.proofs.lemmas.List.Folds.{list_any-append}
@@ -94,19 +94,6 @@ same-key false false a b = grind (arith, nat_tests)
 -- numbers are told apart by their magnitudes, and by whether they are below zero
 pub same-number-key : (n m : EnumNumber) → (beq (is_negative n) (is_negative m) && nat_eq n.magnitude m.magnitude) ≡ same_number m n
 same-number-key n m = same-key n.minus m.minus n.magnitude m.magnitude
-
-or-last : (b had : Bool) → (if b then true else had) ≡ (had || (b || false))
-or-last true true = refl
-or-last true false = refl
-or-last false true = refl
-or-last false false = refl
-
--- one more number is given
-pub given-more : (set next : NumberSet) (n : EnumNumber) (before : List EnumNumber) → ((other : EnumNumber) → given next other ≡ (if same_number other n then true else given set other))
-    → AreGiven set before → AreGiven next (before ++ n ∷ [])
-given-more set next n before behind same other =
-    behind other ∙ or-last (same_number other n) (given set other) ∙ ap (λ b. b || (same_number other n || false)) (same other)
-    ∙ sym (list_any-append (same_number other) before (n ∷ []))
 
 -- the numbers so far are those before, and what was found so far with what the names that are left break is the whole
 pub record Numbered (set : NumberSet) (enumerators : List Enumerator) (found whole : Broken) : Type 0 where

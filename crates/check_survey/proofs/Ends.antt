@@ -11,16 +11,6 @@ use Rattle.check_survey.specs.declared.size.Size.{Size}
 use Rattle.check_survey.specs.declared.thing.Thing.{Thing}
 use Rattle.check_survey.proofs.Chains.{Contains-first, Contains-only, chain-head, weigh-no-circle, weigh-once, weigh-within}
 
--- before all things nothing is known
-pub known-first : (things : List Thing) (states : List State) → length states ≡ length things → ((i : ℕ) → state_of states i ≡ New) → IsSearched things states []
-known-first things states count new = record {
-  count = count;
-  done = λ i size is. cc (new i);
-  on_path = λ i is. absurd (let e : New ≡ Open = sym (new i) ∙ is in cc);
-  read = λ k d below. absurd (omega arith);
-  linked = tt;
-}
-
 module _ (things : List Thing) (states : List State) (known : IsSearched things states []) (at : ℕ) (begun : (i : ℕ) → state_of states i ≡ New → at ≤ i)
     (last : length things ≤ at) where
   -- each thing has its size

@@ -187,12 +187,6 @@ module _ (things : List Thing) (states : List State) (path : List Step) (step : 
       let r = last-read.passed in
       omega (arith, e, f, r)
 
-  pub begun-finished : (size : Size) → StayBegun states (set states step.thing (Done size))
-  begun-finished size = begun-on things states path step.thing (Done size) (let e = known.count in let r = last-read.within in omega (arith, e, r)) (λ e. cc)
-
-  pub begun-begun : (i : ℕ) → i < length things → StayBegun states (set states i Open)
-  begun-begun i within = begun-on things states path i Open (let e = known.count in omega (arith, e)) (λ e. cc)
-
 -- ---- the next reference of the last thing, as the code reads it
 
 pub record ReadsNext (things : List Thing) (states : List State) (step : Step) (next : ℕ) : Type 0 where

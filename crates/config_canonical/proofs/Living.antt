@@ -12,7 +12,7 @@ use Rattle.semantics.specs.Configurations as rules
 use Rattle.semantics.specs.Configurations.{same_path}
 use Rattle.semantics.specs.LiveParts as live
 use Rattle.semantics.specs.Steps as steps
-use Rattle.config_parts.specs.Legend.{Legend, component_by, config_by, connection_by, entries_by, going_by, mapping_by, state_by}
+use Rattle.config_parts.specs.Legend.{Legend, component_by, connection_by, entries_by, going_by, mapping_by, state_by}
 use Rattle.config_parts.specs.Views.{AreAllWithin, Extent, IsConfigWithin, IsFrameWithin, IsWithin}
 use Rattle.config_parts.specs.declared.component.Component.{Component}
 use Rattle.config_parts.specs.declared.component.State.{State}
@@ -90,10 +90,6 @@ module _ (legend : Legend) where
 abbrev pub live_config : Config → Config
 live_config (config.Ended v) = config.Ended v
 live_config (config.Going g) = config.Going (live_going g)
-
-pub config-live : (legend : Legend) (c : Config) → config_by legend (live_config c) ≡ live.live_part (config_by legend c)
-config-live legend (config.Ended v) = refl
-config-live legend (config.Going g) = ap rules.Goes (going-live legend g)
 
 -- ---- where no component is terminated
 

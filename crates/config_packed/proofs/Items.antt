@@ -1,6 +1,6 @@
 -- Lists of items, spelled and read one item after another.
-use Rattle.std.proofs.Common.{◌≡◌, ℕ, suc, ◌+◌, ◌-◌, ◌<◌, ◌≤◌, List, [], ◌∷◌, ◌++◌, length, get_or, map, take, sym, ap, ◌∙◌, arith, append_assoc}
-use Rattle.std.proofs.lemmas.List.{append-nil, flat_map_more, length-map, take_all, take_more}
+use Rattle.std.proofs.Common.{◌≡◌, ℕ, suc, ◌+◌, ◌-◌, ◌<◌, ◌≤◌, List, [], ◌∷◌, ◌++◌, length, map, take, sym, ap, ◌∙◌, arith, append_assoc}
+use Rattle.std.proofs.lemmas.List.{append-nil, length-map, take_all}
 use Rattle.std.proofs.lemmas.List.Folds.{flat_map-map}
 use Rattle.std.specs.List.{flat_map}
 use Rattle.config_packed.specs.Reading.{Reads, read_component, read_contents, read_items, read_list, read_long}
@@ -10,15 +10,6 @@ use Rattle.config_parts.specs.declared.component.Component.{Component}
 use Rattle.config_parts.specs.declared.component.State.{State}
 
 -- ---- spelling
-
--- one more item is spelled
-pub spelled-more : {A : Type 0} (spell : A → List ℕ) (old now : List ℕ) (items : List A) (i : ℕ) (x : A)
-    → i < length items → x ≡ get_or items i x
-    → now ≡ (old ++ flat_map spell (take i items)) ++ spell x
-    → now ≡ old ++ flat_map spell (take (i + 1) items)
-spelled-more {A} spell old now items i x h is e =
-    e ∙ flat_map_more spell old (take i items) x
-    ∙ ap (λ (l : List A). old ++ flat_map spell l) (ap (λ (y : A). take i items ++ y ∷ []) is ∙ sym (take_more items i x h))
 
 -- the names of components are spelled
 pub names-put : (components : List Component) (start counted bytes : List ℕ) (i : ℕ)
@@ -36,9 +27,6 @@ names-put components start counted bytes i put all e =
 -- these come before what is read
 abbrev pub ahead : {A : Type 0} → List A → List A × List ℕ → List A × List ℕ
 ahead xs read = (xs ++ read.0, read.1)
-
-pub items-none : {A : Type 0} (read : Reads A) (count : ℕ) (bytes : List ℕ) → read_items read count bytes ≡ ahead [] (read_items read (count - 0) bytes)
-items-none read count bytes = ap (λ n. read_items read n bytes) (let e : count ≡ count - 0 = omega arith in e)
 
 -- one more item is read
 pub items-more : {A : Type 0} (read : Reads A) (count turn : ℕ) (before after : List ℕ) (whole : List A × List ℕ) (xs : List A) (x : A)

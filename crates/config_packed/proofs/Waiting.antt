@@ -131,11 +131,6 @@ stands-none port qs count turn bytes h s = none-of port qs s.passed s.others s.s
 
 -- ---- changes
 
--- nothing is changed where no queue is of the port
-pub unchanged-without : (port : ℕ) (qs : List Queue) (queues bytes : List ℕ) (change : List Message → List Message)
-    → queues ≡ spell_list spell_queue qs → IsWithout port qs → bytes ≡ queues → bytes ≡ spell_list spell_queue (change_queue port change qs)
-unchanged-without port qs queues bytes change is without e = e ∙ is ∙ ap (spell_list spell_queue) (sym (without change))
-
 -- what stands behind the front is changed
 changed-behind : (port : ℕ) (qs : List Queue) (queues start front new : List ℕ) (change : List Message → List Message)
     → queues ≡ spell_list spell_queue qs → (at : AreAt port qs start) → front ≡ since queues start

@@ -13,7 +13,7 @@ use Rattle.semantics.specs.Items.{Item}
 use Rattle.semantics.specs.Storing as storing
 use Rattle.config_parts.specs.Legend.{IsLegend, Legend, data_by, entries_by, frame_by, frame_with}
 use Rattle.config_parts.specs.internal.Changes.{changed_at, place}
-use Rattle.config_parts.specs.internal.Stored.{cells_in, changed_in, declare, declare_timer, forget, in_last, is_not_below, last_cells, no_cells, put, with_cells, with_cells_in, with_position, with_timer, with_value, without}
+use Rattle.config_parts.specs.internal.Stored.{cells_in, changed_in, declare, declare_timer, forget, in_last, is_not_below, last_cells, put, with_cells, with_cells_in, with_position, with_timer, with_value, without}
 use Rattle.config_parts.specs.declared.frame.Cells.{Cells}
 use Rattle.config_parts.specs.declared.frame.Data.{Data}
 use Rattle.config_parts.specs.declared.frame.Frame.{Frame}

@@ -1,6 +1,6 @@
 -- What component types declare, declaration by declaration.
-use Rattle.std.proofs.Common.{◌≡◌, refl, sym, ap, ◌∙◌, ℕ, zero, suc, ◌+◌, ◌<◌, Bool, true, false, ◌||◌, List, [], ◌∷◌, ◌++◌, map, length, take, get_or, Option, Some, None, bytes_eq, if◌then◌else◌, arith}
-use Rattle.std.proofs.lemmas.List.{take_all, take_more}
+use Rattle.std.proofs.Common.{◌≡◌, refl, sym, ap, ◌∙◌, ℕ, zero, suc, ◌+◌, ◌<◌, Bool, true, false, ◌||◌, List, [], ◌∷◌, ◌++◌, map, length, take, get_or, Option, Some, None, bytes_eq, if◌then◌else◌}
+use Rattle.std.proofs.lemmas.List.{take_more}
 use Rattle.std.specs.List.{list_any}
 use Rattle.std.specs.Option.{option_or}
 use Rattle.ttcn_syntax.specs.declared.tree.definition.Member.{Member}
@@ -84,9 +84,6 @@ behind-next names members at place m name one within is =
 -- what a name stands for behind all declarations is what it stands for behind so many
 abbrev pub IsBehind : Names → List Member → List ℕ → ℕ → Type 0
 IsBehind names members name place = behind_members names members name ≡ behind_members names (take place members) name
-
-pub behind-all : (names : Names) (members : List Member) (name : List ℕ) → IsBehind names members name (length members)
-behind-all names members name = sym (ap (λ l. behind_members names l name) (take_all (length members) members (omega arith)))
 
 -- the last declaration that declares the name counts
 pub port-found : (names : Names) (members : List Member) (at place : ℕ) (m : Member) (name : List ℕ) (found : Option (Option ℕ)) → place ≡ at + 1 → at < length members

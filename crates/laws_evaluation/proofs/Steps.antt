@@ -213,9 +213,6 @@ module _ (reading : Reading) (well : AreWellTyped reading.definitions) where
   template-within n (Some t) values =
       ap (λ (o : Outcomes). template_value (λ names. with_outcomes o (with_names names reading)) (Some t) values) (any-names n (given_to t.parameters values))
 
-  nothing-at : (t : Option TemplateDefinition) → t ≡ None → (family : (List ℕ → Outcome Value) → Reading) (values : List Value) → template_value family t values ≡ unmet
-  nothing-at t is family values = ap (λ u. template_value family u values) is
-
   within-links : HasLinks (λ n. outcomes_within n reading)
   within-links = record {
     constants = constant-within;

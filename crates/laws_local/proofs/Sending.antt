@@ -117,9 +117,6 @@ goes-unmapped c from to e None is way =
 abbrev leads-by : Test → Going → ComponentId → Act → Option Configuration
 leads-by test d itself a = option_map settled (apply test d itself a)
 
-message-of : Value → ComponentId → Message
-message-of v itself = record { value = v; sender = Some itself }
-
 send-leads : (test : Test) (c d : Going) (itself : ComponentId) (port : Identifier) (to : Option Path) (v : Value) (own : Data) (e : End) → LinkAlike c d → Goes-to c (record { component = itself.path; port = port }) to e
     → leads-by test d itself (Requests (Sends port to v) own) ≡ Some (Goes (touch (touch d itself.path (with_data own)) e.component (receiving e.port (record { value = v; sender = Some itself }))))
 send-leads test c d itself port to v own e link goes =

@@ -37,13 +37,6 @@ there-is c id is = some-is-there (component_at c id.path) is
 pub found-there : (c : Going) (p : Path) (x : Component) → component_at c p ≡ Some x → IsThere c x.itself
 found-there c p x e = there-by c x.itself (Some x) (found-itself c p x e) refl
 
-path-there-in : (c : Going) (p : Path) (o : Option Component) → component_at c p ≡ o → is_some o ≡ true → IsPathOf (IsThere c) p
-path-there-in c p None e is = absurd (let no = is in cc)
-path-there-in c p (Some x) e is = (x.itself, found-there c p x e, found-path c p x e)
-
-pub path-there : (c : Going) (p : Path) → is_some (component_at c p) ≡ true → IsPathOf (IsThere c) p
-path-there c p is = path-there-in c p (component_at c p) refl is
-
 some-there : (id : ComponentId) (o : Option Component) → IsSomeAnd o (λ x. x.itself ≡ id) → is_some o ≡ true
 some-there id None is = absurd is
 some-there id (Some x) is = refl

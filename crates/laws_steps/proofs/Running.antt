@@ -5,7 +5,6 @@ use Rattle.ttcn_syntax.specs.declared.tree.statement.Statement as tree
 use Rattle.ttcn_syntax.specs.declared.tree.statement.Verdict.TheVariants as verdict
 use Rattle.check_scope.specs.Names.{kind_at}
 use Rattle.laws_steps.proofs.Applying.{IfGoes, Leads, LeadsWell}
-use Rattle.laws_steps.proofs.Found.{some-of}
 use Rattle.semantics.specs.Configurations.{Component, Configuration, Data, End, Ended, Frame, Goes, Going, component_at, is_running_state, path_of}
 use Rattle.semantics.specs.Creating.{new_members}
 use Rattle.semantics.specs.Runs.{first_snapshot, graph_of, mtc_with, option_elim, replay, replay_from, start, started, testcase_body}
@@ -128,7 +127,3 @@ module _ (test : Test) (Holds : Configuration → Type 0) (begins : Holds (start
   end-holds Start = begins
   end-holds (Then run label) =
       after-holds (end_of (graph_of test) run) (next test (end_of (graph_of test) run) label) (end-holds run) (follows (end_of (graph_of test) run) label (end-holds run))
-
-  -- the next configuration
-  pub next-holds : (c d : Configuration) (label : Label) → Holds c → next test c label ≡ Some d → Holds d
-  next-holds c d label is e = some-of Holds (next test c label) d e (follows c label is)

@@ -26,7 +26,7 @@ use Rattle.laws_statements.proofs.Within.{activation_stays, call_stays}
 use Rattle.laws_statements.specs.Named.{IsDefinedAs}
 use Rattle.laws_statements.specs.Parts.{HasFineParts, IsCondition, IsFineBranch, IsFineConditional, IsFineIfAny}
 use Rattle.laws_steps.proofs.Found.{get-each}
-use Rattle.semantics.specs.Branches.{Written, open_branch, write_altsteps, written_alt, written_branch, written_call}
+use Rattle.semantics.specs.Branches.{open_branch, write_altsteps, written_alt, written_branch, written_call}
 use Rattle.semantics.specs.Configurations.{Data, Frame}
 use Rattle.semantics.specs.Items.{Does, Doing, From, Item, Last, Loop, Mark, Name, Part, Start, Waiting, Whole, action_of, items, items_if_any, site_in_for, start_items}
 use Rattle.semantics.specs.Sites.{Site, scope_at}
@@ -126,10 +126,6 @@ module _ (stand : Stand) (well : AreWellTyped stand.test.definitions) (site : Si
         conditional-asks k conditionals last inside (slice_get conditionals k) (get-each (IsFineConditional (place ds b site inside)) conditionals k parts.0) parts.1
 
     -- ---- alts
-
-    alt-or : (other : Act) (o : Option (List Written)) → Asking other → IfSome o (WritesFit stand well site is fronts nest) → Asking (act_alt_or other stand site s (option_map (choose_from stand) o))
-    alt-or other None asks fits = asks
-    alt-or other (Some ws) asks fits = choice-asks stand well site is fronts nest s (choose_from stand ws) (choose-fits stand well site is fronts nest ws fits)
 
     abbrev Chooses : Act → Does → Type 0
     Chooses other x = Asking (act_alt_or other stand site s (option_map (choose_from stand) (written_alt stand.test stand.snapshot stand.own (judge_at stand site) (out-Statement s).place x)))

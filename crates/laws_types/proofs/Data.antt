@@ -99,13 +99,6 @@ module _ (definitions : List Definition) (component_type at : ℕ) where
     seen = seen-outside definitions well at outer inner (view_of frame) is fits.names fits.seen;
   }
 
-  last-outside : AreWellTyped definitions → (outer inner : List Entry) (R : List Item → Type 0) (calls : List Frame) → IsOutside outer inner → LastAt definitions component_type at inner R calls → LastAt definitions component_type at outer R calls
-  last-outside well outer inner R [] is fits = fits
-  last-outside well outer inner R (frame ∷ frames) is fits = (frame-outside well outer inner frame is fits.0, fits.1, fits.2)
-
-  pub data-outside : AreWellTyped definitions → (outer inner : List Entry) (R : List Item → Type 0) (own : Data) → IsOutside outer inner → DataAt definitions component_type at inner R own → DataAt definitions component_type at outer R own
-  data-outside well outer inner R own is fits = record { members = fits.members; last = last-outside well outer inner R own.calls is fits.last; defaults = fits.defaults }
-
 -- ---- members
 
 -- a name outside of blocks that the module doesn't define is one of a member

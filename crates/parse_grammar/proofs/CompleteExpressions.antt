@@ -287,12 +287,6 @@ starts-uncolored (k ∷ ts) rest (plain is f less u) h = u.none h
 starts-uncolored (k ∷ ts) rest (minus is i less u) h = u.none h
 starts-uncolored (k ∷ ts) rest (named is less b u) h = u.none h
 
-pub starts-shorter : (ts rest : List Spanned) → Starts ts rest → length rest < length ts
-starts-shorter [] rest s = elim s [ ]
-starts-shorter (k ∷ ts) rest (plain is f less u) = omega (arith, less)
-starts-shorter (k ∷ ts) rest (minus is i less u) = omega (arith, less)
-starts-shorter (k ∷ ts) rest (named is less b u) = omega (arith, less)
-
 -- ---- references, components, types
 
 reference-by : (bytes : List ℕ) (fields : List (List ℕ)) (k : Spanned) (ts rest : List Spanned) → Is k (token.Id bytes) → read_expressions.fields ts ≡ Some (fields, rest)

@@ -22,7 +22,7 @@ use Rattle.parse_limits.specs.Groups.{Balanced, Group, Is, braces, nothing, pair
 use Rattle.parse_grammar.specs.Grammar.{Ends, InTurn, Part, Parts, Spells, a_component, a_primary, a_reference, an_operand, the_links, dotted, each, key, one, phrase, turn, commas, semicolons, ◌▸◌}
 use Rattle.parse_reader.specs.Trees.{link}
 use Rattle.parse_grammar.specs.Grammar as spelled
-use Rattle.parse_reader.specs.internal.Reading.{Parsed, Parser, after_semicolons, and_then, behind, ended, expect, expect_word, head_token, here, is_symbol, is_word, items, items_from, may_end, name, name_of, same_level, second, sees, sees_word, separated, separated_from, separated_until, token_by}
+use Rattle.parse_reader.specs.internal.Reading.{Parsed, Parser, after_semicolons, and_then, behind, ended, expect, expect_word, head_token, here, is_word, items, items_from, may_end, name, name_of, same_level, second, sees, sees_word, separated, separated_from, separated_until, token_by}
 use Rattle.parse_reader.specs.internal.Expressions.{after_field, after_operator, at_level, behind_field, behind_operator, bracketed, chain, component, component_by, eat_field, eat_operator, expression, expression_from, field_of, fields_from, inner, is_present, links_from, most_links, named_reference, negation, next_field, next_operator, primary, primary_by, reference, referred, runs, signed, tree_of, at_and, at_equality, at_not, at_or, at_order, at_product, at_sum, at_xor}
 use Rattle.parse_grammar.proofs.Tokens.{Begins, expect-is, expect-word-is, first-step, name-is, read-is, sees-is, sees-word-is, with-rest-is}
 
@@ -421,10 +421,6 @@ symbol-at s ts h = let b = sees-is s ts h in rw b.all (spelled.this b.is)
 
 pub word-at : (w : Word) (ts : List Spanned) → sees_word w ts ≡ true → Spells (key w) ts (behind ts)
 word-at w ts h = let b = sees-word-is w ts h in rw b.all (spelled.this b.is)
-
-pub symbol-second : (s : Symbol) (ts : List Spanned) → is_symbol s (second ts) ≡ true → Spells (spelled.sym s) (behind ts) (behind (behind ts))
-unfolding sees
-symbol-second s ts h = symbol-at s (behind ts) h
 
 pub word-second : (w : Word) (ts : List Spanned) → is_word w (second ts) ≡ true → Spells (key w) (behind ts) (behind (behind ts))
 unfolding sees_word

@@ -433,10 +433,6 @@ module-at-end ts =
       ended.1,
     ))))))))))
 
--- what the parser reads is spelled by the tokens that it takes
-pub sound-whole : (ts : List Spanned) (x : Module × List Spanned) → whole ts ≡ Some x → Spells (phrase (a_module x.0)) ts x.1
-sound-whole ts x h = ((module-at-end ts).held x h).0
-
 -- what the parser reads as a module is one
 pub reads_module : (ts : List Spanned) (tree : Module) (rest : List Spanned) → whole ts ≡ Some (tree, rest) → IsModule ts tree
 reads_module ts tree rest h =

@@ -102,12 +102,6 @@ line-parts line =
     let behind = split-behind (without_blanks_before line) in
     (before.0, behind.0, before.1, behind.1, before.2 ∙ ap (λ t. before.0 ++ t) behind.2)
 
--- blanks hold nothing else
-pub no-text-in-blanks : (before text behind others : List ℕ) (first : ℕ) → text ≡ first ∷ others → is_blank first ≡ false
-    → list_all is_blank (before ++ (text ++ behind)) ≡ false
-no-text-in-blanks [] text behind others first is no_blank = ap (λ t. list_all is_blank (t ++ behind)) is ∙ rw no_blank
-no-text-in-blanks (b ∷ before) text behind others first is no_blank = rw (no-text-in-blanks before text behind others first is no_blank) (and-false (is_blank b))
-
 -- of blanks alone nothing is left
 none-before : (line : List ℕ) → blank line → without_blanks_before line ≡ []
 none-before [] h = refl

@@ -56,11 +56,6 @@ module _ {C L : Type 0} (eq : C → C → Bool) (known : List C) (cs : List (Can
     );
   }
 
-  pub nothing-placed : (at : ℕ) (old : List ℕ) → AddsNew eq known cs at at old old
-  nothing-placed at old = record {
-    members = λ i. (λ had. inl had, λ had. elim had [ inl before ↦ before | inr here ↦ absurd (let l = here.0 in let h = here.1 in omega arith) ]);
-  }
-
   pub then-placed : (from at to : ℕ) (old mid new : List ℕ) → from ≤ at → at ≤ to → AddsNew eq known cs from at old mid → AddsNew eq known cs at to mid new → AddsNew eq known cs from to old new
   then-placed from at to old mid new low high a b = record {
     members = λ i. (

@@ -54,11 +54,6 @@ IsBelow p limit (Statement q) = ⊥
 IsBelow p limit (Expiry q number name) = (q ≡ p) × (number < limit)
 IsBelow p limit (Delivery name) = ⊥
 
-below-of : (p : Path) (limit : ℕ) (label : Label) → IsBelow p limit label → IsOf p label
-below-of p limit (Statement q) is = absurd is
-below-of p limit (Expiry q number name) is = is.0
-below-of p limit (Delivery name) is = is
-
 below-more : (p : Path) (limit more : ℕ) → limit ≤ more → (label : Label) → IsBelow p limit label → IsBelow p more label
 below-more p limit more le (Statement q) is = is
 below-more p limit more le (Expiry q number name) is = (is.0, omega (arith, le, is.1))

@@ -95,9 +95,6 @@ contains-map f xs a h = let lt = h.1 in let long = length-map xs f in (h.0, omeg
 
 -- ---- timers
 
-has-step : Option Frame → Type 0
-has-step o = is_some o ≡ true
-
 running-is : (state : TimerState) → is_running state ≡ true → state ≡ timer.Running
 running-is timer.Running e = refl
 running-is timer.Inactive e = absurd (let found = e in cc)

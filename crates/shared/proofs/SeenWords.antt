@@ -15,9 +15,6 @@ along-round m s t high = grind (arith, nat_tests)
 pub along-low : (m s t : ℕ) → s < m → t < m → along m s t < m
 along-low m s t low near = dite (dec_le m (s + t)) (λ high. omega (arith, along-round m s t high)) (λ less. let is = along-is m s t (lt_of_not-le less) in omega (arith, is, lt_of_not-le less))
 
-pub along-begin : (m s : ℕ) → s < m → along m s 0 ≡ s
-along-begin m s low = omega (arith, along-is m s 0 (omega arith))
-
 -- the next word on the way
 pub along-turn : (m s t : ℕ) → s < m → t < m → along m s t + 1 ≡ m → along m s (t + 1) ≡ 0
 along-turn m s t low near last = dite (dec_le m (s + t)) (λ high. absurd (omega (arith, along-round m s t high)))

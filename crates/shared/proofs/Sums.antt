@@ -2,8 +2,6 @@
 use Rattle.std.proofs.Common.{◌≡◌, ◌≢◌, ℕ, zero, suc, ◌+◌, ◌<◌, ◌≤◌, cond, ◌==◌, List, [], ◌∷◌, ◌++◌, set, sym, refl, ap, ◌∙◌, eq-eqb, ne_eqb, arith}
 use Rattle.std.proofs.lemmas.List.Sums.{sum_by-cons, sum_by-append, sum_by_push}
 use mathlib.Core.Option.{some, some-injective, some-ne-none}
-use mathlib.Core.Logic.{dite}
-use native.Mathlib.Decide.{dec_le}
 use lib.ListN.{get_elem?}
 use Rattle.shared.specs.Totals.{total, times}
 
@@ -49,12 +47,6 @@ module _ {V : Type 0} where
       omega (arith, ap f same, sum_by-cons f u us, none-has f g us gs (λ j. none (suc j)))
   total-alone f g (u ∷ us) (suc i) v at e none = let has = total-has g us i v at in let g0 : g u ≡ 0 = omega (arith, sum_by-cons g u us) in let gs : total g us ≡ g v = omega (arith, sum_by-cons g u us) in
       omega (arith, sum_by-cons f u us, none 0 u refl g0, total-alone f g us i v at gs (λ j. none (suc j)))
-
-  -- where the sum is not 0, some view has a part of it
-  pub total-some : (f : V → ℕ) (views : List V) → 0 < total f views → (id : ℕ) × (v : V) × (get_elem? views id ≡ some v) × (0 < f v)
-  total-some f [] h = absurd (omega arith)
-  total-some f (u ∷ us) h = dite (dec_le 1 (f u)) (λ more. (0, u, refl, omega arith))
-      (λ none. let t = total-some f us (omega (arith, sum_by-cons f u us)) in (suc t.0, t.1, t.2, t.3))
 
 pub times-append : (x : ℕ) (xs ys : List ℕ) → times x (xs ++ ys) ≡ times x xs + times x ys
 times-append x xs ys = sum_by-append (λ (y : ℕ). cond (y == x) 1 0) xs ys

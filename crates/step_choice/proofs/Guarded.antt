@@ -8,7 +8,7 @@ use Rattle.ttcn_syntax.specs.declared.tree.definition.DefinitionKind.TheVariants
 use Rattle.ttcn_syntax.specs.declared.tree.statement.Event.{Event}
 use Rattle.semantics.specs.Branches.{Chance, Judge, Written, behind_guard, branches_of, open_branch, written_with}
 use Rattle.semantics.specs.Events as events
-use Rattle.semantics.specs.Events.{Passed, chosen_by, try_event}
+use Rattle.semantics.specs.Events.{chosen_by, try_event}
 use Rattle.semantics.specs.Items.{Item}
 use Rattle.step_choice.specs.Choices.{Finds}
 use Rattle.step_snapshot.specs.Tests.{extent_of}
@@ -60,19 +60,6 @@ open-taken s judge place way e block deed (effect, (is, same)) =
         ),
       ),
     )
-
-pub open-passed : (s : Snapshot) (judge : Judge) (place : Span) (e : Event) (block : List Item)
-    → try_event (test_of s) (seen_by s) (own_by s) judge e ≡ Passed
-    → first_of s (open_branch (test_of s) judge place (Some e) block ∷ []) ≡ events.Nothing
-open-passed s judge place e block is =
-    ap (λ t. chosen_by (record { place = place; judge = judge; event = Some e; way = record { block = block; frames = [] } }) t events.Nothing) is
-
-pub open-fault : (s : Snapshot) (judge : Judge) (place : Span) (way : ℕ) (e : Event) (block : List Item) (fault : Fault)
-    → Tries s judge.site (try_event (test_of s) (seen_by s) (own_by s) judge e) (Err fault)
-    → Finds s (Is way block) (first_of s (open_branch (test_of s) judge place (Some e) block ∷ [])) (Err fault)
-open-fault s judge place way e block Dynamic (why, is) =
-    (why, ap (λ t. chosen_by (record { place = place; judge = judge; event = Some e; way = record { block = block; frames = [] } }) t events.Nothing) is)
-open-fault s judge place way e block Memory given = tt
 
 -- an `else` is taken
 pub else-taken : (s : Snapshot) (judge : Judge) (place : Span) (way : ℕ) (block : List Item)

@@ -1,5 +1,5 @@
 -- What is stored of a message goes where the redirects say.
-use Rattle.std.proofs.Common.{◌≡◌, true, false, List, [], ◌∷◌, ◌++◌, map, Option, Some, None, cond, refl, sym, ap, ◌∙◌}
+use Rattle.std.proofs.Common.{◌≡◌, true, List, [], ◌∷◌, ◌++◌, map, Option, Some, None, cond, refl, sym, ap, ◌∙◌}
 use Rattle.std.proofs.lemmas.List.{map-append}
 use Rattle.ttcn_syntax.specs.declared.tree.expression.Reference.{Reference}
 use Rattle.semantics.specs.Events.{Redirect, fits_sender, redirected_sender, redirected_value}
@@ -27,31 +27,7 @@ pub no-value : (test : Test) (site : Site) (reference : Option Reference) (v : V
 no-value test site None v is = refl
 no-value test site (Some reference) v is = absurd (let e = is in cc)
 
-pub one-value : (test : Test) (site : Site) (reference : Option Reference) (v : Value) (goal : Goal) → Some (goal_by goal) ≡ goal_if_any test.definitions site reference
-    → AreStored test site ((target_of goal.target, v) ∷ []) (redirected_value reference v)
-one-value test site None v goal is = absurd (let e = is in cc)
-one-value test site (Some reference) v goal is =
-    let same : goal_by goal ≡ goal_at test.definitions site reference = cc in
-    ap (λ g. (g.target, v) ∷ []) same
-
 -- ---- the sender
-
-pub no-sender : (test : Test) (site : Site) (reference : Option Reference) (sender : Option ComponentId) → None ≡ goal_if_any test.definitions site reference
-    → redirected_sender (scope_at test.definitions site) reference sender ≡ Yields []
-no-sender test site None sender is = refl
-no-sender test site (Some reference) sender is = absurd (let e = is in cc)
-
-pub none-sent : (test : Test) (site : Site) (reference : Option Reference) (goal : Goal) → Some (goal_by goal) ≡ goal_if_any test.definitions site reference
-    → redirected_sender (scope_at test.definitions site) reference None ≡ Fails DynamicError
-none-sent test site None goal is = absurd (let e = is in cc)
-none-sent test site (Some reference) goal is = refl
-
-pub sender-refused : (test : Test) (site : Site) (reference : Option Reference) (sender : ComponentId) (goal : Goal) → Some (goal_by goal) ≡ goal_if_any test.definitions site reference
-    → fits_sender sender goal.wanted ≡ false → redirected_sender (scope_at test.definitions site) reference (Some sender) ≡ Fails DynamicError
-sender-refused test site None sender goal is not = absurd (let e = is in cc)
-sender-refused test site (Some reference) sender goal is not =
-    let same : goal_by goal ≡ goal_at test.definitions site reference = cc in
-    ap (λ b. cond b (Yields (record { reference = reference; value = value.Component sender } ∷ [])) (Fails DynamicError)) (ap (λ g. fits_sender sender g.wanted) (sym same) ∙ not)
 
 pub one-sender : (test : Test) (site : Site) (reference : Option Reference) (sender : ComponentId) (goal : Goal) → Some (goal_by goal) ≡ goal_if_any test.definitions site reference
     → fits_sender sender goal.wanted ≡ true

@@ -1,5 +1,5 @@
 -- Declarations one behind the other.
-use Rattle.std.proofs.Common.{◌≡◌, ℕ, suc, ◌+◌, ◌<◌, ◌≤◌, List, ◌∷◌, length, get_or, drop, Result, Err, refl, sym, ap, ◌∙◌, arith}
+use Rattle.std.proofs.Common.{◌≡◌, ℕ, suc, ◌+◌, ◌<◌, ◌≤◌, List, ◌∷◌, length, get_or, drop, Result, Err, sym, ap, ◌∙◌, arith}
 use Rattle.std.proofs.Math.Seq.{drop-cons}
 use Rattle.std.proofs.lemmas.List.{drop_all}
 use Rattle.std.specs.Result.{IsErrAnd}
@@ -12,9 +12,6 @@ use Rattle.value_types.specs.declared.fault.Fault.{Fault}
 -- the first so many give this frame
 abbrev pub HaveTurned : {A : Type 0} → (Frame → A → Outcome Frame) → List A → Frame → ℕ → Frame → Type 0
 HaveTurned declared xs first n now = declared_in_turn declared xs first ≡ declared_in_turn declared (drop n xs) now
-
-pub none-turned : {A : Type 0} (declared : Frame → A → Outcome Frame) (xs : List A) (first : Frame) → HaveTurned declared xs first 0 first
-none-turned declared xs first = refl
 
 -- what the next one gives is given by those that are left
 next-turned : {A : Type 0} (declared : Frame → A → Outcome Frame) (xs : List A) (now : Frame) (n : ℕ) (x : A) → n < length xs → x ≡ get_or xs n x

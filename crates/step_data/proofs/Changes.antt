@@ -1,5 +1,5 @@
 -- Frames and defaults that come and go, by slots and by names.
-use Rattle.std.proofs.Common.{◌≡◌, ℕ, Bool, true, false, not, nat_eq, bytes_eq, List, [], ◌∷◌, ◌++◌, map, Option, Some, Err, cond, refl, sym, ap, ◌∙◌}
+use Rattle.std.proofs.Common.{◌≡◌, ℕ, Bool, true, false, not, nat_eq, bytes_eq, List, [], ◌∷◌, ◌++◌, map, Option, Some, cond, refl, sym, ap, ◌∙◌}
 use Rattle.std.specs.List.{All, filter, find, remove}
 use Rattle.std.specs.Option.{option_map}
 use Rattle.std.proofs.lemmas.List.Elements.{All-cons, All-head, All-tail}
@@ -12,9 +12,6 @@ use Rattle.config_parts.specs.declared.frame.Data.{Data}
 use Rattle.config_parts.specs.declared.frame.Frame.{Frame}
 use Rattle.config_parts.proofs.Named.{same-name}
 use Rattle.value_types.specs.Frames.{entry}
-use Rattle.value_types.specs.Outcomes.{Fails, Gives, GivesBy, Outcome, Yields, outcome_map}
-use Rattle.value_types.specs.declared.fault.Fault.{Fault}
-use Rattle.value_types.specs.declared.fault.Fault.TheVariants.{Dynamic, Memory}
 use Rattle.value_types.specs.declared.value.Value.{Value}
 
 -- ---- defaults
@@ -66,10 +63,3 @@ in-frames legend is slot (frame ∷ frames) own e =
 pub held-by : (legend : Legend) → IsLegend legend → (last : Bool) (slot : ℕ) (own : Data) → held_in last slot own ≡ entry (storing.values_in last (data_by legend own)) (legend.names slot)
 held-by legend is true slot own = in-frames legend is slot own.calls own refl
 held-by legend is false slot own = entry-by legend is slot own.members.values
-
--- ---- what a call gives by what it stands for
-
-pub map-fault : {A B : Type 0} {C : Type 0} (f : A → B) (g : C → B) (o : Outcome A) (e : Fault) → Gives o (Err e) → GivesBy g (outcome_map f o) (Err e)
-map-fault f g (Yields a) Dynamic is = absurd (let bad = is in cc)
-map-fault f g (Fails why) Dynamic is = refl
-map-fault f g o Memory is = tt

@@ -2,9 +2,8 @@
 use Rattle.std.proofs.Common.{◌≡◌, Option, Result, Ok, Err, sym, subst}
 use Rattle.std.specs.Result.{IsErrAnd}
 use Rattle.semantics.specs.Statements as said
-use Rattle.step_forms.specs.Asks.{Asks, AsksWithin}
+use Rattle.step_forms.specs.Asks.{Asks}
 use Rattle.config_parts.specs.Legend.{Legend}
-use Rattle.config_parts.specs.Views.{Extent}
 use Rattle.config_parts.specs.declared.act.Act.{Act}
 use Rattle.value_types.specs.Outcomes.{Fails, Gives, GivesBy, Outcome, Yields}
 use Rattle.value_types.specs.declared.fault.Fault.{Fault}
@@ -29,10 +28,6 @@ handed legend asked e (Err x) is h = subst (λ y. Asks legend asked (Err y)) (sy
 pub refused : (legend : Legend) (asked : said.Act) (r : Result (Option Act) Fault) → IsErrAnd r (λ x. x ≡ Memory) → Asks legend asked r
 refused legend asked (Ok a) is = absurd is
 refused legend asked (Err x) is = subst (λ y. Asks legend asked (Err y)) (sym is) tt
-
-pub nothing-within : (size : Extent) (P : Fault → Type 0) (r : Result (Option Act) Fault) → IsErrAnd r P → AsksWithin size r
-nothing-within size P (Ok a) is = absurd is
-nothing-within size P (Err x) is = tt
 
 -- a part is there
 pub there : {A : Type 0} (legend : Legend) (f : A → said.Act) (o : Outcome A) (a : A) (r : Result (Option Act) Fault) → o ≡ Yields a → Asks legend (f a) r → Asks legend (said.acting f o) r

@@ -19,7 +19,7 @@ use Rattle.config_parts.specs.Legend.{Legend, frame_by}
 use Rattle.config_parts.specs.Views.{view_by}
 use Rattle.config_parts.specs.declared.frame.Cells.{Cells}
 use Rattle.graph_names.specs.Known.{names_of_kind}
-use Rattle.value_types.specs.Outcomes.{Failure, Fails, Yields, outcome_and_then, outcome_map, value_in}
+use Rattle.value_types.specs.Outcomes.{Yields, outcome_and_then, outcome_map}
 use Rattle.value_types.specs.Templates.{arguments}
 use Rattle.value_types.specs.declared.value.Value.{Value}
 
@@ -27,34 +27,9 @@ module _ (stand : said.Stand) (site : Site) (call : Call) where
   abbrev pub meant : Option ℕ
   meant = behaviour_meant (module_names stand.test.definitions call.name)
 
-  -- nothing that can be called
-  pub none-called : meant ≡ None → value_in (said.frame_of_call stand site call) ≡ None
-  none-called none = ap (λ at. value_in (said.called_frame stand site call at)) none
-
   module _ (at : ℕ) (is : meant ≡ Some at) where
     called-at : said.frame_of_call stand site call ≡ said.frame_at stand site at call.arguments (said.body_of (kind_at stand.test.definitions at))
     called-at = ap (said.called_frame stand site call) is
-
-    -- no function
-    no-body : (body : Option (List Statement)) → said.body_of (kind_at stand.test.definitions at) ≡ body → option_map (items stand.test.definitions (beginning at)) body ≡ None
-        → said.frame_of_call stand site call ≡ said.frame_at stand site at call.arguments None
-    no-body None same none = called-at ∙ ap (said.frame_at stand site at call.arguments) same
-    no-body (Some body) same none = absurd (let bad = none in cc)
-
-    pub none-begun : None ≡ option_map (items stand.test.definitions (beginning at)) (said.body_of (kind_at stand.test.definitions at)) → value_in (said.frame_of_call stand site call) ≡ None
-    none-begun none = ap value_in (no-body (said.body_of (kind_at stand.test.definitions at)) refl (sym none))
-
-    -- its arguments fail
-    fails-at : (body : Option (List Statement)) (list : List Item) (why : Failure) → said.body_of (kind_at stand.test.definitions at) ≡ body → Some list ≡ option_map (items stand.test.definitions (beginning at)) body
-        → arguments (said.reads stand site) (parameters_of (kind_at stand.test.definitions at)) call.arguments ≡ Fails why → said.frame_of_call stand site call ≡ Fails why
-    fails-at None list why same found fails = absurd (let bad = found in cc)
-    fails-at (Some body) list why same found fails =
-        called-at ∙ ap (said.frame_at stand site at call.arguments) same
-        ∙ ap (outcome_map (λ values. said.function_frame stand.test at values body)) fails
-
-    pub arguments-fail : (list : List Item) (why : Failure) → Some list ≡ option_map (items stand.test.definitions (beginning at)) (said.body_of (kind_at stand.test.definitions at))
-        → arguments (said.reads stand site) (parameters_of (kind_at stand.test.definitions at)) call.arguments ≡ Fails why → said.frame_of_call stand site call ≡ Fails why
-    arguments-fail list why found fails = fails-at (said.body_of (kind_at stand.test.definitions at)) list why refl found fails
 
     -- its frame
     yields-at : (body : Option (List Statement)) (list : List Item) (values : List Value) → said.body_of (kind_at stand.test.definitions at) ≡ body → Some list ≡ option_map (items stand.test.definitions (beginning at)) body
@@ -76,9 +51,6 @@ module _ (stand : said.Stand) (site : Site) (call : Call) where
         ∙ ap Yields (sym (ap frame-of seen))
 
 -- ---- activations
-
-pub none-activated : (stand : said.Stand) (site : Site) (call : Call) (own : rules.Data) → altstep_meant (module_names stand.test.definitions call.name) ≡ None → value_in (said.activated stand site call own) ≡ None
-none-activated stand site call own none = ap (λ at. value_in (said.activated_at stand site call own at)) none
 
 pub activated-as : (stand : said.Stand) (site : Site) (call : Call) (own : rules.Data) (at : ℕ) (values : List Value) → altstep_meant (module_names stand.test.definitions call.name) ≡ Some at
     → arguments (said.reads stand site) (parameters_of (kind_at stand.test.definitions at)) call.arguments ≡ Yields values → said.activated stand site call own ≡ activated at own values

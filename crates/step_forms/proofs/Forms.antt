@@ -4,13 +4,10 @@ use Rattle.ttcn_syntax.specs.declared.tree.expression.ComponentRef.{ComponentRef
 use Rattle.ttcn_syntax.specs.declared.tree.statement.Action.{out-Action, out-roll-Action}
 use Rattle.ttcn_syntax.specs.declared.tree.statement.Action.TheOpen.{Action-F}
 use Rattle.ttcn_syntax.specs.declared.tree.statement.Action.TheVariants as form
-use Rattle.ttcn_syntax.specs.declared.tree.expression.Reference.{Reference}
-use Rattle.ttcn_syntax.specs.declared.tree.statement.LogItem.{LogItem}
 use Rattle.ttcn_syntax.specs.declared.tree.statement.Mapping.{Mapping}
 use Rattle.ttcn_syntax.specs.declared.tree.statement.PortRef.{PortRef}
 use Rattle.ttcn_syntax.specs.declared.tree.statement.Send.{Send}
 use Rattle.ttcn_syntax.specs.declared.tree.statement.Statement.{Statement}
-use Rattle.ttcn_syntax.specs.declared.tree.statement.Verdict.{Verdict}
 use Rattle.ttcn_syntax.specs.declared.tree.value.Call.{Call}
 use Rattle.ttcn_syntax.specs.declared.tree.value.Value.{Value as WrittenValue}
 use Rattle.step_forms.specs.Asks.{Asks}
@@ -38,29 +35,8 @@ does-StartTimer s name is = ap out-Action (is ∙ sym (form.rolls-StartTimer nam
 pub does-StopOf : (s : Statement) (component : ComponentRef) → Does s (form.StopOf component) → action_of s ≡ Action-F.StopOf component
 does-StopOf s component is = ap out-Action (is ∙ sym (form.rolls-StopOf component)) ∙ out-roll-Action (Action-F.StopOf component)
 
-pub does-Repeat : (s : Statement) → Does s form.Repeat → action_of s ≡ Action-F.Repeat
-does-Repeat s is = ap out-Action (is ∙ sym form.rolls-Repeat) ∙ out-roll-Action Action-F.Repeat
-
-pub does-Return : (s : Statement) (v : Option WrittenValue) → Does s (form.Return v) → action_of s ≡ Action-F.Return v
-does-Return s v is = ap out-Action (is ∙ sym (form.rolls-Return v)) ∙ out-roll-Action (Action-F.Return v)
-
-pub does-Stop : (s : Statement) → Does s form.Stop → action_of s ≡ Action-F.Stop
-does-Stop s is = ap out-Action (is ∙ sym form.rolls-Stop) ∙ out-roll-Action Action-F.Stop
-
-pub does-Log : (s : Statement) (logged : List LogItem) → Does s (form.Log logged) → action_of s ≡ Action-F.Log logged
-does-Log s logged is = ap out-Action (is ∙ sym (form.rolls-Log logged)) ∙ out-roll-Action (Action-F.Log logged)
-
-pub does-Setverdict : (s : Statement) (verdict : Verdict) (reasons : List LogItem) → Does s (form.Setverdict verdict reasons) → action_of s ≡ Action-F.Setverdict verdict reasons
-does-Setverdict s verdict reasons is = ap out-Action (is ∙ sym (form.rolls-Setverdict verdict reasons)) ∙ out-roll-Action (Action-F.Setverdict verdict reasons)
-
 pub does-StartComponent : (s : Statement) (component : ComponentRef) (call : Call) → Does s (form.StartComponent component call) → action_of s ≡ Action-F.StartComponent component call
 does-StartComponent s component call is = ap out-Action (is ∙ sym (form.rolls-StartComponent component call)) ∙ out-roll-Action (Action-F.StartComponent component call)
-
-pub does-Activate : (s : Statement) (call : Call) → Does s (form.Activate call) → action_of s ≡ Action-F.Activate call
-does-Activate s call is = ap out-Action (is ∙ sym (form.rolls-Activate call)) ∙ out-roll-Action (Action-F.Activate call)
-
-pub does-Deactivate : (s : Statement) (reference : Option Reference) → Does s (form.Deactivate reference) → action_of s ≡ Action-F.Deactivate reference
-does-Deactivate s reference is = ap out-Action (is ∙ sym (form.rolls-Deactivate reference)) ∙ out-roll-Action (Action-F.Deactivate reference)
 
 -- what the whole of a statement asks for, by its form
 pub whole-asks : (legend : Legend) (stand : said.Stand) (site : Site) (s : Statement) (does : rules.Does) (r : Result (Option Act) Fault) → action_of s ≡ does → Asks legend (said.act_whole stand site s does) r

@@ -1,5 +1,5 @@
 -- Marks in lists, and the last frame that has one.
-use Rattle.std.proofs.Common.{◌≡◌, refl, sym, ap, ◌∙◌, ℕ, zero, suc, subst, ◌+◌, ◌<◌, arith, List, [], ◌∷◌, map, length, drop, get_or, slice_get, Option, Some, None}
+use Rattle.std.proofs.Common.{◌≡◌, refl, sym, ap, ◌∙◌, ℕ, zero, suc, subst, ◌+◌, ◌<◌, arith, List, [], ◌∷◌, map, length, drop, get_or, slice_get, Option, Some}
 use Rattle.std.proofs.Math.Seq.{drop-cons}
 use Rattle.std.proofs.lemmas.List.Elements.{All-head, All-tail}
 use Rattle.std.specs.List.{All}
@@ -7,9 +7,9 @@ use Rattle.ttcn_syntax.specs.declared.tree.definition.Definition.{Definition}
 use Rattle.ttcn_syntax.specs.declared.tree.statement.Statement.{Statement}
 use Rattle.step_forms.specs.internal.Marks.{going_on_from}
 use Rattle.semantics.specs.Configurations as rules
-use Rattle.semantics.specs.Items.{Doing, Item, Mark, Part, Target, Waiting}
+use Rattle.semantics.specs.Items.{Item, Mark}
 use Rattle.semantics.specs.Sites.{Site}
-use Rattle.semantics.specs.Taking.{from_mark, repeat_in, repeated, without_marks}
+use Rattle.semantics.specs.Taking.{from_mark, repeat_in, repeated}
 use Rattle.config_parts.specs.Legend.{Legend, frame_by}
 use Rattle.config_parts.specs.Views.{Extent, IsFrameWithin}
 use Rattle.config_parts.specs.declared.frame.Frame.{Frame}
@@ -19,28 +19,6 @@ abbrev pub repeated_by : Legend → List Frame → Option (List rules.Frame)
 repeated_by legend calls = repeated (map (frame_by legend) calls)
 
 -- ---- one list
-
-pub mark-passed : (site : Site) (s : Statement) (list rest : List Item) → list ≡ Mark site s ∷ rest → without_marks list ≡ without_marks rest
-mark-passed site s list rest is = ap without_marks is
-
-pub nothing-left : (list : List Item) → list ≡ [] → without_marks list ≡ list
-nothing-left list is = ap without_marks is ∙ sym is
-
-pub doing-first : (site : Site) (s : Statement) (part : Part) (list rest : List Item) → list ≡ Doing site s part ∷ rest → without_marks list ≡ list
-doing-first site s part list rest is = ap without_marks is ∙ sym is
-
-pub waiting-first : (target : Target) (list rest : List Item) → list ≡ Waiting target ∷ rest → without_marks list ≡ list
-waiting-first target list rest is = ap without_marks is ∙ sym is
-
-pub doing-passed : (site : Site) (s : Statement) (part : Part) (list rest : List Item) → list ≡ Doing site s part ∷ rest → from_mark list ≡ from_mark rest
-doing-passed site s part list rest is = ap from_mark is
-
-pub waiting-passed : (target : Target) (list rest : List Item) → list ≡ Waiting target ∷ rest → from_mark list ≡ from_mark rest
-waiting-passed target list rest is = ap from_mark is
-
--- of a mark, and of nothing, the first way is the marked `alt` put back
-pub nothing-marked : (definitions : List Definition) (list : List Item) → list ≡ [] → from_mark list ≡ slice_get (ways_of definitions list) 0
-nothing-marked definitions list is = ap from_mark is ∙ sym (ap (λ l. slice_get (ways_of definitions l) 0) is)
 
 pub mark-found : (definitions : List Definition) (site : Site) (s : Statement) (list rest : List Item) → list ≡ Mark site s ∷ rest → from_mark list ≡ slice_get (ways_of definitions list) 0
 mark-found definitions site s list rest is = ap from_mark is ∙ sym (ap (λ l. slice_get (ways_of definitions l) 0) is)
@@ -52,9 +30,6 @@ module _ (legend : Legend) (calls : List Frame) (n : ℕ) (f : Frame) (within : 
   here =
       drop-cons calls n f within ∙ ap (λ (x : Frame). x ∷ drop (suc n) calls) (sym is)
       ∙ ap (λ m. f ∷ drop m calls) (let same : suc n ≡ n + 1 = omega arith in same)
-
-  pub frame-passed : from_mark (legend.lists f.remaining) ≡ None → repeated_by legend (drop n calls) ≡ repeated_by legend (drop (n + 1) calls)
-  frame-passed none = ap (repeated_by legend) here ∙ ap (λ found. repeat_in (frame_by legend f) (map (frame_by legend) (drop (n + 1) calls)) found (repeated_by legend (drop (n + 1) calls))) none
 
   pub frame-found : (items : List Item) → from_mark (legend.lists f.remaining) ≡ Some items → repeated_by legend (drop n calls) ≡ Some (going_on_from items (map (frame_by legend) (drop n calls)))
   frame-found items some =

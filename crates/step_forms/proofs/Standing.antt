@@ -1,8 +1,7 @@
 -- What is known, what may come and what is named where a part of a statement stands first.
-use Rattle.std.proofs.Common.{◌≡◌, refl, ap, subst, ◌∙◌, ℕ, List, [], ◌∷◌, Bool, Option, Some, None, arith}
+use Rattle.std.proofs.Common.{◌≡◌, refl, ap, subst, ◌∙◌, ℕ, List, [], ◌∷◌, Option, Some, None, arith}
 use Rattle.std.specs.Option.{option_map}
 use Rattle.std.proofs.Common.{map, get_or, IfSome}
-use Rattle.check_scope.specs.declared.types.DataType.{DataType}
 use Rattle.step_forms.specs.internal.Places.{list_at}
 use Rattle.step_forms.specs.internal.Stands.{site_of}
 use Rattle.step_forms.specs.declared.stand.Stand.{Stand}
@@ -10,7 +9,7 @@ use Rattle.semantics.specs.Items.{Does, Doing, Part, action_of}
 use Rattle.step_snapshot.specs.Slots.{IsKnown, NoneIsMissing}
 use Rattle.graph_items.specs.Standing.{part_of}
 use Rattle.graph_sites.specs.declared.facts.EventFacts.{EventFacts as CodeFacts}
-use Rattle.graph_sites.specs.Facts.{event_by, Declares, EventFacts, Goal, Sends, Sets, Stores, Waits, facts_by, facts_of, facts_of_part}
+use Rattle.graph_sites.specs.Facts.{event_by, EventFacts, Goal, Stores, Waits, facts_by, facts_of, facts_of_part}
 use Rattle.graph_names.specs.Known.{Known, names_if_any, names_of, names_of_part}
 use Rattle.ttcn_graph.specs.Ways.{ways_of, ways_of_part}
 
@@ -58,17 +57,8 @@ declared-known names name_in (Some a) none = first-known names (name_in a) [] no
 pub one-goal : (a b : Goal) → Stores a ≡ Stores b → a ≡ b
 one-goal a b is = cc
 
-pub one-type : (a b : Option DataType) → Declares a ≡ Declares b → a ≡ b
-one-type a b is = cc
-
 pub one-list : (a b : List EventFacts) → Waits a ≡ Waits b → a ≡ b
 one-list a b is = cc
-
-pub one-own : (a b : Bool) → Sets a ≡ Sets b → a ≡ b
-one-own a b is = cc
-
-pub one-sent : (a b : Option DataType) → Sends a ≡ Sends b → a ≡ b
-one-sent a b is = cc
 
 -- the first of the events that are known
 pub first-event : (found : List CodeFacts) (one : CodeFacts) (event : EventFacts) → map event_by found ≡ event ∷ [] → one ≡ get_or found 0 one → event_by one ≡ event

@@ -1,5 +1,5 @@
 -- Where label 1 led right and label 0 leads down from there, one comes there first down and then right.
-use Rattle.std.proofs.Common.{◌≡◌, ◌==◌, ℕ, zero, suc, ◌+◌, ◌%◌, ◌<◌, Bool, true, false, List, [], ◌∷◌, arith, refl, subst, sym}
+use Rattle.std.proofs.Common.{◌≡◌, ◌==◌, ℕ, zero, suc, ◌+◌, ◌%◌, ◌<◌, Bool, true, false, [], ◌∷◌, arith, refl, subst, sym}
 use Rattle.std.specs.Prelude.{Contains, nat_lt}
 use Rattle.std.specs.Ordering.{nat_cmp}
 use Rattle.std.proofs.lemmas.Bool.Decides.{nat_tests}

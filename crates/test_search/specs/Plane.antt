@@ -1,6 +1,6 @@
 -- The points of a plane of three by three, from the first one down and to the right.
 use Rattle.std.specs.Prelude.{◌≡◌, ◌==◌, ℕ, ◌+◌, ◌%◌, ◌<◌, ◌≤◌, nat_lt, Bool, List, [], ◌∷◌, None, Some, if◌then◌else◌, AllPairs, Contains, IfSome, get_or}
-use Rattle.std.proofs.Common.{zero, suc, refl, arith, true, false, cond, subst, sym, ap}
+use Rattle.std.proofs.Common.{zero, suc, refl, arith, true, false, cond}
 use Rattle.std.proofs.lemmas.Bool.Decides.{nat_tests}
 use Rattle.std.specs.Ordering.{nat_cmp}
 use Rattle.std.specs.declared.cmp.Ordering.TheVariants.{Less}

@@ -42,11 +42,6 @@ module _ {A F B : Type 0} (said : F → B) (known : List A → B) where
     pub known-put : map said (take (length new) (facts ++ x ∷ [])) ≡ map known new
     known-put = by put.extended.0 put.extended.1
 
-  -- behind none
-  pub known-refused : (lists : List (List A)) (facts : List F) (x : F) → map said facts ≡ map known lists → map said (take (length lists) (facts ++ x ∷ [])) ≡ map known lists
-  known-refused lists facts x kept =
-      ap (λ n. map said (take n (facts ++ x ∷ []))) (sym (as-long facts lists kept)) ∙ ap (map said) (take-append_seam facts (x ∷ [])) ∙ kept
-
   -- ---- at a position
 
   head-is : {X : Type 0} {a b : X} {xs ys : List X} → a ∷ xs ≡ b ∷ ys → a ≡ b
@@ -69,9 +64,3 @@ module _ {A F B : Type 0} (said : F → B) (known : List A → B) where
   missing [] at is = omega arith
   missing (y ∷ facts) zero is = absurd (true≢false (sym (ap is_some is)))
   missing (y ∷ facts) (suc at) is = let e = missing facts at is in omega (arith, e)
-
-  pub known-all : (facts : List F) (lists : List (List A)) (at : ℕ) → map said facts ≡ map known lists → at < length lists → None ≡ slice_get facts at → ⊥
-  known-all facts lists at kept below is =
-      let long = as-long facts lists kept in
-      let past = missing facts at is in
-      omega (arith, long, past, below)

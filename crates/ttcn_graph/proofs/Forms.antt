@@ -1,5 +1,5 @@
 -- What may come of each form of statement.
-use Rattle.std.proofs.Common.{◌≡◌, refl, sym, ap, ◌∙◌, ℕ, true, false, true≢false, List, [], ◌∷◌, Option, Some, None, is_some}
+use Rattle.std.proofs.Common.{◌≡◌, refl, sym, ap, ◌∙◌, ℕ, true≢false, List, [], ◌∷◌, Option}
 use Rattle.ttcn_syntax.specs.declared.tree.definition.Definition.{Definition}
 use Rattle.ttcn_syntax.specs.declared.tree.expression.Expr.{Expr}
 use Rattle.ttcn_syntax.specs.declared.tree.statement.Action.{out-Action, out-roll-Action, roll-Action, roll-out-Action}
@@ -11,7 +11,6 @@ use Rattle.ttcn_syntax.specs.declared.tree.statement.Conditional.{Conditional}
 use Rattle.ttcn_syntax.specs.declared.tree.statement.Constants.{Constants}
 use Rattle.ttcn_syntax.specs.declared.tree.statement.Event.{Event}
 use Rattle.ttcn_syntax.specs.declared.tree.statement.ForStart.{ForStart}
-use Rattle.ttcn_syntax.specs.declared.tree.statement.ForStart.TheVariants as for_start
 use Rattle.ttcn_syntax.specs.declared.tree.statement.Statement.{Statement, out-Statement}
 use Rattle.ttcn_syntax.specs.declared.tree.statement.Timer.{Timer}
 use Rattle.ttcn_syntax.specs.declared.tree.statement.Variables.{Variables}
@@ -19,8 +18,8 @@ use Rattle.ttcn_syntax.specs.declared.tree.value.Call.{Call}
 use Rattle.semantics.specs.Items as rules
 use Rattle.semantics.specs.Items.{Doing, Item, action_of, items_of_action, items_of_statement, site_after}
 use Rattle.semantics.specs.Sites.{Site, entries_of, scope_at, site_behind}
-use Rattle.ttcn_graph.specs.Ways.{ways_of, ways_of_call, ways_of_part}
-use Rattle.ttcn_graph.specs.internal.Drawing.{AreNames, Does}
+use Rattle.ttcn_graph.specs.Ways.{ways_of, ways_of_part}
+use Rattle.ttcn_graph.specs.internal.Drawing.{Does}
 
 -- ---- what a statement does
 
@@ -64,20 +63,6 @@ pub part-is : (definitions : List Definition) (site : Site) (s : Statement) (res
 part-is definitions site s rest part does is = ap (ways_of_part definitions site s rest part) is
 
 -- ---- declarations
-
-pub names-of-Variables : (definitions : List Definition) (s : Statement) (vs : Variables) → Does s (form.Variables vs) → AreNames definitions s vs.variables
-names-of-Variables definitions s vs is site rest k = part-is definitions site s rest (rules.Name k) (Action-F.Variables vs) (does-Variables s vs is)
-
-pub names-of-Constants : (definitions : List Definition) (s : Statement) (cs : Constants) → Does s (form.Constants cs) → AreNames definitions s []
-names-of-Constants definitions s cs is site rest k = part-is definitions site s rest (rules.Name k) (Action-F.Constants cs) (does-Constants s cs is)
-
-pub names-of-Timers : (definitions : List Definition) (s : Statement) (timers : List Timer) → Does s (form.Timers timers) → AreNames definitions s []
-names-of-Timers definitions s timers is site rest k = part-is definitions site s rest (rules.Name k) (Action-F.Timers timers) (does-Timers s timers is)
-
-pub names-of-For : (definitions : List Definition) (s : Statement) (vs : Variables) (condition : Expr) (step : Assignment) (body : List Statement)
-    → Does s (form.For (for_start.Variables vs) condition step body) → AreNames definitions s vs.variables
-names-of-For definitions s vs condition step body is site rest k =
-    part-is definitions site s rest (rules.Name k) (Action-F.For (for_start.Variables vs) condition step body) (does-For s (for_start.Variables vs) condition step body is)
 
 -- the site behind a statement, and the statement as what remains
 pub after-is : (definitions : List Definition) (site : Site) (s : Statement) (does : rules.Does) → action_of s ≡ does
@@ -134,55 +119,3 @@ module _ (definitions : List Definition) (s : Statement)
   one-of site (Action-F.StopOf reference) is = one-item definitions site s (Action-F.StopOf reference) is refl refl
   one-of site (Action-F.Activate call) is = one-item definitions site s (Action-F.Activate call) is refl refl
   one-of site (Action-F.Deactivate reference) is = one-item definitions site s (Action-F.Deactivate reference) is refl refl
-
-  pub is-one-item : (site : Site) → IsOneItem definitions site s
-  is-one-item site = one-of site (action_of s) refl
-
--- statements whose step leaves what is behind them
-module _ (definitions : List Definition) (site : Site) (s : Statement) (rest : List Item)
-    (not-Assign : (a : Assignment) → Does s (form.Assign a) → ⊥)
-    (not-Call : (call : Call) → Does s (form.Call call) → ⊥)
-    (not-Event : (event : Event) → Does s (form.Event event) → ⊥)
-    (not-Alt : (branches : List Branch) → Does s (form.Alt branches) → ⊥)
-    (not-If : (conditionals : List Conditional) (last : Option (List Statement)) → Does s (form.If conditionals last) → ⊥)
-    (not-While : (condition : Expr) (body : List Statement) → Does s (form.While condition body) → ⊥)
-    (not-DoWhile : (body : List Statement) (condition : Expr) → Does s (form.DoWhile body condition) → ⊥)
-    (not-For : (start : ForStart) (condition : Expr) (step : Assignment) (body : List Statement) → Does s (form.For start condition step body) → ⊥) where
-  no-ways-of : (does : rules.Does) → action_of s ≡ does → ways_of definitions (Doing site s rules.Whole ∷ rest) ≡ []
-  no-ways-of (Action-F.Variables vs) is = part-is definitions site s rest rules.Whole (Action-F.Variables vs) is
-  no-ways-of (Action-F.Constants cs) is = part-is definitions site s rest rules.Whole (Action-F.Constants cs) is
-  no-ways-of (Action-F.Timers timers) is = part-is definitions site s rest rules.Whole (Action-F.Timers timers) is
-  no-ways-of (Action-F.Assign a) is = absurd (not-Assign a (back s (Action-F.Assign a) is ∙ form.rolls-Assign a))
-  no-ways-of (Action-F.«Action::Call» call) is = absurd (not-Call call (back s (Action-F.«Action::Call» call) is ∙ form.rolls-Call call))
-  no-ways-of (Action-F.«Action::Event» event) is = absurd (not-Event event (back s (Action-F.«Action::Event» event) is ∙ form.rolls-Event event))
-  no-ways-of (Action-F.Alt branches) is = absurd (not-Alt branches (back s (Action-F.Alt branches) is ∙ form.rolls-Alt branches))
-  no-ways-of Action-F.Repeat is = part-is definitions site s rest rules.Whole Action-F.Repeat is
-  no-ways-of (Action-F.If conditionals last) is = absurd (not-If conditionals last (back s (Action-F.If conditionals last) is ∙ form.rolls-If conditionals last))
-  no-ways-of (Action-F.While condition body) is = absurd (not-While condition body (back s (Action-F.While condition body) is ∙ form.rolls-While condition body))
-  no-ways-of (Action-F.DoWhile body condition) is = absurd (not-DoWhile body condition (back s (Action-F.DoWhile body condition) is ∙ form.rolls-DoWhile body condition))
-  no-ways-of (Action-F.For start condition step body) is = absurd (not-For start condition step body (back s (Action-F.For start condition step body) is ∙ form.rolls-For start condition step body))
-  no-ways-of (Action-F.Return v) is = part-is definitions site s rest rules.Whole (Action-F.Return v) is
-  no-ways-of Action-F.Stop is = part-is definitions site s rest rules.Whole Action-F.Stop is
-  no-ways-of (Action-F.Log logged) is = part-is definitions site s rest rules.Whole (Action-F.Log logged) is
-  no-ways-of (Action-F.Setverdict verdict reasons) is = part-is definitions site s rest rules.Whole (Action-F.Setverdict verdict reasons) is
-  no-ways-of (Action-F.Connect one other) is = part-is definitions site s rest rules.Whole (Action-F.Connect one other) is
-  no-ways-of (Action-F.Map m) is = part-is definitions site s rest rules.Whole (Action-F.Map m) is
-  no-ways-of (Action-F.Send send) is = part-is definitions site s rest rules.Whole (Action-F.Send send) is
-  no-ways-of (Action-F.StartComponent reference call) is = part-is definitions site s rest rules.Whole (Action-F.StartComponent reference call) is
-  no-ways-of (Action-F.StartTimer timer) is = part-is definitions site s rest rules.Whole (Action-F.StartTimer timer) is
-  no-ways-of (Action-F.StopOf reference) is = part-is definitions site s rest rules.Whole (Action-F.StopOf reference) is
-  no-ways-of (Action-F.Activate call) is = part-is definitions site s rest rules.Whole (Action-F.Activate call) is
-  no-ways-of (Action-F.Deactivate reference) is = part-is definitions site s rest rules.Whole (Action-F.Deactivate reference) is
-
-  pub no-ways : ways_of definitions (Doing site s rules.Whole ∷ rest) ≡ []
-  no-ways = no-ways-of (action_of s) refl
-
--- ---- calls
-
-pub call-of-altstep : (marked : List Item) (at : Option ℕ) → is_some at ≡ true → ways_of_call marked at ≡ marked ∷ []
-call-of-altstep marked None is = absurd (true≢false (sym is))
-call-of-altstep marked (Some at) is = refl
-
-pub call-of-function : (marked : List Item) (at : Option ℕ) → is_some at ≡ false → ways_of_call marked at ≡ []
-call-of-function marked None is = refl
-call-of-function marked (Some at) is = absurd (true≢false is)

@@ -1,43 +1,20 @@
 -- How the graphs of a module are drawn.
-use mathlib.Core.Path.{fun_ext}
 use Rattle.std.proofs.Common.{◌≡◌, refl, sym, ap, subst, ◌∙◌, ℕ, zero, suc, ◌+◌, ◌<◌, ◌≤◌, false, List, [], ◌∷◌, ◌++◌, map, length, get_or, slice_get, Option, Some, None, arith, inl, inr}
 use Rattle.std.proofs.lemmas.Bool.{cases_lt}
-use Rattle.std.proofs.lemmas.List.{append-nil, length-append}
+use Rattle.std.proofs.lemmas.List.{length-append}
 use Rattle.std.specs.Option.{IfNone, IfSome, option_map}
 use Rattle.ttcn_syntax.specs.declared.tree.definition.Definition.{Definition}
-use Rattle.ttcn_syntax.specs.declared.tree.statement.Branch.{Branch}
-use Rattle.ttcn_syntax.specs.declared.tree.statement.Statement.{Statement}
 use Rattle.semantics.specs.Branches.{branches_of}
-use Rattle.semantics.specs.Items.{Item, items}
 use Rattle.semantics.specs.Sites.{beginning}
 use Rattle.graph_sites.specs.Facts.{altstep_facts, branch_facts, event_by}
 use Rattle.graph_sites.specs.declared.facts.EventFacts.{EventFacts}
 use Rattle.graph_names.specs.Known.{Known}
-use Rattle.ttcn_graph.specs.Drafts.{AreAt, AreDrawn, Draft, HasWays, IsDrawn, at_site, empty_draft}
-use Rattle.ttcn_graph.specs.Graphs.{AllHaveWays, IsAt, beginnings, beginnings_at, body_alone, graphs_of}
-use Rattle.ttcn_graph.specs.Ways.{Lists, items_of_branch}
+use Rattle.ttcn_graph.specs.Drafts.{AreAt, AreDrawn, Draft, HasWays, at_site, empty_draft}
+use Rattle.ttcn_graph.specs.Graphs.{AllHaveWays, IsAt, beginnings, beginnings_at, graphs_of}
+use Rattle.ttcn_graph.specs.Ways.{Lists}
 use Rattle.ttcn_graph.proofs.Drafted.{at-more, way-found, way-missing}
 use Rattle.ttcn_graph.proofs.Drawing.{not-found}
 use Rattle.ttcn_graph.proofs.ListsKept.{get-append, get-past}
-
--- ---- what a definition begins with
-
-pub body-drawn : (old d : Draft) (body : List Statement) (nothing at : ℕ) (none one : List ℕ) → get_or old.lists nothing [] ≡ []
-    → IsDrawn old d at (items old.definitions old.site body ++ get_or old.lists nothing []) → none ≡ [] → one ≡ none ++ at ∷ []
-    → AreDrawn old d one (body_alone old.definitions old.site body)
-body-drawn old d body nothing at none one empty h none_is one_is =
-    subst (λ p. AreDrawn old d p (body_alone old.definitions old.site body)) (sym (one_is ∙ ap (λ p. p ++ at ∷ []) none_is))
-    (record {
-      grown = h.grown;
-      stand = (h.within, h.stands ∙ ap (λ l. items old.definitions old.site body ++ l) empty ∙ append-nil (items old.definitions old.site body), tt);
-    })
-
-pub branches-drawn : (old d : Draft) (branches : List Branch) (nothing : ℕ) (starts : List ℕ) → get_or old.lists nothing [] ≡ []
-    → AreDrawn old d starts (map (λ branch. items_of_branch old.definitions old.site branch ++ get_or old.lists nothing []) branches)
-    → AreDrawn old d starts (map (λ branch. items_of_branch old.definitions old.site branch) branches)
-branches-drawn old d branches nothing starts empty h =
-    subst (λ (f : Branch → List Item). AreDrawn old d starts (map f branches))
-    (fun_ext (λ branch. ap (λ l. items_of_branch old.definitions old.site branch ++ l) empty ∙ append-nil (items_of_branch old.definitions old.site branch))) h
 
 -- ---- definition by definition
 
@@ -154,15 +131,6 @@ more-than definitions altsteps pushed none count g all push =
     let long = ap length push ∙ length-append altsteps (none ∷ []) in
     let many = g.many in
     omega (arith, long, many, all)
-
--- the last one is that of all positions behind
-pub facts-of-last : (definitions : List Definition) (altsteps : List (List EventFacts)) (at last : ℕ) → ((at : ℕ) → map event_by (get_or altsteps at []) ≡ altstep_facts definitions at)
-    → length definitions ≤ last → last ≤ at → map event_by (get_or altsteps last []) ≡ altstep_facts definitions at
-facts-of-last definitions altsteps at last all from behind =
-    all last
-    ∙ ap (λ (found : Option Definition). map (branch_facts definitions (beginning last)) (branches_of (option_map (λ definition. definition.kind) found))) (not-found definitions last from)
-    ∙ sym (ap (λ (found : Option Definition). map (branch_facts definitions (beginning at)) (branches_of (option_map (λ definition. definition.kind) found)))
-    (not-found definitions at (omega (arith, from, behind))))
 
 -- ---- positions
 

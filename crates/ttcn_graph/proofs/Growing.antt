@@ -1,6 +1,6 @@
 -- How drafts grow from part to part.
 use Rattle.std.proofs.Common.{◌≡◌, refl, sym, ap, subst, ◌∙◌, ℕ, zero, suc, ◌+◌, ◌<◌, ◌≤◌, List, [], ◌∷◌, ◌++◌, map, length, get_or, take, drop, Option, Result, Ok, Err, IfOk, arith}
-use Rattle.std.proofs.lemmas.List.{append_assoc, drop_all, take_all}
+use Rattle.std.proofs.lemmas.List.{append_assoc, drop_all}
 use Rattle.ttcn_syntax.specs.declared.tree.statement.Conditional.{Conditional}
 use Rattle.ttcn_syntax.specs.declared.tree.statement.ForStart.{ForStart}
 use Rattle.ttcn_syntax.specs.declared.tree.statement.ForStart.TheVariants as for_start
@@ -32,9 +32,6 @@ kept-more a b p g h = get-kept a.lists b.lists g.lists p h
 pub ways-more : (a b : Draft) (positions : List ℕ) (lists : Lists) → Grows a b → AreAt a.lists positions lists → AreAt b.lists positions lists
 ways-more a b positions lists g h = at-more a.lists b.lists g.lists positions lists h
 
-pub begun-within : (a b : Draft) (at p : ℕ) (list : List Item) → IsBegun a b at list → p < length a.lists → p < length b.lists
-begun-within a b at p list g h = let long = longer a.lists b.lists g.lists in omega (arith, h, long)
-
 pub begun-kept : (a b : Draft) (at p : ℕ) (list : List Item) → IsBegun a b at list → p < length a.lists → get_or b.lists p [] ≡ get_or a.lists p []
 begun-kept a b at p list g h = get-kept a.lists b.lists g.lists p h
 
@@ -56,13 +53,6 @@ drawn-more a b c at list g d = record { grown = grows-more a b c g d.grown; with
 -- what is drawn is this list
 pub drawn-is : (a b : Draft) (at : ℕ) (l m : List Item) → l ≡ m → IsDrawn a b at l → IsDrawn a b at m
 drawn-is a b at l m is d = subst (IsDrawn a b at) is d
-
--- a position that is there already
-pub drawn-there : (d : Draft) (at : ℕ) (list : List Item) → at < length d.lists → get_or d.lists at [] ≡ list → IsDrawn d d at list
-drawn-there d at list within stands = record { grown = grows-not d; within = within; stands = stands }
-
-pub drawn-nothing : (d : Draft) → AreDrawn d d [] []
-drawn-nothing d = record { grown = grows-not d; stand = tt }
 
 -- what may come of a list that was begun
 pub begun-ways : (a c : Draft) (at : ℕ) (list : List Item) (ways : Lists) → IsBegun a c at list → ways_of a.definitions list ≡ ways → ways_of c.definitions (get_or c.lists at []) ≡ ways
@@ -150,16 +140,6 @@ pub record BlockLeft (old d : Draft) (body : List Statement) (rest : List Item) 
   pub within : at < length d.lists
   pub site_is : d.site ≡ site_behind_all old.definitions old.site (take left body)
   pub stands : get_or d.lists at [] ≡ items old.definitions d.site (drop left body) ++ rest
-
-pub block-first : (old d : Draft) (body : List Statement) (at : ℕ) → d ≡ at_site (site_behind_all old.definitions old.site body) old → at < length old.lists
-    → BlockLeft old d body (get_or old.lists at []) at (length body)
-block-first old d body at is within =
-    subst (λ d. BlockLeft old d body (get_or old.lists at []) at (length body)) (sym is) (record {
-      grown = record { definitions = refl; site = refl; lists = (grows-not old).lists; keeps = λ is_open all. all };
-      within = within;
-      site_is = ap (site_behind_all old.definitions old.site) (sym (take_all (length body) body (omega arith)));
-      stands = ap (λ left. items old.definitions (site_behind_all old.definitions old.site body) left ++ get_or old.lists at []) (sym (drop_all (length body) body (omega arith)));
-    })
 
 pub block-next : (old d d' : Draft) (body : List Statement) (rest : List Item) (s : Statement) (at at' j left : ℕ) → left ≡ suc j → j < length body → s ≡ get_or body j s → BlockLeft old d body rest at left
     → ((site : Site) → d.site ≡ site_after d.definitions site s → IsDrawn (at_site site d) d' at' (items_of_statement d.definitions site s ++ get_or d.lists at []))

@@ -1,9 +1,8 @@
 -- Running sums, which number constants and templates.
-use Rattle.std.proofs.Common.{◌≡◌, ◌≤◌, ℕ, zero, suc, ◌+◌, ◌<◌, List, [], ◌∷◌, ◌++◌, length, get_or, take, drop, refl, sym, ap, ◌∙◌, add-zero, zero-add, add_assoc, append_assoc}
+use Rattle.std.proofs.Common.{◌≡◌, ◌≤◌, ℕ, zero, suc, ◌+◌, ◌<◌, List, [], ◌∷◌, ◌++◌, length, get_or, take, drop, refl, sym, ap, ◌∙◌, add-zero, zero-add, add_assoc}
 use Rattle.std.proofs.lemmas.List.{append-nil, drop_all}
 use Rattle.ttcn_syntax.specs.declared.tree.definition.Definition.{Definition}
 use Rattle.check_rules.specs.Parts.{how_many, how_many_in, number_at}
-use Rattle.check_scope.proofs.Lookups.{drop-next}
 
 -- at each definition a number and how many come before it
 abbrev pub sums : ℕ → List Definition → List ℕ
@@ -23,24 +22,6 @@ sums-at n (suc at) (definition ∷ definitions) =
 pub record Summing (definitions : List Definition) (i : ℕ) (before : List ℕ) (total : ℕ) : Type 0 where
   pub all : before ++ sums total (drop i definitions) ≡ sums 0 definitions
   pub whole : total + how_many_in (drop i definitions) ≡ how_many_in definitions
-
-pub summing-first : (definitions : List Definition) (before : List ℕ) → before ≡ [] → Summing definitions 0 before 0
-summing-first definitions before is = record { all = ap (λ b. b ++ sums 0 definitions) is; whole = zero-add (how_many_in definitions) }
-
-pub summing-next : (definitions : List Definition) (i : ℕ) (definition : Definition) (before before' : List ℕ) (total total' : ℕ)
-    → i < length definitions → definition ≡ get_or definitions i definition → before' ≡ before ++ total ∷ [] → total' ≡ total + how_many definition.kind
-    → Summing definitions i before total → Summing definitions (i + 1) before' total'
-summing-next definitions i definition before before' total total' inside is before_is total_is so_far = record {
-  all = ap (λ b. b ++ sums total' (drop (i + 1) definitions)) before_is
-      ∙ append_assoc before (total ∷ []) (sums total' (drop (i + 1) definitions))
-      ∙ ap (λ t. before ++ total ∷ sums t (drop (i + 1) definitions)) total_is
-      ∙ ap (λ ds. before ++ sums total ds) (sym (drop-next definitions i definition inside is))
-      ∙ so_far.all;
-  whole = ap (λ t. t + how_many_in (drop (i + 1) definitions)) total_is
-      ∙ add_assoc total (how_many definition.kind) (how_many_in (drop (i + 1) definitions))
-      ∙ ap (λ ds. total + how_many_in ds) (sym (drop-next definitions i definition inside is))
-      ∙ so_far.whole;
-}
 
 pub summing-count : (definitions : List Definition) (i : ℕ) (before : List ℕ) (total : ℕ) → length definitions ≤ i → Summing definitions i before total → total ≡ how_many_in definitions
 summing-count definitions i before total past so_far =

@@ -1,7 +1,7 @@
 -- How steps behind steps build.
 use Rattle.std.proofs.Common.{◌≡◌, ◌≤◌, ◌<◌, true, ℕ, zero, suc, ◌+◌, ◌-◌, List, [], ◌∷◌, ◌++◌, drop, get_or, length, map, nat_le, take, if◌then◌else◌, Some, None, refl, sym, ap, ◌∙◌, arith}
 use Rattle.std.proofs.lemmas.Grind.{take_at_read}
-use Rattle.std.proofs.lemmas.List.{append-nil, get_or-map, take_all, append_assoc, length-append}
+use Rattle.std.proofs.lemmas.List.{get_or-map, take_all, append_assoc, length-append}
 use Rattle.std.proofs.lemmas.Bool.{le-leb}
 use Rattle.std.proofs.Math.ListN.{length-map}
 use Rattle.std.proofs.lemmas.Slice.Zip.{get_or-zip, length-zip}
@@ -109,14 +109,6 @@ module _ (reading : Reading) where
   steps-more steps s = fun_ext (λ t. steps-append_at steps (s ∷ []) t) ∙ ap (one_after (after_steps reading steps)) (alone-step s)
 
 -- ---- loops that write down the steps of one after the other
-
--- before the first
-pub loop-first : (os : List (Outcome Template)) (f : Build) → f ≡ one_after f (with_more (each (take 0 os)))
-loop-first os f = fun_ext (λ t. sym (go (f t)))
-  where
-    go : (o : Outcome (List Template)) → outcome_and_then (with_more (Yields [])) o ≡ o
-    go (Yields u) = ap Yields (append-nil u)
-    go (Fails why) = refl
 
 module _ (os : List (Outcome Template)) (f g : Build) (i : ℕ) (before : g ≡ one_after f (with_more (each (take i os)))) where
   -- one more

@@ -5,20 +5,13 @@ use Rattle.std.specs.Option.{option_map}
 use Rattle.ttcn_syntax.specs.declared.tree.definition.Definition.{Definition}
 use Rattle.ttcn_syntax.specs.declared.tree.definition.DefinitionKind.{DefinitionKind}
 use Rattle.ttcn_syntax.specs.declared.tree.definition.DefinitionKind.TheVariants as kind
-use Rattle.ttcn_syntax.specs.declared.operator.Sign.{Sign}
-use Rattle.ttcn_syntax.specs.declared.tree.expression.ComponentRef.{ComponentRef}
 use Rattle.ttcn_syntax.specs.declared.tree.expression.Expr.{Expr, fold-Expr}
-use Rattle.ttcn_syntax.specs.declared.tree.expression.Expr.TheFolds.{fold-roll-Expr}
 use Rattle.ttcn_syntax.specs.declared.tree.expression.Expr.TheOpen.{Expr-F, Link-F}
-use Rattle.ttcn_syntax.specs.declared.tree.expression.Expr.TheVariants as expr
-use Rattle.ttcn_syntax.specs.declared.tree.expression.Link.{Link, fold-Link, fold_out-Link, out-Link}
-use Rattle.ttcn_syntax.specs.declared.tree.expression.Reference.{Reference}
+use Rattle.ttcn_syntax.specs.declared.tree.expression.Link.{Link, fold-Link}
 use Rattle.ttcn_syntax.specs.declared.tree.statement.Constant.{Constant}
 use Rattle.ttcn_syntax.specs.declared.tree.value.FieldValue.{FieldValue, fold-FieldValue, fold_out-FieldValue, out-FieldValue}
 use Rattle.ttcn_syntax.specs.declared.tree.value.Value.{Value, fold-Value}
-use Rattle.ttcn_syntax.specs.declared.tree.value.Value.TheFolds.{fold-roll-Value}
 use Rattle.ttcn_syntax.specs.declared.tree.value.Value.TheOpen.{FieldValue-F, Value-F}
-use Rattle.ttcn_syntax.specs.declared.tree.value.Value.TheVariants as form
 use Rattle.check_scope.specs.Names.{constant_at, constant_of, kind_at}
 
 -- ---- values
@@ -43,27 +36,6 @@ expr_weight = fold-Expr ℕ ℕ expr_step link_step
 abbrev pub link_weight : Link → ℕ
 link_weight = fold-Link ℕ ℕ expr_step link_step
 
-pub reference-weight : (c : ComponentRef) → expr_weight (expr.Reference c) ≡ 8
-reference-weight c = ap expr_weight (sym (expr.rolls-Reference c)) ∙ fold-roll-Expr ℕ ℕ expr_step link_step (Expr-F.Reference c)
-
-pub running-weight : (c : ComponentRef) → expr_weight (expr.Running c) ≡ 8
-running-weight c = ap expr_weight (sym (expr.rolls-Running c)) ∙ fold-roll-Expr ℕ ℕ expr_step link_step (Expr-F.Running c)
-
-pub ispresent-weight : (r : Reference) → expr_weight (expr.Ispresent r) ≡ 8
-ispresent-weight r = ap expr_weight (sym (expr.rolls-Ispresent r)) ∙ fold-roll-Expr ℕ ℕ expr_step link_step (Expr-F.Ispresent r)
-
-pub not-weight : (e : Expr) → expr_weight (expr.Not e) ≡ expr_weight e + 1
-not-weight e = ap expr_weight (sym (expr.rolls-Not e)) ∙ fold-roll-Expr ℕ ℕ expr_step link_step (Expr-F.Not e)
-
-pub signed-weight : (s : Sign) (e : Expr) → expr_weight (expr.Signed s e) ≡ expr_weight e + 1
-signed-weight s e = ap expr_weight (sym (expr.rolls-Signed s e)) ∙ fold-roll-Expr ℕ ℕ expr_step link_step (Expr-F.Signed s e)
-
-pub chain-weight : (first : Expr) (links : List Link) → expr_weight (expr.Chain first links) ≡ expr_weight first + sum (map link_weight links) + 2
-chain-weight first links = ap expr_weight (sym (expr.rolls-Chain first links)) ∙ fold-roll-Expr ℕ ℕ expr_step link_step (Expr-F.Chain first links)
-
-pub operand-weight : (l : Link) → link_weight l ≡ expr_weight (out-Link l).operand + 1
-operand-weight l = fold_out-Link ℕ ℕ expr_step link_step l
-
 abbrev value_step : Value-F ℕ ℕ → ℕ
 value_step (Value-F.Expr e) = expr_weight e + 1
 value_step Value-F.Omit = 1
@@ -79,15 +51,6 @@ value_weight = fold-Value ℕ ℕ value_step field_value_step
 
 abbrev pub field_value_weight : FieldValue → ℕ
 field_value_weight = fold-FieldValue ℕ ℕ value_step field_value_step
-
-pub expr_value-weight : (e : Expr) → value_weight (form.Expr e) ≡ expr_weight e + 1
-expr_value-weight e = ap value_weight (sym (form.rolls-Expr e)) ∙ fold-roll-Value ℕ ℕ value_step field_value_step (Value-F.Expr e)
-
-pub listed-weight : (elements : List Value) → value_weight (form.Listed elements) ≡ sum (map value_weight elements) + 2
-listed-weight elements = ap value_weight (sym (form.rolls-Listed elements)) ∙ fold-roll-Value ℕ ℕ value_step field_value_step (Value-F.Listed elements)
-
-pub assigned-weight : (elements : List FieldValue) → value_weight (form.Assigned elements) ≡ sum (map field_value_weight elements) + 2
-assigned-weight elements = ap value_weight (sym (form.rolls-Assigned elements)) ∙ fold-roll-Value ℕ ℕ value_step field_value_step (Value-F.Assigned elements)
 
 pub field_value-weight : (element : FieldValue) → field_value_weight element ≡ value_weight (out-FieldValue element).value + 1
 field_value-weight element = fold_out-FieldValue ℕ ℕ value_step field_value_step element

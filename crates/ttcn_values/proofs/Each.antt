@@ -48,10 +48,6 @@ module _ {A B : Type 0} (f : B → Outcome A) (l : List B) (done : List A) (i : 
       ap (λ items. behind items (map f (drop (i + 1) l))) pushed
       ∙ behind-one done a (f x) (map f (drop (i + 1) l)) gives ∙ ap (λ xs. behind done (map f xs)) (sym (drop-next l i x within is))
 
-  pub each-fault : {why : Failure} (x : B) → i < length l → x ≡ get_or l i x → f x ≡ Fails why → behind done (map f (drop i l)) ≡ Fails why
-  each-fault x within is gives =
-      ap (λ xs. behind done (map f xs)) (drop-next l i x within is) ∙ behind-fault done (f x) (map f (drop (i + 1) l)) gives
-
   pub each-end : length l ≤ i → behind done (map f (drop i l)) ≡ Yields done
   each-end past = ap (λ xs. behind done (map f xs)) (drop_all i l past) ∙ behind-none done
 

@@ -23,7 +23,6 @@ use Rattle.ttcnx.specs.Converted.{with_test}
 use Rattle.ttcnx.specs.Explained.{IsExplained, IsExplainedAnswer, bad_line, charted, not_followed, reported, unreported}
 use Rattle.ttcnx.specs.Fault.{listing_fault, replay_fault}
 use Rattle.ttcnx.specs.Named.{IsTestOf, Source}
-use Rattle.ttcnx.specs.Replayed.{Answer}
 use Rattle.ttcnx.specs.Sighted.{IsAnswerSighted}
 use Rattle.ttcnx.specs.Streamed.{told_as}
 use Rattle.ttcnx.specs.declared.fault.Fault.{Fault}

@@ -1,6 +1,5 @@
 -- Entries of frames by the slots of their names.
-use Rattle.std.proofs.Common.{◌≡◌, ◌<◌, ℕ, suc, Bool, true, false, List, [], ◌∷◌, All, Option, Some, None, bytes_eq, get_or, length, map, arith, refl, if◌then◌else◌}
-use Rattle.std.proofs.lemmas.Option.{slice_get-get_or}
+use Rattle.std.proofs.Common.{◌≡◌, ◌<◌, ℕ, Bool, true, false, List, [], ◌∷◌, Option, Some, None, bytes_eq, refl, if◌then◌else◌}
 use Rattle.std.specs.List.{cons_option, find, slice_get}
 use Rattle.std.specs.Option.{option_map}
 use Rattle.value_types.specs.Frames.{entry, named_entries}
@@ -22,15 +21,3 @@ module _ {A : Type 0} (name : List ℕ) where
   by_slot names [] = refl
   by_slot names ((slot, a) ∷ entries) =
       one-more (slice_get names slot) slot a (named_entries names entries) (find (λ e. is_slot_of names e.0 name) entries) (by_slot names entries)
-
-module _ {A : Type 0} (names : List (List ℕ)) where
-  one-named : (slot : ℕ) (a : A) (o : Option (List ℕ)) (others renamed : List (List ℕ × A)) → o ≡ Some (get_or names slot []) → others ≡ renamed
-      → cons_option (option_map (λ (n : List ℕ). (n, a)) o) others ≡ (get_or names slot [], a) ∷ renamed
-  one-named slot a o others renamed is same = rw (is, same)
-
-  -- where each slot has a name, the entries are those with names in place of slots
-  pub entries-by-names : (entries : List (ℕ × A)) → All (λ e. e.0 < length names) entries → named_entries names entries ≡ map (λ e. (get_or names e.0 [], e.1)) entries
-  entries-by-names [] all = refl
-  entries-by-names ((slot, a) ∷ entries) all =
-      one-named slot a (slice_get names slot) (named_entries names entries) (map (λ e. (get_or names e.0 [], e.1)) entries)
-      (slice_get-get_or names slot [] (all 0 (slot, a) (omega arith))) (entries-by-names entries (λ k d within. all (suc k) d (omega arith)))

@@ -1,4 +1,4 @@
-use Rattle.std.proofs.Common.{rules, ◌≡◌, ◌++◌, ap, sym, string_bytes, ◌∙◌}
+use Rattle.std.proofs.Common.{rules, ◌≡◌, ◌++◌, string_bytes, ◌∙◌}
 use Rattle.ttcnx.proofs.explain_run.explain_report.Goals as goal
 use Rattle.ttcnx.specs.Streamed.{told_as}
 

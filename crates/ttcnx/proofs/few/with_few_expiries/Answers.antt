@@ -1,6 +1,5 @@
 use Rattle.std.proofs.Common.{◌≡◌, ap, inl, inr, refl, subst, sym}
 use Rattle.std.specs.Prelude.{◌⊎◌, Err}
-use Rattle.report.specs.declared.report.Report.{Report}
 use Rattle.semantics.specs.Snapshots.{Test}
 use Rattle.ttcnx.proofs.FewTold.{no-answer, no-test}
 use Rattle.ttcnx.proofs.Stages.{as-error}
