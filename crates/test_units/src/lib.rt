@@ -1,4 +1,5 @@
-//! Tests of what no row of texts shows: of the language, of the layers below the machine, and of files of rows.
+//! Tests of what no row of texts shows: of the language, of the layers below the machine, of files of rows, and of the calls
+//! behind the commands; and the public surface.
 #![tactic(auto)]
 
 #[cfg(test)]
@@ -7,6 +8,8 @@ mod activations;
 mod deep;
 #[cfg(test)]
 mod definitions;
+#[cfg(test)]
+mod devices;
 #[cfg(test)]
 mod equality;
 #[cfg(test)]
@@ -38,4 +41,9 @@ mod round;
 #[cfg(test)]
 mod slots;
 #[cfg(test)]
+mod statuses;
+pub mod surface;
+#[cfg(test)]
 mod trees;
+#[cfg(test)]
+mod workers;
