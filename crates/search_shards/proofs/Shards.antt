@@ -10,9 +10,8 @@ use Rattle.std.proofs.Math.Seq.{get_or-append_seam}
 use Rattle.std.specs.Cmp.{IsEquivalence}
 use Rattle.std.specs.List.{list_any, IsDistinct, AllByRecursion}
 use Rattle.indexmap.specs.IndexSet.{insert_key}
-use Rattle.search_shards.specs.declared.place.Place.{Place}
 use Rattle.search_shards.specs.Sharded.{shard_of}
-use Rattle.search_shards.specs.internal.Places.{one_at, value_at, values_in, IsHeld, IsSharded}
+use Rattle.search_shards.specs.internal.Places.{Position, one_at, value_at, values_in, IsHeld, IsSharded}
 use Rattle.search_shards.proofs.Values.{one_at-append, one_at-end, values_in-same}
 
 module _ {T : Type 0} where
@@ -66,7 +65,7 @@ module _ {T : Type 0} (eq : T → T → Bool) (input : T → List (List ℕ)) wh
     distinct = IsDistinct-nil eq;
   }
 
-  module _ (shards : List (List T)) (places : List Place) (kept : IsSharded eq input shards places) where
+  module _ (shards : List (List T)) (places : List Position) (kept : IsSharded eq input shards places) where
     -- a value's shard has an equal one where there is one at all
     pub list_any-shard : ((x y : T) → eq x y ≡ true → input x ≡ input y) → (q : T) (n : ℕ) → n ≡ shard_of input (length shards) q
         → list_any (eq q) (get_or shards n []) ≡ list_any (eq q) (values_in shards places)
@@ -85,8 +84,8 @@ module _ {T : Type 0} (shards : List (List T)) (n : ℕ) (x : T) (low : n < leng
   abbrev pub grown : List (List T)
   grown = set shards n (get_or shards n [] ++ x ∷ [])
 
-  abbrev pub new_place : Place
-  new_place = record { shard = n; index = length (get_or shards n []) }
+  abbrev pub new_place : Position
+  new_place = (n, length (get_or shards n []))
 
   grown-at : get_or grown n [] ≡ get_or shards n [] ++ x ∷ []
   grown-at = get_or-set_same shards n (get_or shards n [] ++ x ∷ []) [] low
@@ -94,37 +93,37 @@ module _ {T : Type 0} (shards : List (List T)) (n : ℕ) (x : T) (low : n < leng
   grown-off : (s : ℕ) → s ≢ n → get_or grown s [] ≡ get_or shards s []
   grown-off s off = get_or-set_other shards n s (get_or shards n [] ++ x ∷ []) [] off
 
-  value_at-grown : (p : Place) → IsHeld shards p → value_at grown p ≡ value_at shards p
-  value_at-grown p held = by (nat_eq p.shard n) refl
+  value_at-grown : (p : Position) → IsHeld shards p → value_at grown p ≡ value_at shards p
+  value_at-grown p held = by (nat_eq p.0 n) refl
     where
-      by : (b : Bool) → nat_eq p.shard n ≡ b → value_at grown p ≡ value_at shards p
-      by true e = let here = eqb-true p.shard n e in
-          ap (λ (s : ℕ). one_at (get_or grown s []) p.index) here ∙ ap (λ (xs : List T). one_at xs p.index) grown-at
-          ∙ one_at-append (get_or shards n []) (x ∷ []) p.index (subst (λ (s : ℕ). p.index < length (get_or shards s [])) here held)
-          ∙ ap (λ (s : ℕ). one_at (get_or shards s []) p.index) (sym here)
-      by false e = ap (λ (xs : List T). one_at xs p.index) (grown-off p.shard (eqb-false p.shard n e))
+      by : (b : Bool) → nat_eq p.0 n ≡ b → value_at grown p ≡ value_at shards p
+      by true e = let here = eqb-true p.0 n e in
+          ap (λ (s : ℕ). one_at (get_or grown s []) p.1) here ∙ ap (λ (xs : List T). one_at xs p.1) grown-at
+          ∙ one_at-append (get_or shards n []) (x ∷ []) p.1 (subst (λ (s : ℕ). p.1 < length (get_or shards s [])) here held)
+          ∙ ap (λ (s : ℕ). one_at (get_or shards s []) p.1) (sym here)
+      by false e = ap (λ (xs : List T). one_at xs p.1) (grown-off p.0 (eqb-false p.0 n e))
 
-  held-grown : (p : Place) → IsHeld shards p → IsHeld grown p
-  held-grown p held = by (nat_eq p.shard n) refl
+  held-grown : (p : Position) → IsHeld shards p → IsHeld grown p
+  held-grown p held = by (nat_eq p.0 n) refl
     where
-      by : (b : Bool) → nat_eq p.shard n ≡ b → IsHeld grown p
-      by true e = let here = eqb-true p.shard n e in
-          subst (λ (s : ℕ). p.index < length (get_or grown s [])) (sym here)
-          (subst (λ (xs : List T). p.index < length xs) (sym grown-at)
-          (let old = subst (λ (s : ℕ). p.index < length (get_or shards s [])) here held in let both = length-append (get_or shards n []) (x ∷ []) in omega arith))
-      by false e = subst (λ (xs : List T). p.index < length xs) (sym (grown-off p.shard (eqb-false p.shard n e))) held
+      by : (b : Bool) → nat_eq p.0 n ≡ b → IsHeld grown p
+      by true e = let here = eqb-true p.0 n e in
+          subst (λ (s : ℕ). p.1 < length (get_or grown s [])) (sym here)
+          (subst (λ (xs : List T). p.1 < length xs) (sym grown-at)
+          (let old = subst (λ (s : ℕ). p.1 < length (get_or shards s [])) here held in let both = length-append (get_or shards n []) (x ∷ []) in omega arith))
+      by false e = subst (λ (xs : List T). p.1 < length xs) (sym (grown-off p.0 (eqb-false p.0 n e))) held
 
   new-held : IsHeld grown new_place
   new-held = subst (λ (xs : List T). length (get_or shards n []) < length xs) (sym grown-at) (let both = length-append (get_or shards n []) (x ∷ []) in omega arith)
 
   -- it comes behind the others
-  pub values_in-push : (places : List Place) → All (IsHeld shards) places → values_in grown (places ++ new_place ∷ []) ≡ values_in shards places ++ x ∷ []
+  pub values_in-push : (places : List Position) → All (IsHeld shards) places → values_in grown (places ++ new_place ∷ []) ≡ values_in shards places ++ x ∷ []
   values_in-push places held =
       flat_map-append (value_at grown) places (new_place ∷ [])
       ∙ ap (λ (xs : List T). xs ++ (value_at grown new_place ++ [])) (values_in-same shards grown places held value_at-grown)
       ∙ ap (λ (xs : List T). values_in shards places ++ (xs ++ [])) (ap (λ (xs : List T). one_at xs (length (get_or shards n []))) grown-at ∙ one_at-end (get_or shards n []) x)
 
-  module _ (eq : T → T → Bool) (input : T → List (List ℕ)) (laws : IsEquivalence eq) (places : List Place) (kept : IsSharded eq input shards places)
+  module _ (eq : T → T → Bool) (input : T → List (List ℕ)) (laws : IsEquivalence eq) (places : List Position) (kept : IsSharded eq input shards places)
       (own : n ≡ shard_of input (length shards) x) (fresh : list_any (eq x) (values_in shards places) ≡ false) where
     keeps-at : get_or shards n [] ++ x ∷ [] ≡ filter (λ y. nat_eq (shard_of input (length shards) y) n) (values_in shards places ++ x ∷ [])
     keeps-at =

@@ -4,8 +4,7 @@ use Rattle.std.proofs.lemmas.Bool.{cases_lt}
 use Rattle.std.proofs.lemmas.List.{get_or_default, get_or_past}
 use Rattle.std.proofs.lemmas.Option.{slice_get-get_or}
 use Rattle.std.proofs.lemmas.List.Elements.{All-get_or, All-head, All-tail}
-use Rattle.search_shards.specs.declared.place.Place.{Place}
-use Rattle.search_shards.specs.internal.Places.{one_at, value_at, values_in, IsHeld}
+use Rattle.search_shards.specs.internal.Places.{Position, one_at, value_at, values_in, IsHeld}
 
 module _ {T : Type 0} where
   pub one_at-append : (xs ys : List T) (i : ℕ) → i < length xs → one_at (xs ++ ys) i ≡ one_at xs i
@@ -29,56 +28,56 @@ module _ {T : Type 0} where
 
   module _ (shards : List (List T)) where
     -- a place that holds a value is that of a shard
-    pub shard-low : (p : Place) → IsHeld shards p → p.shard < length shards
-    shard-low p held = elim (cases_lt p.shard (length shards)) [
+    pub shard-low : (p : Position) → IsHeld shards p → p.0 < length shards
+    shard-low p held = elim (cases_lt p.0 (length shards)) [
       | inl low ↦ low
-      | inr past ↦ (let none = ap length (get_or_past shards p.shard [] past) in absurd (omega arith))
+      | inr past ↦ (let none = ap length (get_or_past shards p.0 [] past) in absurd (omega arith))
     ]
 
     -- there are as many values as places
-    pub length-values_in : (places : List Place) → All (IsHeld shards) places → length (values_in shards places) ≡ length places
+    pub length-values_in : (places : List Position) → All (IsHeld shards) places → length (values_in shards places) ≡ length places
     length-values_in [] held = refl
     length-values_in (p ∷ ps) held =
-        let one = one_at-held (get_or shards p.shard []) p.index (All-head (IsHeld shards) p ps held) in
+        let one = one_at-held (get_or shards p.0 []) p.1 (All-head (IsHeld shards) p ps held) in
         ap (λ (xs : List T). length (xs ++ values_in shards ps)) one.1
         ∙ ap suc (length-values_in ps (All-tail (IsHeld shards) p ps held))
 
     -- the value at the place of a number is the value of that number
-    pub values_in-get : (places : List Place) (i : ℕ) (p : Place) (x : T) → All (IsHeld shards) places → slice_get places i ≡ Some p
-        → slice_get (get_or shards p.shard []) p.index ≡ Some x → slice_get (values_in shards places) i ≡ Some x
+    pub values_in-get : (places : List Position) (i : ℕ) (p : Position) (x : T) → All (IsHeld shards) places → slice_get places i ≡ Some p
+        → slice_get (get_or shards p.0 []) p.1 ≡ Some x → slice_get (values_in shards places) i ≡ Some x
     values_in-get [] i p x held at has = cc
     values_in-get (q ∷ qs) zero p x held at has =
         let same : q ≡ p = cc in
-        ap (λ (xs : List T). slice_get (xs ++ values_in shards qs) 0) (ap (value_at shards) same ∙ one_at-get (get_or shards p.shard []) p.index x has)
+        ap (λ (xs : List T). slice_get (xs ++ values_in shards qs) 0) (ap (value_at shards) same ∙ one_at-get (get_or shards p.0 []) p.1 x has)
     values_in-get (q ∷ qs) (suc i) p x held at has =
-        let one = one_at-held (get_or shards q.shard []) q.index (All-head (IsHeld shards) q qs held) in
+        let one = one_at-held (get_or shards q.0 []) q.1 (All-head (IsHeld shards) q qs held) in
         ap (λ (xs : List T). slice_get (xs ++ values_in shards qs) (suc i)) one.1
         ∙ values_in-get qs i p x (All-tail (IsHeld shards) q qs held) at has
 
     -- the same values stand at the places of other shards
-    pub values_in-same : (others : List (List T)) (places : List Place) → All (IsHeld shards) places
-        → ((p : Place) → IsHeld shards p → value_at others p ≡ value_at shards p) → values_in others places ≡ values_in shards places
+    pub values_in-same : (others : List (List T)) (places : List Position) → All (IsHeld shards) places
+        → ((p : Position) → IsHeld shards p → value_at others p ≡ value_at shards p) → values_in others places ≡ values_in shards places
     values_in-same others [] held same = refl
     values_in-same others (p ∷ ps) held same = λ i. same p (All-head (IsHeld shards) p ps held) i ++ values_in-same others ps (All-tail (IsHeld shards) p ps held) same i
 
     -- the place of a number below the length
-    module _ (places : List Place) (held : All (IsHeld shards) places) (keys : List T) (are : values_in shards places ≡ keys) (i : ℕ) (low : i < length keys) where
+    module _ (places : List Position) (held : All (IsHeld shards) places) (keys : List T) (are : values_in shards places ≡ keys) (i : ℕ) (low : i < length keys) where
       pub in-places : i < length places
       in-places = let count = length-values_in places held in let long = ap length are in omega arith
 
-      module _ (p : Place) (at : p ≡ get_or places i p) where
+      module _ (p : Position) (at : p ≡ get_or places i p) where
         pub place-held : IsHeld shards p
         place-held = subst (IsHeld shards) (sym at) (All-get_or (IsHeld shards) places i p in-places held)
 
-        module _ (kept : List T) (read : kept ≡ get_or shards p.shard kept) where
-          kept-is : kept ≡ get_or shards p.shard []
-          kept-is = read ∙ get_or_default shards p.shard kept [] (shard-low p place-held)
+        module _ (kept : List T) (read : kept ≡ get_or shards p.0 kept) where
+          kept-is : kept ≡ get_or shards p.0 []
+          kept-is = read ∙ get_or_default shards p.0 kept [] (shard-low p place-held)
 
-          pub in-shard : p.index < length kept
-          in-shard = subst (λ (xs : List T). p.index < length xs) (sym kept-is) place-held
+          pub in-shard : p.1 < length kept
+          in-shard = subst (λ (xs : List T). p.1 < length xs) (sym kept-is) place-held
 
-          pub value_of : (x : T) → slice_get kept p.index ≡ Some x → slice_get keys i ≡ Some x
+          pub value_of : (x : T) → slice_get kept p.1 ≡ Some x → slice_get keys i ≡ Some x
           value_of x has =
               ap (λ (xs : List T). slice_get xs i) (sym are)
               ∙ values_in-get places i p x held (slice_get-get_or places i p in-places ∙ ap Some (sym at))
-              (ap (λ (xs : List T). slice_get xs p.index) (sym kept-is) ∙ has)
+              (ap (λ (xs : List T). slice_get xs p.1) (sym kept-is) ∙ has)

@@ -3,7 +3,7 @@ ghost use Rattle.std.specs.Prelude.{◌≡◌, ◌^◌, ◌<◌, [], ◌∷◌, 
 ghost use Rattle.std.specs.List.{list_any, IsDistinct};
 ghost use Rattle.search_shards.specs.Sharded.{shard_of};
 
-use crate::place::{Place, number_of};
+use crate::place::Place;
 use crate::shard::Shard;
 use std::alloc::{AllocError, Global};
 use std::hash::{FoldHasher, Hash, Hasher};
@@ -98,15 +98,11 @@ impl<T: Eq + Hash + Drop> ShardedSet<T> {
         ensures refused { OnErr result (self.new.keys ≡ self.old.keys) }
         ensures shards { self.new.shards ≡ self.old.shards }
     {
-        let number = number_of(shard)?;
-        let index = number_of(self.shards[shard].len())?;
+        let place = Place::new(shard, self.shards[shard].len())?;
         // With room for the place, nothing is refused after the value is in.
         self.places.reserve(1)?;
         self.shards[shard].push(value)?;
-        self.places.push_reserved(Place {
-            shard: number,
-            index,
-        });
+        self.places.push_reserved(place);
         Ok(())
     }
 }
@@ -193,7 +189,7 @@ impl<T: Eq + Hash> Index<usize> for ShardedSet<T> {
     ghost index_gives = { λ set i value. slice_get set.keys i ≡ Some value };
 
     fn index(&self, index: usize) -> &T {
-        let place = self.places[index];
-        self.shards[place.shard as usize].at(place.index as usize)
+        let place = &self.places[index];
+        self.shards[place.shard()].at(place.index())
     }
 }

@@ -23,10 +23,10 @@ same-shards g c =
 same-places : (g : Over) (c : After-push_reserved g) → c.push_reserved.new.self.items ≡ c.self.inside.places.items ++ new_place c.self.inside.shards.items c.args.shard c.args.value (low g c) ∷ []
 same-places g c =
     c.push_reserved.ensures.items
-    ∙ (λ i. c.reserve.ensures.items i ++ record { shard = c.in_ok-number.ensures i; index = index i } ∷ [])
+    ∙ (λ i. c.reserve.ensures.items i ++ (c.in_ok-place.ensures ∙ ap (λ index. (c.args.shard, index)) index) i ∷ [])
   where
-    index : c.in_ok-index.index ≡ length (get_or c.self.inside.shards.items c.args.shard [])
-    index = c.in_ok-index.ensures ∙ c.len.ensures ∙ ap length (c.index.ensures ∙ get_or_default c.self.inside.shards.items c.args.shard c.index.result.now [] (low g c))
+    index : c.len.result ≡ length (get_or c.self.inside.shards.items c.args.shard [])
+    index = c.len.ensures ∙ ap length (c.index.ensures ∙ get_or_default c.self.inside.shards.items c.args.shard c.index.result.now [] (low g c))
 
 pub invariant_of-self-2 : goal.invariant_of-self-2
 invariant_of-self-2 g c =
