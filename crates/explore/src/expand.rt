@@ -4,10 +4,9 @@ ghost use Rattle.search_layer.specs.internal.Search.{layer_candidates};
 ghost use Rattle.explore.specs.internal.Expansion.{all_given, candidates_with, candidates_in, AreKept, AreThinOf, IsExpanded};
 
 use rayon::prelude::*;
-use search_layer::{Candidate, Leftovers, Sparing, Step};
+use search_layer::{Candidate, Sparing, Step};
 use search_shards::{ShardedSet, number_of};
 use std::alloc::{AllocError, Global};
-use std::thread;
 use std::thread::Threads;
 
 /// The fewest states that a thread of their own expands: a step of a test case takes longer than most items of a list do.
@@ -121,34 +120,4 @@ pub fn expand_layer<Y: Sparing, R: Threads + Sync>(
         .collect::<Result<Candidates<Option<Y::State>, Y::Label>, AllocError>>(rt, alloc)??;
     let Candidates { list } = candidates;
     Ok(list)
-}
-
-/// The candidates of the layer that begins at place `from`. What is left of the layer before is dropped meanwhile.
-pub fn expand_and_drop<Y: Sparing, R: Threads + Sync>(
-    rt: &R,
-    alloc: Global,
-    system: &Y,
-    states: &ShardedSet<Y::State>,
-    steps: &[Option<Step<Y::Label>>],
-    from: usize,
-    leftovers: Leftovers<Candidate<Option<Y::State>, Y::Label>>,
-) -> Result<Vec<Candidate<Option<Y::State>, Y::Label>>, AllocError>
-    requires fits { All (Y.fits system.now) states.now.keys }
-    requires kept { AreKept (Y.graph system.now) states.now.keys steps.now }
-    requires from { from ≤ length states.now.keys }
-    ensures { IfOk result (λ candidates. AreThinOf (Y.graph system.now) states.now.keys steps.now Y.Label.cmp (layer_candidates (Y.graph system.now) from (drop from states.now.keys)) candidates.items) }
-{
-    if leftovers.are_few() {
-        drop(leftovers);
-        return expand_layer(rt, alloc, system, states, steps, from);
-    }
-    let (candidates, ()) = thread::join(
-        rt,
-        move || -> Result<Vec<Candidate<Option<Y::State>, Y::Label>>, AllocError>
-            requires { All (Y.fits system.now) states.now.keys × AreKept (Y.graph system.now) states.now.keys steps.now × (from ≤ length states.now.keys) }
-            ensures { IfOk result (λ candidates. AreThinOf (Y.graph system.entry.now) states.entry.now.keys steps.entry.now Y.Label.cmp (layer_candidates (Y.graph system.entry.now) from (drop from states.entry.now.keys)) candidates.items) }
-        { expand_layer(rt, alloc, system, states, steps, from) },
-        move || leftovers.drop_all(rt),
-    );
-    candidates
 }

@@ -5,10 +5,10 @@ ghost use Rattle.explore.specs.internal.Expansion.{AreAll};
 ghost use Rattle.explore.specs.internal.Stopped.{HasNoRoom, IsEnd, IsMarked, IsUnmarked, finished_by};
 
 use crate::ending::{Ending, Stops};
-use crate::expand::expand_and_drop;
+use crate::expand::expand_layer;
 use search_layer::{
-    Candidate, ExploreError, Firsts, Gate, Leftovers, Plan, Sparing, Visited, enter_layer,
-    find_first, show_states,
+    Candidate, ExploreError, Firsts, Gate, Plan, Sparing, Visited, enter_layer, find_first,
+    show_states,
 };
 use search_shards::ShardedSet;
 use std::alloc::{AllocError, Global};
@@ -27,13 +27,6 @@ pub struct Explored<S: Eq + Hash, L, U> {
     pub ending: Ending,
 }
 
-/// A layer's states, and what is left of its candidates.
-#[derive(Drop)]
-struct Placed<S: Eq + Hash, L, U> {
-    explored: Explored<S, L, U>,
-    leftovers: Leftovers<Candidate<Option<S>, L>>,
-}
-
 /// Keeps a layer's new states in order, and joins what all steps and the new states show. Of all its candidates some have no
 /// state, where it is known without them.
 fn place_layer<Y: System, U: Summary<Y>, R: Threads + Sync>(
@@ -44,21 +37,21 @@ fn place_layer<Y: System, U: Summary<Y>, R: Threads + Sync>(
     explored: Explored<Y::State, Y::Label, U>,
     candidates: Vec<Candidate<Option<Y::State>, Y::Label>>,
     firsts: Firsts<U>,
-) -> Result<Placed<Y::State, Y::Label, U>, ExploreError>
+) -> Result<Explored<Y::State, Y::Label, U>, ExploreError>
     requires plan { IsWithinLimits plan.now }
     requires steps { explored.steps < plan.now.steps }
     requires room { length explored.visited.states.keys + length firsts.positions.items ≤ plan.now.limit }
     requires states { All (Y.fits system.now) explored.visited.states.keys }
     requires candidates { (all : List (Candidate Y.State Y.Label)) × AreAll (Y.graph system.now) U.joins (U.observation system.now) Y.State.eq (Y.fits system.now)
         explored.visited.states.keys candidates.items firsts.positions.items firsts.shown all }
-    ensures placed { IfOk result (λ p. (all : List (Candidate Y.State Y.Label)) → AreAll (Y.graph system.now) U.joins (U.observation system.now) Y.State.eq (Y.fits system.now)
-        explored.visited.states.keys candidates.items firsts.positions.items firsts.shown all → (from : ℕ) → as_found p.explored.visited.states.keys p.explored.visited.steps.items from p.explored.summary
+    ensures placed { IfOk result (λ e. (all : List (Candidate Y.State Y.Label)) → AreAll (Y.graph system.now) U.joins (U.observation system.now) Y.State.eq (Y.fits system.now)
+        explored.visited.states.keys candidates.items firsts.positions.items firsts.shown all → (from : ℕ) → as_found e.visited.states.keys e.visited.steps.items from e.summary
         ≡ place_all U.joins (U.observation system.now) Y.State.eq (as_found explored.visited.states.keys explored.visited.steps.items from
         (with_steps U.joins (U.observation system.now) (Y.graph system.now) explored.visited.states.keys explored.summary all)) all) }
-    ensures from { IfOk result (λ p. p.explored.from ≡ length explored.visited.states.keys) }
-    ensures steps { IfOk result (λ p. p.explored.steps ≡ explored.steps + 1) }
-    ensures ending { IfOk result (λ p. p.explored.ending ≡ explored.ending) }
-    ensures within { IfOk result (λ p. length p.explored.visited.states.keys ≤ plan.now.limit) }
+    ensures from { IfOk result (λ e. e.from ≡ length explored.visited.states.keys) }
+    ensures steps { IfOk result (λ e. e.steps ≡ explored.steps + 1) }
+    ensures ending { IfOk result (λ e. e.ending ≡ explored.ending) }
+    ensures within { IfOk result (λ e. length e.visited.states.keys ≤ plan.now.limit) }
     ensures room { result ≢ Err ExploreError.TooMany }
     ensures planned { result ≢ Err ExploreError.BadPlan }
 {
@@ -72,26 +65,15 @@ fn place_layer<Y: System, U: Summary<Y>, R: Threads + Sync>(
     let Firsts { positions, shown } = firsts;
     let summary = summary.join(alloc, shown)?;
     let from = visited.states.len();
-    let (visited, leftovers) = enter_layer(
-        rt,
-        alloc,
-        plan,
-        visited,
-        candidates,
-        positions.as_slice(),
-    )?;
+    let visited = enter_layer(rt, alloc, plan, visited, candidates, positions.as_slice())?;
     let shown = show_states::<Y, U, R>(rt, alloc, system, plan.workers, &visited.states, from)?;
     let summary = summary.join(alloc, shown)?;
-    let explored = Explored {
+    Ok(Explored {
         visited,
         from,
         summary,
         steps: steps + 1,
         ending,
-    };
-    Ok(Placed {
-        explored,
-        leftovers,
     })
 }
 
@@ -204,7 +186,6 @@ pub fn search<Y: Sparing, U: Summary<Y>, G: Gate, R: Threads + Sync>(
     ensures planned { result ≢ Err ExploreError.BadPlan }
 {
     let mut explored = begin_search::<Y, U>(alloc, system, plan.workers)?;
-    let mut leftovers = Leftovers::new(alloc, 0, plan.workers);
     for layer in 0..plan.steps {
         if is_marked(
             system,
@@ -216,15 +197,7 @@ pub fn search<Y: Sparing, U: Summary<Y>, G: Gate, R: Threads + Sync>(
         }
         let states = &explored.visited.states;
         let steps = explored.visited.steps.as_slice();
-        let candidates = expand_and_drop(
-            rt,
-            alloc,
-            system,
-            states,
-            steps,
-            explored.from,
-            leftovers,
-        )?;
+        let candidates = expand_layer(rt, alloc, system, states, steps, explored.from)?;
         if are_none(&candidates) {
             return Ok(finished(explored, plan, stops));
         }
@@ -246,11 +219,8 @@ pub fn search<Y: Sparing, U: Summary<Y>, G: Gate, R: Threads + Sync>(
                 Err(ExploreError::TooMany)
             };
         }
-        let placed = place_layer::<Y, U, R>(rt, alloc, system, plan, explored, candidates, firsts)?;
-        explored = placed.explored;
-        leftovers = placed.leftovers;
+        explored = place_layer::<Y, U, R>(rt, alloc, system, plan, explored, candidates, firsts)?;
     }
-    leftovers.drop_all(rt);
     Ok(explored)
 }
 

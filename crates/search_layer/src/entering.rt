@@ -67,8 +67,8 @@ pub fn enter_first<S: Eq + Hash + Send + Drop, L: Send + Drop>(
     Ok(())
 }
 
-/// The visited states with those of the candidates at these positions, in order, and their last steps, and what is left
-/// of the candidates.
+/// The visited states with those of the candidates at these positions, in order, and their last steps. The other candidates
+/// are dropped.
 pub fn enter_layer<S: Eq + Hash + Send + Sync + Drop, L: Send + Sync + Drop, R: Threads + Sync>(
     rt: &R,
     alloc: Global,
@@ -76,14 +76,14 @@ pub fn enter_layer<S: Eq + Hash + Send + Sync + Drop, L: Send + Sync + Drop, R: 
     visited: Visited<S, L>,
     candidates: Vec<Candidate<Option<S>, L>>,
     firsts: &[u64],
-) -> Result<(Visited<S, L>, Leftovers<Candidate<Option<S>, L>>), ExploreError>
+) -> Result<Visited<S, L>, ExploreError>
     requires plan { IsWithinLimits plan.now }
     requires first { (all : List (Candidate S L)) × AreThinned S.eq visited.states.keys all candidates.items × AreFirst S.eq visited.states.keys all firsts.now }
     ensures states { IfOk result (λ entered. (all : List (Candidate S L)) → AreThinned S.eq visited.states.keys all candidates.items → AreFirst S.eq visited.states.keys all firsts.now
-        → entered.0.states.keys ≡ visited.states.keys ++ map state_of (newly S.eq visited.states.keys all)) }
+        → entered.states.keys ≡ visited.states.keys ++ map state_of (newly S.eq visited.states.keys all)) }
     ensures steps { IfOk result (λ entered. (all : List (Candidate S L)) → AreThinned S.eq visited.states.keys all candidates.items → AreFirst S.eq visited.states.keys all firsts.now
-        → entered.0.steps.items ≡ visited.steps.items ++ map step_of (newly S.eq visited.states.keys all)) }
-    ensures within { IfOk result (λ entered. length entered.0.states.keys ≤ plan.now.limit) }
+        → entered.steps.items ≡ visited.steps.items ++ map step_of (newly S.eq visited.states.keys all)) }
+    ensures within { IfOk result (λ entered. length entered.states.keys ≤ plan.now.limit) }
     ensures too_many { IsErrOf result ExploreError.TooMany → (all : List (Candidate S L)) → AreThinned S.eq visited.states.keys all candidates.items → AreFirst S.eq visited.states.keys all firsts.now
         → plan.now.limit < length (visited.states.keys ++ map state_of (newly S.eq visited.states.keys all)) }
     ensures planned { result ≢ Err ExploreError.BadPlan }
@@ -99,10 +99,11 @@ pub fn enter_layer<S: Eq + Hash + Send + Sync + Drop, L: Send + Sync + Drop, R: 
         shards.as_slice(),
         &mut leftovers,
     )?;
+    leftovers.drop_all(rt);
     let Visited { states, steps } = visited;
     if states.len() as u64 > plan.limit {
         return Err(ExploreError::TooMany);
     }
     let states = states.settle(rt)?;
-    Ok((Visited { states, steps }, leftovers))
+    Ok(Visited { states, steps })
 }

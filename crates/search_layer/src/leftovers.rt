@@ -40,12 +40,7 @@ impl<T: Send + Drop> Leftovers<T> {
         let _ = self.last.push(item);
     }
 
-    /// Whether they are too few for threads of their own.
-    pub fn are_few(&self) -> bool {
-        self.parts.is_empty()
-    }
-
-    /// Drops all items, each part on a thread of its own where one can be made.
+    /// Drops all items. Where they have several parts, each is dropped on a thread of its own where one can be made.
     pub fn drop_all<R: Threads + Sync>(self, rt: &R) {
         let Leftovers {
             alloc: _,
@@ -53,6 +48,9 @@ impl<T: Send + Drop> Leftovers<T> {
             mut parts,
             last,
         } = self;
+        if parts.is_empty() {
+            return;
+        }
         let _ = parts.push(last);
         let _ = thread::map_vec(rt, parts, &|part: Vec<T>| drop(part));
     }

@@ -10,7 +10,6 @@ mod visited;
 mod workers;
 
 pub use entering::enter_layer;
-pub use leftovers::Leftovers;
 pub use plan::{ExploreError, Gate, NoGate, Plan};
 pub use showing::show_states;
 pub use sparing::Sparing;

@@ -88,8 +88,8 @@ returns-then-is_marked-clause-end g c = ended-here (g.Y.System.graph c.args.syst
 
 -- ---- the candidates
 
-pub expand_and_drop-requires-clause-kept : goal.expand_and_drop-requires-clause-kept
-expand_and_drop-requires-clause-kept g c κs within =
+pub expand_layer-requires-clause-kept : goal.expand_layer-requires-clause-kept
+expand_layer-requires-clause-kept g c κs within =
     let so_far = c.loop-layer.explored in
     subst (AreKept (g.Y.System.graph c.args.system.now) so_far.visited.states.keys) (sym c.as_slice-steps.ensures.value)
     (kept g c.args.system.now c.loop-layer.layer so_far.visited.states.keys so_far.visited.steps.items so_far.from so_far.summary c.loop-layer.invariant.found)
@@ -211,7 +211,7 @@ loop-layer-preserved g c =
     let observation = g.U.Summary.observation c.args.system.now in
     let eq = g.Y.State.PartialEq.eq in
     let so_far = c.loop-layer.explored in
-    let new = c.in_ok-placed.placed.explored in
+    let new = c.in_ok-explored-2.explored in
     let keys = so_far.visited.states.keys in
     let all = layer_candidates graph so_far.from (drop so_far.from keys) in
     let thinned = thin g c.args.system.now c.loop-layer.layer keys so_far.visited.steps.items so_far.from so_far.summary c.loop-layer.invariant.found
@@ -230,27 +230,27 @@ loop-layer-preserved g c =
       first = c.in_ok-firsts.ensures.first all given;
       shows = c.in_ok-firsts.ensures.summary all given;
     } in
-    let placed = c.in_ok-placed.ensures.placed all are in
+    let placed = c.in_ok-explored-2.ensures.placed all are in
     let new_states = ap (λ (f : Found _ _ _). f.states) (placed 0) in
     record {
       found = layer-done graph joins observation eq c.loop-layer.layer so_far.from new.from
           keys new.visited.states.keys so_far.visited.steps.items new.visited.steps.items
           so_far.summary shown new.summary all
-          c.loop-layer.invariant.found refl shown_is c.in_ok-placed.ensures.from placed;
+          c.loop-layer.invariant.found refl shown_is c.in_ok-explored-2.ensures.from placed;
       fits = subst (All fits) (sym new_states)
           (place-all-fits joins observation eq fits base all c.loop-layer.invariant.fits all_fit);
-      within = c.in_ok-placed.ensures.within;
+      within = c.in_ok-explored-2.ensures.within;
       from =
           let grown = placed-grows joins observation eq keys new.visited.states.keys so_far.visited.steps.items
           new.visited.steps.items 0 shown new.summary all (placed 0) in
-          subst (λ (k : ℕ). k ≤ length new.visited.states.keys) (sym c.in_ok-placed.ensures.from) grown;
-      steps = let one = c.in_ok-placed.ensures.steps in let before = c.loop-layer.invariant.steps in omega arith;
-      ending = c.in_ok-placed.ensures.ending ∙ c.loop-layer.invariant.ending;
+          subst (λ (k : ℕ). k ≤ length new.visited.states.keys) (sym c.in_ok-explored-2.ensures.from) grown;
+      steps = let one = c.in_ok-explored-2.ensures.steps in let before = c.loop-layer.invariant.steps in omega arith;
+      ending = c.in_ok-explored-2.ensures.ending ∙ c.loop-layer.invariant.ending;
       led_on = leads-on graph joins observation eq c.loop-layer.layer so_far.from keys so_far.visited.steps.items so_far.summary all
           c.loop-layer.invariant.found refl some c.loop-layer.invariant.led_on;
       unmarked = still-unmarked graph joins observation eq c.args.stops.now.at_mark so_far.from new.from keys new.visited.states.keys shown new.summary
           so_far.visited.steps.items new.visited.steps.items all
-          c.loop-layer.invariant.unmarked (c.is_marked.ensures.none c.if-is_marked.false) c.in_ok-placed.ensures.from
+          c.loop-layer.invariant.unmarked (c.is_marked.ensures.none c.if-is_marked.false) c.in_ok-explored-2.ensures.from
           (placed 0);
     }
 
