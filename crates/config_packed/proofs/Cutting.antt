@@ -5,7 +5,7 @@ use Rattle.std.proofs.lemmas.List.Folds.{flat_map-map}
 use Rattle.std.proofs.Math.Seq.{drop-append_seam, take-append_seam}
 use Rattle.std.specs.List.{flat_map}
 use Rattle.std.specs.Option.{option_to_list}
-use Rattle.config_packed.specs.internal.Cuts.{bytes_read, cut_content, cut_front, cut_sized, first_of, since}
+use Rattle.config_packed.specs.internal.Cuts.{bytes_read, cut_content, cut_front, cut_fronts, cut_sized, first_of, fronts_read, since}
 use Rattle.config_packed.specs.Packs.{verdict_in}
 use Rattle.config_packed.specs.Pieces.{AreParts, IsCut, bytes_of, first_message, front_at, has_mappings, spell_front, spell_key, spelled_parts}
 use Rattle.config_packed.specs.Reading.{Reads, read_byte, read_items, read_long, read_message, read_verdict}
@@ -204,10 +204,6 @@ cut-front-back q rest =
 abbrev front_bytes : Queue → List ℕ
 front_bytes queue = spell_front (front_at queue)
 
--- the bytes of the fronts of this many queues
-abbrev pub fronts_read : ℕ → List ℕ → List ℕ
-fronts_read count bytes = flat_map (λ (front : List ℕ). front) (read_items cut_front count bytes).0
-
 -- one more front is put
 pub fronts-more : (count turn : ℕ) (before after start now more : List ℕ)
     → turn < count → more ≡ now ++ (cut_front before).0 → after ≡ (cut_front before).1
@@ -229,24 +225,26 @@ fronts-of qs =
     ∙ sym (flat_map-map spell_front front_at qs)
 
 -- all fronts are put
-pub fronts-all : (qs : List Queue) (queues behind left start counted key : List ℕ) (count turn : ℕ)
-    → queues ≡ spell_list spell_queue qs
+pub fronts-all : (queues behind left start counted key : List ℕ) (count turn : ℕ)
     → count ≡ (read_long queues).0 → behind ≡ (read_long queues).1
     → counted ≡ start ++ spell_long count
     → turn ≡ count
     → counted ++ fronts_read count behind ≡ key ++ fronts_read (count - turn) left
-    → key ≡ start ++ spell_list spell_front (map front_at qs)
-unfolding read_items spell_list
-fronts-all qs queues behind left start counted key count turn is counts rest put all e =
+    → key ≡ start ++ cut_fronts queues
+unfolding read_items
+fronts-all queues behind left start counted key count turn counts rest put all e =
     let n : count - turn ≡ 0 = omega arith in
-    let read : read_long queues ≡ (length qs, flat_map spell_queue qs) = ap read_long is ∙ read-long-back (length qs) (flat_map spell_queue qs) in
-    let count-is : count ≡ length (map front_at qs) = counts ∙ ap (λ (p : ℕ × List ℕ). p.0) read ∙ sym (length-map qs front_at) in
-    let fronts : fronts_read count behind ≡ flat_map spell_front (map front_at qs) =
-    (λ i. fronts_read (counts i) (rest i)) ∙ ap (λ (p : ℕ × List ℕ). fronts_read p.0 p.1) read ∙ fronts-of qs in
     sym (append-nil key) ∙ ap (λ m. key ++ fronts_read m left) (sym n) ∙ sym e
-    ∙ (λ i. put i ++ fronts i)
-    ∙ append_assoc start (spell_long count) (flat_map spell_front (map front_at qs))
-    ∙ ap (λ m. start ++ (spell_long m ++ flat_map spell_front (map front_at qs))) count-is
+    ∙ ap (λ (bytes : List ℕ). bytes ++ fronts_read count behind) put
+    ∙ append_assoc start (spell_long count) (fronts_read count behind)
+    ∙ (λ i. start ++ (spell_long (counts i) ++ fronts_read (counts i) (rest i)))
+
+-- those of queues that are spelled
+pub fronts-back : (qs : List Queue) → cut_fronts (spell_list spell_queue qs) ≡ spell_list spell_front (map front_at qs)
+unfolding spell_list
+fronts-back qs =
+    ap (λ (p : ℕ × List ℕ). spell_long p.0 ++ fronts_read p.0 p.1) (read-long-back (length qs) (flat_map spell_queue qs))
+    ∙ (λ i. spell_long (sym (length-map qs front_at) i) ++ fronts-of qs i)
 
 -- ---- keys
 

@@ -7,6 +7,7 @@ pub mod ConfigsBack
 pub mod Shares
 pub mod Cutting
 pub mod Changing
+pub mod Shortening
 pub mod Waiting
 pub mod Keys
 pub mod OwnBack

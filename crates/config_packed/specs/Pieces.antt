@@ -76,6 +76,24 @@ pub record SeeTheSame (g h : Going) (at i : ℕ) (c d : Component) : Type 0 wher
   pub own : c.own ≡ d.own
   pub fronts : map front_at c.queues ≡ map front_at d.queues
 
+-- ---- messages in front
+
+-- a queue in which only the message in front of the others is left
+abbrev pub shortened_queue : Queue → Queue
+shortened_queue queue = record { port = queue.port; messages = option_to_list (first_message queue.messages) }
+
+-- a component in whose queues only these messages are left
+abbrev pub shortened_component : Component → Component
+shortened_component = with_queues (map shortened_queue)
+
+-- a configuration in whose queues only these messages are left
+abbrev pub shortened_going : Going → Going
+shortened_going going = record {
+  components = map shortened_component going.components;
+  links = going.links;
+  forgotten = going.forgotten;
+}
+
 -- ---- changes
 
 -- a component with another verdict and other data

@@ -13,6 +13,7 @@ mod packed;
 mod parts;
 mod pieces;
 mod queues;
+mod shortened;
 mod sized;
 mod skip;
 mod spelled;

@@ -1,13 +1,12 @@
 //! The bytes of a configuration that goes on, in parts.
-ghost use Rattle.std.specs.Prelude.{◌≡◌, ◌++◌, ◌<◌, IfOk, List, OnOk, Some, length, map, slice_get};
-ghost use Rattle.config_packed.specs.internal.Cuts.{cut_content, cut_front, first_of};
-ghost use Rattle.config_packed.specs.Pieces.{IsCut, bytes_of, front_at, spell_front, spell_key};
+ghost use Rattle.std.specs.Prelude.{◌≡◌, ◌++◌, ◌<◌, IfOk, OnOk, Some, length, map, slice_get};
+ghost use Rattle.config_packed.specs.internal.Cuts.{cut_content, cut_front, cut_fronts, first_of};
+ghost use Rattle.config_packed.specs.Pieces.{IsCut, bytes_of, spell_key};
 ghost use Rattle.config_packed.specs.Reading.{read_items};
 ghost use Rattle.config_packed.specs.Shares.{AreOf};
-ghost use Rattle.config_packed.specs.Spelling.{spell_config, spell_list, spell_queue};
+ghost use Rattle.config_packed.specs.Spelling.{spell_config};
 ghost use Rattle.config_packed.specs.declared.pieces.ComponentBytes.{ComponentBytes};
 ghost use Rattle.config_parts.specs.declared.component.Component.{Component};
-ghost use Rattle.config_parts.specs.declared.component.Queue.{Queue};
 ghost use Rattle.config_parts.specs.declared.config.Going.{Going};
 
 use crate::byte_reader::ByteReader;
@@ -134,8 +133,8 @@ fn put_front(key: &mut Vec<u8>, reader: &mut ByteReader<'_>) -> Result<(), Alloc
 }
 
 /// The port and the first message of each queue, from the bytes of the queues.
-fn put_fronts(key: &mut Vec<u8>, queues: &[u8]) -> Result<(), AllocError>
-    ensures { (qs : List Queue) → queues.now ≡ spell_list spell_queue qs → OnOk result (key.new.items ≡ key.old.items ++ spell_list spell_front (map front_at qs)) }
+pub fn put_fronts(key: &mut Vec<u8>, queues: &[u8]) -> Result<(), AllocError>
+    ensures { OnOk result (key.new.items ≡ key.old.items ++ cut_fronts queues.now) }
 {
     let mut reader = ByteReader::new(queues);
     let count = take_long(&mut reader);

@@ -4,8 +4,8 @@ use Rattle.std.specs.List.{flat_map}
 use Rattle.config_parts.specs.declared.component.Message.{Message}
 use Rattle.config_parts.specs.declared.component.Queue.{Queue}
 use Rattle.config_parts.specs.internal.Changes.{change_queue}
-use Rattle.config_packed.specs.Reading.{Reads, ◌>>=◌, done, read_long, read_message, read_pair}
-use Rattle.config_packed.specs.Spelling.{spell_list, spell_pair, spell_queue, spell_sized}
+use Rattle.config_packed.specs.Reading.{Reads, ◌>>=◌, done, read_items, read_long, read_message, read_pair}
+use Rattle.config_packed.specs.Spelling.{spell_list, spell_long, spell_pair, spell_queue, spell_sized}
 
 -- the bytes before those that are left
 abbrev pub since : List ℕ → List ℕ → List ℕ
@@ -43,6 +43,18 @@ cut_front = do
   head ← read_pair
   messages ← cut_sized
   done (spell_pair (min head.0 1) head.1 ++ spell_sized (first_of messages))
+
+-- the same of so many queues, one behind the other
+abbrev pub fronts_read : ℕ → List ℕ → List ℕ
+fronts_read count bytes = flat_map (λ (front : List ℕ). front) (read_items cut_front count bytes).0
+
+-- and of all queues
+abbrev pub cut_fronts : List ℕ → List ℕ
+cut_fronts queues = spell_long (read_long queues).0 ++ fronts_read (read_long queues).0 (read_long queues).1
+
+-- the parts of a component in whose queues only the messages in front are left
+abbrev pub shortened_parts : List ℕ × List ℕ → List ℕ × List ℕ
+shortened_parts parts = (parts.0, cut_fronts parts.1)
 
 -- the bytes of a component from its parts
 abbrev pub joined : List ℕ × List ℕ → List ℕ

@@ -9,7 +9,7 @@ loop-turn-preserved c =
     c.loop-turn-test.true c.in_ok-put_front.ensures.value c.in_ok-put_front.ensures.rest c.loop-turn.invariant
 
 pub returns : goal.returns
-returns c qs is =
-    fronts-all qs c.args.queues.now c.take_long-count.new.reader c.loop-turn.reader c.args.key.now.items c.put_long.new.bytes.items c.loop-turn.key.items c.take_long-count.result c.loop-turn._turn
-    is (c.take_long-count.ensures.value ∙ ap (λ (b : List ℕ). (read_long b).0) c.new-reader.ensures) (c.take_long-count.ensures.rest ∙ ap (λ (b : List ℕ). (read_long b).1) c.new-reader.ensures)
+returns c =
+    fronts-all c.args.queues.now c.take_long-count.new.reader c.loop-turn.reader c.args.key.now.items c.put_long.new.bytes.items c.loop-turn.key.items c.take_long-count.result c.loop-turn._turn
+    (c.take_long-count.ensures.value ∙ ap (λ (b : List ℕ). (read_long b).0) c.new-reader.ensures) (c.take_long-count.ensures.rest ∙ ap (λ (b : List ℕ). (read_long b).1) c.new-reader.ensures)
     c.in_ok-put_long.ensures (omega arith) c.loop-turn.invariant

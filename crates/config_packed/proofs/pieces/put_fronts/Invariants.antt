@@ -1,5 +1,5 @@
 use Rattle.std.proofs.Common.{◌≡◌, ◌++◌, ◌-◌}
-use Rattle.config_packed.proofs.Cutting.{fronts_read}
+use Rattle.config_packed.specs.internal.Cuts.{fronts_read}
 use Rattle.config_packed.proofs.pieces.put_fronts.Given as goal
 
 -- all fronts are those so far, and then those that are left
