@@ -49,6 +49,21 @@ pub trait Branched: Located {
         Ok(found)
     }
 
+    /// The state to which the step of an enabled label leads, before which so many enabled labels come.
+    fn next_of(
+        &self,
+        alloc: Global,
+        state: &Self::State,
+        nth: u32,
+        label: &Self::Label,
+    ) -> Result<Self::State, AllocError>
+        requires fits { Self.fits self.now state.now }
+        requires nth { IsNth ((Self.graph self.now).enabled state.now) nth label.now }
+        ensures { IfOk result (λ after. after ≡ (Self.graph self.now).after state.now label.now) }
+    {
+        self.next(alloc, state, label)
+    }
+
     /// An equal place of a branch. Takes no memory.
     fn copy_branch(branch: &Self::Branch) -> Self::Branch
         ensures { result ≡ branch.now };

@@ -23,7 +23,7 @@ fn labels_along<Y: Branched>(
     let mut state = system.start(alloc)?;
     for ordinal in ordinals {
         let label = nth_of(system.labels(alloc, &state)?, ordinal.nth);
-        state = system.next(alloc, &state, &label)?;
+        state = system.next_of(alloc, &state, ordinal.nth, &label)?;
         labels.push(label)?;
     }
     Ok(labels)

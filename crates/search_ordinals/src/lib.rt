@@ -15,5 +15,6 @@ pub use branched::Branched;
 pub use exploration::{explore_by_ordinals, explore_watched_by_ordinals};
 pub use laws::{ordinals_are_explored_alike, ordinals_tell_runs};
 pub use ordinal::Ordinal;
+pub use steps::nth_of;
 pub use system::OrdinalSystem;
 pub use watched::BranchedWatched;

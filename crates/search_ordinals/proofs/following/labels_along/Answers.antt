@@ -21,10 +21,9 @@ nth_of-label-requires g c =
     (in-range (g.Y.Located.branch system) (g.Y.System.graph system) c.loop-ordinal.state c.loop-ordinal.labels.items c.args.ordinals.now c.loop-ordinal.ordinal-index c.ordinal-item.result (labels_of told.0)
     c.loop-ordinal-test.true c.ordinal-item.is (c.loop-ordinal.invariant.1 told.0 told.1 told.2 told.3))
 
-pub next-requires-clause-enabled : goal.next-requires-clause-enabled
-next-requires-clause-enabled g c =
-    contains_from_nth ((g.Y.System.graph c.args.system.now).enabled c.loop-ordinal.state) c.ordinal-item.result.nth c.nth_of-label.result
-    (subst (λ (labels : List _). IsNth labels c.ordinal-item.result.nth c.nth_of-label.result) c.in_ok-labels.ensures c.nth_of-label.ensures)
+pub next_of-requires-clause-nth : goal.next_of-requires-clause-nth
+next_of-requires-clause-nth g c =
+    subst (λ (labels : List _). IsNth labels c.ordinal-item.result.nth c.nth_of-label.result) c.in_ok-labels.ensures c.nth_of-label.ensures
 
 pub loop-ordinal-preserved : goal.loop-ordinal-preserved
 loop-ordinal-preserved g c =
