@@ -16,6 +16,7 @@ pub mod Parting
 pub mod Parts
 pub mod Recalled
 pub mod SeenAlike
+pub mod Shortened
 pub mod SightsAlike
 pub mod StepPlaces
 pub mod Sums

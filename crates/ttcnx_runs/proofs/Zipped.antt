@@ -1,8 +1,9 @@
 -- Steps of which some states are left out, one by one and all together.
-use Rattle.std.proofs.Common.{◌≡◌, Bool, true, false, ℕ, ◌+◌, ◌<◌, List, [], ◌∷◌, ◌++◌, map, take, length, get_or, Option, Some, None, refl, sym, ap, subst, ◌∙◌}
+use Rattle.std.proofs.Common.{◌≡◌, Bool, true, false, ℕ, zero, suc, ◌+◌, ◌<◌, List, [], ◌∷◌, ◌++◌, map, take, length, get_or, Option, Some, None, refl, sym, ap, subst, ◌∙◌}
 use Rattle.std.proofs.lemmas.List.{append_assoc, map_push, take_more}
 use Rattle.std.proofs.lemmas.Slice.Zip.{all_zipped_more}
 use Rattle.std.specs.List.{AllZip, flat_map}
+use Rattle.std.specs.Prelude.{IfSome}
 use Rattle.config_packed.specs.Pieces.{has_mappings}
 use Rattle.config_parts.specs.declared.config.Config.{Config}
 use Rattle.config_parts.specs.declared.config.Config.TheVariants as config
@@ -19,6 +20,7 @@ use Rattle.ttcn_syntax.specs.declared.place.Span.{Span}
 use Rattle.ttcnx_runs.proofs.Recalled.{all-steps}
 use Rattle.ttcnx_runs.specs.Remembered.{steps_of}
 use Rattle.search_ordinals.specs.Sparing.{IsEarly, IsSparedAt}
+use Rattle.search_ordinals.specs.Told.{IsNth}
 use Rattle.ttcnx_runs.specs.internal.Spared.{IsLeft, IsSpared}
 
 -- one more step of a component
@@ -62,3 +64,27 @@ whole-spared machine before whole b g nth ps before-is whole-is none zipped =
     (subst (λ (c : Config). AllZip (IsSparedAt (branch_of machine.test) (canonical_graph machine.test) (said machine (config.Going b)) nth (said machine c)) (labels machine.test (said machine c)) ps) (sym whole-is)
     (all-spared (branch_of machine.test) (canonical_graph machine.test) (said machine (config.Going b)) nth (said machine (config.Going g)) (labels machine.test (said machine (config.Going g))) ps
     (subst (λ ss. AllZip (IsSpared (canonical_graph machine.test) (said machine (config.Going b)) nth) ss ps) (all-steps machine g none) zipped)))
+
+-- ---- steps by their numbers
+
+pub zipped-long : {S T : Type 0} (R : S → T → Type 0) (xs : List S) (ys : List T) → AllZip R xs ys → length xs ≡ length ys
+zipped-long R [] [] zipped = refl
+zipped-long R [] (y ∷ ys) zipped = absurd zipped
+zipped-long R (x ∷ xs) [] zipped = absurd zipped
+zipped-long R (x ∷ xs) (y ∷ ys) zipped = ap suc (zipped-long R xs ys zipped.1)
+
+zipped-at : {S T : Type 0} (R : S → T → Type 0) (xs : List S) (ys : List T) (n : ℕ) (x : S) (y : T) → AllZip R xs ys → IsNth xs n x → IsNth ys n y → R x y
+zipped-at R [] ys n x y zipped one other = absurd one
+zipped-at R (a ∷ xs) [] n x y zipped one other = absurd other
+zipped-at R (a ∷ xs) (b ∷ ys) zero x y zipped one other = subst (λ c. R c y) one (subst (R a) other zipped.0)
+zipped-at R (a ∷ xs) (b ∷ ys) (suc n) x y zipped one other = zipped-at R xs ys n x y zipped.1 one other
+
+-- where a state isn't left out, the step of the label of this number leads there
+pub leads-at : {B : Type 0} (branch : rules.Configuration → Label → Option B) (g : Graph rules.Configuration Label) (before : rules.Configuration) (nth : ℕ) (state : rules.Configuration)
+    (ls : List Label) (ps : List (Option B × Option rules.Configuration)) (number : ℕ) (label : Label) (p : Option B × Option rules.Configuration)
+    → AllZip (IsSparedAt branch g before nth state) ls ps → IsNth ls number label → IsNth ps number p → IfSome p.1 (λ after. after ≡ g.after state label)
+leads-at {B = B} branch g before nth state ls ps number label p zipped one other = told p (zipped-at (IsSparedAt branch g before nth state) ls ps number label p zipped one other)
+  where
+    told : (q : Option B × Option rules.Configuration) → IsSparedAt branch g before nth state label q → IfSome q.1 (λ after. after ≡ g.after state label)
+    told (b, None) is = tt
+    told (b, Some after) is = is.1

@@ -14,12 +14,14 @@ mod remembering;
 mod runs;
 mod scheme;
 pub mod search;
+mod shortening;
 mod sights;
 mod sparing;
 mod state;
 mod step;
 mod step_place;
 mod timed;
+mod working_out;
 
 pub use exploration::{Exploration, Extent, explore_runs, explore_runs_until, extent_of};
 pub use keys::BranchPlace;

@@ -1,5 +1,6 @@
 //! The branches and blocked components of a test case, where summaries ask for them.
-ghost use Rattle.std.specs.Prelude.{◌≡◌, IfOk};
+ghost use Rattle.std.specs.Prelude.{◌≡◌, IfOk, true, []};
+ghost use Rattle.semantics.specs.Labels.{labels};
 ghost use Rattle.semantics.specs.Places as rules;
 ghost use Rattle.ttcnx_runs.specs.Runs.{FitsRuns};
 
@@ -8,9 +9,28 @@ use crate::recalling::surely_goes_on;
 use crate::runs::Runs;
 use crate::scheme::Scheme;
 use crate::state::State;
+use crate::working_out::remembers_by_fronts;
 use std::alloc::{AllocError, Global};
 use step_labels::{Label, Standing};
 use summary::Located;
+
+/// Whether some label is enabled, by what is remembered of a component. Where many messages wait, that is worked out.
+fn is_known_to_go_on<'p, K: Scheme>(
+    runs: &Runs<'_, '_, 'p, K>,
+    alloc: Global,
+    state: &State<'p, K>,
+) -> Result<bool, AllocError>
+    requires { FitsRuns state.now }
+    ensures { IfOk result (λ known. known ≡ true → ¬ (labels K.machine.test state.now ≡ [])) }
+{
+    if surely_goes_on(alloc, &runs.memory, &state.packed)? {
+        return Ok(true);
+    }
+    if remembers_by_fronts(runs, alloc, state)? {
+        return surely_goes_on(alloc, &runs.memory, &state.packed);
+    }
+    Ok(false)
+}
 
 /// The components that are blocked in a state of which isn't known whether some label is enabled.
 fn blocked_in<'p, K: Scheme>(
@@ -21,7 +41,7 @@ fn blocked_in<'p, K: Scheme>(
     requires { FitsRuns state.now }
     ensures { IfOk result (λ found. found.items ≡ rules.blocked K.machine.test state.now) }
 {
-    if surely_goes_on(alloc, &runs.memory, &state.packed)? {
+    if is_known_to_go_on(runs, alloc, state)? {
         return Ok(Vec::new(alloc));
     }
     let config = state.packed.config(alloc)?;

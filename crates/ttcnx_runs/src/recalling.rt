@@ -10,7 +10,7 @@ ghost use Rattle.laws_local.specs.Alone.{IsLive, how_many};
 ghost use Rattle.semantics.specs.Canonical.{canonical_graph};
 ghost use Rattle.semantics.specs.Labels.{labels};
 ghost use Rattle.ttcn_step.specs.Machines.{legend, said};
-ghost use Rattle.ttcnx_runs.specs.internal.Recalls.{AreKeys, CanRecall, FitsState, branch_and_place, branch_and_place_of, has_steps};
+ghost use Rattle.ttcnx_runs.specs.internal.Recalls.{AreKeys, CanRecall, FitsState, IsToRecall, branch_and_place, branch_and_place_of, has_steps};
 ghost use Rattle.ttcnx_runs.specs.Remembered.{IsEffectWithin, led_to, sent_going, without_front};
 ghost use Rattle.ttcnx_runs.specs.declared.outcome.Effect.TheVariants as effect;
 
@@ -267,6 +267,23 @@ impl<'p, K: Scheme> Recall<'_, '_, '_, '_, 'p, K> {
     }
 }
 
+/// The bytes of a configuration in parts, where something may be recalled of all its steps: where the test case goes on, and no
+/// system port is mapped.
+pub(crate) fn parts_to_recall<'p>(
+    alloc: Global,
+    packed: &InternedConfig<'p>,
+) -> Result<Option<ConfigBytes<'p>>, AllocError>
+    ensures { IfOk result (λ found. IfSome found (IsToRecall packed.now)) }
+{
+    let Some(parts) = packed.parts(alloc)? else {
+        return Ok(None);
+    };
+    if parts.has_mappings {
+        return Ok(None);
+    }
+    Ok(Some(parts))
+}
+
 /// How many bytes are asked for before keys are made: few need more.
 pub(crate) const KEY_ROOM: usize = 256;
 
@@ -350,12 +367,9 @@ pub(crate) fn recalled_steps<K: Scheme>(
     if memory.has_given_up() {
         return Ok(None);
     }
-    let Some(parts) = packed.parts(alloc)? else {
+    let Some(parts) = parts_to_recall(alloc, packed)? else {
         return Ok(None);
     };
-    if parts.has_mappings {
-        return Ok(None);
-    }
     let mut key = Vec::with_capacity(alloc, KEY_ROOM)?;
     let Some(all) = recall_all(alloc, memory, &parts, &mut key)? else {
         return Ok(None);

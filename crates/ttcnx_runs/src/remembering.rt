@@ -7,7 +7,7 @@ ghost use Rattle.config_parts.specs.Views.{IsGoingWithin, IsWithin};
 ghost use Rattle.config_parts.specs.declared.component.Component.{Component};
 ghost use Rattle.config_parts.specs.declared.config.Config.TheVariants as form;
 ghost use Rattle.config_parts.specs.declared.config.Going.{Going};
-ghost use Rattle.config_packed.specs.Pieces.{IsCut, spell_key};
+ghost use Rattle.config_packed.specs.Pieces.{AreParts, IsCut, spell_key};
 ghost use Rattle.laws_local.specs.Alone.{IsLive, is_of_path};
 ghost use Rattle.ttcn_step.specs.Machines.{Fits, extent, legend, said};
 ghost use Rattle.ttcnx_runs.specs.internal.Makes.{EndsThere, IsAlone, IsEnding, IsFit, IsHere, IsMade, IsMadeOf, IsPlaced, IsRemoved, IsSending, IsSent, LeadsTo};
@@ -331,25 +331,25 @@ fn remember_at<K: Scheme>(
     )
 }
 
-/// Remembers the steps of all components of a configuration, where there are several: one alone is hardly ever met again as
-/// it is.
+/// Remembers the steps of all components of a configuration, whose bytes are given in parts, where there are several: one
+/// alone is hardly ever met again as it is.
 pub(crate) fn remember<'p, K: Scheme>(
     alloc: Global,
     machine: &Machine<'_>,
     memory: &Memory<Remembered<K>>,
-    packed: &InternedConfig<'p>,
+    parts: &Option<ConfigBytes<'_>>,
     config: &Config,
     steps: &[Step<State<'p, K>>],
 ) -> Result<(), AllocError>
     requires is { machine.now ≡ K.machine }
     requires fits { FitsState K.machine config.now }
-    requires same { packed.now ≡ config.now }
+    requires parts { AreParts config.now parts.now }
     requires steps { AreSteps K.machine config.now steps.now }
 {
     if memory.has_given_up() {
         return Ok(());
     }
-    let Some(parts) = packed.parts(alloc)? else {
+    let Some(parts) = parts else {
         return Ok(());
     };
     if parts.components.len() < 2 {
@@ -364,7 +364,7 @@ pub(crate) fn remember<'p, K: Scheme>(
             machine,
             memory,
             config,
-            &parts,
+            parts,
             at,
             &component.itself.path,
             steps,

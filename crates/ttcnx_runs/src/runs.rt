@@ -12,6 +12,7 @@ ghost use Rattle.ttcn_step.specs.Machines.{Fits, legend, said};
 
 use crate::remembered::Remembered;
 use crate::scheme::Scheme;
+use crate::shortening::with_same_labels;
 use crate::state::{State, hash_of};
 use search_memory::{Interner, Memory};
 use std::alloc::{AllocError, Global};
@@ -126,7 +127,7 @@ impl<'t, 'a, 'p, K: Scheme + Send + Sync> System for Runs<'t, 'a, 'p, K> {
     }
 
     fn labels(&self, alloc: Global, state: &State<'p, K>) -> Result<Vec<Label>, AllocError> {
-        let config = state.packed.config(alloc)?;
+        let config = with_same_labels::<K>(alloc, &state.packed)?;
         self.machine.labels(alloc, &config)
     }
 

@@ -21,9 +21,10 @@ ghost use Rattle.ttcnx_runs.specs.internal.Spared.{AreFirstKeys, IsLeft, IsReach
 
 use crate::keys::{BranchPlace, copied};
 use crate::outcome::{Effect, Sending};
-use crate::recalling::{KEY_ROOM, Recall, active_among, recall_all, recall_at};
+use crate::recalling::{KEY_ROOM, Recall, active_among, parts_to_recall, recall_all, recall_at};
 use crate::remembered::Remembered;
 use crate::scheme::Scheme;
+use crate::shortening::are_many;
 use crate::state::State;
 use search_memory::{Interner, Memory};
 use std::alloc::{AllocError, Global};
@@ -302,12 +303,9 @@ pub(crate) fn recalled_pairs<'p, K: Scheme>(
     if memory.has_given_up() {
         return Ok(None);
     }
-    let Some(parts) = packed.parts(alloc)? else {
+    let Some(parts) = parts_to_recall(alloc, packed)? else {
         return Ok(None);
     };
-    if parts.has_mappings {
-        return Ok(None);
-    }
     let mut key = Vec::with_capacity(alloc, KEY_ROOM)?;
     let Some(all) = recall_all(alloc, memory, &parts, &mut key)? else {
         return Ok(None);
@@ -325,4 +323,39 @@ pub(crate) fn recalled_pairs<'p, K: Scheme>(
     let pairs = pairs_behind(&recall, &last, &all)?;
     memory.note_use(alloc)?;
     Ok(Some(pairs))
+}
+
+/// For each enabled label the branch that its step takes, if it takes one, and the state to which it leads, where many messages
+/// wait and the steps of all components are remembered. No state is left out, as if the step behind which it is were the first.
+pub(crate) fn recalled_states<'p, K: Scheme>(
+    alloc: Global,
+    machine: &Machine<'_>,
+    interner: &'p Interner,
+    memory: &Memory<Remembered<K>>,
+    packed: &InternedConfig<'p>,
+) -> Result<Option<Vec<(Option<BranchPlace>, Option<State<'p, K>>)>>, AllocError>
+    requires is { machine.now ≡ K.machine }
+    requires fits { FitsState K.machine packed.now }
+    ensures { IfOk result (λ found. IfSome found (λ pairs. AllZip (IsSparedAt (branch_of K.machine.test) (canonical_graph K.machine.test) (said K.machine packed.now) 0 (said K.machine packed.now)) (labels K.machine.test (said K.machine packed.now)) pairs.items)) }
+{
+    let Some(parts) = parts_to_recall(alloc, packed)? else {
+        return Ok(None);
+    };
+    if !are_many(&parts) {
+        return Ok(None);
+    }
+    let mut key = Vec::with_capacity(alloc, KEY_ROOM)?;
+    let Some(all) = recall_all(alloc, memory, &parts, &mut key)? else {
+        return Ok(None);
+    };
+    let recall = Recall {
+        alloc,
+        machine,
+        interner,
+        packed,
+        parts: &parts,
+        active: active_among(&all),
+        of: PhantomData,
+    };
+    Ok(Some(pairs_behind(&recall, &None, &all)?))
 }

@@ -1,6 +1,6 @@
 -- Configurations whose successors are made from what is remembered.
 use Rattle.std.specs.Prelude.{◌≡◌, ℕ, Bool, true, false, List, [], ◌∷◌, Option, Some, length, slice_get}
-use Rattle.config_packed.specs.Pieces.{IsCut, spell_key}
+use Rattle.config_packed.specs.Pieces.{IsCut, has_mappings, spell_key}
 use Rattle.config_packed.specs.declared.pieces.ConfigBytes.{ConfigBytes}
 use Rattle.config_parts.specs.Legend.{going_by}
 use Rattle.config_parts.specs.Views.{IsConfigWithin}
@@ -23,6 +23,13 @@ use Rattle.ttcnx_runs.specs.declared.step_place.StepPlace.{StepPlace}
 pub record FitsState (machine : Machine) (configuration : Config) : Type 0 where
   pub within : IsConfigWithin (extent machine) configuration
   pub fits : FitsRuns (said machine configuration)
+
+-- a configuration that goes on, cut into these parts, in which no system port is mapped
+pub record IsToRecall (configuration : Config) (parts : ConfigBytes) : Type 0 where
+  pub going : Going
+  pub is : configuration ≡ config.Going going
+  pub cut : IsCut going parts
+  pub unmapped : has_mappings going.links ≡ false
 
 -- how many components have enabled labels
 abbrev pub active_in : Machine → rules.Going → ℕ

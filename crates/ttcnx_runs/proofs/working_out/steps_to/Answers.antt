@@ -9,7 +9,7 @@ use Rattle.semantics.specs.Places.{branch_of}
 use Rattle.ttcn_step.specs.Answers.{IsSuccessor}
 use Rattle.ttcn_step.specs.Machines.{Machine, said}
 use Rattle.ttcnx_runs.proofs.Recalled.{alike-pushed}
-use Rattle.ttcnx_runs.proofs.branched.steps_to.Goals as goal
+use Rattle.ttcnx_runs.proofs.working_out.steps_to.Goals as goal
 use Rattle.ttcnx_runs.specs.internal.Makes.{LeadsTo}
 use Rattle.ttcnx_runs.specs.internal.WorkedOut.{IsStep}
 use Rattle.ttcnx_runs.specs.declared.step.Step.{Step}

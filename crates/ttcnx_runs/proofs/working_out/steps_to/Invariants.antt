@@ -1,6 +1,6 @@
 use Rattle.std.proofs.Common.{◌≡◌, map}
 use Rattle.std.specs.List.{All}
-use Rattle.ttcnx_runs.proofs.branched.steps_to.Given as goal
+use Rattle.ttcnx_runs.proofs.working_out.steps_to.Given as goal
 use Rattle.ttcnx_runs.specs.internal.WorkedOut.{IsStep}
 
 abbrev pub invariant-loop-label : goal.invariant-loop-label
