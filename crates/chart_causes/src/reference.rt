@@ -112,7 +112,7 @@ impl<'a> Sight<'a> {
         component: &ComponentRef,
     ) -> Result<Option<String>, AllocError> {
         let found = given(eval_component_reference(alloc, component, &self.frame))?;
-        match (component, found) {
+        match (component, &found) {
             (ComponentRef::Named(reference), None) => self.read(alloc, reference),
             (ComponentRef::Named(reference), Some(Value::Null)) => {
                 let mut text = String::new(alloc);

@@ -211,7 +211,7 @@ fn live_component(alloc: Global, component: Component) -> Result<Component, Allo
     ensures { IfOk result (λ live. live ≡ spec.live_component component) }
 {
     if is_terminated(component.state) && !is_bare(&component) {
-        husk(alloc, component.itself.path)
+        husk(alloc, component.into_itself().path)
     } else {
         Ok(component)
     }

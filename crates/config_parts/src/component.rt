@@ -37,21 +37,39 @@ impl State {
 }
 
 /// A message, and the component that sent it: none did where it came in at a system port.
-#[derive(Drop, PartialEq, Eq, Hash)]
+#[derive(PartialEq, Eq, Hash)]
 pub struct Message {
     pub value: Value,
     pub sender: Option<ComponentId>,
 }
 
+impl Drop for Message {
+    fn drop(self) {
+        let Message {
+            value: _value,
+            sender: _sender,
+        } = self;
+    }
+}
+
 /// The messages that wait at a port, the one that came first in front (ES 201 873-1, 22.1).
-#[derive(Drop, PartialEq, Eq, Hash)]
+#[derive(PartialEq, Eq, Hash)]
 pub struct Queue {
     pub port: Slot,
     pub messages: Seq<Message>,
 }
 
+impl Drop for Queue {
+    fn drop(self) {
+        let Queue {
+            port: _port,
+            messages: _messages,
+        } = self;
+    }
+}
+
 /// A component. Configurations share what a step leaves as it was.
-#[derive(Drop, PartialEq, Eq, Hash)]
+#[derive(PartialEq, Eq, Hash)]
 pub struct Component {
     /// The component's path, with its type.
     pub itself: ComponentId,
@@ -60,4 +78,32 @@ pub struct Component {
     pub verdict: Verdict,
     /// The ports of its type in the order of their declaration.
     pub queues: Shared<Seq<Queue>>,
+}
+
+impl Drop for Component {
+    fn drop(self) {
+        let Component {
+            itself: _itself,
+            own: _own,
+            state: _state,
+            verdict: _verdict,
+            queues: _queues,
+        } = self;
+    }
+}
+
+impl Component {
+    /// The component's path, with its type.
+    pub fn into_itself(self) -> ComponentId
+        ensures { result ≡ self.itself }
+    {
+        let Component {
+            itself,
+            own: _own,
+            state: _state,
+            verdict: _verdict,
+            queues: _queues,
+        } = self;
+        itself
+    }
 }

@@ -12,22 +12,41 @@ pub struct Cells {
 }
 
 /// The position of what remains to be done in a frame, and the frame's names. A copy shares the names.
-#[derive(Drop, PartialEq, Eq, Hash)]
+#[derive(PartialEq, Eq, Hash)]
 pub struct Frame {
     pub remaining: usize,
     pub cells: Shared<Cells>,
 }
 
+impl Drop for Frame {
+    fn drop(self) {
+        let Frame {
+            remaining: _remaining,
+            cells: _cells,
+        } = self;
+    }
+}
+
 /// An activated default: the number of the activation, the altstep, and its arguments (ES 201 873-1, 20.5).
-#[derive(Drop, PartialEq, Eq, Hash)]
+#[derive(PartialEq, Eq, Hash)]
 pub struct ActiveDefault {
     pub number: u32,
     pub altstep: usize,
     pub arguments: Seq<Value>,
 }
 
+impl Drop for ActiveDefault {
+    fn drop(self) {
+        let ActiveDefault {
+            number: _number,
+            altstep: _altstep,
+            arguments: _arguments,
+        } = self;
+    }
+}
+
 /// What the statements of a component read and change of its own, beside its state, its verdict and the messages that wait.
-#[derive(Drop, PartialEq, Eq, Hash)]
+#[derive(PartialEq, Eq, Hash)]
 pub struct Data {
     /// Frame 0: the variables, constants and timers of its type.
     pub members: Cells,
@@ -38,4 +57,16 @@ pub struct Data {
     pub activations: u32,
     /// How many components the component created so far.
     pub children: u32,
+}
+
+impl Drop for Data {
+    fn drop(self) {
+        let Data {
+            members: _members,
+            calls: _calls,
+            defaults: _defaults,
+            activations: _activations,
+            children: _children,
+        } = self;
+    }
 }

@@ -60,11 +60,11 @@ fn is_from(
     let Some(reference) = reference else {
         return Ok(true);
     };
-    match eval_component_reference(alloc, reference, frame) {
-        Ok(Value::Component(component)) => Ok(has_sent(&component, sender)),
-        Ok(Value::Null) => Ok(false),
-        Ok(_) => Err(Fault::Dynamic),
-        Err(fault) => Err(fault),
+    let value = eval_component_reference(alloc, reference, frame)?;
+    match &value {
+        Value::Component(component) => Ok(has_sent(component, sender)),
+        Value::Null => Ok(false),
+        _ => Err(Fault::Dynamic),
     }
 }
 

@@ -86,12 +86,13 @@ pub fn act_deactivate(
             own: deactivate_all(alloc, own),
         }));
     };
-    match stand.reference(alloc, reference)? {
+    let value = stand.reference(alloc, reference)?;
+    match &value {
         Value::Default(number) => {
             let own = stand.done(alloc)?;
             Ok(Some(Act {
                 request: Request::Continues,
-                own: deactivate(alloc, own, number),
+                own: deactivate(alloc, own, *number),
             }))
         }
         Value::Null => {

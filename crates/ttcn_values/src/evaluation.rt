@@ -47,8 +47,9 @@ pub fn eval(alloc: Global, expr: &Expr, frame: &Frame<'_>) -> Result<Value, Faul
 pub fn eval_condition(alloc: Global, condition: &Expr, frame: &Frame<'_>) -> Result<bool, Fault>
     ensures { Gives (condition_of condition.now (reading frame.now)) result }
 {
-    match eval(alloc, condition, frame)? {
-        Value::Boolean(truth) => Ok(truth),
+    let value = eval(alloc, condition, frame)?;
+    match &value {
+        Value::Boolean(truth) => Ok(*truth),
         _ => Err(Fault::Dynamic),
     }
 }
@@ -84,10 +85,7 @@ pub fn eval_component(
 ) -> Result<ComponentId, Fault>
     ensures { Gives (component_referred (reading frame.now) component.now) result }
 {
-    match eval_component_reference(alloc, component, frame)? {
-        Value::Component(id) => Ok(id),
-        _ => Err(Fault::Dynamic),
-    }
+    eval_component_reference(alloc, component, frame)?.into_component()
 }
 
 /// Whether the timer runs that a reference means, if it means one.

@@ -51,9 +51,8 @@ fn record_for(
     ensures { Gives (spec.record_for definitions.now data_type held) result }
 {
     match held {
-        Some(Value::Record(at, fields)) => Ok((at, fields)),
-        Some(Value::Omit) | None => blank(alloc, definitions, data_type),
-        Some(_) => Err(Fault::Dynamic),
+        Some(value) if !value.is_omit() => value.into_record(),
+        _ => blank(alloc, definitions, data_type),
     }
 }
 

@@ -6,9 +6,15 @@ use ttcn_syntax::Seq;
 
 /// A component's name: that of the MTC has no numbers, and that of the k-th component that another creates has the other's
 /// numbers and then k.
-#[derive(Debug, Drop, PartialEq, Eq, Hash)]
+#[derive(Debug, PartialEq, Eq, Hash)]
 pub struct Path {
     pub numbers: Seq<u32>,
+}
+
+impl Drop for Path {
+    fn drop(self) {
+        let Path { numbers: _numbers } = self;
+    }
 }
 
 impl Path {

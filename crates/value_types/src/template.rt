@@ -17,7 +17,7 @@ pub struct Template {
 
 /// What a template matches.
 #[cycle(template)]
-#[derive(Debug, Drop, PartialEq, Eq, Hash)]
+#[derive(Debug, PartialEq, Eq, Hash)]
 pub enum Pattern {
     Value(Value),
     /// `?`
@@ -31,6 +31,22 @@ pub enum Pattern {
     Range(Option<i64>, Option<i64>),
     /// The record, and the templates of its fields in order.
     Record(usize, Seq<Template>),
+}
+
+impl Drop for Pattern {
+    #[cycle(drop_pattern)]
+    fn drop(self) {
+        match self {
+            Pattern::Value(_value) => {}
+            Pattern::Any => {}
+            Pattern::AnyOrOmit => {}
+            Pattern::Omit => {}
+            Pattern::Complement(_parts) => {}
+            Pattern::List(_parts) => {}
+            Pattern::Range(_low, _high) => {}
+            Pattern::Record(_at, _parts) => {}
+        }
+    }
 }
 
 impl Template {

@@ -1,8 +1,9 @@
 //! Values (ES 201 873-1, section 6).
 ghost use Rattle.std.specs.Prelude.{◌≡◌, IfOk};
-ghost use Rattle.value_types.specs.Values.{is_complete, is_omit};
+ghost use Rattle.value_types.specs.Outcomes.{Gives, or_unmet};
+ghost use Rattle.value_types.specs.Values.{component, is_complete, is_omit, record_of};
 
-use crate::Path;
+use crate::{Fault, Path};
 use std::alloc::{AllocError, Global};
 use ttcn_syntax::Seq;
 
@@ -15,7 +16,7 @@ pub struct ComponentId {
 
 /// A value, or what stands in its place at an optional field. Types are positions among the module's definitions, and
 /// fields and names of enumerations are positions in their types.
-#[derive(Debug, Drop, PartialEq, Eq, Hash)]
+#[derive(Debug, PartialEq, Eq, Hash)]
 pub enum Value {
     /// An integer of 64 bits.
     Integer(i64),
@@ -31,6 +32,21 @@ pub enum Value {
     Null,
     /// `omit`: an optional field that is absent.
     Omit,
+}
+
+impl Drop for Value {
+    fn drop(self) {
+        match self {
+            Value::Integer(_integer) => {}
+            Value::Boolean(_truth) => {}
+            Value::Enumerated(_at, _name) => {}
+            Value::Record(_at, _fields) => {}
+            Value::Component(_component) => {}
+            Value::Default(_activation) => {}
+            Value::Null => {}
+            Value::Omit => {}
+        }
+    }
 }
 
 impl Value {
@@ -56,6 +72,26 @@ impl Value {
                 true
             }
             _ => true,
+        }
+    }
+
+    /// The component that the value refers to: `null` refers to none, which is a dynamic error.
+    pub fn into_component(self) -> Result<ComponentId, Fault>
+        ensures { Gives (component self) result }
+    {
+        match self {
+            Value::Component(id) => Ok(id),
+            _ => Err(Fault::Dynamic),
+        }
+    }
+
+    /// The position of the type of the record that the value is, and its fields in order.
+    pub fn into_record(self) -> Result<(usize, Seq<Option<Value>>), Fault>
+        ensures { Gives (or_unmet (record_of self)) result }
+    {
+        match self {
+            Value::Record(at, fields) => Ok((at, fields)),
+            _ => Err(Fault::Dynamic),
         }
     }
 

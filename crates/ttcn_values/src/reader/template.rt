@@ -63,8 +63,9 @@ impl Reader<'_> {
         let Bound::Expr(expr) = bound else {
             return Ok(None);
         };
-        match self.evaluate(alloc, expr)? {
-            Value::Integer(number) => Ok(Some(number)),
+        let value = self.evaluate(alloc, expr)?;
+        match &value {
+            Value::Integer(number) => Ok(Some(*number)),
             _ => Err(Fault::Dynamic),
         }
     }
