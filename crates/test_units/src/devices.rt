@@ -75,7 +75,7 @@ const PLAN: Plan = Plan {
 };
 
 /// How a call goes wrong.
-#[derive(Clone, Copy, Debug, PartialEq, Eq)]
+#[derive(Clone, Copy, Debug)]
 enum Trouble {
     Fails,
     IsInterrupted,

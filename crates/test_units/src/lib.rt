@@ -42,6 +42,7 @@ mod round;
 mod slots;
 #[cfg(test)]
 mod statuses;
+#[cfg(test)]
 pub mod surface;
 #[cfg(test)]
 mod trees;

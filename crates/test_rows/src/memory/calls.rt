@@ -33,7 +33,7 @@ const WORDS: [&str; 9] = [
 ];
 
 /// A call.
-#[derive(Clone, Copy, Debug, PartialEq, Eq)]
+#[derive(Clone, Copy)]
 pub enum Call {
     /// `run_text` with so many workers, of the module of one component or of the race.
     RunOne(u64),
@@ -121,7 +121,7 @@ pub struct Subjects<'a, 'p> {
 }
 
 /// Why a call gave nothing.
-#[derive(Clone, Copy, Debug, PartialEq, Eq)]
+#[derive(Clone, Copy)]
 pub enum Refusal {
     Memory,
     Other,

@@ -4,7 +4,7 @@ use std::fs;
 use std::rt::Files;
 
 /// Which request for memory is refused.
-#[derive(Clone, Copy, Debug, PartialEq, Eq)]
+#[derive(Clone, Copy)]
 pub enum Refused {
     None,
     /// The one of this number, counted from 1.
@@ -13,14 +13,14 @@ pub enum Refused {
 }
 
 /// How a call ended, and whether one of its requests for memory was refused.
-#[derive(Clone, Copy, Debug, PartialEq, Eq)]
+#[derive(Clone, Copy)]
 pub struct Ending {
     pub was_refused: bool,
     pub answer: Answer,
 }
 
 /// What a call answered: as it does with ample memory, that it got no memory, or something else.
-#[derive(Clone, Copy, Debug, PartialEq, Eq)]
+#[derive(Clone, Copy)]
 pub enum Answer {
     Right,
     NoMemory,

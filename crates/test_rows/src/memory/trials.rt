@@ -21,7 +21,7 @@ use ttcnx::run_text;
 const REQUESTS: u64 = 1_000_000;
 
 /// What is tried.
-#[derive(Clone, Copy, Debug, PartialEq, Eq)]
+#[derive(Clone, Copy)]
 enum Trial {
     Call(Call),
     NewTable,
@@ -37,7 +37,7 @@ const TABLES: [(&str, Trial); 3] = [
 ];
 
 /// How many requests were refused, and how many answers were otherwise than they may be.
-#[derive(Clone, Copy, Debug, PartialEq, Eq)]
+#[derive(Clone, Copy)]
 struct Count {
     refused: u64,
     otherwise: u64,
@@ -68,7 +68,7 @@ impl Count {
     fn with_ample(self, ending: Ending) -> Count {
         self.plus(Count {
             refused: 0,
-            otherwise: (ending.answer != Answer::Right) as u64,
+            otherwise: !matches!(ending.answer, Answer::Right) as u64,
         })
     }
 }
