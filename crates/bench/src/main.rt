@@ -1,29 +1,17 @@
-//! Prints figures: how fast texts are read, machines step, states are searched and first positions are found.
+//! Prints figures of layers below test cases: how fast states are searched and first positions are found.
 //!
 //! `bench PART` does one part, `bench all` each of them, and `bench PART N ..` takes larger ones. Counts go to standard
 //! output, rates to standard error.
 #![tactic(auto)]
 
-mod machine;
-mod modules;
 mod positions;
 mod rates;
 mod search;
 
-use anyhow::Result;
-use std::env;
-use std::rt::Clock;
-use std::thread::Threads;
+use std::{env, io};
 
 /// What can be measured.
-const PARTS: [&str; 6] = [
-    "positions",
-    "modules",
-    "search",
-    "race",
-    "workers",
-    "alternatives",
-];
+const PARTS: [&str; 2] = ["positions", "search"];
 
 /// The numbers behind the part, as far as they are given.
 #[derive(Clone, Copy)]
@@ -38,20 +26,7 @@ fn number(text: Option<String>) -> Option<u64> {
     text?.as_str().parse().ok()
 }
 
-/// Measures one part.
-fn measure<R>(rt: &R, part: &str, numbers: Numbers) -> Result<()>
-where
-    R: AllocGlobal + Clock + Eprint + Print + Threads + Sync,
-{
-    match part {
-        "positions" => Ok(positions::measure(rt, numbers)?),
-        "modules" => Ok(modules::measure(rt, numbers)?),
-        "search" => Ok(search::measure(rt, numbers)?),
-        _ => machine::measure(rt, part, numbers),
-    }
-}
-
-fn main(rt: HostRuntime) -> Result<()> {
+fn main(rt: HostRuntime) -> io::Result<()> {
     let mut args = env::args(&rt)?;
     let wanted = args.nth(1);
     let numbers = Numbers {
@@ -64,8 +39,12 @@ fn main(rt: HostRuntime) -> Result<()> {
         None => "all",
     };
     for part in PARTS {
-        if wanted == "all" || wanted == part {
-            measure(&rt, part, numbers)?;
+        if wanted != "all" && wanted != part {
+            continue;
+        }
+        match part {
+            "positions" => positions::measure(&rt, numbers)?,
+            _ => search::measure(&rt, numbers)?,
         }
     }
     Ok(())
