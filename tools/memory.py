@@ -6,7 +6,8 @@ argument is --refuse-memory (crates/test_rows). It wants a C compiler, cc, and t
 - In the calls: CALLS makes each call over and over, and has its N-th call of malloc, calloc or realloc refused, from N = 1
   on, until a call asks no more so often. Each call must answer that it got no memory, or as with ample memory.
 - In whole runs: TTCNX runs on texts of examples/, and its N-th request is refused, from the first one of the process on. A run
-  must answer as with ample memory, byte for byte, or write nothing but the line "out of memory" and end with status 4.
+  must answer as with ample memory, byte for byte, or write nothing but the line "out of memory" and end with status 4. The
+  process is forked for each N before its main function begins, which takes a fraction of a new process.
 - By a limit: TTCNX explores a module that needs more memory than it may have, 100 and 400 MB, with 1 and 4 workers; it must
   write "out of memory" alone and end with status 4. With the word limits that is all that is tried, from 100 MB to 2 GB.
 
@@ -19,7 +20,6 @@ import resource
 import subprocess
 import sys
 import tempfile
-from concurrent.futures import ThreadPoolExecutor
 
 ROOT = os.path.dirname(os.path.dirname(os.path.realpath(__file__)))
 
@@ -56,35 +56,42 @@ FEW_LIMITS, ALL_LIMITS = [100, 400], [100, 200, 500, 1000, 2000]
 # The status and the texts of a run that gets no memory.
 REFUSAL = (4, b"", b"out of memory\n")
 
-# Stands before the C library's own calls. The N-th request from the start of the process is refused, where the environment
-# names N as AT, and the file TOLD is made then. A program asks for refusals by opening files of these names: "/refused
-# memory/N" (from here on the N-th request is refused), "/refused memory/all", and "/refused memory/any", which ends that and
-# opens only where a request was refused. "/refused memory/" always opens.
+# Stands before the C library's own calls. A program asks for refusals by opening files of these names: "/refused memory/N"
+# (from here on the N-th request is refused), "/refused memory/all", and "/refused memory/any", which ends that and opens only
+# where a request was refused. "/refused memory/" always opens.
+# Where the environment names FIRST and STEP, the process is made anew before its main function for N = FIRST, FIRST + STEP and
+# so on, each time with its N-th request refused, until a process asks no more so often. Each must answer with the status
+# WANTED and the bytes of the files OUT and ERR, or as REFUSAL says; N is printed where one doesn't. The last line tells how
+# many requests were refused.
 LIBRARY = r"""
 #define _GNU_SOURCE
 #include <errno.h>
 #include <fcntl.h>
+#include <poll.h>
+#include <signal.h>
 #include <stdarg.h>
 #include <stdatomic.h>
+#include <stdio.h>
 #include <stdlib.h>
 #include <string.h>
+#include <sys/mman.h>
 #include <sys/syscall.h>
+#include <sys/wait.h>
 #include <unistd.h>
 extern void *__libc_malloc(size_t);
 extern void *__libc_calloc(size_t, size_t);
 extern void *__libc_realloc(void *, size_t);
-static const char ORDER[] = "/refused memory/";
-static atomic_long requests, at, refusals;
+static const char ORDER[] = "/refused memory/", NONE[] = "out of memory\n";
+enum { MOST = 1 << 20, SECONDS = 60 };
+struct text { char bytes[MOST]; long length; };
+static struct text wanted[2], given[2];
+static atomic_long requests, at, refusals, *told;
 static int real_open(const char *name, int flags, int mode) { return syscall(SYS_openat, AT_FDCWD, name, flags, mode); }
-__attribute__((constructor)) static void begin(void) {
-    const char *number = getenv("AT");
-    if (number) { atomic_store(&requests, 0); atomic_store(&at, atol(number)); }
-}
 static int refused(void) {
     long wanted = atomic_load(&at), number = atomic_fetch_add(&requests, 1) + 1;
     if (!wanted || (wanted > 0 && wanted != number)) return 0;
     atomic_fetch_add(&refusals, 1);
-    if (getenv("TOLD")) real_open(getenv("TOLD"), O_CREAT | O_WRONLY, 0600);
+    if (told) atomic_store(told, 1);
     errno = ENOMEM;
     return 1;
 }
@@ -108,6 +115,68 @@ int open(const char *name, int flags, ...) {
     if (obeyed(name + sizeof ORDER - 1)) return real_open("/dev/null", O_RDONLY, 0);
     errno = ENOENT;
     return -1;
+}
+/* Reads more of a text. Answers whether there was more, and room for it. */
+static int more(int from, struct text *text) {
+    long count = read(from, text->bytes + text->length, MOST - text->length);
+    if (count > 0) text->length += count;
+    return count > 0;
+}
+static int is_same(const struct text *one, const char *bytes, long length) {
+    return one->length == length && !memcmp(one->bytes, bytes, length);
+}
+/* Reads what a process writes, and waits for its end. */
+static int status_of(pid_t process, int out, int err) {
+    struct pollfd ends[2] = {{out, POLLIN, 0}, {err, POLLIN, 0}};
+    given[0].length = given[1].length = 0;
+    while (ends[0].fd >= 0 || ends[1].fd >= 0) {
+        if (poll(ends, 2, 1000 * SECONDS) <= 0) { kill(process, SIGKILL); break; }
+        for (int it = 0; it < 2; it++)
+            if (ends[it].revents && !more(ends[it].fd, &given[it])) { close(ends[it].fd); ends[it].fd = -1; }
+    }
+    for (int it = 0; it < 2; it++) if (ends[it].fd >= 0) close(ends[it].fd);
+    int status;
+    waitpid(process, &status, 0);
+    return WIFEXITED(status) ? WEXITSTATUS(status) : -WTERMSIG(status);
+}
+static int is_as_wanted(int status) {
+    return (status == atoi(getenv("WANTED")) && is_same(&given[0], wanted[0].bytes, wanted[0].length)
+            && is_same(&given[1], wanted[1].bytes, wanted[1].length))
+        || (status == 4 && !given[0].length && is_same(&given[1], NONE, sizeof NONE - 1));
+}
+__attribute__((constructor)) static void begin(void) {
+    if (!getenv("FIRST")) return;
+    const char *names[2] = {getenv("OUT"), getenv("ERR")};
+    for (int it = 0; it < 2; it++) {
+        int file = real_open(names[it], O_RDONLY, 0);
+        while (more(file, &wanted[it])) {}
+        close(file);
+    }
+    told = mmap(NULL, sizeof *told, PROT_READ | PROT_WRITE, MAP_SHARED | MAP_ANONYMOUS, -1, 0);
+    long number = atol(getenv("FIRST")), step = atol(getenv("STEP")), count = 0;
+    for (;; number += step, count++) {
+        int out[2], err[2];
+        if (pipe(out) || pipe(err)) _exit(70);
+        atomic_store(told, 0);
+        pid_t process = fork();
+        if (process < 0) _exit(70);
+        if (!process) {
+            dup2(out[1], 1);
+            dup2(err[1], 2);
+            for (int it = 0; it < 2; it++) { close(out[it]); close(err[it]); }
+            atomic_store(&requests, 0);
+            atomic_store(&at, number);
+            return;
+        }
+        close(out[1]);
+        close(err[1]);
+        int status = status_of(process, out[0], err[0]);
+        if (!atomic_load(told)) break;
+        if (!is_as_wanted(status)) { printf("%ld\n", number); fflush(stdout); }
+    }
+    printf("refused %ld\n", count);
+    fflush(stdout);
+    _exit(0);
 }
 """
 
@@ -138,39 +207,37 @@ def refuse_in_calls(program, library):
     return refused, otherwise
 
 
-def answer(program, words, library=None, at=0, told=""):
-    """Returns the status and what the program writes; with a library, with the request of this number refused."""
-    more = {"LD_PRELOAD": library, "AT": str(at), "TOLD": told} if library else {}
-    ran = subprocess.run([program, *words], cwd=ROOT, env={**os.environ, **more}, capture_output=True, timeout=60)
+def answer(program, words):
+    """Returns the status and what the program writes."""
+    ran = subprocess.run([program, *words], cwd=ROOT, capture_output=True, timeout=60)
     return ran.returncode, ran.stdout, ran.stderr
 
 
 def refuse_each(program, words, folder, library):
     """Returns how many requests of a command were refused, and how many of the runs answered otherwise than they may."""
     wanted = answer(program, words)
-    otherwise, at, more = 0, 0, True
-
-    def one(number):
-        told = f"{folder}/told.{number}"
-        given = answer(program, words, library, number, told)
-        was_refused = os.path.exists(told)
-        if was_refused:
-            os.remove(told)
-        return number, was_refused, given
-
-    with ThreadPoolExecutor(os.cpu_count()) as pool:
-        while more:
-            for number, was_refused, given in pool.map(one, range(at + 1, at + 65)):
-                more = more and was_refused
-                if was_refused and given not in (wanted, REFUSAL):
-                    otherwise += 1
-                    print(f"  request {number} refused: status {given[0]}, {given[1][:200]!r}, {given[2][:200]!r}")
-                if more:
-                    at = number
-    if not at or wanted[0] == REFUSAL[0]:
+    for name, text in zip(("out", "err"), wanted[1:]):
+        with open(f"{folder}/{name}", "wb") as file:
+            file.write(text)
+    count = os.cpu_count()
+    told = {"LD_PRELOAD": library, "STEP": str(count), "WANTED": str(wanted[0]), "OUT": f"{folder}/out", "ERR": f"{folder}/err"}
+    parts = [subprocess.Popen([program, *words], cwd=ROOT, env={**os.environ, **told, "FIRST": str(it + 1)},
+                              stdout=subprocess.PIPE, text=True) for it in range(count)]
+    refused, otherwise = 0, 0
+    for part in parts:
+        *numbers, last = part.communicate()[0].splitlines() or [""]
+        for number in numbers:
+            print(f"  request {number} refused: another answer")
+        otherwise += len(numbers)
+        if part.returncode == 0 and last.startswith("refused "):
+            refused += int(last.split()[1])
+        else:
+            print(f"  the requests were not gone through: status {part.returncode}, {last!r}")
+            otherwise += 1
+    if not refused or wanted[0] == REFUSAL[0]:
         otherwise += 1
         print(f"  no request is refused, or the answer with ample memory is {wanted}")
-    return at, otherwise
+    return refused, otherwise
 
 
 def crowd(senders, messages):
