@@ -7,6 +7,7 @@ ghost use Rattle.shared.specs.SeenSeats.{view, items_of, IsSeatOf};
 
 use super::items::place_all;
 use shared::{Seen, SeenSeat};
+use std::alloc::{AllocError, Global};
 use std::hash::{Hash, Hasher};
 use std::sync::atomic::AtomicU64;
 use std::sync::atomic::Ordering::SeqCst;
@@ -48,23 +49,31 @@ impl<'a> Hash for Counted<'a> {
 
 const PAIRS: usize = 500;
 
+/// Numbers that stand twice each.
+fn pairs<'a>(alloc: Global, uses: &'a AtomicU64) -> Result<Vec<Counted<'a>>, AllocError> {
+    let mut items = Vec::new(alloc);
+    for position in 0..2 * PAIRS {
+        let number = (position % PAIRS) as u64;
+        items.push(Counted { number, uses })?;
+    }
+    Ok(items)
+}
+
+/// The positions from one on, before another.
+fn positions(alloc: Global, from: usize, to: usize) -> Result<Vec<usize>, AllocError> {
+    let mut positions = Vec::new(alloc);
+    for position in from..to {
+        positions.push(position)?;
+    }
+    Ok(positions)
+}
+
 #[test]
 fn only_place_compares_and_hashes(rt: HostRuntime) -> Result<(), Fail> {
     let uses = AtomicU64::new(0);
-    let mut items = Vec::new(rt.alloc());
-    let mut low = Vec::new(rt.alloc());
-    let mut high = Vec::new(rt.alloc());
-    for position in 0..2 * PAIRS {
-        items.push(Counted {
-            number: (position % PAIRS) as u64,
-            uses: &uses,
-        })?;
-        if position < PAIRS {
-            low.push(position)?;
-        } else {
-            high.push(position)?;
-        }
-    }
+    let items = pairs(rt.alloc(), &uses)?;
+    let low = positions(rt.alloc(), 0, PAIRS)?;
+    let high = positions(rt.alloc(), PAIRS, 2 * PAIRS)?;
     let count = items.len();
     let (seen, mut a) = Seen::new(rt.alloc(), items.as_slice(), 2)?;
     let Ok(mut b) = seen.split(&mut a) else {

@@ -13,9 +13,9 @@ fn errors_have_their_texts(rt: HostRuntime) -> Result<(), Fail> {
     ];
     for (error, text) in errors {
         let told = error.to_string(alloc)?;
-        assert_eq!(rt; told.as_str(), text);
+        assert!(rt; told.as_str() == text, "{text}");
     }
     let told = NoSeat.to_string(alloc)?;
-    assert_eq!(rt; told.as_str(), "all seats were made");
+    assert!(rt; told.as_str() == "all seats were made");
     Ok(())
 }

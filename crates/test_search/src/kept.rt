@@ -42,6 +42,14 @@ fn count_found(memory: &Memory<Noted>) -> usize {
     count
 }
 
+/// Keeps the 100 first keys, and counts those that are found.
+fn keep_all(alloc: Global, memory: &Memory<Noted>) -> Result<usize, AllocError> {
+    for byte in 0..100 {
+        keep(alloc, memory, byte, byte as usize)?;
+    }
+    Ok(count_found(memory))
+}
+
 /// A memory that was of use, so its trial is over.
 fn of_use(alloc: Global, places: usize) -> Result<Memory<Noted>, AllocError> {
     let memory = Memory::new(alloc, 1, places);
@@ -54,11 +62,8 @@ fn all_are_found(rt: HostRuntime) -> Result<(), Fail> {
     let alloc = rt.alloc();
     let memory = of_use(alloc, 4_096)?;
     assert_eq!(rt; count_found(&memory), 0);
-    for byte in 0..100 {
-        keep(alloc, &memory, byte, byte as usize)?;
-    }
-    assert_eq!(rt; count_found(&memory), 100);
-    assert_eq!(rt; found(&memory, 100), None);
+    assert_eq!(rt; keep_all(alloc, &memory)?, 100);
+    assert!(rt; found(&memory, 100).is_none());
     Ok(())
 }
 
@@ -75,15 +80,11 @@ fn the_first_stays(rt: HostRuntime) -> Result<(), Fail> {
 #[test]
 fn few_places(rt: HostRuntime) -> Result<(), Fail> {
     let alloc = rt.alloc();
-    let none = of_use(alloc, 0)?;
-    let four = of_use(alloc, 4)?;
-    for byte in 0..100 {
-        keep(alloc, &none, byte, byte as usize)?;
-        keep(alloc, &four, byte, byte as usize)?;
+    for places in [0, 4] {
+        let memory = of_use(alloc, places)?;
+        assert_eq!(rt; keep_all(alloc, &memory)?, places);
+        assert!(rt; !memory.has_given_up());
     }
-    assert_eq!(rt; count_found(&none), 0);
-    assert_eq!(rt; count_found(&four), 4);
-    assert!(rt; !four.has_given_up());
     Ok(())
 }
 
@@ -109,20 +110,9 @@ fn a_trial_ends_with_use(rt: HostRuntime) -> Result<(), Fail> {
     keep(alloc, &memory, 0, 0)?;
     memory.note_use(alloc)?;
     memory.note_use(alloc)?;
-    for byte in 0..100 {
-        keep(alloc, &memory, byte, byte as usize)?;
-    }
-    assert_eq!(rt; count_found(&memory), 100);
+    assert_eq!(rt; keep_all(alloc, &memory)?, 100);
     assert!(rt; !memory.has_given_up());
     Ok(())
-}
-
-/// Keeps the 100 first keys, and counts those that are found.
-fn keep_all(alloc: Global, memory: &Memory<Noted>) -> Result<usize, AllocError> {
-    for byte in 0..100 {
-        keep(alloc, memory, byte, byte as usize)?;
-    }
-    Ok(count_found(memory))
 }
 
 #[test]
@@ -153,19 +143,23 @@ fn are_interned(alloc: Global, interner: &Interner, count: u32) -> Result<bool, 
     Ok(true)
 }
 
+/// Whether equal bytes are equal as an interner gives them, and others are not.
+fn tells_apart(alloc: Global, interner: &Interner) -> Result<bool, AllocError> {
+    let one = interner.intern(alloc, b"one")?;
+    let again = interner.intern(alloc, b"one")?;
+    let other = interner.intern(alloc, b"two")?;
+    Ok(*one == *again && one.hash() == again.hash() && *one != *other)
+}
+
 #[test]
 fn bytes_are_interned(rt: HostRuntime) -> Result<(), Fail> {
     let alloc = rt.alloc();
     let interner = Interner::new(alloc);
     // more than the first table has places for
-    assert!(rt; are_interned(alloc, &interner, 3_000)?);
-    assert!(rt; are_interned(alloc, &interner, 3_000)?);
-    let one = interner.intern(alloc, b"one")?;
-    let again = interner.intern(alloc, b"one")?;
-    let other = interner.intern(alloc, b"two")?;
-    assert!(rt; *one == *again);
-    assert_eq!(rt; one.hash(), again.hash());
-    assert!(rt; *one != *other);
+    for _time in 0..2 {
+        assert!(rt; are_interned(alloc, &interner, 3_000)?);
+    }
+    assert!(rt; tells_apart(alloc, &interner)?);
     Ok(())
 }
 

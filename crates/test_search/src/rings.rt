@@ -93,12 +93,8 @@ fn check_row<R: Threads + Sync + Abort>(
         piece,
     };
     let answer = explore::<Ring, Shown, NoGate, R>(rt, alloc, &ring(rt, row.size), &plan, &NoGate)?;
-    let size = row.size;
-    let steps = row.steps;
-    assert!(rt;
-        is_row(&answer, row),
-        "ring {size} at {steps} steps: {answer:?}"
-    );
+    let (size, steps) = (row.size, row.steps);
+    assert!(rt; is_row(&answer, row), "ring {size} at {steps} steps");
     Ok(())
 }
 
@@ -175,38 +171,21 @@ fn an_exploration_ends_where_it_is_to(rt: HostRuntime) {
         at_mark: Some(1),
         ..Stops::NOWHERE
     };
-    assert_eq!(rt;
-        extent(&rt, rt.alloc(), &few, &Stops::NOWHERE),
-        Err(ExploreError::TooMany)
-    );
-    assert_eq!(rt;
-        extent(&rt, rt.alloc(), &few, &limit),
-        Ok((3, 5, Ending::Limit))
-    );
-    assert_eq!(rt;
-        extent(&rt, rt.alloc(), &far, &limit),
-        Ok((100, 10, Ending::Steps))
-    );
-    assert_eq!(rt;
-        extent(&rt, rt.alloc(), &far, &complete),
-        Ok((6, 10, Ending::Complete))
-    );
-    assert_eq!(rt;
-        extent(&rt, rt.alloc(), &far, &mark),
-        Ok((5, 10, Ending::Mark))
-    );
-    assert_eq!(rt;
-        extent(&rt, rt.alloc(), &far, &unseen),
-        Ok((100, 10, Ending::Steps))
-    );
-    assert_eq!(rt;
-        extent(&rt, rt.alloc(), &PLAN, &mark),
-        Ok((5, 10, Ending::Steps))
-    );
+    for (plan, stops, wanted) in [
+        (few, Stops::NOWHERE, Err(ExploreError::TooMany)),
+        (few, limit, Ok((3, 5, Ending::Limit))),
+        (far, limit, Ok((100, 10, Ending::Steps))),
+        (far, complete, Ok((6, 10, Ending::Complete))),
+        (far, mark, Ok((5, 10, Ending::Mark))),
+        (far, unseen, Ok((100, 10, Ending::Steps))),
+        (PLAN, mark, Ok((5, 10, Ending::Steps))),
+    ] {
+        assert_eq!(rt; extent(&rt, rt.alloc(), &plan, &stops), wanted);
+    }
 }
 
 /// Whether a sighting has this number and these labels.
-pub(crate) fn is_sighting<E: Copy + Into<u32>>(
+fn is_sighting<E: Copy + Into<u32>>(
     sighting: Option<&Sighting<E, u8>>,
     number: u32,
     run: &[u8],
@@ -215,6 +194,20 @@ pub(crate) fn is_sighting<E: Copy + Into<u32>>(
         Some(sighting) => sighting.event.into() == number && sighting.run.as_slice() == run,
         None => false,
     }
+}
+
+/// Whether these are the two labels, each by the run of itself.
+pub(crate) fn are_labels<E: Copy + Into<u32>>(events: &[Sighting<E, u8>]) -> bool {
+    events.len() == 2 && is_sighting(events.get(0), 0, &[0]) && is_sighting(events.get(1), 1, &[1])
+}
+
+/// Whether these are the four remainders, each by the least of the shortest runs to a state with it.
+pub(crate) fn are_remainders<E: Copy + Into<u32>>(stands: &[Sighting<E, u8>]) -> bool {
+    stands.len() == 4
+        && is_sighting(stands.get(0), 0, &[])
+        && is_sighting(stands.get(1), 1, &[0])
+        && is_sighting(stands.get(2), 2, &[0, 0])
+        && is_sighting(stands.get(3), 3, &[0, 0, 0])
 }
 
 #[test]
@@ -228,15 +221,8 @@ fn the_least_run_to_each_sight_is_found(rt: HostRuntime) -> Result<(), Fail> {
         &Stops::NOWHERE,
         &NoGate,
     )?;
-    let events = sighted.events.as_slice();
-    assert!(rt; events.len() == 2);
-    assert!(rt; is_sighting(events.get(0), 0, &[0]) && is_sighting(events.get(1), 1, &[1]));
-    let stands = sighted.stands.as_slice();
-    assert!(rt; stands.len() == 4);
-    assert!(rt; is_sighting(stands.get(0), 0, &[]) && is_sighting(stands.get(1), 1, &[0]));
-    assert!(rt;
-        is_sighting(stands.get(2), 2, &[0, 0]) && is_sighting(stands.get(3), 3, &[0, 0, 0])
-    );
+    assert!(rt; are_labels(sighted.events.as_slice()));
+    assert!(rt; are_remainders(sighted.stands.as_slice()));
     Ok(())
 }
 
