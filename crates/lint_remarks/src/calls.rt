@@ -13,7 +13,7 @@ type Called<'a> = (usize, Defined<'a>);
 
 impl<'a> Scene<'a> {
     /// The calls of the part: names of definitions before a bracket.
-    fn calls(self) -> Result<Vec<Called<'a>>, AllocError> {
+    fn calls(&self) -> Result<Vec<Called<'a>>, AllocError> {
         let mut calls = Vec::new(self.alloc);
         for at in self.part.from..self.part.to {
             let is_call = is_symbol(self.tokens, at.saturating_add(1), Symbol::LeftParen);
@@ -29,7 +29,7 @@ impl<'a> Scene<'a> {
     }
 
     /// How many parts a bracket has that commas part.
-    fn count(self, open: usize) -> usize {
+    fn count(&self, open: usize) -> usize {
         let close = closing(self.tokens, open);
         let mut from = open.saturating_add(1);
         if from >= close {
@@ -47,7 +47,7 @@ impl<'a> Scene<'a> {
     }
 
     /// `C10`: a call with another number of arguments than parameters.
-    pub(crate) fn arguments(self) -> Result<Remark, AllocError> {
+    pub(crate) fn arguments(&self) -> Result<Remark, AllocError> {
         for (at, definition) in self.calls()? {
             let given = self.count(at.saturating_add(1));
             let wanted = match definition.parameters(self.tokens) {
@@ -67,7 +67,7 @@ impl<'a> Scene<'a> {
 
     /// The name of the component type on which a call of the part would run: that of the component that is started, or
     /// of the caller.
-    fn component(self) -> Result<Option<&'a [u8]>, AllocError> {
+    fn component(&self) -> Result<Option<&'a [u8]>, AllocError> {
         match self.find(Sought::Words(&[Word::Start])) {
             Some(start) => self.started(start),
             None => Ok(match definition_at(self.defined, self.whole.from) {
@@ -78,7 +78,7 @@ impl<'a> Scene<'a> {
     }
 
     /// The name of the type of the component before `.start`.
-    fn started(self, start: usize) -> Result<Option<&'a [u8]>, AllocError> {
+    fn started(&self, start: usize) -> Result<Option<&'a [u8]>, AllocError> {
         let Some(name) = name_at(self.tokens, start.saturating_sub(2)) else {
             return Ok(None);
         };
@@ -94,7 +94,7 @@ impl<'a> Scene<'a> {
 
     /// What is wrong with the component type of a call.
     fn wrong_component(
-        self,
+        &self,
         called: Called<'a>,
         here: Option<&'a [u8]>,
     ) -> Result<Option<Remark>, AllocError> {
@@ -122,7 +122,7 @@ impl<'a> Scene<'a> {
     }
 
     /// `C13`: a behaviour that runs on another component type.
-    pub(crate) fn runs_on(self) -> Result<Remark, AllocError> {
+    pub(crate) fn runs_on(&self) -> Result<Remark, AllocError> {
         let here = self.component()?;
         for called in self.calls()? {
             if let Some(remark) = self.wrong_component(called, here)? {
@@ -134,7 +134,7 @@ impl<'a> Scene<'a> {
     }
 
     /// What is wrong with a call of a definition's kind, or nothing.
-    fn wrong_kind(self, called: Called<'a>) -> Option<&'static str> {
+    fn wrong_kind(&self, called: Called<'a>) -> Option<&'static str> {
         let (at, definition) = called;
         let is_branch = is_symbol(self.tokens, self.whole.from, Symbol::LeftBracket);
         let is_value = symbol_before(self.tokens, at) == Some(Symbol::Assign);
@@ -153,7 +153,7 @@ impl<'a> Scene<'a> {
     }
 
     /// `C16`: a call of the wrong kind.
-    pub(crate) fn call_kind(self) -> Result<Remark, AllocError> {
+    pub(crate) fn call_kind(&self) -> Result<Remark, AllocError> {
         for called in self.calls()? {
             if let Some(wrong) = self.wrong_kind(called) {
                 return self.named(called.0, "", wrong);

@@ -28,7 +28,7 @@ pub(crate) fn is_type_place(tokens: &[Spanned], at: usize) -> bool {
 
 impl<'a> Scene<'a> {
     /// A name of the part that has to be visible: no field, no name that is declared, no port of a component.
-    fn is_use(self, at: usize) -> bool {
+    fn is_use(&self, at: usize) -> bool {
         let is_field = symbol_before(self.tokens, at) == Some(Symbol::Dot)
             || (is_symbol(self.tokens, at.saturating_add(1), Symbol::Assign)
                 && at != self.part.from);
@@ -36,7 +36,7 @@ impl<'a> Scene<'a> {
     }
 
     /// A name that the part declares.
-    fn is_declared(self, at: usize) -> bool {
+    fn is_declared(&self, at: usize) -> bool {
         let Some(definition) = definition_at(self.defined, at) else {
             return false;
         };
@@ -52,7 +52,7 @@ impl<'a> Scene<'a> {
     }
 
     /// Whether the part begins with a word of declarations.
-    fn is_declaration(self) -> bool {
+    fn is_declaration(&self) -> bool {
         matches!(
             word_at(self.tokens, self.part.from),
             Some(Word::Var | Word::Const | Word::Timer | Word::Port)
@@ -60,12 +60,12 @@ impl<'a> Scene<'a> {
     }
 
     /// A port behind the colon of `connect`, `map` and `unmap`.
-    fn is_port_of(self, at: usize) -> bool {
+    fn is_port_of(&self, at: usize) -> bool {
         symbol_before(self.tokens, at) == Some(Symbol::Colon) && self.joins_ports()
     }
 
     /// Whether a position is in a definition of a kind.
-    fn is_in(self, kind: Kind, at: usize) -> bool {
+    fn is_in(&self, kind: Kind, at: usize) -> bool {
         match definition_at(self.defined, at) {
             Some(definition) => definition.known.kind == kind,
             None => false,
@@ -73,7 +73,7 @@ impl<'a> Scene<'a> {
     }
 
     /// A place of a template: in the definition of one, or in the brackets behind `send` or `receive`.
-    fn is_message_place(self, at: usize) -> bool {
+    fn is_message_place(&self, at: usize) -> bool {
         for word in self.part.from..at {
             let open = word.saturating_add(1);
             let is_event = matches!(word_at(self.tokens, word), Some(Word::Send | Word::Receive));
@@ -86,7 +86,7 @@ impl<'a> Scene<'a> {
     }
 
     /// Whether the thing is a `connect`, `map` or `unmap`.
-    fn joins_ports(self) -> bool {
+    fn joins_ports(&self) -> bool {
         matches!(
             word_at(self.tokens, self.whole.from),
             Some(Word::Connect | Word::Map | Word::Unmap)
@@ -94,7 +94,7 @@ impl<'a> Scene<'a> {
     }
 
     /// What a name before a dot has to stand for.
-    fn wanted_before_dot(self, dot: usize) -> Wanted {
+    fn wanted_before_dot(&self, dot: usize) -> Wanted {
         match word_at(self.tokens, dot.saturating_add(1)) {
             Some(Word::Create) => Wanted::Component,
             Some(Word::Send | Word::Receive) => Wanted::Port,
@@ -106,7 +106,7 @@ impl<'a> Scene<'a> {
     }
 
     /// What a name has to stand for by the word or the bracket before it.
-    fn wanted_behind(self, at: usize) -> Wanted {
+    fn wanted_behind(&self, at: usize) -> Wanted {
         match word_before(self.tokens, at) {
             Some(Word::On | Word::System) => return Wanted::Component,
             Some(Word::Port) => return Wanted::PortType,
@@ -125,7 +125,7 @@ impl<'a> Scene<'a> {
     }
 
     /// What a name has to stand for at its place.
-    fn wanted(self, at: usize) -> Wanted {
+    fn wanted(&self, at: usize) -> Wanted {
         let next = at.saturating_add(1);
         match symbol_at(self.tokens, next) {
             Some(Symbol::LeftParen) if self.is_message_place(at) => Wanted::Template,
@@ -138,7 +138,12 @@ impl<'a> Scene<'a> {
     }
 
     /// A name that isn't visible, and the one that may have been meant.
-    fn unknown(self, at: usize, name: &'a [u8], known: &[Known<'a>]) -> Result<Remark, AllocError> {
+    fn unknown(
+        &self,
+        at: usize,
+        name: &'a [u8],
+        known: &[Known<'a>],
+    ) -> Result<Remark, AllocError> {
         let remark = self.named(at, "", " isn't visible here")?;
         match nearest_name(self.alloc, name, known, self.wanted(at))? {
             Some(near) => Ok(remark.with_help(quoted(self.alloc, "did you mean ", near, "?")?)),
@@ -147,7 +152,7 @@ impl<'a> Scene<'a> {
     }
 
     /// Whether a name is declared in the part, or in the block round it, before its use at a position.
-    fn is_declared_before(self, at: usize, name: &[u8]) -> Result<bool, AllocError> {
+    fn is_declared_before(&self, at: usize, name: &[u8]) -> Result<bool, AllocError> {
         let known = visible(self.alloc, self.tokens, self.defined, at)?;
         Ok(match meaning(known.as_slice(), name) {
             Some(item) => {
@@ -159,7 +164,7 @@ impl<'a> Scene<'a> {
     }
 
     /// The names of the part that aren't visible.
-    fn unknown_names(self, known: &[Known<'a>]) -> Result<Vec<Remark>, AllocError> {
+    fn unknown_names(&self, known: &[Known<'a>]) -> Result<Vec<Remark>, AllocError> {
         let mut remarks = Vec::new(self.alloc);
         for at in self.part.from..self.part.to {
             if let Some(name) = name_at(self.tokens, at) {
@@ -173,7 +178,7 @@ impl<'a> Scene<'a> {
     }
 
     /// Whether a variable is of the type that is wanted: of a component type, or a default.
-    fn is_of_type(self, item: Known<'a>, wanted: Wanted) -> bool {
+    fn is_of_type(&self, item: Known<'a>, wanted: Wanted) -> bool {
         let Some(typed) = item.typed else {
             return true;
         };
@@ -189,7 +194,7 @@ impl<'a> Scene<'a> {
     }
 
     /// What the name at a position is, where that isn't what is wanted there.
-    fn misfit_at(self, at: usize, known: &[Known<'a>]) -> Option<&'static str> {
+    fn misfit_at(&self, at: usize, known: &[Known<'a>]) -> Option<&'static str> {
         let item = meaning(known, name_at(self.tokens, at)?)?;
         let wanted = self.wanted(at);
         if !self.is_use(at) {
@@ -204,7 +209,7 @@ impl<'a> Scene<'a> {
     }
 
     /// The first name of the part of another kind than is wanted where it stands.
-    fn misplaced(self, known: &[Known<'a>]) -> Result<Remark, AllocError> {
+    fn misplaced(&self, known: &[Known<'a>]) -> Result<Remark, AllocError> {
         for at in self.part.from..self.part.to {
             if let Some(found) = self.misfit_at(at, known) {
                 let wanted = self.wanted(at).phrase();
@@ -217,7 +222,7 @@ impl<'a> Scene<'a> {
     }
 
     /// `C2`: the names that aren't visible, or else one of the wrong kind.
-    pub(crate) fn wrong_names(self) -> Result<Vec<Remark>, AllocError> {
+    pub(crate) fn wrong_names(&self) -> Result<Vec<Remark>, AllocError> {
         let known = self.visible()?;
         let mut remarks = self.unknown_names(known.as_slice())?;
         if remarks.is_empty() {
@@ -228,7 +233,7 @@ impl<'a> Scene<'a> {
 
     /// Where the name that is declared at a position of the part is declared, too: before it in the same thing, or
     /// elsewhere.
-    fn other_declaration(self, at: usize, known: &[Known<'a>]) -> Option<usize> {
+    fn other_declaration(&self, at: usize, known: &[Known<'a>]) -> Option<usize> {
         let name = name_at(self.tokens, at)?;
         if !self.is_declared(at) {
             return None;
@@ -247,7 +252,7 @@ impl<'a> Scene<'a> {
     }
 
     /// `C1`: a name that is declared where it is visible already.
-    pub(crate) fn duplicate(self) -> Result<Remark, AllocError> {
+    pub(crate) fn duplicate(&self) -> Result<Remark, AllocError> {
         let known = self.visible()?;
         for at in self.part.from..self.part.to {
             if let Some(other) = self.other_declaration(at, known.as_slice()) {

@@ -51,7 +51,7 @@ struct Look<'a> {
 impl<'a> Look<'a> {
     /// Adds a warning.
     fn warn(
-        self,
+        &self,
         warnings: &mut Vec<Warning>,
         (oddity, at): (Oddity, usize),
         message: String,
@@ -70,7 +70,7 @@ impl<'a> Look<'a> {
     // ---- ports that aren't there
 
     /// The component type of the reference that ends before a colon, where its type is written in the text.
-    fn component_before(self, colon: usize) -> Result<Option<Defined<'a>>, AllocError> {
+    fn component_before(&self, colon: usize) -> Result<Option<Defined<'a>>, AllocError> {
         let at = colon.saturating_sub(1);
         let Some(definition) = definition_at(self.defined, at) else {
             return Ok(None);
@@ -91,7 +91,7 @@ impl<'a> Look<'a> {
     }
 
     /// The name of the type of a variable at a position, which no path leads to.
-    fn type_of(self, at: usize) -> Result<Option<&'a [u8]>, AllocError> {
+    fn type_of(&self, at: usize) -> Result<Option<&'a [u8]>, AllocError> {
         let Some(name) = name_at(self.tokens, at) else {
             return Ok(None);
         };
@@ -109,7 +109,7 @@ impl<'a> Look<'a> {
     }
 
     /// A warning where the port behind a colon isn't one of the component's.
-    fn port_behind(self, colon: usize, warnings: &mut Vec<Warning>) -> Result<(), AllocError> {
+    fn port_behind(&self, colon: usize, warnings: &mut Vec<Warning>) -> Result<(), AllocError> {
         let at = colon.saturating_add(1);
         let Some(name) = name_at(self.tokens, at) else {
             return Ok(());
@@ -138,7 +138,7 @@ impl<'a> Look<'a> {
     }
 
     /// Ports of `connect`, `map` and `unmap` that the component types don't have.
-    fn ports(self, warnings: &mut Vec<Warning>) -> Result<(), AllocError> {
+    fn ports(&self, warnings: &mut Vec<Warning>) -> Result<(), AllocError> {
         for at in 0..self.tokens.len() {
             if matches!(
                 word_at(self.tokens, at),
@@ -156,7 +156,7 @@ impl<'a> Look<'a> {
 
     // ---- timers that are never started
 
-    fn is_started(self, name: &[u8]) -> bool {
+    fn is_started(&self, name: &[u8]) -> bool {
         for at in 0..self.tokens.len() {
             if name_at(self.tokens, at) == Some(name)
                 && is_word(self.tokens, at.saturating_add(2), Word::Start)
@@ -167,7 +167,7 @@ impl<'a> Look<'a> {
         false
     }
 
-    fn timers(self, warnings: &mut Vec<Warning>) -> Result<(), AllocError> {
+    fn timers(&self, warnings: &mut Vec<Warning>) -> Result<(), AllocError> {
         let mut declared = Vec::new(self.alloc);
         for at in 0..self.tokens.len() {
             if is_word(self.tokens, at, Word::Timer) {
@@ -187,7 +187,7 @@ impl<'a> Look<'a> {
 
     /// Whether a branch at a position takes what a later one waits for, or all that can happen: `[else]`, or a receive
     /// without guard, template and sender.
-    fn takes_all(self, branch: usize, later: usize) -> bool {
+    fn takes_all(&self, branch: usize, later: usize) -> bool {
         let bracket = branch.saturating_add(1);
         let event = branch.saturating_add(2);
         let other = closing(self.tokens, later).saturating_add(1);
@@ -203,7 +203,7 @@ impl<'a> Look<'a> {
     }
 
     /// Whether a receive at a position takes every message.
-    fn is_bare(self, receive: usize) -> bool {
+    fn is_bare(&self, receive: usize) -> bool {
         for at in receive..end_of_event(self.tokens, receive) {
             let is_template = is_symbol(self.tokens, at, Symbol::LeftParen);
             if is_template || is_word(self.tokens, at, Word::From) {
@@ -214,7 +214,7 @@ impl<'a> Look<'a> {
     }
 
     /// The position of `receive` in an event.
-    fn receive(self, event: usize) -> Option<usize> {
+    fn receive(&self, event: usize) -> Option<usize> {
         let at = if is_word(self.tokens, event, Word::Any) {
             event.saturating_add(3)
         } else {
@@ -228,7 +228,7 @@ impl<'a> Look<'a> {
     }
 
     /// The branches between two braces, by the positions of their `[`.
-    fn branches(self, open: usize) -> Result<Vec<usize>, AllocError> {
+    fn branches(&self, open: usize) -> Result<Vec<usize>, AllocError> {
         let mut branches = Vec::new(self.alloc);
         let mut depth = 0;
         for at in open..closing(self.tokens, open) {
@@ -242,7 +242,7 @@ impl<'a> Look<'a> {
     }
 
     /// The branch among earlier ones that takes what a later one waits for.
-    fn taking(self, earlier: &[usize], later: usize) -> Option<usize> {
+    fn taking(&self, earlier: &[usize], later: usize) -> Option<usize> {
         for branch in earlier {
             if self.takes_all(*branch, later) {
                 return Some(*branch);
@@ -252,7 +252,7 @@ impl<'a> Look<'a> {
     }
 
     /// Branches between two braces that are never taken.
-    fn dead(self, open: usize, warnings: &mut Vec<Warning>) -> Result<(), AllocError> {
+    fn dead(&self, open: usize, warnings: &mut Vec<Warning>) -> Result<(), AllocError> {
         let branches = self.branches(open)?;
         for (number, later) in branches.iter().enumerate() {
             let earlier = branches.get(..number).unwrap_or(&[]);
@@ -266,7 +266,7 @@ impl<'a> Look<'a> {
         Ok(())
     }
 
-    fn dead_branches(self, warnings: &mut Vec<Warning>) -> Result<(), AllocError> {
+    fn dead_branches(&self, warnings: &mut Vec<Warning>) -> Result<(), AllocError> {
         for at in 0..self.tokens.len() {
             if is_word(self.tokens, at, Word::Alt) {
                 self.dead(at.saturating_add(1), warnings)?;
@@ -285,7 +285,7 @@ impl<'a> Look<'a> {
 
     // ---- functions and altsteps that nothing calls
 
-    fn is_called(self, definition: Defined<'_>) -> bool {
+    fn is_called(&self, definition: Defined<'_>) -> bool {
         for at in 0..self.tokens.len() {
             let is_name = name_at(self.tokens, at) == Some(definition.known.name);
             if is_name && !definition.holds(at) {
@@ -295,7 +295,7 @@ impl<'a> Look<'a> {
         false
     }
 
-    fn uncalled(self, warnings: &mut Vec<Warning>) -> Result<(), AllocError> {
+    fn uncalled(&self, warnings: &mut Vec<Warning>) -> Result<(), AllocError> {
         for definition in self.defined {
             let Known { name, kind, at, .. } = definition.known;
             let what = match kind {

@@ -31,28 +31,38 @@ pub(crate) fn quoted(
 }
 
 impl<'a> Scene<'a> {
-    pub(crate) fn remark(self, at: usize, message: String) -> Remark {
+    pub(crate) fn remark(&self, at: usize, message: String) -> Remark {
         Remark::new(place_at(self.tokens, at), message)
     }
 
     /// A fixed text, said of a position.
-    pub(crate) fn fixed(self, at: usize, message: &str) -> Result<Remark, AllocError> {
+    pub(crate) fn fixed(&self, at: usize, message: &str) -> Result<Remark, AllocError> {
         Remark::fixed(self.alloc, place_at(self.tokens, at), message)
     }
 
     /// A fixed text with a fixed help.
-    pub(crate) fn helped(self, at: usize, message: &str, help: &str) -> Result<Remark, AllocError> {
+    pub(crate) fn helped(
+        &self,
+        at: usize,
+        message: &str,
+        help: &str,
+    ) -> Result<Remark, AllocError> {
         self.fixed(at, message)?.with_fixed_help(self.alloc, help)
     }
 
     /// Said of a position: words round the name there.
-    pub(crate) fn named(self, at: usize, before: &str, behind: &str) -> Result<Remark, AllocError> {
+    pub(crate) fn named(
+        &self,
+        at: usize,
+        before: &str,
+        behind: &str,
+    ) -> Result<Remark, AllocError> {
         let name = name_at(self.tokens, at).unwrap_or(b"this");
         Ok(self.remark(at, quoted(self.alloc, before, name, behind)?))
     }
 
     /// The names that are visible where the thing begins.
-    pub(crate) fn visible(self) -> Result<Vec<Known<'a>>, AllocError> {
+    pub(crate) fn visible(&self) -> Result<Vec<Known<'a>>, AllocError> {
         visible(self.alloc, self.tokens, self.defined, self.whole.from)
     }
 }

@@ -45,7 +45,7 @@ fn is_operator(tokens: &[Spanned], at: usize) -> bool {
 
 impl Scene<'_> {
     /// Whether what is looked for stands at a position.
-    fn has_at(self, sought: Sought<'_>, at: usize) -> bool {
+    fn has_at(&self, sought: Sought<'_>, at: usize) -> bool {
         match sought {
             Sought::Words(words) => match word_at(self.tokens, at) {
                 Some(word) => words.contains(&word),
@@ -64,7 +64,7 @@ impl Scene<'_> {
     }
 
     /// The first position of the part at which it stands.
-    pub(crate) fn find(self, sought: Sought<'_>) -> Option<usize> {
+    pub(crate) fn find(&self, sought: Sought<'_>) -> Option<usize> {
         for at in self.part.from..self.part.to {
             if self.has_at(sought, at) {
                 return Some(at);
@@ -74,12 +74,12 @@ impl Scene<'_> {
     }
 
     /// The first position of the part at which it stands, or its beginning.
-    pub(crate) fn first(self, sought: Sought<'_>) -> usize {
+    pub(crate) fn first(&self, sought: Sought<'_>) -> usize {
         self.find(sought).unwrap_or(self.part.from)
     }
 
     /// The first of these words in the part, or its beginning.
-    pub(crate) fn first_word(self, words: &[Word]) -> usize {
+    pub(crate) fn first_word(&self, words: &[Word]) -> usize {
         self.first(Sought::Words(words))
     }
 }

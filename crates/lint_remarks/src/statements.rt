@@ -20,7 +20,7 @@ fn limits(kind: Kind) -> &'static str {
 
 impl Scene<'_> {
     /// `C5`: what is too large.
-    fn size(self) -> Result<Remark, AllocError> {
+    fn size(&self) -> Result<Remark, AllocError> {
         let help = match definition_at(self.defined, self.part.from) {
             Some(definition) => limits(definition.known.kind),
             None => limits(Kind::Constant),
@@ -29,7 +29,7 @@ impl Scene<'_> {
     }
 
     /// The position of the name of the definition that the part stands in, or the part's beginning.
-    fn defined_name(self) -> usize {
+    fn defined_name(&self) -> usize {
         match definition_at(self.defined, self.part.from) {
             Some(definition) => definition.known.at,
             None => self.part.from,
@@ -37,7 +37,7 @@ impl Scene<'_> {
     }
 
     /// `C3`: a type that can't stand where it does.
-    fn bad_type(self) -> Result<Remark, AllocError> {
+    fn bad_type(&self) -> Result<Remark, AllocError> {
         let at = self.first(Sought::Type);
         let help = if is_word(self.tokens, at, Word::Default) {
             "`default` is the type of variables and parameters alone"
@@ -48,7 +48,7 @@ impl Scene<'_> {
     }
 
     /// Whether a number of the part stands in it before, too.
-    fn is_repeated(self, at: usize) -> bool {
+    fn is_repeated(&self, at: usize) -> bool {
         let Some(Token::Int(number)) = token_at(self.tokens, at) else {
             return false;
         };
@@ -63,7 +63,7 @@ impl Scene<'_> {
     }
 
     /// The first number of the part that stands in it before, too, or the first one.
-    fn repeated_number(self) -> usize {
+    fn repeated_number(&self) -> usize {
         for at in self.part.from..self.part.to {
             if self.is_repeated(at) {
                 return at;
@@ -73,7 +73,7 @@ impl Scene<'_> {
     }
 
     /// The target of a redirect, or the beginning of the part.
-    fn target(self) -> usize {
+    fn target(&self) -> usize {
         match self.find(Sought::Words(&[Word::Value, Word::Sender])) {
             Some(at) => at.saturating_add(1),
             None => self.part.from,
@@ -81,7 +81,7 @@ impl Scene<'_> {
     }
 
     /// What is said of a rule that is broken by other words than names, calls and values.
-    pub(crate) fn statement(self, rule: Rule) -> Result<Remark, AllocError> {
+    pub(crate) fn statement(&self, rule: Rule) -> Result<Remark, AllocError> {
         let start = self.part.from;
         match rule {
             Rule::BadType => self.bad_type(),
@@ -106,7 +106,7 @@ impl Scene<'_> {
     }
 
     /// What is said of a word of the language that can't stand where it does.
-    fn misplaced_word(self, rule: Rule) -> Result<Remark, AllocError> {
+    fn misplaced_word(&self, rule: Rule) -> Result<Remark, AllocError> {
         match rule {
             Rule::ReturnPlace => {
                 let help = "a function returns a value exactly where its head has `return`";

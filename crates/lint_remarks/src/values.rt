@@ -19,7 +19,7 @@ fn type_at(tokens: &[Spanned], at: usize) -> Option<&[u8]> {
 
 impl<'a> Scene<'a> {
     /// `C8`: the value behind `:=` or `return`, or else the first one in brackets.
-    pub(crate) fn value_type(self) -> Result<Remark, AllocError> {
+    pub(crate) fn value_type(&self) -> Result<Remark, AllocError> {
         let message = "this value isn't of the type that is wanted here";
         if let Some(assign) = self.find(Sought::Symbol(Symbol::Assign)) {
             let remark = self.fixed(assign.saturating_add(1), message)?;
@@ -36,7 +36,7 @@ impl<'a> Scene<'a> {
     }
 
     /// Adds the type of the variable before `:=`.
-    fn with_type(self, remark: Remark, assign: usize) -> Result<Remark, AllocError> {
+    fn with_type(&self, remark: Remark, assign: usize) -> Result<Remark, AllocError> {
         let target = assign.saturating_sub(1);
         let Some(name) = name_at(self.tokens, target) else {
             return Ok(remark);
@@ -55,7 +55,7 @@ impl<'a> Scene<'a> {
     }
 
     /// The position of the type of a variable, unless a path leads to what is assigned.
-    fn type_of(self, target: usize, name: &[u8]) -> Result<Option<usize>, AllocError> {
+    fn type_of(&self, target: usize, name: &[u8]) -> Result<Option<usize>, AllocError> {
         if symbol_before(self.tokens, target) == Some(Symbol::Dot) {
             return Ok(None);
         }
@@ -70,14 +70,14 @@ impl<'a> Scene<'a> {
     }
 
     /// `C7`: the operator.
-    pub(crate) fn operand(self) -> Result<Remark, AllocError> {
+    pub(crate) fn operand(&self) -> Result<Remark, AllocError> {
         let at = self.first(Sought::Operator);
         let help = "arithmetic takes integers, logic booleans, `==` two values of one type";
         self.helped(at, "this operator doesn't take these operands", help)
     }
 
     /// Whether the name at a position is that of a field of some record of the module.
-    pub(crate) fn is_field(self, at: usize) -> bool {
+    pub(crate) fn is_field(&self, at: usize) -> bool {
         for definition in self.defined {
             if definition.known.kind == Kind::Record {
                 for other in definition.from..definition.to {
@@ -93,7 +93,7 @@ impl<'a> Scene<'a> {
     }
 
     /// Whether the token at a position names a field: behind a dot, or before `:=` in braces.
-    pub(crate) fn names_field(self, at: usize) -> bool {
+    pub(crate) fn names_field(&self, at: usize) -> bool {
         let is_given = at > self.part.from
             && is_symbol(self.tokens, at.saturating_add(1), Symbol::Assign);
         is_name(self.tokens, at)
@@ -105,7 +105,7 @@ impl<'a> Scene<'a> {
     }
 
     /// A field that no record has, and the one that may have been meant.
-    fn no_field(self, at: usize) -> Result<Remark, AllocError> {
+    fn no_field(&self, at: usize) -> Result<Remark, AllocError> {
         let remark = self.named(at, "no record has a field ", "")?;
         let Some(name) = name_at(self.tokens, at) else {
             return Ok(remark);
@@ -125,7 +125,7 @@ impl<'a> Scene<'a> {
     }
 
     /// Looks whether the name of a record's field is nearer to what was meant.
-    fn try_fields(self, record: Defined<'a>, near: &mut Nearest<'a>) -> Result<(), AllocError> {
+    fn try_fields(&self, record: Defined<'a>, near: &mut Nearest<'a>) -> Result<(), AllocError> {
         for at in record.from..record.to {
             if is_behind_type(self.tokens, at) {
                 if let Some(field) = name_at(self.tokens, at) {
@@ -137,7 +137,7 @@ impl<'a> Scene<'a> {
     }
 
     /// `C11`: a field that no record has, or else one that this record may not have, or the braces.
-    pub(crate) fn fields(self) -> Result<Remark, AllocError> {
+    pub(crate) fn fields(&self) -> Result<Remark, AllocError> {
         if let Some(at) = self.find(Sought::NoField) {
             return self.no_field(at);
         }
@@ -153,7 +153,7 @@ impl<'a> Scene<'a> {
     }
 
     /// What a message needs to pass: where its type isn't known, that this is written.
-    fn message_help(self, at: usize) -> &'static str {
+    fn message_help(&self, at: usize) -> &'static str {
         match symbol_at(self.tokens, at) {
             Some(Symbol::Question | Symbol::Star | Symbol::LeftParen | Symbol::LeftBrace) => {
                 "where the port lists several types, the type stands before the template: `integer:?`"
@@ -163,7 +163,7 @@ impl<'a> Scene<'a> {
     }
 
     /// `C14`: the message.
-    pub(crate) fn message(self) -> Result<Remark, AllocError> {
+    pub(crate) fn message(&self) -> Result<Remark, AllocError> {
         let word = self.first_word(&[Word::Send, Word::Receive]);
         let open = word.saturating_add(1);
         let at = if is_symbol(self.tokens, open, Symbol::LeftParen) {
