@@ -57,6 +57,22 @@ impl Front {
             Err(_) => Ok(false),
         }
     }
+
+    /// The symbols and words that may stand next, as they are spelled.
+    fn spellings(&mut self) -> Result<Vec<&'static str>, AllocError> {
+        let mut spellings = Vec::new(self.alloc);
+        for (symbol, spelling) in &SYMBOLS {
+            if self.takes(Token::Symbol(*symbol))? {
+                spellings.push(*spelling)?;
+            }
+        }
+        for word in &WORDS {
+            if self.takes(Token::Word(*word))? {
+                spellings.push(word.spelling())?;
+            }
+        }
+        Ok(spellings)
+    }
 }
 
 /// What may stand at a place: some symbols and words, or all tokens of a kind.
@@ -78,17 +94,7 @@ fn add(phrase: &mut String, thing: &str) -> Result<(), AllocError> {
 impl Expected {
     /// What may stand behind these tokens.
     pub(crate) fn behind(front: &mut Front) -> Result<Expected, AllocError> {
-        let mut spellings = Vec::new(front.alloc);
-        for (symbol, spelling) in SYMBOLS {
-            if front.takes(Token::Symbol(symbol))? {
-                spellings.push(spelling)?;
-            }
-        }
-        for word in WORDS {
-            if front.takes(Token::Word(word))? {
-                spellings.push(word.spelling())?;
-            }
-        }
+        let spellings = front.spellings()?;
         let name = Name::new(front.alloc, b"x")?;
         Ok(Expected {
             spellings,

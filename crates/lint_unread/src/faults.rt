@@ -36,16 +36,16 @@ impl<'a> Fault<'a> {
     }
 
     /// The token that can't stand there, as it is spelled.
-    fn found(self) -> Shown<'a> {
+    fn found(&self) -> Shown<'a> {
         Shown(word_of(bytes_at(self.text, self.place)))
     }
 
-    fn remark(self, message: String) -> Remark {
+    fn remark(&self, message: String) -> Remark {
         Remark::new(self.place, message)
     }
 
     /// Whether the token stands where a declaration has its name.
-    fn is_name_place(self) -> bool {
+    fn is_name_place(&self) -> bool {
         is_behind_type(self.tokens, self.at)
             || matches!(
                 word_before(self.tokens, self.at),
@@ -65,7 +65,7 @@ impl<'a> Fault<'a> {
     // ---- words and characters that are left out
 
     /// What is said of a word of the standard, or a character, that this subset leaves out.
-    fn left_out(self) -> Result<Remark, AllocError> {
+    fn left_out(&self) -> Result<Remark, AllocError> {
         let found = self.found();
         if let Some(Token::Other(byte)) = token_at(self.tokens, self.at) {
             let message = format!(in self.alloc; "`{found}` is no symbol of the language")?;
@@ -87,7 +87,7 @@ impl<'a> Fault<'a> {
     }
 
     /// What is said of a word where a name is wanted.
-    fn reserved(self) -> Result<Remark, AllocError> {
+    fn reserved(&self) -> Result<Remark, AllocError> {
         let found = self.found();
         let message = format!(in self.alloc;
             "`{found}` is a word of the language and can't be a name"
@@ -98,7 +98,7 @@ impl<'a> Fault<'a> {
     // ---- tokens that no module has at their place
 
     /// What is said of a token that no module has at its place.
-    fn unexpected(self) -> Result<Remark, AllocError> {
+    fn unexpected(&self) -> Result<Remark, AllocError> {
         if self.ends_early()? {
             return self.early_end();
         }
@@ -107,11 +107,8 @@ impl<'a> Fault<'a> {
         if let Some(meant) = self.word_meant(&expected)? {
             return self.misspelt(self.at, meant);
         }
-        if expected.has(";") && self.may_follow_semicolon(front)? {
-            let statement = Shown(self.statement_before());
-            let message = format!(in self.alloc; "`{}` can't follow here", self.found())?;
-            let help = format!(in self.alloc; "expected `;` behind `{statement}`")?;
-            return Ok(self.remark(message).with_help(help));
+        if expected.has(";") && self.may_follow(front, Token::Symbol(Symbol::Semicolon))? {
+            return self.no_semicolon();
         }
         match self.word_before_meant()? {
             Some(meant) => self.misspelt(self.at.saturating_sub(1), meant),
@@ -119,8 +116,16 @@ impl<'a> Fault<'a> {
         }
     }
 
+    /// What is said where a `;` is missing before the token.
+    fn no_semicolon(&self) -> Result<Remark, AllocError> {
+        let statement = Shown(self.statement_before());
+        let message = format!(in self.alloc; "`{}` can't follow here", self.found())?;
+        let help = format!(in self.alloc; "expected `;` behind `{statement}`")?;
+        Ok(self.remark(message).with_help(help))
+    }
+
     /// What is said of a text that ends too early.
-    fn early_end(self) -> Result<Remark, AllocError> {
+    fn early_end(&self) -> Result<Remark, AllocError> {
         let mut front = Front::new(self.alloc, self.tokens, self.at.saturating_add(1))?;
         let expected = Expected::behind(&mut front)?;
         let remark = Remark::fixed(self.alloc, self.place, "the text ends too early")?;
@@ -131,7 +136,7 @@ impl<'a> Fault<'a> {
     }
 
     /// What is said of the name at a position that is nearly a word of the language.
-    fn misspelt(self, at: usize, meant: &[u8]) -> Result<Remark, AllocError> {
+    fn misspelt(&self, at: usize, meant: &[u8]) -> Result<Remark, AllocError> {
         let place = place_at(self.tokens, at);
         let word = Shown(word_of(bytes_at(self.text, place)));
         let message = format!(in self.alloc; "`{word}` can't stand here")?;
@@ -140,7 +145,7 @@ impl<'a> Fault<'a> {
     }
 
     /// What is said where neither a word is misspelt nor a `;` is missing.
-    fn misplaced(self, expected: &Expected) -> Result<Remark, AllocError> {
+    fn misplaced(&self, expected: &Expected) -> Result<Remark, AllocError> {
         let only_name = expected.name && !expected.number && expected.spellings.is_empty();
         let is_word = word_at(self.tokens, self.at).is_some();
         if is_word && expected.name && (only_name || self.is_name_place()) {
@@ -155,7 +160,7 @@ impl<'a> Fault<'a> {
     }
 
     /// Adds what may stand there.
-    fn with_expected(self, remark: Remark, expected: &Expected) -> Result<Remark, AllocError> {
+    fn with_expected(&self, remark: Remark, expected: &Expected) -> Result<Remark, AllocError> {
         match expected.phrase(self.alloc)? {
             Some(phrase) => Ok(remark.with_help(phrase)),
             None => remark.with_fixed_help(self.alloc, "nothing can follow the module"),
@@ -163,7 +168,7 @@ impl<'a> Fault<'a> {
     }
 
     /// Whether a definition begins with the token.
-    fn begins_definition(self) -> bool {
+    fn begins_definition(&self) -> bool {
         matches!(
             word_at(self.tokens, self.at),
             Some(
@@ -178,7 +183,7 @@ impl<'a> Fault<'a> {
     }
 
     /// Whether the token is the last one and may stand there: then the fault is that nothing follows.
-    fn ends_early(self) -> Result<bool, AllocError> {
+    fn ends_early(&self) -> Result<bool, AllocError> {
         if self.at.saturating_add(1) < self.tokens.len() {
             return Ok(false);
         }
@@ -190,19 +195,18 @@ impl<'a> Fault<'a> {
         front.takes(token)
     }
 
-    /// Whether the token may stand behind a `;` that is put before it.
-    fn may_follow_semicolon(self, front: Front) -> Result<bool, AllocError> {
+    /// Whether the token may stand behind another one that is put before it.
+    fn may_follow(&self, mut front: Front, other: Token) -> Result<bool, AllocError> {
         let Some(token) = token_at(self.tokens, self.at) else {
             return Ok(false);
         };
-        let mut front = front;
-        front.push(Token::Symbol(Symbol::Semicolon))?;
+        front.push(other)?;
         let token = copy_of(self.alloc, token)?;
         front.takes(token)
     }
 
     /// The word that may have been meant by the token, if it is a name.
-    fn word_meant(self, expected: &Expected) -> Result<Option<&'a [u8]>, AllocError> {
+    fn word_meant(&self, expected: &Expected) -> Result<Option<&'a [u8]>, AllocError> {
         match name_at(self.tokens, self.at) {
             Some(name) if self.is_told_of() => self.nearest(name, expected.spellings.as_slice()),
             _ => Ok(None),
@@ -211,7 +215,7 @@ impl<'a> Fault<'a> {
 
     /// Whether the token before is of the same line, or ends what stands before. Else the fault is most often that
     /// something is missing before the line.
-    fn is_told_of(self) -> bool {
+    fn is_told_of(&self) -> bool {
         match before(self.at) {
             Some(previous) => {
                 let line = place_at(self.tokens, previous).line;
@@ -222,12 +226,9 @@ impl<'a> Fault<'a> {
     }
 
     /// The word that may have been meant by the name before the token: behind that word the token may stand.
-    fn word_before_meant(self) -> Result<Option<&'a [u8]>, AllocError> {
+    fn word_before_meant(&self) -> Result<Option<&'a [u8]>, AllocError> {
         let previous = self.at.saturating_sub(1);
-        let (Some(name), Some(token)) = (
-            name_at(self.tokens, previous),
-            token_at(self.tokens, self.at),
-        ) else {
+        let Some(name) = name_at(self.tokens, previous) else {
             return Ok(None);
         };
         let mut front = Front::new(self.alloc, self.tokens, previous)?;
@@ -236,14 +237,16 @@ impl<'a> Fault<'a> {
         let Some(word) = word_spelled(near.unwrap_or(&[])) else {
             return Ok(None);
         };
-        front.push(Token::Word(word))?;
-        let token = copy_of(self.alloc, token)?;
-        Ok(if front.takes(token)? { near } else { None })
+        Ok(if self.may_follow(front, Token::Word(word))? {
+            near
+        } else {
+            None
+        })
     }
 
     /// The nearest of some spellings. Words of one or two letters are near to too many.
     fn nearest(
-        self,
+        &self,
         name: &'a [u8],
         spellings: &[&'static str],
     ) -> Result<Option<&'a [u8]>, AllocError> {
@@ -259,7 +262,7 @@ impl<'a> Fault<'a> {
     // ---- the statement before a token
 
     /// Whether a symbol stands at a position behind which a statement or a definition begins.
-    fn ends(self, position: usize) -> bool {
+    fn ends(&self, position: usize) -> bool {
         matches!(
             symbol_at(self.tokens, position),
             Some(Symbol::Semicolon | Symbol::LeftBrace | Symbol::RightBrace)
@@ -267,7 +270,7 @@ impl<'a> Fault<'a> {
     }
 
     /// Whether a statement or a line begins at a position.
-    fn begins_statement(self, position: usize) -> bool {
+    fn begins_statement(&self, position: usize) -> bool {
         let Some(previous) = before(position) else {
             return true;
         };
@@ -276,7 +279,7 @@ impl<'a> Fault<'a> {
     }
 
     /// The position at which the statement before the token begins, or its last line.
-    fn statement_begin(self) -> usize {
+    fn statement_begin(&self) -> usize {
         let mut first = 0;
         for position in 0..self.at {
             if self.begins_statement(position) {
@@ -287,7 +290,7 @@ impl<'a> Fault<'a> {
     }
 
     /// The text of the statement before the token, so far as it stands in one line.
-    fn statement_before(self) -> &'a [u8] {
+    fn statement_before(&self) -> &'a [u8] {
         let first = place_at(self.tokens, self.statement_begin());
         let last = place_at(self.tokens, self.at.saturating_sub(1));
         let (line, end) = (bytes_at(self.text, first), bytes_at(self.text, last));
