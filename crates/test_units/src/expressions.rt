@@ -74,11 +74,9 @@ fn equal_lists_and_boxes_hash_alike(rt: HostRuntime) -> Result<(), Fail> {
     let mut other = Seq::from_vec(vec![in alloc; Boxed::new(alloc, 7u32)?]?);
     assert!(rt; are_alike(&one, &other));
     other.push(Boxed::new(alloc, 8u32)?)?;
-    assert!(rt; one != other);
-    assert_eq!(rt; other.len(), 2);
+    assert!(rt; one != other && other.len() == 2);
     let elements = other.into_vec();
-    assert_eq!(rt; elements.len(), 2);
-    assert_eq!(rt; *elements[1].get(), 8);
-    assert_eq!(rt; Boxed::new(alloc, 5u8)?.into_inner(), 5);
+    assert!(rt; elements.len() == 2 && *elements[1].get() == 8);
+    assert!(rt; Boxed::new(alloc, 5u8)?.into_inner() == 5);
     Ok(())
 }

@@ -141,9 +141,13 @@ fn long_paths(rt: HostRuntime) -> Result<(), Fail> {
     let alloc = rt.alloc();
     let mut things = path_of(alloc, 50_000, 1)?;
     end(&mut things, Seq::new(alloc))?;
-    assert_eq!(rt; found(&rt, alloc, &things, 50_000, 50_000)?, NONE);
-    assert_eq!(rt; found(&rt, alloc, &things, 49_999, 50_000)?, LONG);
-    assert_eq!(rt; found(&rt, alloc, &things, 50_000, 49_999)?, HEAVY);
+    for (longest, heaviest, expected) in [
+        (50_000, 50_000, NONE),
+        (49_999, 50_000, LONG),
+        (50_000, 49_999, HEAVY),
+    ] {
+        assert_eq!(rt; found(&rt, alloc, &things, longest, heaviest)?, expected);
+    }
     Ok(())
 }
 
@@ -172,13 +176,15 @@ fn many_references(rt: HostRuntime) -> Result<(), Fail> {
 #[test]
 fn doubling(rt: HostRuntime) -> Result<(), Fail> {
     let alloc = rt.alloc();
-    let mut things = path_of(alloc, 31, 2)?;
-    end(&mut things, Seq::new(alloc))?;
-    assert_eq!(rt; found(&rt, alloc, &things, 31, 0x7fff_ffff)?, NONE);
-    assert_eq!(rt; found(&rt, alloc, &things, 31, 0x7fff_fffe)?, HEAVY);
-    let mut things = path_of(alloc, 200, 2)?;
-    end(&mut things, Seq::new(alloc))?;
-    assert_eq!(rt; found(&rt, alloc, &things, 200, u32::MAX)?, HEAVY);
+    for (count, heaviest, expected) in [
+        (31, 0x7fff_ffff, NONE),
+        (31, 0x7fff_fffe, HEAVY),
+        (200, u32::MAX, HEAVY),
+    ] {
+        let mut things = path_of(alloc, count, 2)?;
+        end(&mut things, Seq::new(alloc))?;
+        assert_eq!(rt; found(&rt, alloc, &things, 200, heaviest)?, expected);
+    }
     Ok(())
 }
 
