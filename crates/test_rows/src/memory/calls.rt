@@ -243,12 +243,31 @@ impl Call {
         alloc: Global,
         subjects: &Subjects<'_, '_>,
     ) -> Result<Given, Refusal> {
-        let (race, run, fine_run) = (
-            RACE.as_bytes(),
-            RUN_OF_RACE.as_bytes(),
-            FINE_RUN_OF_RACE.as_bytes(),
-        );
-        let machine = subjects.machine;
+        match self {
+            Call::RunOne(_) | Call::RunRace(_) | Call::RunScript(_) | Call::RunStream => {
+                self.make_run(rt, alloc)
+            }
+            Call::Lex | Call::Parse | Call::Check | Call::ReadScript | Call::NewMachine => {
+                self.make_nothing(alloc, subjects)
+            }
+            Call::CheckText
+            | Call::ReplayText
+            | Call::CoarsenText
+            | Call::DoubleText
+            | Call::ReadRun
+            | Call::ReadFine
+            | Call::ReadLine
+            | Call::FaultLine => self.make_of_texts(alloc),
+            Call::Canon | Call::Pack | Call::Unpack | Call::ToText | Call::ToJson => {
+                self.make_of_parts(alloc, subjects)
+            }
+            _ => self.make_of_machine(alloc, subjects),
+        }
+    }
+
+    /// What an exploration gives.
+    fn make_run<R: Threads + Sync>(self, rt: &R, alloc: Global) -> Result<Given, Refusal> {
+        let race = RACE.as_bytes();
         Ok(match self {
             Call::RunOne(workers) => {
                 let plan = plan(2, workers);
@@ -262,18 +281,42 @@ impl Call {
                 Given::Report(run_script(rt, alloc, text, script, "T", &plan, &NoGate)?)
             }
             Call::RunStream => Given::Bytes(streamed(rt, alloc)?),
+            _ => return Err(Refusal::Other),
+        })
+    }
+
+    /// Makes a call whose answer isn't looked at.
+    fn make_nothing(self, alloc: Global, subjects: &Subjects<'_, '_>) -> Result<Given, Refusal> {
+        match self {
             Call::Lex => {
-                lex(alloc, race)?;
-                Given::Nothing
+                lex(alloc, RACE.as_bytes())?;
             }
             Call::Parse => {
                 parse(alloc, subjects.tokens)?;
-                Given::Nothing
             }
             Call::Check => {
                 check(alloc, parse(alloc, subjects.tokens)?)?;
-                Given::Nothing
             }
+            Call::ReadScript => {
+                let script = SCRIPT.as_bytes();
+                read_script(alloc, script, subjects.program, subjects.testcase)?;
+            }
+            Call::NewMachine => {
+                Machine::new(alloc, subjects.program, subjects.testcase)?;
+            }
+            _ => return Err(Refusal::Other),
+        }
+        Ok(Given::Nothing)
+    }
+
+    /// What a call on texts gives.
+    fn make_of_texts(self, alloc: Global) -> Result<Given, Refusal> {
+        let (race, run, fine_run) = (
+            RACE.as_bytes(),
+            RUN_OF_RACE.as_bytes(),
+            FINE_RUN_OF_RACE.as_bytes(),
+        );
+        Ok(match self {
             Call::CheckText => {
                 check_text(alloc, race)?;
                 Given::Nothing
@@ -283,24 +326,19 @@ impl Call {
             Call::DoubleText => Given::Bytes(double_text(alloc, race, "T", run, b"{}")?),
             Call::ReadRun => Given::Run(read_run(alloc, run)?),
             Call::ReadFine => Given::FineRun(read_fine(alloc, fine_run)?),
-            Call::ReadScript => {
-                read_script(
-                    alloc,
-                    SCRIPT.as_bytes(),
-                    subjects.program,
-                    subjects.testcase,
-                )?;
-                Given::Nothing
-            }
             Call::ReadLine => {
                 read_line(alloc, &WORDS)?;
                 Given::Nothing
             }
             Call::FaultLine => Given::Text(fault_line(alloc, &Fault::NotEnabled(7))?),
-            Call::NewMachine => {
-                Machine::new(alloc, subjects.program, subjects.testcase)?;
-                Given::Nothing
-            }
+            _ => return Err(Refusal::Other),
+        })
+    }
+
+    /// What a call of the machine gives.
+    fn make_of_machine(self, alloc: Global, subjects: &Subjects<'_, '_>) -> Result<Given, Refusal> {
+        let machine = subjects.machine;
+        Ok(match self {
             Call::Start => Given::Config(machine.start(alloc)?),
             Call::Labels => {
                 let start = machine.start(alloc)?;
@@ -310,11 +348,19 @@ impl Call {
             Call::Replay => Given::Config(machine.replay(alloc, subjects.run)?),
             Call::Coarsen => Given::Run(machine.coarsen(alloc, subjects.fine_run)?),
             Call::Double => Given::FineRun(machine.double(alloc, subjects.run)?),
+            _ => return Err(Refusal::Other),
+        })
+    }
+
+    /// What a call on a configuration or a report gives.
+    fn make_of_parts(self, alloc: Global, subjects: &Subjects<'_, '_>) -> Result<Given, Refusal> {
+        Ok(match self {
             Call::Canon => Given::Config(canon(alloc, subjects.config)?),
             Call::Pack => Given::Packed(pack(alloc, subjects.config)?),
             Call::Unpack => Given::Config(unpack(alloc, &subjects.packed)?),
             Call::ToText => Given::Text(to_text(alloc, subjects.report)?),
             Call::ToJson => Given::Text(to_json(alloc, subjects.report)?),
+            _ => return Err(Refusal::Other),
         })
     }
 
