@@ -88,8 +88,8 @@ static struct text wanted[2], given[2];
 static atomic_long requests, at, refusals, *told;
 static int real_open(const char *name, int flags, int mode) { return syscall(SYS_openat, AT_FDCWD, name, flags, mode); }
 static int refused(void) {
-    long wanted = atomic_load(&at), number = atomic_fetch_add(&requests, 1) + 1;
-    if (!wanted || (wanted > 0 && wanted != number)) return 0;
+    long which = atomic_load(&at), number = atomic_fetch_add(&requests, 1) + 1;
+    if (!which || (which > 0 && which != number)) return 0;
     atomic_fetch_add(&refusals, 1);
     if (told) atomic_store(told, 1);
     errno = ENOMEM;
