@@ -47,7 +47,7 @@ fn push(judged: &mut Vec<Judged>, place: Span, view: View) -> Result<bool, Alloc
 impl<'a> Sight<'a> {
     /// The names in an expression, each with its value: `owner is mtc.2`.
     fn push_readings(
-        self,
+        &self,
         alloc: Global,
         expr: &Expr,
         readings: &mut Vec<String>,
@@ -72,7 +72,7 @@ impl<'a> Sight<'a> {
 
     /// A name with its value, unless it is there.
     fn push_reading(
-        self,
+        &self,
         alloc: Global,
         component: &ComponentRef,
         readings: &mut Vec<String>,
@@ -88,7 +88,7 @@ impl<'a> Sight<'a> {
     }
 
     /// A guard that is false, with the values of its names.
-    fn false_guard(self, alloc: Global, guard: &Expr) -> Result<String, AllocError> {
+    fn false_guard(&self, alloc: Global, guard: &Expr) -> Result<String, AllocError> {
         let mut readings = Vec::new(alloc);
         self.push_readings(alloc, guard, &mut readings)?;
         let mut text = String::from_str(alloc, "the guard is false")?;
@@ -105,7 +105,7 @@ impl<'a> Sight<'a> {
 impl<'a> Scene<'a> {
     /// What is seen of a guard, which is true where none stands.
     fn guard(
-        self,
+        &self,
         alloc: Global,
         place: Place<'_>,
         guard: &Option<Expr>,
@@ -124,7 +124,7 @@ impl<'a> Scene<'a> {
 
     /// The values of the parameters of the behaviour at a position.
     fn parameters(
-        self,
+        &self,
         alloc: Global,
         at: usize,
         values: &[Value],
@@ -142,7 +142,7 @@ impl<'a> Scene<'a> {
     /// The branches of the altstep at a position with these arguments.
     #[cycle(judging)]
     fn judge_altstep(
-        self,
+        &self,
         alloc: Global,
         at: usize,
         values: &[Value],
@@ -165,7 +165,7 @@ impl<'a> Scene<'a> {
     /// A call of an altstep at a place in the text: its arguments come first.
     #[cycle(judging)]
     fn judge_call(
-        self,
+        &self,
         alloc: Global,
         place: Place<'_>,
         span: Span,
@@ -193,7 +193,7 @@ impl<'a> Scene<'a> {
     /// Branches, up to the first that can be taken. Gives whether none can be.
     #[cycle(judging)]
     fn judge_branches(
-        self,
+        &self,
         alloc: Global,
         place: Place<'_>,
         branches: &[Branch],
@@ -211,7 +211,7 @@ impl<'a> Scene<'a> {
     /// A branch. Gives whether the next one is looked at, too.
     #[cycle(judging)]
     fn judge_branch(
-        self,
+        &self,
         alloc: Global,
         place: Place<'_>,
         branch: &Branch,
@@ -240,7 +240,7 @@ impl<'a> Scene<'a> {
     }
 
     /// The altstep of a name.
-    pub(crate) fn altstep_named(self, name: &Name) -> Option<usize> {
+    pub(crate) fn altstep_named(&self, name: &Name) -> Option<usize> {
         match self.defined.meaning(name.as_bytes()) {
             Some(Meaning::Altstep(at)) => Some(at),
             _ => None,
@@ -249,7 +249,7 @@ impl<'a> Scene<'a> {
 
     /// The branches of active defaults, up to the first that can be taken.
     fn judge_defaults(
-        self,
+        &self,
         alloc: Global,
         defaults: &[ActiveDefault],
         judged: &mut Vec<Judged>,
@@ -265,7 +265,7 @@ impl<'a> Scene<'a> {
 
     /// A lone event.
     fn judge_event(
-        self,
+        &self,
         alloc: Global,
         place: Place<'_>,
         span: Span,
@@ -278,7 +278,7 @@ impl<'a> Scene<'a> {
     /// What the component sees of the branches of a statement at which it stands, and behind them of those of its active
     /// defaults: all of them, or those up to the first of which it isn't known that it can't be taken. None where the
     /// statement is no `alt` and stands for none.
-    pub fn judged(self, alloc: Global, statement: &Statement) -> Result<Vec<Judged>, AllocError> {
+    pub fn judged(&self, alloc: Global, statement: &Statement) -> Result<Vec<Judged>, AllocError> {
         let mut judged = Vec::new(alloc);
         let (place, span) = (self.last_place(statement.place), statement.place);
         let none_taken = match &statement.action {

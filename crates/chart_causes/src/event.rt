@@ -117,7 +117,7 @@ fn has_sent(wanted: &Value, sender: &Option<ComponentId>) -> bool {
 
 impl<'a> Scene<'a> {
     /// Writes the name of a type.
-    fn write_type(self, out: &mut String, data_type: DataType) -> Result<(), AllocError> {
+    fn write_type(&self, out: &mut String, data_type: DataType) -> Result<(), AllocError> {
         match data_type {
             DataType::Integer => out.push_str("integer"),
             DataType::Boolean => out.push_str("boolean"),
@@ -129,19 +129,19 @@ impl<'a> Scene<'a> {
     }
 
     /// The type of the template of the module at a position.
-    fn type_of_template(self, at: usize) -> Option<DataType> {
+    fn type_of_template(&self, at: usize) -> Option<DataType> {
         let template = self.defined.template(at)?;
         self.defined.resolved(&template.type_name)
     }
 
     /// The type of the template of a name.
-    fn type_of_named(self, sight: Sight<'_>, name: &Name) -> Option<DataType> {
+    fn type_of_named(&self, sight: Sight<'_>, name: &Name) -> Option<DataType> {
         self.type_of_template(sight.template_of(name)?)
     }
 
     /// The type of an expression: by its form, or else by its value.
     fn type_of_expression(
-        self,
+        &self,
         alloc: Global,
         sight: Sight<'_>,
         expr: &Expr,
@@ -158,7 +158,7 @@ impl<'a> Scene<'a> {
     /// The type that a message must have by its template, where this says one by itself; else the port takes messages of one
     /// type alone, and that is the type of the message that was found. None where it isn't known.
     fn wanted_type(
-        self,
+        &self,
         alloc: Global,
         sight: Sight<'_>,
         written: &MessageTemplate,
@@ -178,7 +178,7 @@ impl<'a> Scene<'a> {
     }
 
     /// What stands first at a port: `the first message at net is {1, setup}`.
-    fn front(self, alloc: Global, queue: &Queue, message: &Message) -> Result<String, AllocError> {
+    fn front(&self, alloc: Global, queue: &Queue, message: &Message) -> Result<String, AllocError> {
         let mut text = String::from_str(alloc, "the first message at ")?;
         self.names.write_slot(&mut text, queue.port)?;
         text.push_str(" is ")?;
@@ -188,7 +188,7 @@ impl<'a> Scene<'a> {
 
     /// A message that is of another type than the wanted one.
     fn of_other_type(
-        self,
+        &self,
         alloc: Global,
         queue: &Queue,
         message: &Message,
@@ -203,7 +203,7 @@ impl<'a> Scene<'a> {
     /// Writes what a template wants of a message that it doesn't match: `release`, or `one` where it matches, where none stands,
     /// or where it has no value.
     fn write_wanted(
-        self,
+        &self,
         alloc: Global,
         out: &mut String,
         sight: Sight<'_>,
@@ -223,7 +223,7 @@ impl<'a> Scene<'a> {
 
     /// A message that another one sent than the wanted one.
     fn from_other(
-        self,
+        &self,
         alloc: Global,
         sight: Sight<'_>,
         receive: &Receive,
@@ -248,7 +248,7 @@ impl<'a> Scene<'a> {
 
     /// The template of a receive against a message in front of a port, whose type and sender are right.
     fn matched(
-        self,
+        &self,
         alloc: Global,
         sight: Sight<'_>,
         receive: &Receive,
@@ -276,7 +276,7 @@ impl<'a> Scene<'a> {
 
     /// A receive against a message in front of a port whose type is right: its sender comes first.
     fn addressed(
-        self,
+        &self,
         alloc: Global,
         sight: Sight<'_>,
         receive: &Receive,
@@ -304,7 +304,7 @@ impl<'a> Scene<'a> {
 
     /// A receive against what stands first at a port.
     fn at_port(
-        self,
+        &self,
         alloc: Global,
         sight: Sight<'_>,
         receive: &Receive,
@@ -339,7 +339,7 @@ impl<'a> Scene<'a> {
 
     /// A receive at any port: the ports in their order.
     fn at_any_port(
-        self,
+        &self,
         alloc: Global,
         sight: Sight<'_>,
         receive: &Receive,
@@ -360,7 +360,7 @@ impl<'a> Scene<'a> {
 
     /// A receive.
     fn received(
-        self,
+        &self,
         alloc: Global,
         sight: Sight<'_>,
         receive: &Receive,
@@ -375,7 +375,7 @@ impl<'a> Scene<'a> {
     }
 
     /// `t.timeout`
-    fn timed_out(self, alloc: Global, sight: Sight<'_>, name: &Name) -> Result<View, AllocError> {
+    fn timed_out(&self, alloc: Global, sight: Sight<'_>, name: &Name) -> Result<View, AllocError> {
         let words = match timer_state(name, &sight.frame) {
             Some(TimerState::Expired) => return View::taken(alloc),
             Some(TimerState::Running) => " runs and hasn't expired",
@@ -389,7 +389,7 @@ impl<'a> Scene<'a> {
     }
 
     /// Whether a component has ended, and how far it has come.
-    fn ended(self, alloc: Global, component: &ComponentId) -> Result<View, AllocError> {
+    fn ended(&self, alloc: Global, component: &ComponentId) -> Result<View, AllocError> {
         let words = match self.state(&component.path) {
             Some(State::Terminated) => return View::taken(alloc),
             Some(State::Running) => " still runs",
@@ -404,7 +404,7 @@ impl<'a> Scene<'a> {
 
     /// `c.done`
     fn done(
-        self,
+        &self,
         alloc: Global,
         sight: Sight<'_>,
         reference: &ComponentRef,
@@ -416,7 +416,7 @@ impl<'a> Scene<'a> {
     }
 
     /// `all component.done`
-    fn all_done(self, alloc: Global) -> Result<View, AllocError> {
+    fn all_done(&self, alloc: Global) -> Result<View, AllocError> {
         if self.component.itself.path != self.mtc.path {
             let text = "all component.done is asked elsewhere than on mtc";
             return View::failed(alloc, Some(String::from_str(alloc, text)?));
@@ -447,7 +447,7 @@ impl<'a> Scene<'a> {
 
     /// What the component sees of an event.
     pub(crate) fn event(
-        self,
+        &self,
         alloc: Global,
         place: Place<'_>,
         event: &Event,

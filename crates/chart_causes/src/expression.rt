@@ -16,7 +16,7 @@ enum Linked {
 impl<'a> Sight<'a> {
     /// Why an expression is a dynamic error.
     pub(crate) fn expression(
-        self,
+        &self,
         alloc: Global,
         expr: &Expr,
     ) -> Result<Option<String>, AllocError> {
@@ -56,7 +56,7 @@ impl<'a> Sight<'a> {
     }
 
     /// The value of an expression, or `null` where it has none.
-    fn value_or_null(self, alloc: Global, expr: &Expr) -> Result<Value, AllocError> {
+    fn value_or_null(&self, alloc: Global, expr: &Expr) -> Result<Value, AllocError> {
         match self.value(alloc, expr)? {
             Some(value) => Ok(value),
             None => Ok(Value::Null),
@@ -64,7 +64,7 @@ impl<'a> Sight<'a> {
     }
 
     /// What an operator and an operand that has a value give behind a value.
-    fn linked(self, alloc: Global, left: &Value, link: &Link) -> Result<Linked, AllocError> {
+    fn linked(&self, alloc: Global, left: &Value, link: &Link) -> Result<Linked, AllocError> {
         let right = self.value_or_null(alloc, &link.operand)?;
         match applied(link.operator, left, &right) {
             Some(value) => Ok(Linked::Value(value)),
@@ -76,7 +76,7 @@ impl<'a> Sight<'a> {
     }
 
     /// Why a sign before an expression that has a value is a dynamic error.
-    fn signed(self, alloc: Global, operand: &Expr) -> Result<Option<String>, AllocError> {
+    fn signed(&self, alloc: Global, operand: &Expr) -> Result<Option<String>, AllocError> {
         let mut text = String::from_str(alloc, "the result doesn't fit into 64 bits: -")?;
         match self.value(alloc, operand)? {
             Some(value) => self.names.write_value(&mut text, &value)?,

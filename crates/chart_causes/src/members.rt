@@ -96,7 +96,7 @@ impl<'a> Sight<'a> {
 
     /// Why the values of constants are a dynamic error.
     fn member_constants(
-        self,
+        &self,
         alloc: Global,
         wanted: Option<DataType>,
         constants: &[Constant],
@@ -113,7 +113,7 @@ impl<'a> Sight<'a> {
 
     /// Why the values of variables are a dynamic error.
     fn member_variables(
-        self,
+        &self,
         alloc: Global,
         wanted: Option<DataType>,
         variables: &[MemberVariable],
@@ -130,7 +130,7 @@ impl<'a> Sight<'a> {
     }
 
     /// Why the values of the members of the component type at a position are a dynamic error.
-    fn members(self, alloc: Global, at: usize) -> Result<Option<String>, AllocError> {
+    fn members(&self, alloc: Global, at: usize) -> Result<Option<String>, AllocError> {
         let mut values = Vec::new(alloc);
         for member in declarations_of(self.frame.definitions, at) {
             let cause = match member {
@@ -153,7 +153,11 @@ impl<'a> Sight<'a> {
     }
 
     /// Why it is a dynamic error to create a component of a type.
-    pub(crate) fn creation(self, alloc: Global, name: &Name) -> Result<Option<String>, AllocError> {
+    pub(crate) fn creation(
+        &self,
+        alloc: Global,
+        name: &Name,
+    ) -> Result<Option<String>, AllocError> {
         match component_type(self.frame.definitions, name) {
             Some(at) => self.members(alloc, at),
             None => Ok(None),

@@ -38,7 +38,7 @@ fn name_of(kind: &DefinitionKind) -> Option<&Name> {
 
 impl<'a> Names<'a> {
     /// Writes the name of a slot.
-    pub fn write_slot(self, out: &mut String, slot: Slot) -> Result<(), AllocError> {
+    pub fn write_slot(&self, out: &mut String, slot: Slot) -> Result<(), AllocError> {
         match self.slots.get(slot as usize) {
             Some(name) => write_name(out, name),
             None => Ok(()),
@@ -46,7 +46,7 @@ impl<'a> Names<'a> {
     }
 
     /// Writes the name of the definition at a position.
-    pub fn write_definition(self, out: &mut String, at: usize) -> Result<(), AllocError> {
+    pub fn write_definition(&self, out: &mut String, at: usize) -> Result<(), AllocError> {
         let Some(definition) = self.definitions.get(at) else {
             return Ok(());
         };
@@ -57,33 +57,33 @@ impl<'a> Names<'a> {
     }
 
     /// The name of the definition at a position.
-    pub fn definition(self, alloc: Global, at: usize) -> Result<String, AllocError> {
+    pub fn definition(&self, alloc: Global, at: usize) -> Result<String, AllocError> {
         let mut name = String::new(alloc);
         self.write_definition(&mut name, at)?;
         Ok(name)
     }
 
     /// The name of a slot.
-    pub fn slot(self, alloc: Global, slot: Slot) -> Result<String, AllocError> {
+    pub fn slot(&self, alloc: Global, slot: Slot) -> Result<String, AllocError> {
         let mut name = String::new(alloc);
         self.write_slot(&mut name, slot)?;
         Ok(name)
     }
 
     /// Writes a value as it is written in a module.
-    pub fn write_value(self, out: &mut String, value: &Value) -> Result<(), AllocError> {
+    pub fn write_value(&self, out: &mut String, value: &Value) -> Result<(), AllocError> {
         write_value(out, self.definitions, value)
     }
 
     /// The position of the definition in which a place lies: a definition reaches to the next one.
-    pub fn definition_at(self, place: Span) -> Option<usize> {
+    pub fn definition_at(&self, place: Span) -> Option<usize> {
         self.definitions
             .iter()
             .rposition(|definition| definition.place <= place)
     }
 
     /// The position of the altstep in which a place lies, where it lies in one.
-    pub fn altstep_at(self, place: Span) -> Option<usize> {
+    pub fn altstep_at(&self, place: Span) -> Option<usize> {
         let at = self.definition_at(place)?;
         match &self.definitions.get(at)?.kind {
             DefinitionKind::Altstep(_) => Some(at),
@@ -92,7 +92,7 @@ impl<'a> Names<'a> {
     }
 
     /// The fields of the record at a position.
-    pub fn fields(self, at: usize) -> &'a [Field] {
+    pub fn fields(&self, at: usize) -> &'a [Field] {
         match self.definitions.get(at) {
             Some(definition) => match &definition.kind {
                 DefinitionKind::Record(record) => record.fields.as_slice(),
@@ -103,7 +103,7 @@ impl<'a> Names<'a> {
     }
 
     /// What stands in the field of a name, where a value is a record that has it.
-    pub fn field<'v>(self, value: &'v Value, name: &Name) -> Option<&'v Option<Value>> {
+    pub fn field<'v>(&self, value: &'v Value, name: &Name) -> Option<&'v Option<Value>> {
         let (at, fields) = match value {
             Value::Record(at, fields) => (*at, fields),
             _ => return None,
@@ -116,7 +116,7 @@ impl<'a> Names<'a> {
     }
 
     /// Writes the name of the field at a place of the record at a position.
-    fn write_field(self, out: &mut String, at: usize, place: usize) -> Result<(), AllocError> {
+    fn write_field(&self, out: &mut String, at: usize, place: usize) -> Result<(), AllocError> {
         match self.fields(at).get(place) {
             Some(field) => write_name(out, &field.name),
             None => Ok(()),
@@ -124,7 +124,7 @@ impl<'a> Names<'a> {
     }
 
     /// Writes the way to the first field of a record that has no value: `content`, `head.length`.
-    pub fn write_gap(self, out: &mut String, value: &Value) -> Result<(), AllocError> {
+    pub fn write_gap(&self, out: &mut String, value: &Value) -> Result<(), AllocError> {
         if let Value::Record(at, fields) = value {
             for (place, field) in fields.as_slice().iter().enumerate() {
                 match field {
@@ -143,7 +143,7 @@ impl<'a> Names<'a> {
     }
 
     /// The slot of a name, where it has one.
-    pub fn slot_of(self, name: &Name) -> Option<Slot> {
+    pub fn slot_of(&self, name: &Name) -> Option<Slot> {
         let place = self.slots.iter().position(|slot| *slot == *name)?;
         Slot::try_from(place).ok()
     }

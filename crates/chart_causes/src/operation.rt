@@ -88,7 +88,7 @@ pub(crate) fn applied(operator: Operator, left: &Value, right: &Value) -> Option
 impl<'a> Sight<'a> {
     /// Why an operator gives nothing of two integers: `division by zero: 1 / 0`.
     fn without_result(
-        self,
+        &self,
         alloc: Global,
         operator: Operator,
         left: i64,
@@ -104,7 +104,7 @@ impl<'a> Sight<'a> {
 
     /// Why an operator gives nothing of two values.
     pub(crate) fn misapplied(
-        self,
+        &self,
         alloc: Global,
         operator: Operator,
         left: &Value,

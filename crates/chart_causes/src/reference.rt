@@ -26,7 +26,7 @@ fn said_of(alloc: Global, name: &str, words: &str) -> Result<Option<String>, All
 
 impl<'a> Sight<'a> {
     /// What constants of the module read: no names of a component.
-    fn bare(self) -> Frame<'a> {
+    fn bare(&self) -> Frame<'a> {
         Frame {
             definitions: self.frame.definitions,
             names: self.frame.names,
@@ -41,7 +41,7 @@ impl<'a> Sight<'a> {
     }
 
     /// The value of a constant of the module, where it has one.
-    fn constant(self, alloc: Global, at: usize, item: usize) -> Result<Option<Value>, AllocError> {
+    fn constant(&self, alloc: Global, at: usize, item: usize) -> Result<Option<Value>, AllocError> {
         let definitions = self.frame.definitions;
         match definitions.constant(at, item) {
             Some(constant) => {
@@ -54,7 +54,7 @@ impl<'a> Sight<'a> {
 
     /// The first field behind a value that is omitted or has no value.
     fn along(
-        self,
+        &self,
         alloc: Global,
         name: &Name,
         value: &Value,
@@ -77,7 +77,7 @@ impl<'a> Sight<'a> {
     }
 
     /// Why a reference is a dynamic error that is one.
-    fn read(self, alloc: Global, reference: &Reference) -> Result<Option<String>, AllocError> {
+    fn read(&self, alloc: Global, reference: &Reference) -> Result<Option<String>, AllocError> {
         let mut name = String::new(alloc);
         write_name(&mut name, &reference.name)?;
         let fields = reference.fields.as_slice();
@@ -95,7 +95,7 @@ impl<'a> Sight<'a> {
     }
 
     /// The value of a name that the module doesn't define.
-    fn local(self, name: &Name) -> Option<&'a Value> {
+    fn local(&self, name: &Name) -> Option<&'a Value> {
         seen_entry(
             self.frame.names,
             self.frame.locals,
@@ -107,7 +107,7 @@ impl<'a> Sight<'a> {
     /// Why it is a dynamic error to read a component, or what a name stands for; `null` is no component, which isn't an error
     /// by itself.
     pub(crate) fn component(
-        self,
+        &self,
         alloc: Global,
         component: &ComponentRef,
     ) -> Result<Option<String>, AllocError> {
@@ -127,7 +127,7 @@ impl<'a> Sight<'a> {
 
     /// Why it is a dynamic error to ask whether a field is there.
     pub(crate) fn presence(
-        self,
+        &self,
         alloc: Global,
         reference: &Reference,
     ) -> Result<Option<String>, AllocError> {
@@ -136,7 +136,7 @@ impl<'a> Sight<'a> {
 
     /// A name that the module doesn't define, with its value: `owner is mtc.2`.
     pub(crate) fn reading(
-        self,
+        &self,
         alloc: Global,
         component: &ComponentRef,
     ) -> Result<Option<String>, AllocError> {

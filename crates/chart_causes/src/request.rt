@@ -90,7 +90,7 @@ fn mapped_at(links: &Links, system_port: Slot) -> Option<&End> {
 
 impl<'a> Scene<'a> {
     /// Writes a component's port as it is written in a module: `mtc.1:net`.
-    pub(crate) fn write_port(self, out: &mut String, end: &End) -> Result<(), AllocError> {
+    pub(crate) fn write_port(&self, out: &mut String, end: &End) -> Result<(), AllocError> {
         write_path(out, &end.component)?;
         out.push_str(":")?;
         self.names.write_slot(out, end.port)
@@ -98,7 +98,7 @@ impl<'a> Scene<'a> {
 
     /// A port, with words and another port behind it.
     fn two_ports(
-        self,
+        &self,
         alloc: Global,
         one: &End,
         words: &str,
@@ -112,7 +112,7 @@ impl<'a> Scene<'a> {
     }
 
     /// A port that is mapped to a system port.
-    fn is_mapped(self, alloc: Global, end: &End, system_port: Slot) -> Result<String, AllocError> {
+    fn is_mapped(&self, alloc: Global, end: &End, system_port: Slot) -> Result<String, AllocError> {
         let mut text = String::new(alloc);
         self.write_port(&mut text, end)?;
         text.push_str(" is mapped to system:")?;
@@ -121,7 +121,7 @@ impl<'a> Scene<'a> {
     }
 
     /// A component, with words behind it.
-    fn component_is(self, alloc: Global, path: &Path, words: &str) -> Result<String, AllocError> {
+    fn component_is(&self, alloc: Global, path: &Path, words: &str) -> Result<String, AllocError> {
         let mut text = String::new(alloc);
         write_path(&mut text, path)?;
         text.push_str(words)?;
@@ -130,7 +130,7 @@ impl<'a> Scene<'a> {
 
     /// Why a message has no way from a port: it leads to several others.
     fn leads_to_several(
-        self,
+        &self,
         alloc: Global,
         from: &End,
         peers: &[&End],
@@ -152,7 +152,7 @@ impl<'a> Scene<'a> {
 
     /// Why a message has no way from a port: it leads to none.
     fn leads_to_none(
-        self,
+        &self,
         alloc: Global,
         from: &End,
         to: Option<&Path>,
@@ -170,7 +170,7 @@ impl<'a> Scene<'a> {
     }
 
     /// Why a message has no way, or more than one.
-    fn sending(self, alloc: Global, port: Slot, to: Option<&Path>) -> Result<String, AllocError> {
+    fn sending(&self, alloc: Global, port: Slot, to: Option<&Path>) -> Result<String, AllocError> {
         let from = End {
             component: self.component.itself.path.try_clone(alloc)?,
             port,
@@ -190,7 +190,7 @@ impl<'a> Scene<'a> {
     }
 
     /// Why a component can't start.
-    fn starting(self, alloc: Global, path: &Path) -> Result<String, AllocError> {
+    fn starting(&self, alloc: Global, path: &Path) -> Result<String, AllocError> {
         match self.state(path) {
             Some(State::Running) => self.component_is(alloc, path, " runs already"),
             Some(State::Terminated) => self.component_is(alloc, path, " has ended already"),
@@ -199,13 +199,13 @@ impl<'a> Scene<'a> {
     }
 
     /// Whether the component of a path is terminated.
-    fn has_ended(self, path: &Path) -> bool {
+    fn has_ended(&self, path: &Path) -> bool {
         matches!(self.state(path), Some(State::Terminated))
     }
 
     /// Why one of two ports can't be connected to the other, as far as it is by itself.
     fn unconnectable(
-        self,
+        &self,
         alloc: Global,
         end: &End,
         peer: &End,
@@ -228,7 +228,7 @@ impl<'a> Scene<'a> {
     }
 
     /// Why two ports can't be connected.
-    fn connecting(self, alloc: Global, one: &End, other: &End) -> Result<String, AllocError> {
+    fn connecting(&self, alloc: Global, one: &End, other: &End) -> Result<String, AllocError> {
         if let Some(cause) = self.unconnectable(alloc, one, other)? {
             return Ok(cause);
         }
@@ -239,7 +239,7 @@ impl<'a> Scene<'a> {
     }
 
     /// Why a port can't be mapped to a system port.
-    fn mapping(self, alloc: Global, end: &End, system_port: Slot) -> Result<String, AllocError> {
+    fn mapping(&self, alloc: Global, end: &End, system_port: Slot) -> Result<String, AllocError> {
         let links = self.going.links.get();
         if self.has_ended(&end.component) {
             return self.component_is(alloc, &end.component, " has ended");
@@ -255,7 +255,7 @@ impl<'a> Scene<'a> {
     }
 
     /// Why what the component asks for is a dynamic error: empty where that isn't found.
-    pub fn refusal(self, alloc: Global, request: &Request) -> Result<String, AllocError> {
+    pub fn refusal(&self, alloc: Global, request: &Request) -> Result<String, AllocError> {
         match request {
             Request::Sends(port, to, _) => self.sending(alloc, *port, to.as_ref()),
             Request::Starts(path, _) => self.starting(alloc, path),

@@ -48,7 +48,7 @@ impl<'a> Scene<'a> {
     }
 
     /// Whether the behaviour at a position says on what it runs, and so sees the names of the component.
-    fn sees_members(self, behaviour: usize) -> bool {
+    fn sees_members(&self, behaviour: usize) -> bool {
         let name = match self.defined.kind(behaviour) {
             Some(DefinitionKind::Testcase(testcase)) => Some(&testcase.runs_on),
             kind => runs_on_of(kind),
@@ -63,7 +63,7 @@ impl<'a> Scene<'a> {
     }
 
     /// Where the component stands whose last frame is at a statement.
-    pub(crate) fn last_place(self, statement: Span) -> Place<'a> {
+    pub(crate) fn last_place(&self, statement: Span) -> Place<'a> {
         let behaviour = self.names.definition_at(statement).unwrap_or(0);
         match self.component.own.get().calls.as_slice().first() {
             Some(frame) => Place {
@@ -80,7 +80,7 @@ impl<'a> Scene<'a> {
     }
 
     /// What expressions read in a behaviour.
-    pub(crate) fn sight(self, place: Place<'a>) -> Sight<'a> {
+    pub(crate) fn sight(&self, place: Place<'a>) -> Sight<'a> {
         let members = &self.component.own.get().members;
         let seen = self.sees_members(place.behaviour);
         let frame = Frame {
@@ -101,7 +101,7 @@ impl<'a> Scene<'a> {
     }
 
     /// The messages that wait at the port of a name, where the component has it.
-    pub(crate) fn queue(self, name: &Name) -> Option<&'a Queue> {
+    pub(crate) fn queue(&self, name: &Name) -> Option<&'a Queue> {
         let slot = self.names.slot_of(name)?;
         self.component
             .queues
@@ -112,7 +112,7 @@ impl<'a> Scene<'a> {
     }
 
     /// The component with a path.
-    pub(crate) fn other(self, path: &Path) -> Option<&'a Component> {
+    pub(crate) fn other(&self, path: &Path) -> Option<&'a Component> {
         self.going
             .components
             .as_slice()
@@ -121,7 +121,7 @@ impl<'a> Scene<'a> {
     }
 
     /// How far the component with a path has come.
-    pub(crate) fn state(self, path: &Path) -> Option<State> {
+    pub(crate) fn state(&self, path: &Path) -> Option<State> {
         match self.other(path) {
             Some(component) => Some(component.state),
             None => None,

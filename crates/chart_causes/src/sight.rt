@@ -22,17 +22,17 @@ pub(crate) fn not_found(alloc: Global) -> Result<Option<String>, AllocError> {
 
 impl<'a> Sight<'a> {
     /// The value of an expression, where it is no dynamic error.
-    pub(crate) fn value(self, alloc: Global, expr: &Expr) -> Result<Option<Value>, AllocError> {
+    pub(crate) fn value(&self, alloc: Global, expr: &Expr) -> Result<Option<Value>, AllocError> {
         given(eval(alloc, expr, &self.frame))
     }
 
     /// Whether an expression is a dynamic error.
-    pub(crate) fn fails(self, alloc: Global, expr: &Expr) -> Result<bool, AllocError> {
+    pub(crate) fn fails(&self, alloc: Global, expr: &Expr) -> Result<bool, AllocError> {
         fails(eval(alloc, expr, &self.frame))
     }
 
     /// A record that lacks a value, where one is wanted that lacks none: `{1, -} has no value in its field content`.
-    pub(crate) fn lacking(self, alloc: Global, value: &Value) -> Result<String, AllocError> {
+    pub(crate) fn lacking(&self, alloc: Global, value: &Value) -> Result<String, AllocError> {
         let mut text = String::new(alloc);
         self.names.write_value(&mut text, value)?;
         write!(text, " has no value in its field ")?;

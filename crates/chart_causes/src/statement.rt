@@ -34,7 +34,7 @@ fn alone(causes: Vec<String>) -> Option<String> {
 
 impl<'a> Sight<'a> {
     /// Why what stands on the right of `:=` is a dynamic error.
-    fn right(self, alloc: Global, right: &Rhs) -> Result<Option<String>, AllocError> {
+    fn right(&self, alloc: Global, right: &Rhs) -> Result<Option<String>, AllocError> {
         match right {
             Rhs::Value(value) => self.written(alloc, value),
             Rhs::Call(call) | Rhs::Activate(call) => self.arguments(alloc, call),
@@ -43,13 +43,13 @@ impl<'a> Sight<'a> {
     }
 
     /// Why the arguments of a call are a dynamic error.
-    fn arguments(self, alloc: Global, call: &Call) -> Result<Option<String>, AllocError> {
+    fn arguments(&self, alloc: Global, call: &Call) -> Result<Option<String>, AllocError> {
         self.values(alloc, call.arguments.as_slice())
     }
 
     /// Why an assignment is a dynamic error.
     fn assignment(
-        self,
+        &self,
         alloc: Global,
         assignment: &Assignment,
     ) -> Result<Option<String>, AllocError> {
@@ -58,7 +58,7 @@ impl<'a> Sight<'a> {
 
     /// Why variables are a dynamic error, each that is one.
     fn push_variables(
-        self,
+        &self,
         alloc: Global,
         variables: &[Variable],
         causes: &mut Vec<String>,
@@ -75,7 +75,7 @@ impl<'a> Sight<'a> {
 
     /// Why one of variables is a dynamic error, where no other is by another cause: which of them is declared now isn't known.
     fn variables(
-        self,
+        &self,
         alloc: Global,
         variables: &[Variable],
     ) -> Result<Option<String>, AllocError> {
@@ -86,7 +86,7 @@ impl<'a> Sight<'a> {
 
     /// Why the first of constants is a dynamic error that is one: those before it keep their values.
     fn constants(
-        self,
+        &self,
         alloc: Global,
         constants: &[Constant],
     ) -> Result<Option<String>, AllocError> {
@@ -100,7 +100,7 @@ impl<'a> Sight<'a> {
 
     /// Why one of conditions is a dynamic error, where no other is by another cause: which of them is tested now isn't known.
     fn conditions(
-        self,
+        &self,
         alloc: Global,
         conditionals: &[Conditional],
     ) -> Result<Option<String>, AllocError> {
@@ -115,7 +115,7 @@ impl<'a> Sight<'a> {
 
     /// Why a part of a `for` is a dynamic error, where no other is by another cause: which of them is done now isn't known.
     fn head(
-        self,
+        &self,
         alloc: Global,
         start: &ForStart,
         condition: &Expr,
@@ -143,7 +143,7 @@ impl<'a> Sight<'a> {
 
     /// Why it is a dynamic error to stop what a reference means, a timer or a component.
     fn stopping(
-        self,
+        &self,
         alloc: Global,
         component: &ComponentRef,
     ) -> Result<Option<String>, AllocError> {
@@ -155,7 +155,7 @@ impl<'a> Sight<'a> {
 
     /// Why a component can't be started where it is asked for: it is none, or its function's arguments.
     fn starting(
-        self,
+        &self,
         alloc: Global,
         component: &ComponentRef,
         call: &Call,
@@ -168,7 +168,7 @@ impl<'a> Sight<'a> {
 
     /// Why a message can't be sent where it is asked for: its template, the component that it is meant for, or that it isn't
     /// one value.
-    fn sending(self, alloc: Global, send: &Send) -> Result<Option<String>, AllocError> {
+    fn sending(&self, alloc: Global, send: &Send) -> Result<Option<String>, AllocError> {
         if let Some(cause) = self.template(alloc, send.message.template.get())? {
             return Ok(Some(cause));
         }
@@ -183,7 +183,7 @@ impl<'a> Sight<'a> {
 
     /// Why a reference to a default is a dynamic error.
     fn default(
-        self,
+        &self,
         alloc: Global,
         reference: &Option<Reference>,
     ) -> Result<Option<String>, AllocError> {
@@ -197,7 +197,7 @@ impl<'a> Sight<'a> {
 impl<'a> Scene<'a> {
     /// Why a port of a component isn't there: `mtc.1 has no port net`.
     fn without_port(
-        self,
+        &self,
         alloc: Global,
         component: &ComponentId,
         port: &Name,
@@ -218,7 +218,7 @@ impl<'a> Scene<'a> {
 
     /// Why two ports of components that are there can't be connected: one isn't there, they are one, or by their types.
     fn unsuited(
-        self,
+        &self,
         alloc: Global,
         one: &ComponentId,
         port: &Name,
@@ -241,7 +241,7 @@ impl<'a> Scene<'a> {
 
     /// Why two ports can't be connected where it is asked for.
     fn connection(
-        self,
+        &self,
         alloc: Global,
         sight: Sight<'_>,
         one: &PortRef,
@@ -265,7 +265,7 @@ impl<'a> Scene<'a> {
 
     /// Why a port can't be mapped where it is asked for.
     fn mapped(
-        self,
+        &self,
         alloc: Global,
         sight: Sight<'_>,
         mapping: &Mapping,
@@ -287,7 +287,7 @@ impl<'a> Scene<'a> {
 
     /// The branch that is a dynamic error, and why, where one is.
     fn failed_branch(
-        self,
+        &self,
         alloc: Global,
         statement: &Statement,
     ) -> Result<Option<Cause>, AllocError> {
@@ -307,7 +307,7 @@ impl<'a> Scene<'a> {
 
     /// Why a part of a statement is a dynamic error.
     fn action(
-        self,
+        &self,
         alloc: Global,
         sight: Sight<'_>,
         statement: &Statement,
@@ -335,7 +335,7 @@ impl<'a> Scene<'a> {
     }
 
     /// Why it is a dynamic error that the component does what a statement says at which it stands.
-    pub fn cause(self, alloc: Global, statement: &Statement) -> Result<Cause, AllocError> {
+    pub fn cause(&self, alloc: Global, statement: &Statement) -> Result<Cause, AllocError> {
         if let Some(cause) = self.failed_branch(alloc, statement)? {
             return Ok(cause);
         }

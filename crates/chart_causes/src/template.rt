@@ -14,7 +14,7 @@ use value_types::{Pattern, Template};
 impl<'a> Names<'a> {
     /// Writes an end of a range.
     fn write_bound(
-        self,
+        &self,
         out: &mut String,
         bound: Option<i64>,
         otherwise: &str,
@@ -28,7 +28,7 @@ impl<'a> Names<'a> {
     /// Writes templates between two brackets.
     #[cycle(patterns)]
     fn write_parts(
-        self,
+        &self,
         out: &mut String,
         open: &str,
         parts: &[Template],
@@ -46,7 +46,7 @@ impl<'a> Names<'a> {
 
     /// Writes a template as it is written in a module.
     #[cycle(patterns)]
-    pub fn write_template(self, out: &mut String, template: &Template) -> Result<(), AllocError> {
+    pub fn write_template(&self, out: &mut String, template: &Template) -> Result<(), AllocError> {
         match &template.pattern {
             Pattern::Value(value) => self.write_value(out, value)?,
             Pattern::Any => out.push_str("?")?,
@@ -88,7 +88,7 @@ fn bare_name(expr: &Expr) -> Option<&Name> {
 
 impl<'a> Sight<'a> {
     /// The position of the template of a name.
-    pub(crate) fn template_of(self, name: &Name) -> Option<usize> {
+    pub(crate) fn template_of(&self, name: &Name) -> Option<usize> {
         match self.frame.definitions.meaning(name.as_bytes()) {
             Some(Meaning::Template(at)) => Some(at),
             _ => None,
@@ -96,13 +96,13 @@ impl<'a> Sight<'a> {
     }
 
     /// The position of the template that an expression names, where it names one.
-    pub(crate) fn template_named(self, expr: &Expr) -> Option<usize> {
+    pub(crate) fn template_named(&self, expr: &Expr) -> Option<usize> {
         self.template_of(bare_name(expr)?)
     }
 
     /// Why a template is a dynamic error that another one of the module stands for, and whose arguments have values.
     fn called(
-        self,
+        &self,
         alloc: Global,
         template: &Written,
         name: &Name,
@@ -118,7 +118,7 @@ impl<'a> Sight<'a> {
 
     /// Why the call of a template is a dynamic error.
     fn call_of_template(
-        self,
+        &self,
         alloc: Global,
         template: &Written,
         call: &Call,
@@ -131,7 +131,7 @@ impl<'a> Sight<'a> {
 
     /// Why an expression, or the name of a template, is a dynamic error.
     fn pattern(
-        self,
+        &self,
         alloc: Global,
         template: &Written,
         expr: &Expr,
@@ -157,7 +157,7 @@ impl<'a> Sight<'a> {
     }
 
     /// Why an end of a range is a dynamic error.
-    fn bound(self, alloc: Global, bound: &Bound) -> Result<Option<String>, AllocError> {
+    fn bound(&self, alloc: Global, bound: &Bound) -> Result<Option<String>, AllocError> {
         match bound {
             Bound::Expr(expr) => self.expression(alloc, expr),
             Bound::Infinity => Ok(None),
@@ -167,7 +167,7 @@ impl<'a> Sight<'a> {
     /// Why a template is a dynamic error.
     #[cycle(templates)]
     pub(crate) fn template(
-        self,
+        &self,
         alloc: Global,
         template: &Written,
     ) -> Result<Option<String>, AllocError> {
@@ -188,7 +188,7 @@ impl<'a> Sight<'a> {
 
     /// Why the first of templates is a dynamic error that is one.
     #[cycle(templates)]
-    fn templates(self, alloc: Global, parts: &[Written]) -> Result<Option<String>, AllocError> {
+    fn templates(&self, alloc: Global, parts: &[Written]) -> Result<Option<String>, AllocError> {
         for part in parts {
             if let Some(cause) = self.template(alloc, part)? {
                 return Ok(Some(cause));
@@ -200,7 +200,7 @@ impl<'a> Sight<'a> {
     /// Why the first of fields' templates is a dynamic error that is one.
     #[cycle(templates)]
     fn field_templates(
-        self,
+        &self,
         alloc: Global,
         parts: &[FieldTemplate],
     ) -> Result<Option<String>, AllocError> {

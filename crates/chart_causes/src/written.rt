@@ -7,7 +7,7 @@ impl<'a> Sight<'a> {
     /// Why a value is a dynamic error.
     #[cycle(written)]
     pub(crate) fn written(
-        self,
+        &self,
         alloc: Global,
         value: &Written,
     ) -> Result<Option<String>, AllocError> {
@@ -22,7 +22,7 @@ impl<'a> Sight<'a> {
     /// Why the first of values is a dynamic error that is one.
     #[cycle(written)]
     pub(crate) fn values(
-        self,
+        &self,
         alloc: Global,
         values: &[Written],
     ) -> Result<Option<String>, AllocError> {
@@ -37,7 +37,7 @@ impl<'a> Sight<'a> {
     /// Why the first of elements is a dynamic error that is one.
     #[cycle(written)]
     fn elements(
-        self,
+        &self,
         alloc: Global,
         elements: &[FieldValue],
     ) -> Result<Option<String>, AllocError> {
