@@ -2,7 +2,7 @@
 ghost use Rattle.std.specs.Prelude.{◌≡◌, ◌<◌, ◌^◌, ◌-◌};
 
 use explore::{NoGate, Plan};
-use std::alloc::AllocGlobal;
+use std::alloc::{AllocError, AllocGlobal};
 use std::io::{self, Error, ErrorKind, Read, Write};
 use std::test::Fail;
 use std::thread::Threads;
@@ -153,13 +153,29 @@ fn sound<T>(inner: T, step: usize) -> Counted<Faulty<T>>
     Counted::new(Faulty::new(inner, step, 0, Trouble::Fails))
 }
 
-/// Writes the report on a test case of the text that the reader gives, as text. No script is given.
+/// What is asked for beside the text.
+#[derive(Clone, Copy)]
+struct Order<'a> {
+    script: &'a str,
+    testcase: &'a str,
+    plan: Plan,
+    json: bool,
+}
+
+/// A report as text on the test case `T`, for which no messages come in.
+const PLAIN: Order<'static> = Order {
+    script: "{}",
+    testcase: "T",
+    plan: PLAN,
+    json: false,
+};
+
+/// Writes the report on a test case of the text that the reader gives.
 fn stream<R, D, E>(
     rt: &R,
     reader: &mut Counted<D>,
     writer: &mut Counted<E>,
-    testcase: &str,
-    plan: &Plan,
+    order: &Order<'_>,
 ) -> Result<(), StreamFault>
 where
     R: AllocGlobal + Threads + Sync,
@@ -173,119 +189,113 @@ where
         rt.alloc(),
         reader,
         writer,
-        b"{}",
-        testcase,
-        plan,
-        false,
+        order.script.as_bytes(),
+        order.testcase,
+        &order.plan,
+        order.json,
         &NoGate,
     )
 }
 
+/// Whether a text goes in and its report comes out, where devices without trouble move so many bytes a call.
+fn goes_through<R: AllocGlobal + Threads + Sync>(
+    rt: &R,
+    text: &str,
+    order: &Order<'_>,
+    step: usize,
+    want: &str,
+) -> bool {
+    let mut reader = sound(text.as_bytes(), step);
+    let mut writer = sound(Vec::new(rt.alloc()), step);
+    let done = stream(rt, &mut reader, &mut writer, order);
+    let is_done = done.is_ok() && reader.failed() == 0 && writer.failed() == 0;
+    let written = writer.into_inner().inner;
+    is_done && written.as_slice() == want.as_bytes()
+}
+
 #[test]
 fn reports_go_through(rt: HostRuntime) -> Result<(), Fail> {
-    let alloc = rt.alloc();
+    let json = Order {
+        json: true,
+        ..PLAIN
+    };
     for step in [1, 7, 1_000_000] {
-        for (json, want) in [(false, REPORT), (true, REPORT_IN_JSON)] {
-            let mut reader = sound(TEXT.as_bytes(), step);
-            let mut writer = sound(Vec::new(alloc), step);
-            let done = run_stream(
-                &rt,
-                alloc,
-                &mut reader,
-                &mut writer,
-                b"{}",
-                "T",
-                &PLAN,
-                json,
-                &NoGate,
-            );
-            assert!(rt;
-                done.is_ok() && reader.failed() == 0 && writer.failed() == 0,
-                "{step}"
-            );
-            let written = writer.into_inner().inner;
-            assert!(rt; written.as_slice() == want.as_bytes(), "{step}");
-        }
+        assert!(rt; goes_through(&rt, TEXT, &PLAIN, step, REPORT), "{step}");
+        assert!(rt;
+            goes_through(&rt, TEXT, &json, step, REPORT_IN_JSON),
+            "{step}"
+        );
     }
     Ok(())
 }
 
 #[test]
 fn messages_of_a_script_come_in(rt: HostRuntime) -> Result<(), Fail> {
-    let alloc = rt.alloc();
-    let script = "{\"p\":[{\"integer\":1},{\"integer\":2}]}";
-    let plan = Plan { steps: 9, ..PLAN };
-    let mut reader = sound(SYSTEM.as_bytes(), 30);
-    let mut writer = sound(Vec::new(alloc), 30);
-    let done = run_stream(
-        &rt,
-        alloc,
-        &mut reader,
-        &mut writer,
-        script.as_bytes(),
-        "T",
-        &plan,
-        false,
-        &NoGate,
-    );
-    assert!(rt; done.is_ok(), "{done:?}");
-    let written = writer.into_inner().inner;
-    assert!(rt;
-        written.as_slice() == REPORT_UNDER_A_SCRIPT.as_bytes(),
-        "the report"
-    );
+    let order = Order {
+        script: "{\"p\":[{\"integer\":1},{\"integer\":2}]}",
+        plan: Plan { steps: 9, ..PLAN },
+        ..PLAIN
+    };
+    assert!(rt; goes_through(&rt, SYSTEM, &order, 30, REPORT_UNDER_A_SCRIPT));
     Ok(())
 }
 
-/// A script is judged behind the test case's name.
-#[test]
-fn refused_scripts_write_nothing(rt: HostRuntime) -> Result<(), Fail> {
+/// Whether an order is refused with this line, and nothing is written.
+fn is_refused<R: AllocGlobal + Threads + Sync>(
+    rt: &R,
+    text: &str,
+    order: &Order<'_>,
+    want: &str,
+) -> Result<bool, AllocError> {
     let alloc = rt.alloc();
-    for (text, testcase, script, want) in [
-        (TEXT, "t", "{", "refused U1 NoSuchTestCase"),
-        (TEXT, "T", "{", "refused J1 BadJson"),
-        (TEXT, "T", "[]", "refused J2 NoSuchPort"),
-        (TEXT, "T", "{\"p\":[]}", "refused J2 NoSuchPort"),
-        (SYSTEM, "T", "{\"p\":[1]}", "refused J3 BadMessage"),
-    ] {
-        let mut reader = sound(text.as_bytes(), 30);
-        let mut writer = sound(Vec::new(alloc), 30);
-        let done = run_stream(
-            &rt,
-            alloc,
-            &mut reader,
-            &mut writer,
-            script.as_bytes(),
+    let mut reader = sound(text.as_bytes(), 30);
+    let mut writer = sound(Vec::new(alloc), 30);
+    let done = stream(rt, &mut reader, &mut writer, order);
+    let Err(StreamFault::Refused(fault)) = &done else {
+        return Ok(false);
+    };
+    let line = fault_line(alloc, fault)?;
+    Ok(line.as_str() == want && writer.into_inner().calls == 0)
+}
+
+/// Texts, test cases and scripts, and how they are refused: a script is judged behind the test case's name.
+const REFUSED: &[(&str, &str, &str, &str)] = &[
+    (TEXT, "t", "{}", "refused U1 NoSuchTestCase"),
+    (TEXT, "t", "{", "refused U1 NoSuchTestCase"),
+    (TEXT, "T", "{", "refused J1 BadJson"),
+    (TEXT, "T", "[]", "refused J2 NoSuchPort"),
+    (TEXT, "T", "{\"p\":[]}", "refused J2 NoSuchPort"),
+    (SYSTEM, "T", "{\"p\":[1]}", "refused J3 BadMessage"),
+];
+
+#[test]
+fn refusals_write_nothing(rt: HostRuntime) -> Result<(), Fail> {
+    for (text, testcase, script, want) in REFUSED {
+        let order = Order {
+            script,
             testcase,
-            &PLAN,
-            false,
-            &NoGate,
-        );
-        let line = match &done {
-            Err(StreamFault::Refused(fault)) => fault_line(alloc, fault)?,
-            _ => String::from_str(alloc, "no refusal")?,
+            ..PLAIN
         };
-        assert!(rt; line.as_str() == want, "{script}: {line}");
-        assert!(rt; writer.into_inner().calls == 0, "{script}");
+        assert!(rt; is_refused(&rt, text, &order, want)?, "{script}");
     }
     Ok(())
 }
 
+/// Whether trouble at a call of the reader ends a stream there, and nothing is written.
+fn ends_at_read<R: AllocGlobal + Threads + Sync>(rt: &R, trouble: Trouble, at: u64) -> bool {
+    let mut reader = Counted::new(Faulty::new(TEXT.as_bytes(), 30, at, trouble));
+    let mut writer = sound(Vec::new(rt.alloc()), 30);
+    let done = stream(rt, &mut reader, &mut writer, &PLAIN);
+    let is_read = matches!(done, Err(StreamFault::Read));
+    let are_counted = reader.failed() == 1 && writer.failed() == 0;
+    is_read && are_counted && reader.into_inner().calls == at && writer.into_inner().calls == 0
+}
+
 #[test]
 fn reads_that_fail_end_the_call(rt: HostRuntime) -> Result<(), Fail> {
-    let alloc = rt.alloc();
     for trouble in [Trouble::Fails, Trouble::IsInterrupted] {
         for at in 1..=4 {
-            let mut reader = Counted::new(Faulty::new(TEXT.as_bytes(), 30, at, trouble));
-            let mut writer = sound(Vec::new(alloc), 30);
-            let done = stream(&rt, &mut reader, &mut writer, "T", &PLAN);
-            assert!(rt; matches!(done, Err(StreamFault::Read)), "{trouble:?} {at}");
-            assert!(rt;
-                reader.failed() == 1 && writer.failed() == 0,
-                "{trouble:?} {at}"
-            );
-            assert!(rt; reader.into_inner().calls == at, "{trouble:?} {at}");
-            assert!(rt; writer.into_inner().calls == 0, "{trouble:?} {at}");
+            assert!(rt; ends_at_read(&rt, trouble, at), "{trouble:?} {at}");
         }
     }
     Ok(())
@@ -294,10 +304,9 @@ fn reads_that_fail_end_the_call(rt: HostRuntime) -> Result<(), Fail> {
 /// Nothing more is asked for behind a read that gave nothing, though the reader has more.
 #[test]
 fn a_read_of_nothing_is_the_end(rt: HostRuntime) -> Result<(), Fail> {
-    let alloc = rt.alloc();
     let mut reader = Counted::new(Faulty::new(TEXT.as_bytes(), 30, 3, Trouble::MovesNothing));
-    let mut writer = sound(Vec::new(alloc), 30);
-    let done = stream(&rt, &mut reader, &mut writer, "T", &PLAN);
+    let mut writer = sound(Vec::new(rt.alloc()), 30);
+    let done = stream(&rt, &mut reader, &mut writer, &PLAIN);
     let is_refused = matches!(
         done,
         Err(StreamFault::Refused(Fault::Refused(Refusal::Unexpected, _)))
@@ -311,29 +320,28 @@ fn a_read_of_nothing_is_the_end(rt: HostRuntime) -> Result<(), Fail> {
     Ok(())
 }
 
+/// Whether trouble at a call of the writer, which takes a byte a call, ends a stream there, with a beginning of the report.
+fn ends_at_write<R: AllocGlobal + Threads + Sync>(rt: &R, trouble: Trouble, before: usize) -> bool {
+    let at = (before as u64).saturating_add(1);
+    let mut reader = sound(TEXT.as_bytes(), 30);
+    let mut writer = Counted::new(Faulty::new(Vec::new(rt.alloc()), 1, at, trouble));
+    let done = stream(rt, &mut reader, &mut writer, &PLAIN);
+    let is_write = matches!(done, Err(StreamFault::Write));
+    let are_counted = reader.failed() == 0 && writer.failed() == 1;
+    let writer = writer.into_inner();
+    let is_beginning = REPORT.as_bytes().get(..before) == Some(writer.inner.as_slice());
+    is_write && are_counted && writer.calls == at && is_beginning
+}
+
 #[test]
 fn writes_that_fail_leave_a_beginning(rt: HostRuntime) -> Result<(), Fail> {
-    let alloc = rt.alloc();
-    let report = REPORT.as_bytes();
     for trouble in [
         Trouble::Fails,
         Trouble::IsInterrupted,
         Trouble::MovesNothing,
     ] {
-        for (before, _byte) in report.iter().enumerate() {
-            let at = (before as u64).saturating_add(1);
-            let mut reader = sound(TEXT.as_bytes(), 30);
-            let mut writer = Counted::new(Faulty::new(Vec::new(alloc), 1, at, trouble));
-            let done = stream(&rt, &mut reader, &mut writer, "T", &PLAN);
-            assert!(rt; matches!(done, Err(StreamFault::Write)), "{trouble:?} {at}");
-            assert!(rt;
-                reader.failed() == 0 && writer.failed() == 1,
-                "{trouble:?} {at}"
-            );
-            let writer = writer.into_inner();
-            assert!(rt; writer.calls == at, "{trouble:?} {at}");
-            let is_beginning = report.get(..before) == Some(writer.inner.as_slice());
-            assert!(rt; is_beginning, "{trouble:?} {at}");
+        for before in 0..REPORT.len() {
+            assert!(rt; ends_at_write(&rt, trouble, before), "{trouble:?} {before}");
         }
     }
     Ok(())
@@ -358,7 +366,7 @@ fn a_failed_flush_is_a_failed_write(rt: HostRuntime) -> Result<(), Fail> {
     let alloc = rt.alloc();
     let mut reader = sound(TEXT.as_bytes(), 30);
     let mut writer = Counted::new(Unflushed(Vec::new(alloc)));
-    let done = stream(&rt, &mut reader, &mut writer, "T", &PLAN);
+    let done = stream(&rt, &mut reader, &mut writer, &PLAIN);
     assert!(rt;
         matches!(done, Err(StreamFault::Write)) && writer.failed() == 1,
         "the flush"
@@ -375,7 +383,7 @@ fn no_more_is_read_than_is_needed(rt: HostRuntime) -> Result<(), Fail> {
     let alloc = rt.alloc();
     let mut reader = sound(io::repeat(b'('), 1_000_000);
     let mut writer = sound(Vec::new(alloc), 1);
-    let done = stream(&rt, &mut reader, &mut writer, "T", &PLAN);
+    let done = stream(&rt, &mut reader, &mut writer, &PLAIN);
     let is_refused = matches!(
         done,
         Err(StreamFault::Refused(Fault::Refused(Refusal::TextTooLong, _)))
@@ -390,28 +398,19 @@ fn no_more_is_read_than_is_needed(rt: HostRuntime) -> Result<(), Fail> {
 }
 
 #[test]
-fn refusals_write_nothing(rt: HostRuntime) -> Result<(), Fail> {
-    let alloc = rt.alloc();
-    let beyond = Plan { limit: 0, ..PLAN };
+fn plans_are_judged_before_the_first_read(rt: HostRuntime) -> Result<(), Fail> {
+    let order = Order {
+        plan: Plan { limit: 0, ..PLAN },
+        ..PLAIN
+    };
     let mut reader = sound(TEXT.as_bytes(), 30);
-    let mut writer = sound(Vec::new(alloc), 30);
-    let done = stream(&rt, &mut reader, &mut writer, "T", &beyond);
+    let mut writer = sound(Vec::new(rt.alloc()), 30);
+    let done = stream(&rt, &mut reader, &mut writer, &order);
     assert!(rt;
         matches!(done, Err(StreamFault::Refused(Fault::BadPlan))),
         "the plan"
     );
-    assert!(rt;
-        reader.into_inner().calls == 0,
-        "the plan is judged before the first read"
-    );
-    assert!(rt; writer.into_inner().calls == 0, "nothing is written");
-    let mut reader = sound(TEXT.as_bytes(), 30);
-    let mut writer = sound(Vec::new(alloc), 30);
-    let done = stream(&rt, &mut reader, &mut writer, "t", &PLAN);
-    assert!(rt;
-        matches!(done, Err(StreamFault::Refused(Fault::NoSuchTestCase))),
-        "the name"
-    );
+    assert!(rt; reader.into_inner().calls == 0, "nothing is read");
     assert!(rt; writer.into_inner().calls == 0, "nothing is written");
     Ok(())
 }

@@ -137,21 +137,49 @@ fn equal_ones(rt: HostRuntime) -> Result<(), Fail> {
     Ok(())
 }
 
+/// The bytes of a large configuration, which an interner keeps.
+fn interned<'p>(
+    alloc: Global,
+    interner: &'p Interner,
+    verdict: Verdict,
+) -> Result<InternedConfig<'p>, AllocError> {
+    InternedConfig::new(alloc, interner, &large(alloc, verdict)?)
+}
+
+/// Whether equal configurations of two interners are equal, and hashed alike, and others aren't equal.
+fn are_told_apart(
+    alloc: Global,
+    interner: &Interner,
+    elsewhere: &Interner,
+) -> Result<bool, AllocError> {
+    let one = interned(alloc, interner, Verdict::None)?;
+    let again = interned(alloc, interner, Verdict::None)?;
+    let there = interned(alloc, elsewhere, Verdict::None)?;
+    let other = interned(alloc, interner, Verdict::Fail)?;
+    let are_equal = one == again && one == there;
+    let are_alike = one.hash() == again.hash() && one.hash() == there.hash();
+    Ok(are_equal && are_alike && one != other)
+}
+
 #[test]
-fn equal_ones_of_an_interner(rt: HostRuntime) -> Result<(), Fail> {
+fn equal_ones_of_interners(rt: HostRuntime) -> Result<(), Fail> {
     let alloc = rt.alloc();
     let interner = Interner::new(alloc);
     let elsewhere = Interner::new(alloc);
-    let one = InternedConfig::new(alloc, &interner, &large(alloc, Verdict::None)?)?;
-    let again = InternedConfig::new(alloc, &interner, &large(alloc, Verdict::None)?)?;
-    let there = InternedConfig::new(alloc, &elsewhere, &large(alloc, Verdict::None)?)?;
-    let other = InternedConfig::new(alloc, &interner, &large(alloc, Verdict::Fail)?)?;
-    assert!(rt; one == again);
-    assert!(rt; one == there);
-    assert!(rt; unpack(alloc, &one.to_packed(alloc)?)? == one.config(alloc)?);
-    assert!(rt; one != other);
-    assert_eq!(rt; one.hash(), again.hash());
-    assert_eq!(rt; one.hash(), there.hash());
-    assert_eq!(rt; one.verdict(), None);
+    assert!(rt; are_told_apart(alloc, &interner, &elsewhere)?);
+    Ok(())
+}
+
+/// Whether a configuration that is interned is the same where it is packed, and has not ended.
+fn is_packed_again(alloc: Global, interner: &Interner) -> Result<bool, AllocError> {
+    let one = interned(alloc, interner, Verdict::None)?;
+    let packed = one.to_packed(alloc)?;
+    Ok(unpack(alloc, &packed)? == one.config(alloc)? && one.verdict().is_none())
+}
+
+#[test]
+fn interned_ones_are_packed(rt: HostRuntime) -> Result<(), Fail> {
+    let interner = Interner::new(rt.alloc());
+    assert!(rt; is_packed_again(rt.alloc(), &interner)?);
     Ok(())
 }
