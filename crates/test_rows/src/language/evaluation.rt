@@ -26,27 +26,29 @@ pub fn answer_of_module(
         itself: &itself,
         mtc: &mtc,
     };
+    answer_in(alloc, definitions, &frame)
+}
+
+/// The same, where expressions read a frame.
+fn answer_in(
+    alloc: Global,
+    definitions: &Definitions<'_>,
+    frame: &Frame<'_>,
+) -> Result<String, AllocError> {
     let template = match definitions.meaning(b"T") {
         Some(Meaning::Template(at)) => Some(at),
         _ => None,
     };
     match (subject(definitions), template) {
         (Some((written, wanted)), Some(at)) => {
-            matched(
-                alloc,
-                &frame,
-                at,
-                eval_value(alloc, written, wanted, &frame),
-            )
+            let value = eval_value(alloc, written, wanted, frame);
+            matched(alloc, frame, at, value)
         }
         (Some((written, wanted)), None) => {
-            given(
-                alloc,
-                definitions,
-                eval_value(alloc, written, wanted, &frame),
-            )
+            let value = eval_value(alloc, written, wanted, frame);
+            given(alloc, definitions, value)
         }
-        (None, Some(at)) => specific(alloc, &frame, at),
+        (None, Some(at)) => specific(alloc, frame, at),
         (None, None) => String::from_str(alloc, "no A"),
     }
 }

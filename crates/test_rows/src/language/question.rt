@@ -100,30 +100,55 @@ fn entries_of(
     statements: &[Statement],
     names: &mut Vec<Name>,
 ) -> Result<Cells, AllocError> {
-    let mut values = Vec::new(alloc);
-    let mut timers = Vec::new(alloc);
-    values.push((NAMELESS, Value::Null))?;
-    timers.push((NAMELESS, TimerState::Running))?;
+    let mut cells = Cells {
+        values: Vec::new(alloc),
+        timers: Vec::new(alloc),
+    };
+    cells.values.push((NAMELESS, Value::Null))?;
+    cells.timers.push((NAMELESS, TimerState::Running))?;
     for statement in statements {
-        match &statement.action {
+        cells.add(alloc, bare, &statement.action, names)?;
+    }
+    Ok(cells)
+}
+
+impl Cells {
+    /// Adds what an action says of names.
+    fn add(
+        &mut self,
+        alloc: Global,
+        bare: &Frame<'_>,
+        action: &Action,
+        names: &mut Vec<Name>,
+    ) -> Result<(), AllocError> {
+        match action {
             Action::Variables(variables) => {
-                declare(alloc, bare, variables, names, &mut values)?;
+                declare(alloc, bare, variables, names, &mut self.values)
             }
             Action::Timers(declared) => {
                 for timer in declared.as_slice() {
-                    timers.push((slot_of(alloc, names, &timer.name)?, TimerState::Inactive))?;
+                    self.add_timer(alloc, &timer.name, TimerState::Inactive, names)?;
                 }
+                Ok(())
             }
-            Action::StartTimer(name) => {
-                timers.push((slot_of(alloc, names, name)?, TimerState::Running))?;
-            }
+            Action::StartTimer(name) => self.add_timer(alloc, name, TimerState::Running, names),
             Action::Event(Event::Timeout(name)) => {
-                timers.push((slot_of(alloc, names, name)?, TimerState::Expired))?;
+                self.add_timer(alloc, name, TimerState::Expired, names)
             }
-            _ => {}
+            _ => Ok(()),
         }
     }
-    Ok(Cells { values, timers })
+
+    fn add_timer(
+        &mut self,
+        alloc: Global,
+        name: &Name,
+        state: TimerState,
+        names: &mut Vec<Name>,
+    ) -> Result<(), AllocError> {
+        self.timers.push((slot_of(alloc, names, name)?, state))?;
+        Ok(())
+    }
 }
 
 /// The slot of a name.

@@ -1,7 +1,7 @@
 //! What a machine says behind one run: the enabled labels, where components stand, and canonical forms.
 use report::{LabelText, PathText, PlaceText, read_run};
 use std::alloc::{AllocError, Global};
-use step_labels::Label;
+use step_labels::{Label, Standing};
 use ttcn_config::{Config, canon, pack, unpack};
 use ttcn_step::Machine;
 
@@ -79,16 +79,36 @@ pub fn seen_behind(
         return String::from_str(alloc, "no run");
     };
     let mut seen = String::new(alloc);
-    for label in machine.labels(alloc, &config)? {
-        push_line(alloc, &mut seen, LabelText(&label).to_string(alloc)?)?;
+    push_labels(alloc, &mut seen, machine.labels(alloc, &config)?.as_slice())?;
+    push_standings(
+        alloc,
+        &mut seen,
+        machine.standings(alloc, &config)?.as_slice(),
+    )?;
+    Ok(seen)
+}
+
+/// A line for each label.
+fn push_labels(alloc: Global, lines: &mut String, labels: &[Label]) -> Result<(), AllocError> {
+    for label in labels {
+        push_line(alloc, lines, LabelText(label).to_string(alloc)?)?;
     }
-    for standing in machine.standings(alloc, &config)? {
+    Ok(())
+}
+
+/// A line for each component that runs, with the place where it stands.
+fn push_standings(
+    alloc: Global,
+    lines: &mut String,
+    standings: &[Standing],
+) -> Result<(), AllocError> {
+    for standing in standings {
         let component = PathText(standing.component.numbers.as_slice());
         let place = PlaceText(standing.place);
         let line = format!(in alloc; "{component} at {place}")?;
-        push_line(alloc, &mut seen, line)?;
+        push_line(alloc, lines, line)?;
     }
-    Ok(seen)
+    Ok(())
 }
 
 /// A line comes behind those that stand there.

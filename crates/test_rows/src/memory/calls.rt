@@ -1,4 +1,6 @@
 //! The calls that ask for memory, with what they are asked.
+ghost use Rattle.std.specs.Thread.{IsSync};
+
 use super::given::Given;
 use super::texts::{
     FINE_RUN_OF_RACE, MAPPED, ONE, RACE, REPORT_ON_MAPPED, REPORT_ON_ONE, REPORT_ON_RACE,
@@ -71,7 +73,7 @@ pub enum Call {
 }
 
 /// All of them, with their names.
-pub const CALLS: [(&str, Call); 31] = [
+pub const CALLS: &[(&str, Call)] = &[
     ("run_text of one component, 1 worker", Call::RunOne(1)),
     ("run_text of one component, 4 workers", Call::RunOne(4)),
     ("run_text of the race, 1 worker", Call::RunRace(1)),
@@ -235,20 +237,34 @@ impl From<CoarsenError> for Refusal {
     }
 }
 
-impl Call {
-    /// What the call gives.
-    pub fn make<R: Threads + Sync>(
-        self,
+/// Makes calls.
+pub trait Maker {
+    /// What calls give.
+    type Given: Drop;
+
+    /// What a call gives.
+    fn make<R: Threads + Sync>(
+        &self,
         rt: &R,
         alloc: Global,
-        subjects: &Subjects<'_, '_>,
-    ) -> Result<Given, Refusal> {
-        match self {
+        call: Call,
+    ) -> Result<Self::Given, Refusal>
+        requires sync { IsSync R.row };
+
+    /// The bytes that tell it from other things that the same call may give.
+    fn into_bytes(alloc: Global, given: Self::Given) -> Result<Vec<u8>, AllocError>;
+}
+
+impl Maker for Subjects<'_, '_> {
+    type Given = Given;
+
+    fn make<R: Threads + Sync>(&self, rt: &R, alloc: Global, call: Call) -> Result<Given, Refusal> {
+        match call {
             Call::RunOne(_) | Call::RunRace(_) | Call::RunScript(_) | Call::RunStream => {
-                self.make_run(rt, alloc)
+                call.make_run(rt, alloc)
             }
             Call::Lex | Call::Parse | Call::Check | Call::ReadScript | Call::NewMachine => {
-                self.make_nothing(alloc, subjects)
+                call.make_nothing(alloc, self)
             }
             Call::CheckText
             | Call::ReplayText
@@ -257,14 +273,20 @@ impl Call {
             | Call::ReadRun
             | Call::ReadFine
             | Call::ReadLine
-            | Call::FaultLine => self.make_of_texts(alloc),
+            | Call::FaultLine => call.make_of_texts(alloc),
             Call::Canon | Call::Pack | Call::Unpack | Call::ToText | Call::ToJson => {
-                self.make_of_parts(alloc, subjects)
+                call.make_of_parts(alloc, self)
             }
-            _ => self.make_of_machine(alloc, subjects),
+            _ => call.make_of_machine(alloc, self),
         }
     }
 
+    fn into_bytes(alloc: Global, given: Given) -> Result<Vec<u8>, AllocError> {
+        given.into_bytes(alloc)
+    }
+}
+
+impl Call {
     /// What an exploration gives.
     fn make_run<R: Threads + Sync>(self, rt: &R, alloc: Global) -> Result<Given, Refusal> {
         let race = RACE.as_bytes();
@@ -338,18 +360,15 @@ impl Call {
     /// What a call of the machine gives.
     fn make_of_machine(self, alloc: Global, subjects: &Subjects<'_, '_>) -> Result<Given, Refusal> {
         let machine = subjects.machine;
-        Ok(match self {
-            Call::Start => Given::Config(machine.start(alloc)?),
-            Call::Labels => {
-                let start = machine.start(alloc)?;
-                Given::Run(machine.labels(alloc, &start)?)
-            }
-            Call::Next => Given::Config(second(alloc, machine)?),
-            Call::Replay => Given::Config(machine.replay(alloc, subjects.run)?),
-            Call::Coarsen => Given::Run(machine.coarsen(alloc, subjects.fine_run)?),
-            Call::Double => Given::FineRun(machine.double(alloc, subjects.run)?),
-            _ => return Err(Refusal::Other),
-        })
+        match self {
+            Call::Start => Ok(Given::Config(machine.start(alloc)?)),
+            Call::Labels => first_labels(alloc, machine),
+            Call::Next => Ok(Given::Config(second(alloc, machine)?)),
+            Call::Replay => Ok(Given::Config(machine.replay(alloc, subjects.run)?)),
+            Call::Coarsen => Ok(Given::Run(machine.coarsen(alloc, subjects.fine_run)?)),
+            Call::Double => Ok(Given::FineRun(machine.double(alloc, subjects.run)?)),
+            _ => Err(Refusal::Other),
+        }
     }
 
     /// What a call on a configuration or a report gives.
@@ -387,6 +406,12 @@ fn plan(steps: u64, workers: u64) -> Plan {
         workers,
         piece: 1,
     }
+}
+
+/// The labels of the start.
+fn first_labels(alloc: Global, machine: &Machine<'_>) -> Result<Given, Refusal> {
+    let start = machine.start(alloc)?;
+    Ok(Given::Run(machine.labels(alloc, &start)?))
 }
 
 /// The configuration behind the first label.

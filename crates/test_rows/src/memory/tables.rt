@@ -57,34 +57,51 @@ pub fn finish_table<R: Files>(rt: &R, alloc: Global, order: &Order) -> Result<En
     })
 }
 
-/// A table and a board are made with ample memory. Then each request is refused, and the calls that ask for none are made:
-/// whether they say what they should, and a request in between was refused if any can be.
-pub fn calls_without_memory<R: Files>(
+/// Whether requests for memory are refused, as they should be where any can be.
+fn are_refused(alloc: Global, can_refuse: bool) -> bool {
+    Vec::<u8>::with_capacity(alloc, 1).is_err() == can_refuse
+}
+
+/// A table is made with ample memory. Then each request is refused, and the calls that ask for none are made: whether they say
+/// what they should, and a request behind them was refused if any can be.
+pub fn places_without_memory<R: Files>(
     rt: &R,
     alloc: Global,
     can_refuse: bool,
 ) -> Result<bool, AllocError> {
     let (seen, mut first) = Seen::new(alloc, ITEMS, 2)?;
-    let (board, mut seat) = Board::new(alloc, 1, 2)?;
     let order = Order::new(alloc, Refused::All)?;
     order.begin(rt);
     let Ok(mut second) = seen.split(&mut first) else {
         return Ok(false);
     };
+    let placed = [seen.place(&mut first, 3), seen.place(&mut second, 0)];
+    seen.join(&mut first, second);
+    let are_refused = are_refused(alloc, can_refuse);
+    end(rt);
+    let firsts = seen.finish(alloc, first)?;
+    Ok(placed == [3, 0] && are_refused && firsts.as_slice() == [0].as_slice())
+}
+
+/// The same with a board.
+pub fn draws_without_memory<R: Files>(
+    rt: &R,
+    alloc: Global,
+    can_refuse: bool,
+) -> Result<bool, AllocError> {
+    let (board, mut seat) = Board::new(alloc, 1, 2)?;
+    let order = Order::new(alloc, Refused::All)?;
+    order.begin(rt);
     let Ok(mut other) = board.split(&mut seat) else {
         return Ok(false);
     };
-    let placed = [seen.place(&mut first, 3), seen.place(&mut second, 0)];
-    seen.join(&mut first, second);
     let drawn = [board.draw(&mut other), board.draw(&mut seat)];
     board.raise(&mut other);
     let raised = board.raised(&mut seat);
     let ended = Board::ended(&seat);
     board.join(&mut seat, other);
     let was_raised = board.finish(seat);
-    let is_refused = Vec::<u8>::with_capacity(alloc, 1).is_err();
+    let are_refused = are_refused(alloc, can_refuse);
     end(rt);
-    let are_right = placed == [3, 0] && drawn == [Some(0), None] && raised && ended && was_raised;
-    let firsts = seen.finish(alloc, first)?;
-    Ok(are_right && is_refused == can_refuse && firsts.as_slice() == [0].as_slice())
+    Ok(drawn == [Some(0), None] && raised && ended && was_raised && are_refused)
 }

@@ -1,8 +1,9 @@
 //! Each call with each of its requests for memory refused.
-use super::calls::{CALLS, Call, Refusal, Subjects};
-use super::given::Given;
+use super::calls::{CALLS, Call, Maker, Refusal, Subjects};
 use super::refusals::{Answer, Ending, Order, Refused, can_refuse, end};
-use super::tables::{calls_without_memory, finish_table, new_board, new_table};
+use super::tables::{
+    draws_without_memory, finish_table, new_board, new_table, places_without_memory,
+};
 use super::texts::{FINE_RUN_OF_RACE, RACE, RUN_OF_RACE, SENT};
 use anyhow::{Result, bail};
 use explore::{NoGate, Plan};
@@ -30,7 +31,7 @@ enum Trial {
 }
 
 /// The trials of tables and boards, with their names.
-const TABLES: [(&str, Trial); 3] = [
+const TABLES: &[(&str, Trial)] = &[
     ("Seen::new", Trial::NewTable),
     ("Seen::finish", Trial::FinishTable),
     ("Board::new", Trial::NewBoard),
@@ -134,41 +135,42 @@ where
     try_with(rt, &subjects)
 }
 
-/// Tries all calls with what they are asked for.
-fn try_with<R>(rt: &R, subjects: &Subjects<'_, '_>) -> Result<Count>
+/// Tries all calls, those of a maker with what it has.
+fn try_with<R, M: Maker>(rt: &R, maker: &M) -> Result<Count>
 where
     R: Files + Print + AllocGlobal + Threads + Sync,
 {
     let mut all = Count::NONE;
     for (name, call) in CALLS {
-        all = all.plus(refuse_each(rt, name, Trial::Call(call), subjects)?);
+        all = all.plus(refuse_each(rt, name, Trial::Call(*call), maker)?);
     }
     for (name, trial) in TABLES {
-        all = all.plus(refuse_each(rt, name, trial, subjects)?);
+        all = all.plus(refuse_each(rt, name, *trial, maker)?);
     }
-    let is_right = calls_without_memory(rt, rt.alloc(), can_refuse(rt))?;
+    let places = places_without_memory(rt, rt.alloc(), can_refuse(rt))?;
+    let draws = draws_without_memory(rt, rt.alloc(), can_refuse(rt))?;
     Ok(all.plus(Count {
         refused: 0,
-        otherwise: !is_right as u64,
+        otherwise: !places as u64 + !draws as u64,
     }))
 }
 
 /// Refuses each request of a call in turn, until it ends without a refusal; after each refusal the call is made again, with
 /// ample memory.
-fn refuse_each<R>(rt: &R, name: &str, trial: Trial, subjects: &Subjects<'_, '_>) -> Result<Count>
+fn refuse_each<R, M: Maker>(rt: &R, name: &str, trial: Trial, maker: &M) -> Result<Count>
 where
     R: Files + Print + AllocGlobal + Threads + Sync,
 {
-    let ample = attempt(rt, trial, subjects, Refused::None)?;
+    let ample = attempt(rt, trial, maker, Refused::None)?;
     let mut count = Count::NONE.with_ample(ample);
     if can_refuse(rt) {
         for number in 1..REQUESTS {
-            let ending = attempt(rt, trial, subjects, Refused::One(number))?;
+            let ending = attempt(rt, trial, maker, Refused::One(number))?;
             count = count.with(ending);
             if !ending.was_refused {
                 break;
             }
-            count = count.with_ample(attempt(rt, trial, subjects, Refused::None)?);
+            count = count.with_ample(attempt(rt, trial, maker, Refused::None)?);
         }
     }
     let Count { refused, otherwise } = count;
@@ -177,10 +179,10 @@ where
 }
 
 /// Makes a call whose requests are refused so.
-fn attempt<R>(
+fn attempt<R, M: Maker>(
     rt: &R,
     trial: Trial,
-    subjects: &Subjects<'_, '_>,
+    maker: &M,
     refused: Refused,
 ) -> Result<Ending, AllocError>
 where
@@ -189,28 +191,28 @@ where
     let alloc = rt.alloc();
     let order = Order::new(alloc, refused)?;
     match trial {
-        Trial::Call(call) => attempt_call(rt, alloc, call, subjects, &order),
+        Trial::Call(call) => attempt_call(rt, alloc, call, maker, &order),
         Trial::NewTable => Ok(new_table(rt, alloc, &order)),
         Trial::FinishTable => finish_table(rt, alloc, &order),
         Trial::NewBoard => Ok(new_board(rt, alloc, &order)),
     }
 }
 
-fn attempt_call<R>(
+fn attempt_call<R, M: Maker>(
     rt: &R,
     alloc: Global,
     call: Call,
-    subjects: &Subjects<'_, '_>,
+    maker: &M,
     order: &Order,
 ) -> Result<Ending, AllocError>
 where
     R: Files + Threads + Sync,
 {
     order.begin(rt);
-    let made = call.make(rt, alloc, subjects);
+    let made = maker.make(rt, alloc, call);
     let was_refused = end(rt);
     let answer = match made {
-        Ok(given) => answer_by(is_right(rt, alloc, call, subjects, given)?),
+        Ok(given) => answer_by(is_right(rt, alloc, call, maker, given)?),
         Err(Refusal::Memory) => Answer::NoMemory,
         Err(Refusal::Other) => Answer::Other,
     };
@@ -229,19 +231,19 @@ fn answer_by(is_right: bool) -> Answer {
 }
 
 /// Whether a call gave the text of its row, or where no row has it, what it gives with ample memory.
-fn is_right<R: Threads + Sync>(
+fn is_right<R: Threads + Sync, M: Maker>(
     rt: &R,
     alloc: Global,
     call: Call,
-    subjects: &Subjects<'_, '_>,
-    given: Given,
+    maker: &M,
+    given: M::Given,
 ) -> Result<bool, AllocError> {
-    let bytes = given.into_bytes(alloc)?;
+    let bytes = M::into_bytes(alloc, given)?;
     if let Some(wanted) = call.wanted() {
         return Ok(bytes.as_slice() == wanted.as_bytes());
     }
-    match call.make(rt, alloc, subjects) {
-        Ok(again) => Ok(bytes.as_slice() == again.into_bytes(alloc)?.as_slice()),
+    match maker.make(rt, alloc, call) {
+        Ok(again) => Ok(bytes.as_slice() == M::into_bytes(alloc, again)?.as_slice()),
         Err(_) => Ok(false),
     }
 }
