@@ -139,6 +139,7 @@ impl Cells {
         }
     }
 
+    /// Adds an entry of a timer.
     fn add_timer(
         &mut self,
         alloc: Global,
