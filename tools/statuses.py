@@ -54,6 +54,11 @@ COUNTING = b"module L {\ntype component C {}\ntestcase T() runs on C {\nvar inte
 
 COUNTED = b"testcase T\nsteps 100000\nconfigurations 100001\ncomplete no\n"
 
+# a test case whose only run has as many steps as a run may have, and its report
+LAST = b'module L {\ntype component C {}\ntestcase T() runs on C {\nvar integer n := 0;\nwhile (n < 49998) { n := n + 1 }\nlog("x")\n}\n}\n'
+
+ENDED = b"testcase T\nsteps 100000\nconfigurations 100001\ncomplete yes\nverdict none 100000\n" + b"  mtc\n" * 100000
+
 # reports within a bound on a component that waits for a message or for a timer: its run without an expiry, and with one
 MESSAGE_RUN = b"verdict pass 9\n" + b"  mtc\n" * 4 + b"  mtc.1\n" + b"  mtc\n" * 4
 TIMEOUT_RUN = b"verdict inconc 8\n" + b"  mtc\n" * 4 + b"  mtc/0.t\n" + b"  mtc\n" * 3
@@ -168,6 +173,7 @@ def until_rows(folder):
         ([*run, "--steps", "9", "--first", "fail"], 0, "testcase T\nsteps 9\n"),
         ([*counting, "--until-complete", "--limit", "100"], 3, b"refused E1 TooMany\n"),
         ([*counting, "--until-complete"], 3, (COUNTED, b"stopped E3 NotComplete behind 100000 steps\n")),
+        (["run", file_in(folder, "last.ttcn", LAST), "--testcase", "T", "--until-complete"], 0, ENDED),
         ([*run[:3], "t", "--until-complete"], 1, b"refused U1 NoSuchTestCase\n"),
         (["run", f"{folder}/missing", *run[2:], "--until-complete"], 5, f"cannot read {folder}/missing\n".encode()),
     ]

@@ -5,11 +5,11 @@ ghost use Rattle.explore.specs.Best.{AreBest};
 ghost use Rattle.explore.specs.Endings.{AreTooMany, HasEnded};
 ghost use Rattle.search_layer.specs.Limits.{IsWithinLimits};
 ghost use Rattle.explore.specs.Sightings.{AreSighted, shown_at_end, shown_by_step};
-ghost use Rattle.explore.specs.internal.Stopped.{IsEnd, IsSearched};
+ghost use Rattle.explore.specs.internal.Stopped.{IsEnd, IsReason, IsSearched};
 ghost use Rattle.explore.specs.internal.Tied.{GoBack, IsKept, IsRunKept};
 
 use crate::ending::{Ending, Stops};
-use crate::layers::{Explored, search};
+use crate::layers::{Explored, is_marked, search};
 use crate::runs::{first_marked, is_quiet, run_to};
 use crate::sightings::{Sighting, noted_states, noted_steps, runs_by, runs_to};
 use crate::watched::Watched;
@@ -25,8 +25,8 @@ pub struct Answer<U, L> {
     pub summary: U,
     /// How many different states these runs end in.
     pub count: u64,
-    /// Whether no longer run ends in another state: no state that is first reached by the last step has an enabled
-    /// label.
+    /// Whether no state that is first reached by the last step has an enabled label. Then no longer run ends in another
+    /// state.
     pub complete: bool,
     /// For each of the eight marks the labels of the least of the shortest runs that end with it, if one does.
     pub best: Vec<Option<Vec<L>>>,
@@ -45,7 +45,7 @@ pub struct Reached<U, L> {
 /// Explores every run of at most the plan's steps.
 ///
 /// `BadPlan` is answered before any memory is asked for, `TooMany` where more states than the plan's limit are
-/// reached, and `Memory` only where a request for memory was refused.
+/// reached, and `Memory` only where a request for memory was refused or the system or a summary answers it.
 pub fn explore<Y: Sparing, U: Summary<Y>, G: Gate, R: Threads + Sync>(
     rt: &R,
     alloc: Global,
@@ -217,6 +217,7 @@ fn answer_of<Y: System, U: Summary<Y>, R: Threads + Sync>(
 {
     let states = &explored.visited.states;
     let complete = is_quiet(alloc, system, states, explored.from)?;
+    let ending = reason(system, stops, &explored, complete);
     let best = best_runs(alloc, system, &explored.visited)?;
     let count = states.len() as u64;
     explored.visited.drop_all(rt);
@@ -228,8 +229,28 @@ fn answer_of<Y: System, U: Summary<Y>, R: Threads + Sync>(
             complete,
             best,
         },
-        ending: explored.ending,
+        ending,
     })
+}
+
+/// Why a search went no further: of several reasons the one that is told. Whether its last layer is quiet is given.
+fn reason<Y: System, U>(
+    system: &Y,
+    stops: &Stops,
+    explored: &Explored<Y::State, Y::Label, U>,
+    quiet: bool,
+) -> Ending
+    requires { All (Y.fits system.now) explored.now.visited.states.keys }
+    ensures { IsReason (Y.graph system.now) stops.now explored.now quiet result }
+{
+    let states = &explored.visited.states;
+    if is_marked(system, states, explored.from, stops.at_mark) {
+        return Ending::Mark;
+    }
+    if stops.when_complete && quiet {
+        return Ending::Complete;
+    }
+    explored.ending
 }
 
 /// What is answered for each of the eight marks.

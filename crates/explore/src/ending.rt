@@ -5,7 +5,7 @@
 pub struct Stops {
     /// Before the first layer with which more states than the plan's limit are reached. Without it that is a refusal.
     pub at_limit: bool,
-    /// Where no longer run reaches another state.
+    /// Where no state that is first reached with so many steps leads on.
     pub when_complete: bool,
     /// Where some run ends with this mark.
     pub at_mark: Option<u8>,
@@ -20,14 +20,15 @@ impl Stops {
     };
 }
 
-/// Why an exploration went no further.
+/// Why an exploration went no further. Where several reasons hold, a mark is told before all others, and `Complete` before
+/// `Limit` and `Steps`.
 #[derive(Clone, Copy, Debug, PartialEq, Eq)]
 pub enum Ending {
     /// The plan's steps are done.
     Steps,
     /// With one step more, more states than the plan's limit are reached.
     Limit,
-    /// No longer run reaches another state.
+    /// No state that is first reached with so many steps leads on.
     Complete,
     /// Some run ends with the mark.
     Mark,

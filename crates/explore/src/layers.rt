@@ -101,7 +101,7 @@ fn has_mark<Y: System>(system: &Y, state: &Y::State, mark: u8) -> bool
 }
 
 /// Whether one of the states from a place on has the mark.
-fn is_marked<Y: System>(
+pub fn is_marked<Y: System>(
     system: &Y,
     states: &ShardedSet<Y::State>,
     from: usize,

@@ -51,6 +51,7 @@ module _ {C L B : Type 0} (branch : C → L → Option B) (g : Graph C L) where
   ended-told plan stops steps end ended = record {
     may = may-told plan stops steps end ended.may;
     least = λ fewer other low may. ended.least fewer other low (told-may plan stops fewer other may);
+    first = λ other may. ended.first other (told-may plan stops steps other may);
   }
 
   pub too-many-told : (plan : Plan) (stops : Stops) → AreTooMany h plan stops → AreTooMany g plan stops

@@ -155,6 +155,7 @@ fn extent<R: Threads + Sync + Abort>(
 fn an_exploration_ends_where_it_is_to(rt: HostRuntime) {
     let far = Plan { steps: 100, ..PLAN };
     let few = Plan { limit: 7, ..far };
+    let last = Plan { steps: 6, ..PLAN };
     let limit = Stops {
         at_limit: true,
         ..Stops::NOWHERE
@@ -178,7 +179,10 @@ fn an_exploration_ends_where_it_is_to(rt: HostRuntime) {
         (far, complete, Ok((6, 10, Ending::Complete))),
         (far, mark, Ok((5, 10, Ending::Mark))),
         (far, unseen, Ok((100, 10, Ending::Steps))),
-        (PLAN, mark, Ok((5, 10, Ending::Steps))),
+        (last, complete, Ok((6, 10, Ending::Complete))),
+        (PLAN, complete, Ok((5, 10, Ending::Steps))),
+        (PLAN, mark, Ok((5, 10, Ending::Mark))),
+        (PLAN, limit, Ok((5, 10, Ending::Steps))),
     ] {
         assert_eq!(rt; extent(&rt, rt.alloc(), &plan, &stops), wanted);
     }

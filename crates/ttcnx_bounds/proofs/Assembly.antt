@@ -51,6 +51,7 @@ module _ (test : Test) (bound : Bound) where
   runs-ended plan stops steps why end = record {
     may = parts-may plan stops steps why end.may;
     least = λ fewer other low may. end.least fewer other low (runs-may plan stops fewer other may);
+    first = λ other may. end.first other (runs-may plan stops steps other may);
   }
 
   too-many-pairs : (plan : Plan) (stops : Stops) → AreTooMany (parts_within test bound) plan stops → AreTooManyBounded test bound plan stops

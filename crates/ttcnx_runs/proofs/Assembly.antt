@@ -53,6 +53,7 @@ module _ (test : Test) where
   runs-ended plan stops steps why end = record {
     may = parts-may plan stops steps why end.may;
     least = λ fewer other low may. end.least fewer other low (runs-may plan stops fewer other may);
+    first = λ other may. end.first other (runs-may plan stops steps other may);
   }
 
   pub too-many-parts : (plan : Plan) (stops : Stops) → ended.AreTooMany (canonical_graph test) plan stops → AreTooMany test plan stops

@@ -1,5 +1,5 @@
 -- Why a search went no further, in the words of the search.
-use Rattle.std.specs.Prelude.{◌≡◌, ◌≢◌, ℕ, ◌<◌, ◌≤◌, Bool, suc, true, List, [], length, take, drop, slice_index_or, All, Option, Some, if◌then◌else◌}
+use Rattle.std.specs.Prelude.{◌≡◌, ◌≢◌, ℕ, ◌<◌, ◌≤◌, ◌&&◌, Bool, suc, true, false, List, [], length, take, drop, slice_index_or, All, Option, Some, if◌then◌else◌}
 use Rattle.explore.specs.declared.ending.Ending.{Ending}
 use Rattle.explore.specs.declared.ending.Ending.TheVariants as ending
 use Rattle.explore.specs.declared.ending.Stops.{Stops}
@@ -47,6 +47,13 @@ pub record IsEnd {C L S : Type 0} (g : Graph C L) (j : Join S) (r : Observation 
   -- no fewer layers were enough
   pub led_on : stops.when_complete ≡ true → (layer : ℕ) → layer < e.steps → ¬ IsQuiet g (found_after g j r eq layer)
   pub unmarked : IsUnmarked g (take e.from e.visited.states.keys) stops.at_mark
+
+-- the reason that is told of a search that ended: a mark of the last layer, else that this one is quiet, where the search is to end
+-- there, else why it went no further
+pub data IsReason {C L S : Type 0} (g : Graph C L) (stops : Stops) (e : Explored C L S) (quiet : Bool) : Ending → Type 0 where
+  marked : IsMarked g e.visited.states.keys stops.at_mark → IsReason g stops e quiet ending.Mark
+  is_quiet : IsUnmarked g (drop e.from e.visited.states.keys) stops.at_mark → stops.when_complete ≡ true → quiet ≡ true → IsReason g stops e quiet ending.Complete
+  kept : IsUnmarked g (drop e.from e.visited.states.keys) stops.at_mark → stops.when_complete && quiet ≡ false → IsReason g stops e quiet e.ending
 
 -- what a search found, in so many layers
 pub record IsSearched {C L S : Type 0} (g : Graph C L) (j : Join S) (r : Observation C L S) (eq : C → C → Bool) (F : C → Type 0) (e : Explored C L S) : Type 0 where

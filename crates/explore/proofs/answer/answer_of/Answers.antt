@@ -101,3 +101,4 @@ returns-clause-ended g c =
     let system = c.args.system.now in
     ends (g.Y.System.graph system) g.Y.Label.Ord.cmp g.Y.State.PartialEq.eq (g.Y.System.fits system) (lawful g system)
     g.U.Summary.joins (g.U.Summary.observation system) (semilattice g) c.args.plan.now c.args.stops.now c.args.explored c.requires
+    c.in_ok-complete.complete c.in_ok-complete.ensures c.reason-ending.result c.reason-ending.ensures
