@@ -9,6 +9,7 @@ pub mod OneAnswer
 pub mod OneConversion
 pub mod OneReplay
 pub mod OneReport
+pub mod OneUntil
 pub mod Outcomes
 pub mod Stages
 pub mod Streams

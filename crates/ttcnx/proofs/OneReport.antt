@@ -15,6 +15,7 @@ use Rattle.summary.specs.Run.{Run, Before, NoLater, labels_of}
 use Rattle.summary.specs.Exploration.{IsBest}
 use Rattle.explore.proofs.RunOrder.{before-trans}
 use Rattle.search_layer.specs.declared.plan.Plan.{Plan}
+use Rattle.ttcnx_runs.specs.Aims.{IsLeastTo}
 use Rattle.ttcnx_runs.specs.Found.{AreBlocked, AreBranches, IsBestRun}
 use Rattle.laws_live.proofs.PartCounts.{counts-once}
 use Rattle.summary.proofs.OneAscent.{one-ascent}
@@ -54,6 +55,14 @@ module _ {C L : Type 0} (g : Graph C L) (cmp : L → L → Ordering) (total : Is
 
   one-best : (n mark : ℕ) (r s : Run L) → IsBest g cmp n mark r → IsBest g cmp n mark s → r ≡ s
   one-best n mark r s a b = same-run r s (a.least s b.has) (b.least r a.has)
+
+  -- the least run to an aim is one
+  pub one-least : {E : Type 0} (n : ℕ) (shown : Run L → Option E) (kind : E → Bool) (a b : Option (List L)) → IsLeastTo g cmp n shown kind a → IsLeastTo g cmp n shown kind b → a ≡ b
+  one-least n shown kind None None h k = refl
+  one-least n shown kind None (Some b) h k = absurd (h k.0 k.1)
+  one-least n shown kind (Some a) None h k = absurd (k h.0 h.1)
+  one-least n shown kind (Some a) (Some b) h k =
+      ap Some (h.3 ∙ ap labels_of (same-run h.0 k.0 (h.2 k.0 k.1) (k.2 h.0 h.1)) ∙ sym k.3)
 
 -- ---- a set has one ascending list
 

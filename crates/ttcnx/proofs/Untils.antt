@@ -65,7 +65,7 @@ module _ (given : Source) (name : List ℕ) (plan : Plan) (stops : Stops) (fine 
       let back : extent.steps ≡ report.steps = sym same in
       let told : IsAnswer given name (with_steps plan extent.steps) (Ok report) =
       answer.named (within-limits plan extent.steps fine of.steps) is (answer.told (tells test name (with_steps plan extent.steps) extent.found report made called same of.found of.within of.complete)) in
-      reached is (subst (λ (n : ℕ). n ≤ plan.steps) back of.steps)
+      reached fine is (subst (λ (n : ℕ). n ≤ plan.steps) back of.steps)
       (subst (λ (n : ℕ). IsAnswer given name (with_steps plan n) (Ok report)) back told)
       (subst (λ (n : ℕ). HaveEnded test plan stops n extent.ending) back of.ended)
 
@@ -73,7 +73,7 @@ module _ (given : Source) (name : List ℕ) (plan : Plan) (stops : Stops) (fine 
 
 module _ (given : Source) (name : List ℕ) (plan : Plan) (stops : Stops) (no_limit : stops.at_limit ≡ false) (no_complete : stops.when_complete ≡ false) (no_mark : stops.at_mark ≡ None) where
   unstopped-report : (until : Until) → IsAnswerUntil given name plan stops (Ok until) → IsAnswer given name plan (Ok until.report)
-  unstopped-report until (reached {test = test} is low told ended) =
+  unstopped-report until (reached {test = test} fine is low told ended) =
       subst (λ (n : ℕ). IsAnswer given name (with_steps plan n) (Ok until.report)) (all-steps test plan stops until.report.steps until.ending no_limit no_complete no_mark ended) told
 
   unstopped-refusal : (why : Fault) → IsRefusedUntil given name plan stops why → IsAnswer given name plan (Err why)

@@ -6,7 +6,8 @@ use Rattle.search_layer.specs.Limits.{IsWithinLimits}
 use Rattle.search_layer.specs.declared.plan.Plan.{Plan}
 use Rattle.semantics.specs.Configurations.{badness}
 use Rattle.semantics.specs.Snapshots.{Test}
-use Rattle.ttcnx.specs.Answer.{IsAnswer}
+use Rattle.ttcnx.specs.Answer.{IsAnswer, SameAnswer}
+use Rattle.ttcnx.specs.Fault.{SameFault}
 use Rattle.ttcnx.specs.Named.{HasNoTest, IsTestOf, Source}
 use Rattle.ttcnx.specs.declared.fault.Fault.{Fault}
 use Rattle.ttcnx.specs.declared.fault.Fault.TheVariants as fault
@@ -36,6 +37,18 @@ pub data IsAnswerUntil (given : Source) (name : List ℕ) (plan : Plan) (stops :
   -- there is no report: why
   refused : {why : Fault} → IsRefusedUntil given name plan stops why → IsAnswerUntil given name plan stops (Err why)
   -- the report of a bound within the plan's, which is the answer for this bound: the least with which the exploration may end
-  reached : {until : Until} {test : Test} → IsTestOf given name test → until.report.steps ≤ plan.steps
+  reached : {until : Until} {test : Test} → IsWithinLimits plan → IsTestOf given name test → until.report.steps ≤ plan.steps
       → IsAnswer given name (with_steps plan until.report.steps) (Ok until.report)
       → HaveEnded test plan stops until.report.steps until.ending → IsAnswerUntil given name plan stops (Ok until)
+
+-- answers that tell the same: reports of one text, as text and as JSON, that go no further for one reason, or faults of one kind
+abbrev pub SameUntil : Result Until Fault → Result Until Fault → Type 0
+SameUntil (Ok until) (Ok other) = SameAnswer (Ok until.report) (Ok other.report) × (until.ending ≡ other.ending)
+SameUntil (Ok until) (Err other) = ⊥
+SameUntil (Err one) (Ok other) = ⊥
+SameUntil (Err one) (Err other) = SameFault one other
+
+-- a module, a script, a name, a plan and stops have one answer at most
+abbrev pub HasOneAnswerUntil : Source → List ℕ → Plan → Stops → Type 0
+HasOneAnswerUntil given name plan stops = (answer other : Result Until Fault) → IsAnswerUntil given name plan stops answer → IsAnswerUntil given name plan stops other
+    → SameUntil answer other

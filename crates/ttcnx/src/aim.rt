@@ -3,7 +3,7 @@ ghost use Rattle.std.specs.Prelude.{◌≡◌, ◌↔◌, ◌<◌, ◌⊎◌, le
 ghost use Rattle.std.specs.Option.{option_map};
 ghost use Rattle.search_layer.specs.Limits.{IsWithinLimits};
 ghost use Rattle.ttcn_syntax.specs.Limits.{longest_text};
-ghost use Rattle.ttcnx.specs.Aims.{IsAnswerTo};
+ghost use Rattle.ttcnx.specs.Aims.{HasOneAnswerTo, IsAnswerTo};
 ghost use Rattle.ttcnx.specs.Fault.{lexical_fault};
 ghost use Rattle.ttcnx.specs.Named.{source};
 ghost use Rattle.ttcnx.specs.internal.Reaches.{reach_by};
@@ -21,7 +21,7 @@ use ttcnx_runs::{Sights, sight_runs};
 /// Where a run is to get.
 #[derive(Clone, Copy, Debug, PartialEq, Eq)]
 pub enum Aim {
-    /// To a step that takes the branch at this place, or that begins with the statement there.
+    /// To a step that takes the branch at this place, or that takes none and begins with the statement there.
     Step(Span),
     /// To where some component is blocked at this place.
     Block(Span),
@@ -39,6 +39,7 @@ pub struct Reaching {
 }
 
 /// Explores the runs of the test case of this name, as `run_until` does, for the least of the shortest runs to an aim.
+#[tactic(auto, using(crate::proofs::OneUntil::one_to))]
 pub fn run_to<G: Gate, R: Threads + Sync>(
     rt: &R,
     alloc: Global,
@@ -51,6 +52,9 @@ pub fn run_to<G: Gate, R: Threads + Sync>(
     gate: &G,
 ) -> Result<Reaching, Fault>
     ensures answer { (result ≡ Err Fault.Memory) ⊎ IsAnswerTo (source text.now script.now) name.now plan.now stops.now aim result }
+
+    // What is given, a name, a plan, stops and an aim have one answer: so each answer is given exactly where it is said to be.
+    ensures one { HasOneAnswerTo (source text.now script.now) name.now plan.now stops.now aim }
 
     // These two are decided before memory is asked for.
     ensures bad_plan { IsErrOf result Fault.BadPlan ↔ (IsWithinLimits plan.now → ⊥) }

@@ -1,10 +1,11 @@
 //! A report with runs in which few timers expire.
-ghost use Rattle.std.specs.Prelude.{◌≡◌, ◌≢◌, ◌↔◌, ◌⊎◌, ◌<◌, ℕ, All, Err, IfOk, IsErrOf, map};
-ghost use Rattle.laws_bounds.specs.BoundedParts.{CountsBounded};
+ghost use Rattle.std.specs.Prelude.{◌≡◌, ◌≢◌, ◌↔◌, ◌⊎◌, Contains, Err, IfOk, IsErrOf};
+ghost use Rattle.std.specs.List.{AllZip};
+ghost use Rattle.report.specs.declared.report.Outcome.{Outcome};
 ghost use Rattle.search_layer.specs.Limits.{IsWithinLimits};
 ghost use Rattle.ttcnx.specs.Few.{IsAnswerFew, IsFewestOutcome};
 ghost use Rattle.ttcnx.specs.Named.{source};
-ghost use Rattle.ttcnx_bounds.specs.Fewest.{at_most};
+ghost use Rattle.ttcnx_bounds.specs.Fewest.{IsUndecided};
 
 use crate::fault::Fault;
 use crate::testcase::test_of;
@@ -69,9 +70,8 @@ fn fewest_outcomes<G: Gate, R: Threads + Sync>(
     plan: &Plan,
     gate: &G,
 ) -> Result<Vec<Outcome>, ExploreError>
-    ensures verdicts { IfOk result (λ fewest. map (λ outcome. outcome.verdict) fewest.items ≡ map (λ outcome. outcome.verdict) outcomes.items) }
-    ensures runs { IfOk result (λ fewest. All (IsFewestOutcome machine.now.test patient plan.now.steps) fewest.items) }
-    ensures too_many { IsErrOf result ExploreError.TooMany → (expiries : ℕ) × (count : ℕ) × CountsBounded machine.now.test (at_most patient expiries) plan.now.steps count × (plan.now.limit < count) }
+    ensures fewest { IfOk result (λ fewest. AllZip (IsFewestOutcome machine.now.test patient plan.now.steps) outcomes.items fewest.items) }
+    ensures too_many { IsErrOf result ExploreError.TooMany → (outcome : Outcome) × Contains outcomes.items outcome × IsUndecided machine.now.test patient plan.now.steps plan.now.limit outcome.verdict }
     ensures planned { IsWithinLimits plan.now → result ≢ Err ExploreError.BadPlan }
 {
     let mut fewest = Vec::new(alloc);
@@ -91,9 +91,8 @@ fn fewest_outcome<G: Gate, R: Threads + Sync>(
     plan: &Plan,
     gate: &G,
 ) -> Result<Outcome, ExploreError>
-    ensures verdict { IfOk result (λ fewest. fewest.verdict ≡ outcome.verdict) }
-    ensures run { IfOk result (IsFewestOutcome machine.now.test patient plan.now.steps) }
-    ensures too_many { IsErrOf result ExploreError.TooMany → (expiries : ℕ) × (count : ℕ) × CountsBounded machine.now.test (at_most patient expiries) plan.now.steps count × (plan.now.limit < count) }
+    ensures fewest { IfOk result (IsFewestOutcome machine.now.test patient plan.now.steps outcome) }
+    ensures too_many { IsErrOf result ExploreError.TooMany → IsUndecided machine.now.test patient plan.now.steps plan.now.limit outcome.verdict }
     ensures planned { IsWithinLimits plan.now → result ≢ Err ExploreError.BadPlan }
 {
     let Outcome { verdict, run } = outcome;

@@ -5,7 +5,7 @@ ghost use Rattle.ttcn_syntax.specs.Limits.{longest_text};
 ghost use Rattle.ttcnx.specs.Fault.{lexical_fault};
 ghost use Rattle.ttcnx.specs.Named.{source};
 ghost use Rattle.ttcnx.specs.Sighted.{IsAnswerSighted};
-ghost use Rattle.ttcnx.specs.Until.{IsAnswerUntil, stops_of};
+ghost use Rattle.ttcnx.specs.Until.{HasOneAnswerUntil, IsAnswerUntil, stops_of};
 
 use crate::fault::Fault;
 use crate::run::report_of;
@@ -44,6 +44,7 @@ pub struct Until {
 
 /// Explores the runs of the test case of this name, as `run_script` does, up to the plan's steps or to a stop: the first layer
 /// with which more configurations than the limit are reached, a complete report, a verdict by its number.
+#[tactic(auto, using(crate::proofs::OneUntil::one_until))]
 pub fn run_until<G: Gate, R: Threads + Sync>(
     rt: &R,
     alloc: Global,
@@ -55,6 +56,9 @@ pub fn run_until<G: Gate, R: Threads + Sync>(
     gate: &G,
 ) -> Result<Until, Fault>
     ensures answer { (result ≡ Err Fault.Memory) ⊎ IsAnswerUntil (source text.now script.now) name.now plan.now stops.now result }
+
+    // What is given, a name, a plan and stops have one answer: so each answer is given exactly where it is said to be.
+    ensures one { HasOneAnswerUntil (source text.now script.now) name.now plan.now stops.now }
 
     // These two are decided before memory is asked for.
     ensures bad_plan { IsErrOf result Fault.BadPlan ↔ (IsWithinLimits plan.now → ⊥) }

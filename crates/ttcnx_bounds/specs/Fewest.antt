@@ -1,5 +1,6 @@
 -- The runs of a test case with the fewest expiries of timers that end with a verdict.
 use Rattle.std.specs.Prelude.{ℕ, ◌<◌, Bool, List, Option, Some, None}
+use Rattle.laws_bounds.specs.BoundedParts.{CountsBounded}
 use Rattle.search_bounds.specs.declared.bound.Bound.{Bound}
 use Rattle.semantics.specs.Snapshots.{Test}
 use Rattle.semantics.specs.Steps.{Label}
@@ -20,6 +21,15 @@ any_number patient = record { expiries = None; patient = patient }
 pub record HasFewest (test : Test) (patient : Bool) (n : ℕ) (verdict : Verdict) (expiries : ℕ) (labels : List Label) : Type 0 where
   pub best : IsBestRunBounded test (at_most patient expiries) n verdict (Some labels)
   pub none_fewer : (fewer : ℕ) → fewer < expiries → IsBestRunBounded test (at_most patient fewer) n verdict None
+
+-- how many expiries a run needs that ends with the verdict isn't told: none with fewer than some number ends with it, and the runs
+-- with at most so many reach more pairs than the limit
+pub record IsUndecided (test : Test) (patient : Bool) (n limit : ℕ) (verdict : Verdict) : Type 0 where
+  pub expiries : ℕ
+  pub none_fewer : (fewer : ℕ) → fewer < expiries → IsBestRunBounded test (at_most patient fewer) n verdict None
+  pub count : ℕ
+  pub counts : CountsBounded test (at_most patient expiries) n count
+  pub many : limit < count
 
 -- such a run, or none exactly where no run of at most n steps ends with the verdict
 abbrev pub IsFewest : Test → Bool → ℕ → Verdict → Option Fewest → Type 0

@@ -1,10 +1,9 @@
 //! The runs with the fewest expiries of timers that end with a verdict (ES 201 873-4).
-ghost use Rattle.std.specs.Prelude.{◌≡◌, ◌↔◌, ℕ, ◌<◌, None, IfErr, IfOk, IsErrOf, IsTrue, OnOk};
+ghost use Rattle.std.specs.Prelude.{◌≡◌, ◌↔◌, None, IfErr, IfOk, IsErrOf, IsTrue, OnOk};
 ghost use Rattle.std.specs.Option.{option_map};
-ghost use Rattle.laws_bounds.specs.BoundedParts.{CountsBounded};
 ghost use Rattle.search_layer.specs.Limits.{IsWithinLimits};
 ghost use Rattle.ttcnx_bounds.specs.BoundedFound.{IsBestRunBounded};
-ghost use Rattle.ttcnx_bounds.specs.Fewest.{IsFewest, any_number, at_most};
+ghost use Rattle.ttcnx_bounds.specs.Fewest.{IsFewest, IsUndecided, any_number};
 ghost use Rattle.ttcnx_runs.specs.Found.{run_kept};
 
 use crate::exploration::explore_bounded;
@@ -43,7 +42,7 @@ pub fn fewest_expiries<G: Gate, R: Threads + Sync>(
 ) -> Result<Option<Fewest>, ExploreError>
     ensures bad_plan { IsErrOf result ExploreError.BadPlan ↔ ¬ IsWithinLimits plan.now }
     ensures planned { OnOk result (IsWithinLimits plan.now) }
-    ensures too_many { IsErrOf result ExploreError.TooMany → (expiries : ℕ) × (count : ℕ) × CountsBounded machine.now.test (at_most patient expiries) plan.now.steps count × (plan.now.limit < count) }
+    ensures too_many { IsErrOf result ExploreError.TooMany → IsUndecided machine.now.test patient plan.now.steps plan.now.limit verdict }
     ensures fewest { IfOk result (IsFewest machine.now.test patient plan.now.steps verdict) }
 {
     if !plan.is_within_limits() {

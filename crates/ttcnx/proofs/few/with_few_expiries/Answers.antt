@@ -1,4 +1,4 @@
-use Rattle.std.proofs.Common.{◌≡◌, ap, inl, inr, refl, subst, sym}
+use Rattle.std.proofs.Common.{◌≡◌, ap, inr, refl, subst, sym}
 use Rattle.std.specs.Prelude.{◌⊎◌, Err}
 use Rattle.semantics.specs.Snapshots.{Test}
 use Rattle.ttcnx.proofs.FewTold.{no-answer, no-test}
@@ -35,4 +35,4 @@ returns-clause-answer g c =
     let fine = c.if-not-is_within_limits.ensures.0 refl in
     let machine = c.in_ok-machine.machine in
     let is = subst (λ (t : Test). IsTestOf (source c.args.text.now c.args.script.now) c.args.name.now t) (sym c.in_ok-machine.ensures) c.in_ok-program.ensures.named in
-    inr (told fine is (record { others = refl; verdicts = c.in_ok-outcomes.ensures.verdicts; runs = c.in_ok-outcomes.ensures.runs }))
+    inr (told fine is (record { others = refl; outcomes = c.in_ok-outcomes.ensures.fewest }))
