@@ -6,7 +6,6 @@ ghost use Rattle.search_layer.specs.internal.Search.{newly, state_of, step_of};
 ghost use Rattle.search_layer.specs.internal.Thinned.{AreThinned};
 ghost use Rattle.search_layer.specs.internal.Work.{AreFirst};
 
-use crate::leftovers::Leftovers;
 use crate::plan::{ExploreError, Plan};
 use crate::visited::{Candidate, Visited};
 use rayon::prelude::*;
@@ -38,13 +37,12 @@ pub fn shards_of<S: Eq + Hash + Send + Sync, L: Send + Sync, R: Threads + Sync>(
 }
 
 /// Adds the states of the candidates at these positions, in order, and their last steps. The other candidates are
-/// left over.
+/// dropped.
 pub fn enter_first<S: Eq + Hash + Send + Drop, L: Send + Drop>(
     visited: &mut Visited<S, L>,
     candidates: Vec<Candidate<Option<S>, L>>,
     firsts: &[u64],
     shards: &[usize],
-    leftovers: &mut Leftovers<Candidate<Option<S>, L>>,
 ) -> Result<(), AllocError>
     requires first { (all : List (Candidate S L)) × AreThinned S.eq visited.old.states.keys all candidates.items × AreFirst S.eq visited.old.states.keys all firsts.now }
     requires shards { AreShards S.hash_input visited.old.states.shards candidates.items firsts.now shards.now }
@@ -60,7 +58,7 @@ pub fn enter_first<S: Eq + Hash + Send + Drop, L: Send + Drop>(
             visited.add(shards[next], candidate.with_state())?;
             next += 1;
         } else {
-            leftovers.take(candidate);
+            drop(candidate);
         }
         at = at.wrapping_add(1);
     }
@@ -89,17 +87,8 @@ pub fn enter_layer<S: Eq + Hash + Send + Sync + Drop, L: Send + Sync + Drop, R: 
     ensures planned { result ≢ Err ExploreError.BadPlan }
 {
     let shards = shards_of(rt, alloc, &visited.states, candidates.as_slice(), firsts)?;
-    let old = candidates.len().saturating_sub(firsts.len());
-    let mut leftovers = Leftovers::new(alloc, old, plan.workers);
     let mut visited = visited;
-    enter_first(
-        &mut visited,
-        candidates,
-        firsts,
-        shards.as_slice(),
-        &mut leftovers,
-    )?;
-    leftovers.drop_all(rt);
+    enter_first(&mut visited, candidates, firsts, shards.as_slice())?;
     let Visited { states, steps } = visited;
     if states.len() as u64 > plan.limit {
         return Err(ExploreError::TooMany);

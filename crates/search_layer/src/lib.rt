@@ -2,7 +2,6 @@
 #![tactic(auto)]
 
 mod entering;
-mod leftovers;
 mod plan;
 mod showing;
 mod sparing;
