@@ -8,6 +8,8 @@ use ttcn_parse::ParseError;
 use ttcn_syntax::{LexError, Span};
 use ttcn_types::{CheckError, Rule};
 use ttcn_values::Fault;
+use ttcnx::StreamFault;
+use ttcnx_streams::{ReadError, WriteError};
 
 const PLACE: Span = Span {
     line: 12,
@@ -145,6 +147,19 @@ fn errors_of_values(rt: HostRuntime) -> Result<(), Fail> {
     ] {
         assert!(rt; has_text(alloc, &error, text)?, "{error}");
     }
+    Ok(())
+}
+
+#[test]
+fn errors_of_devices(rt: HostRuntime) -> Result<(), Fail> {
+    let alloc = rt.alloc();
+    assert!(rt; has_text(alloc, &ReadError::Reader, "a read failed")?);
+    assert!(rt; has_text(alloc, &ReadError::Memory, "no memory")?);
+    assert!(rt; has_text(alloc, &WriteError, "a write failed")?);
+    assert!(rt; has_text(alloc, &StreamFault::Read, "a read failed")?);
+    assert!(rt; has_text(alloc, &StreamFault::Write, "a write failed")?);
+    let refused = StreamFault::Refused(ttcnx::Fault::NoSuchTestCase);
+    assert!(rt; has_text(alloc, &refused, "refused U1 NoSuchTestCase")?);
     Ok(())
 }
 
