@@ -29,7 +29,7 @@ impl Found {
     #[cycle(branches)]
     fn block(&mut self, block: &[Statement]) -> Result<(), AllocError> {
         for statement in block {
-            self.action(statement.place, &statement.action)?;
+            self.action(statement.place, statement.action.get())?;
         }
         Ok(())
     }
@@ -65,7 +65,7 @@ impl Found {
     #[cycle(branches)]
     fn branches(&mut self, branches: &[Branch]) -> Result<(), AllocError> {
         for branch in branches {
-            match &branch.alternative {
+            match branch.alternative.get() {
                 Alternative::Event(_, _, block) => {
                     self.push(branch.place)?;
                     if let Some(block) = block {

@@ -219,7 +219,7 @@ impl<'a> Scene<'a> {
         judged: &mut Vec<Judged>,
     ) -> Result<bool, AllocError> {
         let span = branch.place;
-        let guard = match &branch.alternative {
+        let guard = match branch.alternative.get() {
             Alternative::Event(guard, _, _) | Alternative::Call(guard, _, _) => {
                 self.guard(alloc, place, guard)?
             }
@@ -228,7 +228,7 @@ impl<'a> Scene<'a> {
         if guard.seen != Seen::Taken {
             return push(judged, span, guard);
         }
-        match &branch.alternative {
+        match branch.alternative.get() {
             Alternative::Event(_, event, _) => {
                 push(judged, span, self.event(alloc, place, event)?)
             }
@@ -281,7 +281,7 @@ impl<'a> Scene<'a> {
     pub fn judged(&self, alloc: Global, statement: &Statement) -> Result<Vec<Judged>, AllocError> {
         let mut judged = Vec::new(alloc);
         let (place, span) = (self.last_place(statement.place), statement.place);
-        let none_taken = match &statement.action {
+        let none_taken = match statement.action.get() {
             Action::Alt(branches) => {
                 let branches = branches.as_slice();
                 self.judge_branches(alloc, place, branches, LONGEST_CHAIN, &mut judged)?

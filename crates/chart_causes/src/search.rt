@@ -10,7 +10,7 @@ fn in_block(block: &[Statement], place: Span) -> Option<&Statement> {
         if statement.place == place {
             return Some(statement);
         }
-        if let Some(found) = in_action(&statement.action, place) {
+        if let Some(found) = in_action(statement.action.get(), place) {
             return Some(found);
         }
     }
@@ -50,7 +50,7 @@ fn in_conditionals(conditionals: &[Conditional], place: Span) -> Option<&Stateme
 #[cycle(search)]
 fn in_branches(branches: &[Branch], place: Span) -> Option<&Statement> {
     for branch in branches {
-        let found = match &branch.alternative {
+        let found = match branch.alternative.get() {
             Alternative::Event(_, _, Some(block)) | Alternative::Call(_, _, Some(block)) => {
                 in_block(block.as_slice(), place)
             }

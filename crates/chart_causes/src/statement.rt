@@ -312,7 +312,7 @@ impl<'a> Scene<'a> {
         sight: Sight<'_>,
         statement: &Statement,
     ) -> Result<Option<String>, AllocError> {
-        match &statement.action {
+        match statement.action.get() {
             Action::Variables(declared) => sight.variables(alloc, declared.variables.as_slice()),
             Action::Constants(declared) => sight.constants(alloc, declared.constants.as_slice()),
             Action::Assign(assignment) => sight.assignment(alloc, assignment),

@@ -17,7 +17,7 @@ impl Found {
     #[cycle(settings)]
     fn block(&mut self, block: &[Statement]) -> Result<(), AllocError> {
         for statement in block {
-            self.action(statement.place, &statement.action)?;
+            self.action(statement.place, statement.action.get())?;
         }
         Ok(())
     }
@@ -55,7 +55,7 @@ impl Found {
     #[cycle(settings)]
     fn branches(&mut self, branches: &[Branch]) -> Result<(), AllocError> {
         for branch in branches {
-            match &branch.alternative {
+            match branch.alternative.get() {
                 Alternative::Event(_, _, Some(block))
                 | Alternative::Call(_, _, Some(block))
                 | Alternative::Else(block) => self.block(block.as_slice())?,

@@ -148,7 +148,7 @@ fn branch<'a>(
     ensures around { OnOk result (around scope.new ≡ around scope.old) }
 {
     let inside = place.inside_branch();
-    match &branch.alternative {
+    match branch.alternative.get() {
         Alternative::Event(guard, event, body) => {
             let broken = check_guarded_event(alloc, scope, guard.as_ref(), event)?;
             found.note(broken, branch.place);
@@ -202,7 +202,7 @@ fn statement<'a>(
     ensures around { OnOk result (around scope.new ≡ around scope.old) }
 {
     let at = statement.place;
-    match &statement.action {
+    match statement.action.get() {
         Action::Alt(items) => branches(alloc, scope, place, items.as_slice(), found),
         Action::If(items, last) => {
             conditionals(alloc, scope, place, items.as_slice(), at, found)?;

@@ -52,7 +52,7 @@ fn name_at_start(start: &ForStart, place: usize) -> Option<&Name>
 fn name_declared(statement: &Statement, place: usize) -> Option<&Name>
     ensures { option_map (λ name. name.now) result ≡ named.name_declared (action_of statement.now) place }
 {
-    match &statement.action {
+    match statement.action.get() {
         Action::Variables(declared) => variable_name(declared.variables.as_slice(), place),
         Action::Constants(declared) => constant_name(declared.constants.as_slice(), place),
         Action::Timers(timers) => timer_name(timers.as_slice(), place),
@@ -74,7 +74,7 @@ fn assignment_at_start(start: &ForStart) -> Option<&Assignment>
 fn first_assignment(statement: &Statement) -> Option<&Assignment>
     ensures { option_map (λ a. a.now) result ≡ named.first_assignment (action_of statement.now) }
 {
-    match &statement.action {
+    match statement.action.get() {
         Action::For(start, _condition, _step, _body) => assignment_at_start(start),
         _ => None,
     }
@@ -84,7 +84,7 @@ fn first_assignment(statement: &Statement) -> Option<&Assignment>
 fn last_assignment(statement: &Statement) -> Option<&Assignment>
     ensures { option_map (λ a. a.now) result ≡ named.last_assignment (action_of statement.now) }
 {
-    match &statement.action {
+    match statement.action.get() {
         Action::For(_start, _condition, step, _body) => Some(step),
         _ => None,
     }
@@ -182,7 +182,7 @@ impl<'a> Names<'a> {
     fn add_branch(&mut self, branch: &'a Branch) -> Result<(), AllocError>
         ensures { OnOk result (self.new ≡ with_names self.old (names_of_branch branch.now)) }
     {
-        match &branch.alternative {
+        match branch.alternative.get() {
             Alternative::Event(_guard, event, _block) => self.add_event(event),
             Alternative::Call(_guard, _call, _block) => Ok(()),
             Alternative::Else(_block) => Ok(()),
@@ -229,7 +229,7 @@ impl<'a> Names<'a> {
     fn add_whole(&mut self, statement: &'a Statement) -> Result<(), AllocError>
         ensures { OnOk result (self.new ≡ with_names self.old (names_of_whole (action_of statement.now))) }
     {
-        match &statement.action {
+        match statement.action.get() {
             Action::Assign(assignment) => self.add(&assignment.target.name),
             Action::Event(event) => self.add_event(event),
             Action::Alt(branches) => self.add_branches(branches.as_slice()),

@@ -72,7 +72,7 @@ fn event_facts<'a>(here: &Here<'a>, event: &'a Event) -> EventFacts<'a>
 fn branch_facts<'a>(here: &Here<'a>, branch: &'a Branch) -> EventFacts<'a>
     ensures { spec.event_by result ≡ spec.branch_facts here.now.0 here.now.1 branch.now }
 {
-    match &branch.alternative {
+    match branch.alternative.get() {
         Alternative::Event(_guard, event, _block) => event_facts(here, event),
         Alternative::Call(_guard, _call, _block) => no_redirects(false),
         Alternative::Else(_block) => no_redirects(false),
@@ -160,7 +160,7 @@ pub fn facts_of_part<'a>(
 ) -> Result<Facts<'a>, AllocError>
     ensures { IfOk result (λ facts. spec.facts_by facts ≡ spec.facts_of_part here.now.0 here.now.1 (part_of part) (action_of statement.now)) }
 {
-    match &statement.action {
+    match statement.action.get() {
         Action::Variables(declared) => Ok(Facts::Declares(here.resolved(&declared.type_name))),
         Action::Constants(declared) => Ok(Facts::Declares(here.resolved(&declared.type_name))),
         Action::Assign(assignment) => Ok(Facts::Stores(goal(here, &assignment.target))),

@@ -7,7 +7,7 @@ ghost use Rattle.parse_reader.specs.declared.heads.Head.TheVariants as head_of;
 
 use crate::heads::{alternative, branch_head, in_brackets, statement_head};
 use parse_reader::{Head, ParseError, Parser, is_word};
-use ttcn_syntax::{Action, Branch, Conditional, Seq, Spanned, Statement, Symbol, Word};
+use ttcn_syntax::{Action, Boxed, Branch, Conditional, Seq, Spanned, Statement, Symbol, Word};
 
 #[tactic(auto, unfolding(parse_reader::specs::internal::Statements::a_block))]
 pub fn block(parser: &mut Parser<'_>) -> Result<Seq<Statement>, ParseError>
@@ -77,7 +77,10 @@ fn statement(parser: &mut Parser<'_>, depth: usize) -> Result<Statement, ParseEr
     let place = parser.here()?;
     let head = statement_head(parser)?;
     let action = action_behind(parser, head, depth)?;
-    Ok(Statement { place, action })
+    Ok(Statement {
+        place,
+        action: Boxed::new(parser.alloc, action)?,
+    })
 }
 
 /// What a statement does, behind its head.
@@ -198,5 +201,8 @@ fn branch(parser: &mut Parser<'_>, depth: usize) -> Result<Branch, ParseError>
         block = Some(block_in(parser, depth)?);
     }
     let alternative = alternative(parser, wait, block)?;
-    Ok(Branch { place, alternative })
+    Ok(Branch {
+        place,
+        alternative: Boxed::new(parser.alloc, alternative)?,
+    })
 }

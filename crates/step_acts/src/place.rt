@@ -46,7 +46,7 @@ fn place_whole(alloc: Global, stand: &Stand<'_, '_>) -> Result<Option<Span>, All
     requires { part_of stand.now.part ≡ rules.Whole }
     ensures { IfOk result (λ place. place ≡ place_chosen (said.choice_at (stand_by stand.now) (site_of stand.now) stand.now.statement.now)) }
 {
-    match &stand.statement.action {
+    match stand.statement.action.get() {
         Action::Call(call) => match altstep_called(stand.snapshot.test, call) {
             Some(at) => place_of(chosen_at_call(alloc, stand, call, at)),
             None => Ok(None),

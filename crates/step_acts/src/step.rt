@@ -235,7 +235,7 @@ fn act_whole(alloc: Global, stand: &Stand<'_, '_>) -> Result<Option<Act>, Fault>
     ensures asks { Asks (legend_of stand.now) (said.act_whole (stand_by stand.now) (site_of stand.now) stand.now.statement.now (action_of stand.now.statement.now)) result }
     ensures within { AsksWithin (extent_of stand.now.snapshot.now.test.now) result }
 {
-    match &stand.statement.action {
+    match stand.statement.action.get() {
         Action::Variables(_) | Action::Constants(_) | Action::Timers(_) => Err(Fault::Dynamic),
         Action::Assign(assignment) => act_assign(alloc, stand, assignment),
         Action::Call(call) => act_call(alloc, stand, call),
@@ -322,7 +322,7 @@ fn act_name(alloc: Global, stand: &Stand<'_, '_>, place: usize) -> Result<Option
     ensures asks { Asks (legend_of stand.now) (said.act_name (stand_by stand.now) (site_of stand.now) place (action_of stand.now.statement.now)) result }
     ensures within { AsksWithin (extent_of stand.now.snapshot.now.test.now) result }
 {
-    match &stand.statement.action {
+    match stand.statement.action.get() {
         Action::Variables(declared) => {
             act_variable_at(alloc, stand, declared.variables.as_slice(), place)
         }
@@ -346,7 +346,7 @@ fn act_from(alloc: Global, stand: &Stand<'_, '_>, place: usize) -> Result<Option
     ensures asks { Asks (legend_of stand.now) (said.act_from (stand_by stand.now) (site_of stand.now) stand.now.statement.now place (action_of stand.now.statement.now)) result }
     ensures within { AsksWithin (extent_of stand.now.snapshot.now.test.now) result }
 {
-    match &stand.statement.action {
+    match stand.statement.action.get() {
         Action::If(conditionals, last) => {
             act_if(alloc, stand, place, conditionals.as_slice(), last)
         }
@@ -360,7 +360,7 @@ fn act_for_start(alloc: Global, stand: &Stand<'_, '_>) -> Result<Option<Act>, Fa
     ensures asks { Asks (legend_of stand.now) (said.act_for_start (stand_by stand.now) (site_of stand.now) (action_of stand.now.statement.now)) result }
     ensures within { AsksWithin (extent_of stand.now.snapshot.now.test.now) result }
 {
-    match &stand.statement.action {
+    match stand.statement.action.get() {
         Action::For(start, _, _, _) => match start {
             ForStart::Assign(assignment) => act_assign(alloc, stand, assignment),
             ForStart::Variables(_) => Err(Fault::Dynamic),
@@ -375,7 +375,7 @@ fn act_while(alloc: Global, stand: &Stand<'_, '_>) -> Result<Option<Act>, Fault>
     ensures asks { Asks (legend_of stand.now) (said.act_while (stand_by stand.now) (site_of stand.now) stand.now.statement.now (action_of stand.now.statement.now)) result }
     ensures within { AsksWithin (extent_of stand.now.snapshot.now.test.now) result }
 {
-    match &stand.statement.action {
+    match stand.statement.action.get() {
         Action::DoWhile(block, condition) => act_loop(alloc, stand, condition, block.as_slice()),
         Action::For(_, condition, _, block) => act_loop(alloc, stand, condition, block.as_slice()),
         _ => Err(Fault::Dynamic),
@@ -388,7 +388,7 @@ fn act_for_step(alloc: Global, stand: &Stand<'_, '_>) -> Result<Option<Act>, Fau
     ensures asks { Asks (legend_of stand.now) (said.act_for_step (stand_by stand.now) (site_of stand.now) (action_of stand.now.statement.now)) result }
     ensures within { AsksWithin (extent_of stand.now.snapshot.now.test.now) result }
 {
-    match &stand.statement.action {
+    match stand.statement.action.get() {
         Action::For(_, _, step, _) => act_assign(alloc, stand, step),
         _ => Err(Fault::Dynamic),
     }

@@ -163,7 +163,7 @@ fn choose_branch<'t, 'a>(
         (first_of snapshot.now (rules.written_branch (below levels snapshot.now) (test_of snapshot.now) (seen_by snapshot.now) (own_by snapshot.now) (judge_of snapshot.now site inner.now) branch.now)) result }
 {
     let place = branch.place;
-    match &branch.alternative {
+    match branch.alternative.get() {
         Alternative::Event(guard, event, _block) => {
             match holds(alloc, snapshot, behaviour, inner, guard) {
                 Ok(true) => choose_open(

@@ -159,14 +159,14 @@ impl Hand {
         Ok(self.definition(line, DefinitionKind::Component(component)))
     }
 
-    fn statement(self, line: u32, column: u32, action: Action) -> Statement {
-        Statement {
+    fn statement(self, line: u32, column: u32, action: Action) -> Result<Statement, ParseError> {
+        Ok(Statement {
             place: Span { line, column },
-            action,
-        }
+            action: Boxed::new(self.alloc, action)?,
+        })
     }
 
-    fn verdict(self, line: u32, column: u32, verdict: Verdict) -> Statement {
+    fn verdict(self, line: u32, column: u32, verdict: Verdict) -> Result<Statement, ParseError> {
         self.statement(
             line,
             column,
@@ -184,7 +184,7 @@ impl Hand {
             type_name: TypeName::Named(self.name("W")?),
             variables: self.list().with(Ok(variable)).0?,
         };
-        Ok(self.statement(line, 1, Action::Variables(variables)))
+        self.statement(line, 1, Action::Variables(variables))
     }
 
     fn port_of(self, component: ComponentRef, name: &str) -> Result<PortRef, ParseError> {
@@ -198,7 +198,7 @@ impl Hand {
     fn connect(self, line: u32, name: &str) -> Result<Statement, ParseError> {
         let one = self.port_of(ComponentRef::Itself, "p")?;
         let other = self.port_of(self.component(name)?, "q")?;
-        Ok(self.statement(line, 1, Action::Connect(one, other)))
+        self.statement(line, 1, Action::Connect(one, other))
     }
 
     /// `a.start(f(..))`, of another component.
@@ -208,20 +208,20 @@ impl Hand {
             arguments: arguments.0?,
         };
         let action = Action::StartComponent(self.component(name)?, call);
-        Ok(self.statement(line, 1, action))
+        self.statement(line, 1, action)
     }
 
     fn start_timer(self, line: u32) -> Result<Statement, ParseError> {
-        Ok(self.statement(line, 1, Action::StartTimer(self.name("t")?)))
+        self.statement(line, 1, Action::StartTimer(self.name("t")?))
     }
 
     fn stop_timer(self, line: u32, column: u32) -> Result<Statement, ParseError> {
         let action = Action::StopOf(self.component("t")?);
-        Ok(self.statement(line, column, action))
+        self.statement(line, column, action)
     }
 
     fn alt(self, line: u32, branches: List<Branch>) -> Result<Statement, ParseError> {
-        Ok(self.statement(line, 1, Action::Alt(branches.0?)))
+        self.statement(line, 1, Action::Alt(branches.0?))
     }
 
     /// `q.send(..)`
@@ -231,7 +231,7 @@ impl Hand {
             message: self.message(sent)?,
             to: None,
         };
-        Ok(self.statement(5, column, Action::Send(send)))
+        self.statement(5, column, Action::Send(send))
     }
 
     /// `integer x`
@@ -261,7 +261,7 @@ impl Hand {
     fn branch(self, line: u32, event: Event, block: List<Statement>) -> Result<Branch, ParseError> {
         Ok(Branch {
             place: Span { line, column: 1 },
-            alternative: Alternative::Event(None, event, Some(block.0?)),
+            alternative: Boxed::new(self.alloc, Alternative::Event(None, event, Some(block.0?)))?,
         })
     }
 
@@ -309,8 +309,8 @@ impl Hand {
 
     /// The module of two senders.
     fn two_senders(self) -> Result<Module, ParseError> {
-        let pass = self.list().with(Ok(self.verdict(14, 19, Verdict::Pass)));
-        let fail = self.list().with(Ok(self.verdict(15, 16, Verdict::Fail)));
+        let pass = self.list().with(self.verdict(14, 19, Verdict::Pass));
+        let fail = self.list().with(self.verdict(15, 16, Verdict::Fail));
         let branches = self
             .list()
             .with(self.receive(14, Some(self.message(Expr::Int(1))?), pass))
@@ -341,8 +341,8 @@ impl Hand {
         let pass = self
             .list()
             .with(self.stop_timer(12, 19))
-            .with(Ok(self.verdict(12, 27, Verdict::Pass)));
-        let inconc = self.list().with(Ok(self.verdict(13, 16, Verdict::Inconc)));
+            .with(self.verdict(12, 27, Verdict::Pass));
+        let inconc = self.list().with(self.verdict(13, 16, Verdict::Inconc));
         let branches = self
             .list()
             .with(self.receive(12, Some(self.message(Expr::Int(1))?), pass))

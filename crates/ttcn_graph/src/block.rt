@@ -159,7 +159,7 @@ fn draw_branch<'a>(
     requires { rest < length draft.old.lists }
     ensures { IfOk result (λ at. IsDrawn draft.old draft.new at (items_of_branch draft.old.definitions draft.old.site branch.now ++ get_or draft.old.lists rest [])) }
 {
-    match &branch.alternative {
+    match branch.alternative.get() {
         Alternative::Event(_guard, _event, body) => draw_block_if_any(draft, body, rest),
         Alternative::Call(_guard, _call, body) => draw_block_if_any(draft, body, rest),
         Alternative::Else(body) => draw_block(draft, body.as_slice(), rest),
@@ -343,7 +343,7 @@ fn draw_whole<'a>(
     requires { rest < length draft.old.lists }
     ensures { IfOk result (λ at. IsDrawn draft.old draft.new at (rules.Doing draft.old.site statement.now rules.Whole ∷ get_or draft.old.lists rest [])) }
 {
-    match &statement.action {
+    match statement.action.get() {
         Action::Assign(assignment) => {
             draw_assignment(draft, statement, Part::Whole, assignment, rest)
         }
@@ -380,7 +380,7 @@ fn draw_statement<'a>(
     ensures { IfOk result (λ at. (site : sites.Site) → draft.old.site ≡ rules.site_after draft.old.definitions site statement.now
         → IsDrawn (at_site site draft.old) draft.new at (rules.items_of_statement draft.old.definitions site statement.now ++ get_or draft.old.lists rest [])) }
 {
-    match &statement.action {
+    match statement.action.get() {
         Action::Variables(declared) => {
             let variables = declared.variables.as_slice();
             draw_names(draft, statement, variables, variables.len(), rest)

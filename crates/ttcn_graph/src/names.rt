@@ -64,7 +64,7 @@ pub(crate) fn declare_start<'a>(
 fn go_behind<'a>(draft: &mut Draft<'a>, statement: &'a Statement) -> Result<(), AllocError>
     ensures { OnOk result (draft.new ≡ at_site (rules.site_after draft.old.definitions draft.old.site statement.now) draft.old) }
 {
-    match &statement.action {
+    match statement.action.get() {
         Action::Variables(declared) => declare_variables(draft, declared),
         Action::Constants(declared) => declare_constants(draft, declared),
         Action::Timers(timers) => declare_timers(draft, timers.as_slice()),

@@ -32,7 +32,7 @@ fn calls_altstep(test: &TestCase<'_>, call: &Call) -> bool
 fn is_alt(test: &TestCase<'_>, statement: &Statement) -> bool
     ensures { result ≡ fine.is_alt (test_by test.now) (action_of statement.now) }
 {
-    match &statement.action {
+    match statement.action.get() {
         Action::Alt(_) => true,
         Action::Event(_) => true,
         Action::Call(call) => calls_altstep(test, call),

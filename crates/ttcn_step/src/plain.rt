@@ -17,7 +17,7 @@ use ttcn_syntax::{Action, Statement};
 fn is_plain(statement: &Statement) -> bool
     ensures { result ≡ true → IsPlain (action_of statement.now) }
 {
-    match &statement.action {
+    match statement.action.get() {
         Action::Call(_) => false,
         Action::Event(_) => false,
         Action::Alt(_) => false,

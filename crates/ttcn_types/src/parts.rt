@@ -76,7 +76,7 @@ pub(crate) fn records(alloc: Global, scope: &Scope<'_>) -> Result<Vec<Thing>, Al
 fn add_branch(scope: &Scope<'_>, branch: &Branch, into: &mut Thing) -> Result<(), AllocError>
     ensures { OnOk result (into.new ≡ add into.old (spec.branch_parts scope.now.definitions.now branch.now)) }
 {
-    if let Alternative::Call(_, call, _) = &branch.alternative
+    if let Alternative::Call(_, call, _) = branch.alternative.get()
         && let Some(Meaning::Altstep(at)) = scope.in_module(call.name.as_bytes())
     {
         return into.add_reference(at);

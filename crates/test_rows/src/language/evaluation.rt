@@ -89,7 +89,7 @@ fn returned<'a>(
     let DefinitionKind::Function(function) = definitions.kind(at)? else {
         return None;
     };
-    match &function.body.as_slice().first()?.action {
+    match function.body.as_slice().first()?.action.get() {
         Action::Return(Some(value)) => {
             let wanted = function
                 .returns

@@ -107,7 +107,7 @@ fn entries_of(
     cells.values.push((NAMELESS, Value::Null))?;
     cells.timers.push((NAMELESS, TimerState::Running))?;
     for statement in statements {
-        cells.add(alloc, bare, &statement.action, names)?;
+        cells.add(alloc, bare, statement.action.get(), names)?;
     }
     Ok(cells)
 }
@@ -204,7 +204,7 @@ fn initial(
 
 /// What the first of these statements asks, or what assignments leave.
 fn asked(alloc: Global, frame: &Frame<'_>, statements: &[Statement]) -> Result<String, AllocError> {
-    match statements.first().map(|statement| &statement.action) {
+    match statements.first().map(|statement| statement.action.get()) {
         Some(Action::Return(Some(value))) => values_of(alloc, frame, value),
         Some(Action::If(conditionals, _)) => match conditionals.as_slice().first() {
             Some(conditional) => condition_of(alloc, frame, &conditional.condition),
@@ -308,7 +308,7 @@ fn left_by(
 ) -> Result<String, AllocError> {
     let mut held = None;
     for statement in statements {
-        let Action::Assign(assignment) = &statement.action else {
+        let Action::Assign(assignment) = statement.action.get() else {
             return String::from_str(alloc, "no assignment");
         };
         match assigned(alloc, definitions, held, assignment) {

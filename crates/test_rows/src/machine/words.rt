@@ -40,7 +40,7 @@ fn word_of_operation(operation: MapOperation) -> &'static str {
 
 /// What a statement does, in a word.
 fn word_of(statement: &Statement) -> &'static str {
-    match &statement.action {
+    match statement.action.get() {
         Action::Variables(_) => "var",
         Action::Constants(_) => "const",
         Action::Timers(_) => "timer",

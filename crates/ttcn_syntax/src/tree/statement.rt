@@ -9,7 +9,7 @@ use crate::{
 #[derive(PartialEq, Eq)]
 pub struct Statement {
     pub place: Span,
-    pub action: Action,
+    pub action: Boxed<Action>,
 }
 
 impl Drop for Statement {
@@ -178,7 +178,7 @@ pub struct Conditional {
 #[derive(Drop, PartialEq, Eq)]
 pub struct Branch {
     pub place: Span,
-    pub alternative: Alternative,
+    pub alternative: Boxed<Alternative>,
 }
 
 /// What a branch waits for, and the block behind it.

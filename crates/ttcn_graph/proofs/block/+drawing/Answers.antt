@@ -152,7 +152,7 @@ draw_statement-returns-in-Variables t c =
     ok-map c.draw_names.result (λ at. IsDrawn (at_site (site_before count old.site) old) new at (declared_before old.site s count rest))
     (λ at. (site : sites.Site) → old.site ≡ rules.site_after old.definitions site s → IsDrawn (at_site site old) new at (rules.items_of_statement old.definitions site s ++ rest))
     (λ at h site behind.
-    declared-drawn old new site s (Action-F.Variables vs) (sites.variable_entries (sites.scope_at old.definitions site) vs) count at rest (does-Variables s vs c.in-Variables.is) refl refl
+    declared-drawn old new site s (Action-F.Variables vs) (sites.variable_entries (sites.scope_at old.definitions site) vs) count at rest (does-Variables s vs (sym c.get.ensures ∙ c.in-Variables.is)) refl refl
     (length-map vs.variables (λ v. (v.name, meaning.Variable (resolved (sites.scope_at old.definitions site).names vs.type_name))) ∙ ap length (sym c.as_slice-variables.ensures)) behind h)
     c.draw_names.ensures
 
@@ -167,7 +167,7 @@ draw_statement-returns-in-Constants t c =
     ok-map c.draw_names-in-Constants.result (λ at. IsDrawn (at_site (site_before count old.site) old) new at (declared_before old.site s count rest))
     (λ at. (site : sites.Site) → old.site ≡ rules.site_after old.definitions site s → IsDrawn (at_site site old) new at (rules.items_of_statement old.definitions site s ++ rest))
     (λ at h site behind.
-    declared-drawn old new site s (Action-F.Constants cs) (sites.constant_entries (sites.scope_at old.definitions site) cs) count at rest (does-Constants s cs c.in-Constants.is) refl refl
+    declared-drawn old new site s (Action-F.Constants cs) (sites.constant_entries (sites.scope_at old.definitions site) cs) count at rest (does-Constants s cs (sym c.get.ensures ∙ c.in-Constants.is)) refl refl
     (length-map cs.constants (λ v. (v.name, meaning.Constant (resolved (sites.scope_at old.definitions site).names cs.type_name))) ∙ sym c.len.ensures) behind h)
     c.draw_names-in-Constants.ensures
 
@@ -182,7 +182,7 @@ draw_statement-returns-in-Timers t c =
     ok-map c.draw_names-in-Timers.result (λ at. IsDrawn (at_site (site_before count old.site) old) new at (declared_before old.site s count rest))
     (λ at. (site : sites.Site) → old.site ≡ rules.site_after old.definitions site s → IsDrawn (at_site site old) new at (rules.items_of_statement old.definitions site s ++ rest))
     (λ at h site behind.
-    declared-drawn old new site s (Action-F.Timers timers) (sites.timer_entries timers) count at rest (does-Timers s timers c.in-Timers.is) refl refl
+    declared-drawn old new site s (Action-F.Timers timers) (sites.timer_entries timers) count at rest (does-Timers s timers (sym c.get.ensures ∙ c.in-Timers.is)) refl refl
     (length-map timers (λ t. (t.name, meaning.Timer)) ∙ sym c.len-in-Timers.ensures) behind h)
     c.draw_names-in-Timers.ensures
 
