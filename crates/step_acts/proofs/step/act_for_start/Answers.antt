@@ -1,4 +1,4 @@
-use Rattle.std.proofs.Common.{ap, [], ◌∙◌}
+use Rattle.std.proofs.Common.{ap, [], sym, ◌∙◌}
 use Rattle.step_forms.proofs.Standing.{first-known, known-there}
 use Rattle.step_acts.proofs.step.act_for_start.Goals as goal
 use Rattle.semantics.specs.Items.{Start}
@@ -15,4 +15,4 @@ act_assign-requires-clause-known c =
     let start = for_start.Assign a in
     first-known ((s.snapshot.now).test.now).names a.target.name []
     (known-there s Start (Action-F.For start found.field-1 found.field-2 found.field-3) c.requires
-    (does-For s.statement.now start found.field-1 found.field-2 found.field-3 (found.is ∙ ap (λ first. form.For first found.field-1 found.field-2 found.field-3) c.in-Assign.is)))
+    (does-For s.statement.now start found.field-1 found.field-2 found.field-3 (sym c.get.ensures ∙ found.is ∙ ap (λ first. form.For first found.field-1 found.field-2 found.field-3) c.in-Assign.is)))

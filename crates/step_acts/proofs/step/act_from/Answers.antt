@@ -1,4 +1,4 @@
-use Rattle.std.proofs.Common.{List, subst}
+use Rattle.std.proofs.Common.{List, subst, sym, ◌∙◌}
 use Rattle.step_acts.proofs.Parts.{from-asks}
 use Rattle.step_acts.proofs.step.act_from.Goals as goal
 use Rattle.step_forms.specs.Asks.{Asks}
@@ -12,5 +12,5 @@ pub returns-in-If-clause-asks : goal.returns-in-If-clause-asks
 returns-in-If-clause-asks c =
     let s = c.args.stand.now in
     let st = s.statement.now in
-    from-asks s c.act_if.result c.args.place (Action-F.If c.in-If.conditionals c.in-If.last) (does-If st c.in-If.conditionals c.in-If.last c.in-If.is)
+    from-asks s c.act_if.result c.args.place (Action-F.If c.in-If.conditionals c.in-If.last) (does-If st c.in-If.conditionals c.in-If.last (sym c.get.ensures ∙ c.in-If.is))
     (subst (λ (cs : List Conditional). Asks (legend_of s) (said.act_if (stand_by s) (site_of s) st c.args.place cs c.in-If.last) c.act_if.result) c.as_slice.ensures c.act_if.ensures.asks)

@@ -96,10 +96,10 @@ choose_branch-returns-in-Ok-true t c site at same =
     let inner = c.args.inner.now in
     let guard = c.in-Event.guard in
     let block = items_if_any (test_of s).definitions site c.in-Event._block in
-    of-event s c.args.levels c.args.way site inner b guard c.in-Event.event c.in-Event._block c.choose_open.result c.in-Event.is
+    of-event s c.args.levels c.args.way site inner b guard c.in-Event.event c.in-Event._block c.choose_open.result (sym c.get.ensures ∙ c.in-Event.is)
     (guard-true s (Is c.args.way block) (guard_holds (reads s site inner) guard) (open_branch (test_of s) (judge_of s site inner) (out-Branch b).place (Some c.in-Event.event) block ∷ []) c.choose_open.result
     (c.in-Ok-true.ensures site at ∙ ap Yields c.in-Ok-true.field-0-test)
-    (c.choose_open.ensures site block at (facts-of-event s site b guard c.in-Event.event c.in-Event._block (event_by c.args.facts.now) c.in-Event.is same)))
+    (c.choose_open.ensures site block at (facts-of-event s site b guard c.in-Event.event c.in-Event._block (event_by c.args.facts.now) (sym c.get.ensures ∙ c.in-Event.is) same)))
 
 pub choose_branch-returns-in-Ok-false : goal.choose_branch-returns-in-Ok-false
 choose_branch-returns-in-Ok-false t c site at same =
@@ -108,7 +108,7 @@ choose_branch-returns-in-Ok-false t c site at same =
     let inner = c.args.inner.now in
     let guard = c.in-Event.guard in
     let block = items_if_any (test_of s).definitions site c.in-Event._block in
-    of-event s c.args.levels c.args.way site inner b guard c.in-Event.event c.in-Event._block (Ok None) c.in-Event.is
+    of-event s c.args.levels c.args.way site inner b guard c.in-Event.event c.in-Event._block (Ok None) (sym c.get.ensures ∙ c.in-Event.is)
     (guard-false s (guard_holds (reads s site inner) guard) (open_branch (test_of s) (judge_of s site inner) (out-Branch b).place (Some c.in-Event.event) block ∷ [])
     (c.in-Ok-false.ensures site at ∙ ap Yields c.in-Ok-false.field-0-test))
 
@@ -119,7 +119,7 @@ choose_branch-returns-in-Err t c site at same =
     let inner = c.args.inner.now in
     let guard = c.in-Event.guard in
     let block = items_if_any (test_of s).definitions site c.in-Event._block in
-    of-event s c.args.levels c.args.way site inner b guard c.in-Event.event c.in-Event._block (Err c.in-Err.fault) c.in-Event.is
+    of-event s c.args.levels c.args.way site inner b guard c.in-Event.event c.in-Event._block (Err c.in-Err.fault) (sym c.get.ensures ∙ c.in-Event.is)
     (guard-fault s (Is c.args.way block) (guard_holds (reads s site inner) guard) (open_branch (test_of s) (judge_of s site inner) (out-Branch b).place (Some c.in-Event.event) block ∷ []) c.in-Err.fault
     (c.in-Err.ensures site at))
 
@@ -131,7 +131,7 @@ choose_branch-returns-in-Ok-true-holds t c site at same =
     let guard = c.in-Call.guard in
     let call = c.in-Call.call in
     let block = items_if_any (test_of s).definitions site c.in-Call._block in
-    of-call s c.args.levels c.args.way site inner b guard call c.in-Call._block c.choose_call.result c.in-Call.is
+    of-call s c.args.levels c.args.way site inner b guard call c.in-Call._block c.choose_call.result (sym c.get.ensures ∙ c.in-Call.is)
     (guard-true s (Is c.args.way block) (guard_holds (reads s site inner) guard)
     (written_call (below c.args.levels s) (test_of s) (seen_by s) (own_by s) (judge_of s site inner) call block (altstep_meant (module_names (test_of s).definitions call.name))) c.choose_call.result
     (c.in-Ok-true-holds.ensures site at ∙ ap Yields c.in-Ok-true-holds.field-0-test)
@@ -145,7 +145,7 @@ choose_branch-returns-in-Ok-false-holds t c site at same =
     let guard = c.in-Call.guard in
     let call = c.in-Call.call in
     let block = items_if_any (test_of s).definitions site c.in-Call._block in
-    of-call s c.args.levels c.args.way site inner b guard call c.in-Call._block (Ok None) c.in-Call.is
+    of-call s c.args.levels c.args.way site inner b guard call c.in-Call._block (Ok None) (sym c.get.ensures ∙ c.in-Call.is)
     (guard-false s (guard_holds (reads s site inner) guard)
     (written_call (below c.args.levels s) (test_of s) (seen_by s) (own_by s) (judge_of s site inner) call block (altstep_meant (module_names (test_of s).definitions call.name)))
     (c.in-Ok-false-holds.ensures site at ∙ ap Yields c.in-Ok-false-holds.field-0-test))
@@ -158,7 +158,7 @@ choose_branch-returns-in-Err-holds t c site at same =
     let guard = c.in-Call.guard in
     let call = c.in-Call.call in
     let block = items_if_any (test_of s).definitions site c.in-Call._block in
-    of-call s c.args.levels c.args.way site inner b guard call c.in-Call._block (Err c.in-Err-holds.fault) c.in-Call.is
+    of-call s c.args.levels c.args.way site inner b guard call c.in-Call._block (Err c.in-Err-holds.fault) (sym c.get.ensures ∙ c.in-Call.is)
     (guard-fault s (Is c.args.way block) (guard_holds (reads s site inner) guard)
     (written_call (below c.args.levels s) (test_of s) (seen_by s) (own_by s) (judge_of s site inner) call block (altstep_meant (module_names (test_of s).definitions call.name))) c.in-Err-holds.fault
     (c.in-Err-holds.ensures site at))
@@ -170,7 +170,7 @@ choose_branch-returns-in-Else t c site at same =
     let inner = c.args.inner.now in
     let block = items (test_of s).definitions site c.in-Else._block in
     let P : Taken → Type 0 = λ taken. Finds s (Is c.args.way block) (first_of s (open_branch (test_of s) (judge_of s site inner) (out-Branch b).place None block ∷ [])) (Ok (Some taken)) in
-    of-else s c.args.levels c.args.way site inner b c.in-Else._block (Ok (Some c.taken.result)) c.in-Else.is
+    of-else s c.args.levels c.args.way site inner b c.in-Else._block (Ok (Some c.taken.result)) (sym c.get.ensures ∙ c.in-Else.is)
     (subst P (sym c.taken.ensures) (else-taken s (judge_of s site inner) (out-Branch b).place c.args.way block))
 
 -- ---- calls
