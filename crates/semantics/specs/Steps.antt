@@ -1,4 +1,5 @@
--- Steps of configurations: what a component asks for is done among all components, and running timers expire (ES 201 873-1, 12, 20 to 23, ES 201 873-4).
+-- Steps of configurations: what a component asks for is done among all components, running timers expire, and messages come in
+-- at system ports (ES 201 873-1, 12, 20 to 23, ES 201 873-4).
 use Rattle.std.specs.Prelude.{ℕ, ◌+◌, Bool, true, false, ◌&&◌, ◌||◌, not, List, [], ◌∷◌, ◌++◌, length, bytes_eq, nat_eq, slice_get, Option, Some, None, is_some, if◌then◌else◌}
 use Rattle.std.specs.List.{filter, flat_map, list_any}
 use Rattle.std.specs.Option.{option_and_then, option_map, unwrap_or}

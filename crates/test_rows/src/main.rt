@@ -4,13 +4,11 @@
 
 mod language;
 mod machine;
-mod memory;
 mod program;
 
 use anyhow::Result;
 use language::{checked, evaluated, parsed, scripted};
 use machine::answer_of_machine;
-use memory::try_all;
 use program::answer_of;
 use std::alloc::AllocError;
 use std::process::ExitCode;
@@ -18,6 +16,7 @@ use std::rt::Env;
 use std::thread::Threads;
 use std::{env, io};
 use test_corpus::{Settings, Subject, answer_files};
+use test_memory::try_all;
 
 struct Layers;
 

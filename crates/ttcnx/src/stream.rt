@@ -79,9 +79,8 @@ impl From<WriteError> for StreamFault {
 }
 
 /// Reads the text of a module, explores the runs of the test case of this name with a script, and writes the report, as text or
-/// as JSON. The
-/// plan is judged before the first read, and nothing is written before the whole report is there. Each failed call of the
-/// reader or the writer ends this one, an interruption too.
+/// as JSON. The plan is judged before the first read, and nothing is written before the whole report is there. Each failed call
+/// of the reader or the writer ends this one, an interruption too.
 #[tactic(auto, using(crate::proofs::Streams::one_text))]
 pub fn run_stream<R: Read, W: Write, G: Gate, T: Threads + Sync>(
     rt: &T,

@@ -31,7 +31,7 @@ pub(crate) type Shown = Both<Verdicts, Both<Branches<BranchPlace>, Blocked<Stand
 pub struct Exploration {
     /// How many configurations the runs reach, where those that go on alike count as one.
     pub configurations: u64,
-    /// Whether no longer run reaches another one.
+    /// Whether those that only runs of all steps reach have no step, so that no longer run reaches another one.
     pub complete: bool,
     /// For the number of each verdict the labels of the least of the shortest runs that end with it, if one does.
     pub best: Vec<Option<Vec<Label>>>,

@@ -1,6 +1,5 @@
 use Rattle.std.proofs.Common.{◌≡◌, inr, refl, sym, ap, subst}
 use Rattle.std.specs.Prelude.{◌⊎◌, Err}
-use Rattle.laws_live.specs.Parts.{CountsParts}
 use Rattle.semantics.specs.Snapshots.{Test}
 use Rattle.ttcnx.proofs.LeastAims.{found-is-least}
 use Rattle.ttcnx.proofs.Stages.{as-error}
@@ -44,5 +43,5 @@ returns-clause-answer g c =
     let machine = c.in_ok-machine.machine in
     let is = subst (λ (t : Test). IsTestOf (source c.args.text.now c.args.script.now) c.args.name.now t) (sym c.in_ok-machine.ensures) c.in_ok-program.ensures.named in
     let extent = c.in_ok-sights.ensures.extent in
-    inr (reached fine is extent.steps (subst (λ (t : Test). CountsParts t c.in_ok-sights.sights.extent.steps c.in_ok-sights.sights.extent.found.configurations) refl extent.found.configurations) extent.within extent.ended
+    inr (reached fine is extent.steps extent.found.configurations extent.within extent.ended
     (found-is-least {test = machine.test} c.in_ok-sights.sights c.args.aim refl c.reach-run.ensures c.in_ok-sights.ensures.places c.in_ok-sights.ensures.blocks))

@@ -1,10 +1,10 @@
 //! Each call with each of its requests for memory refused.
-use super::calls::{CALLS, Call, Maker, Refusal, Subjects};
-use super::refusals::{Answer, Ending, Order, Refused, can_refuse, end};
-use super::tables::{
+use crate::calls::{CALLS, Call, Maker, Refusal, Subjects};
+use crate::refusals::{Answer, Ending, Order, Refused, can_refuse, end};
+use crate::tables::{
     draws_without_memory, finish_table, new_board, new_table, places_without_memory,
 };
-use super::texts::{FINE_RUN_OF_RACE, RACE, RUN_OF_RACE, SENT};
+use crate::texts::{FINE_RUN_OF_RACE, RACE, RUN_OF_RACE, SENT};
 use anyhow::{Result, bail};
 use explore::{NoGate, Plan};
 use report::{read_fine, read_run};

@@ -1,8 +1,8 @@
 //! The calls that ask for memory, with what they are asked.
 ghost use Rattle.std.specs.Thread.{IsSync};
 
-use super::given::Given;
-use super::texts::{
+use crate::given::Given;
+use crate::texts::{
     FINE_RUN_OF_RACE, MAPPED, ONE, RACE, REPORT_ON_MAPPED, REPORT_ON_ONE, REPORT_ON_RACE,
     RUN_OF_RACE, SCRIPT,
 };

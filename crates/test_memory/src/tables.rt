@@ -1,5 +1,5 @@
 //! The calls of tables and boards: those that ask for memory, and those that ask for none.
-use super::refusals::{Answer, Ending, Order, Refused, end};
+use crate::refusals::{Answer, Ending, Order, Refused, end};
 use shared::{Board, Seen};
 use std::alloc::{AllocError, Global};
 use std::rt::Files;

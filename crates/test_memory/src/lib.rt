@@ -2,6 +2,8 @@
 //! memory.
 //!
 //! What refuses requests is put before the program by `tools/memory.py`. Without that each call is made once, with ample memory.
+#![tactic(auto)]
+
 mod calls;
 mod given;
 mod refusals;
