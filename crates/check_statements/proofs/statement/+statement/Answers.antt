@@ -54,21 +54,21 @@ block-returns-clause-around t c = c.leave.ensures.around (around c.args.scope.no
 pub branch-returns-in-Some-clause-found : goal.branch-returns-in-Some-clause-found
 branch-returns-in-Some-clause-found t c =
     rw (event-rest c.args.branch.now (place_with (view c.args.scope.now) c.args.place) (least_in c.args.found.now) c.in-Event.guard c.in-Event.event c.in-Event.body c.in-Some.body
-    c.in_ok-broken-in-Event.broken (least_in c.note.new.self) (place_with (view c.args.scope.now) c.inside_branch-inside.result) c.in-Event.is c.in-Some.is
+    c.in_ok-broken-in-Event.broken (least_in c.note.new.self) (place_with (view c.args.scope.now) c.inside_branch-inside.result) (sym c.get.ensures ∙ c.in-Event.is) c.in-Some.is
     (rw c.as_ref.ensures.value at c.in_ok-broken-in-Event.ensures) c.note.ensures (c.inside_branch-inside.ensures (view c.args.scope.now)))
     (rw c.as_slice.ensures at c.block.ensures.found)
 
 pub branch-returns-in-Some-body-clause-found : goal.branch-returns-in-Some-body-clause-found
 branch-returns-in-Some-body-clause-found t c =
     rw (call-rest c.args.branch.now (place_with (view c.args.scope.now) c.args.place) (least_in c.args.found.now) c.in-Call.guard c.in-Call.call c.in-Call.body c.in-Some-body.body
-    c.in_ok-broken-in-Call.broken (least_in c.note-in-Call.new.self) (place_with (view c.args.scope.now) c.inside_branch-inside.result) c.in-Call.is c.in-Some-body.is
+    c.in_ok-broken-in-Call.broken (least_in c.note-in-Call.new.self) (place_with (view c.args.scope.now) c.inside_branch-inside.result) (sym c.get.ensures ∙ c.in-Call.is) c.in-Some-body.is
     (rw c.as_ref-in-Call.ensures.value at c.in_ok-broken-in-Call.ensures) c.note-in-Call.ensures (c.inside_branch-inside.ensures (view c.args.scope.now)))
     (rw c.as_slice-in-Some-body.ensures at c.block-in-Some-body.ensures.found)
 
 pub branch-returns-in-Else-clause-found : goal.branch-returns-in-Else-clause-found
 branch-returns-in-Else-clause-found t c =
     rw (else-whole c.args.branch.now (place_with (view c.args.scope.now) c.args.place) (least_in c.args.found.now) c.in-Else.body
-    (place_with (view c.args.scope.now) c.inside_branch-inside.result) c.in-Else.is (c.inside_branch-inside.ensures (view c.args.scope.now)))
+    (place_with (view c.args.scope.now) c.inside_branch-inside.result) (sym c.get.ensures ∙ c.in-Else.is) (c.inside_branch-inside.ensures (view c.args.scope.now)))
     (rw c.as_slice-in-Else.ensures at c.block-in-Else.ensures.found)
 
 pub conditionals-loop-conditional-preserved : goal.conditionals-loop-conditional-preserved
@@ -85,24 +85,24 @@ conditionals-loop-conditional-preserved t c = record {
 
 pub statement-returns-in-Alt-clause-found : goal.statement-returns-in-Alt-clause-found
 statement-returns-in-Alt-clause-found t c =
-    rw (alt-whole c.args.statement.now (place_with (view c.args.scope.now) c.args.place) (least_in c.args.found.now) c.in-Alt.items c.in-Alt.is)
+    rw (alt-whole c.args.statement.now (place_with (view c.args.scope.now) c.args.place) (least_in c.args.found.now) c.in-Alt.items (sym c.get.ensures ∙ c.in-Alt.is))
     (rw c.as_slice.ensures at c.branches.ensures.found)
 
 pub statement-returns-in-Some-clause-found : goal.statement-returns-in-Some-clause-found
 statement-returns-in-Some-clause-found t c =
     rw (if-rest c.args.statement.now (place_with (view c.args.scope.now) c.args.place) (least_in c.args.found.now) c.in-If.items c.in-If.last c.in-Some.body (least_in c.conditionals.new.found)
-    c.in-If.is c.in-Some.is (rw c.as_slice-in-If.ensures at c.in_ok-conditionals-in-If.ensures.found))
+    (sym c.get.ensures ∙ c.in-If.is) c.in-Some.is (rw c.as_slice-in-If.ensures at c.in_ok-conditionals-in-If.ensures.found))
     (rw (c.as_slice-in-Some.ensures, c.in_ok-conditionals-in-If.ensures.view) at c.block.ensures.found)
 
 pub statement-returns-in-None-clause-found : goal.statement-returns-in-None-clause-found
 statement-returns-in-None-clause-found t c =
-    rw (if-whole c.args.statement.now (place_with (view c.args.scope.now) c.args.place) (least_in c.args.found.now) c.in-If.items c.in-If.last c.in-If.is c.in-None.is)
+    rw (if-whole c.args.statement.now (place_with (view c.args.scope.now) c.args.place) (least_in c.args.found.now) c.in-If.items c.in-If.last (sym c.get.ensures ∙ c.in-If.is) c.in-None.is)
     (rw c.as_slice-in-If.ensures at c.in_ok-conditionals-in-If.ensures.found)
 
 pub statement-returns-in-While-clause-found : goal.statement-returns-in-While-clause-found
 statement-returns-in-While-clause-found t c =
     rw (while-rest c.args.statement.now (place_with (view c.args.scope.now) c.args.place) (least_in c.args.found.now) c.in-While.condition c.in-While.body
-    c.check_condition.result (least_in c.note.new.self) c.in-While.is c.check_condition.ensures c.note.ensures)
+    c.check_condition.result (least_in c.note.new.self) (sym c.get.ensures ∙ c.in-While.is) c.check_condition.ensures c.note.ensures)
     (rw c.as_slice-in-While.ensures at c.block-in-While.ensures.found)
 
 pub statement-returns-in_ok-block-in-DoWhile-clause-found : goal.statement-returns-in_ok-block-in-DoWhile-clause-found
@@ -110,18 +110,18 @@ statement-returns-in_ok-block-in-DoWhile-clause-found t c =
     c.note-in-DoWhile.ensures
     ∙ ap (both (least_in c.block-in-DoWhile.new.found)) (rw c.in_ok-block-in-DoWhile.ensures.view at c.check_condition-in-DoWhile.ensures)
     ∙ sym (do_while-rest c.args.statement.now (place_with (view c.args.scope.now) c.args.place) (least_in c.args.found.now) c.in-DoWhile.body c.in-DoWhile.condition
-    (least_in c.block-in-DoWhile.new.found) c.in-DoWhile.is (rw c.as_slice-in-DoWhile.ensures at c.in_ok-block-in-DoWhile.ensures.found))
+    (least_in c.block-in-DoWhile.new.found) (sym c.get.ensures ∙ c.in-DoWhile.is) (rw c.as_slice-in-DoWhile.ensures at c.in_ok-block-in-DoWhile.ensures.found))
 
 pub statement-returns-in_ok-block-in-For-clause-found : goal.statement-returns-in_ok-block-in-For-clause-found
 statement-returns-in_ok-block-in-For-clause-found t c =
     rw (c.as_slice-in-For.ensures, c.in_ok-head-in-For.ensures.view, c.in_ok-enter-in-For.ensures.view) at c.in_ok-block-in-For.ensures.found
     ∙ sym (for-rest c.args.statement.now (place_with (view c.args.scope.now) c.args.place) (least_in c.args.found.now) c.in-For.start c.in-For.condition c.in-For.step c.in-For.body
-    c.in_ok-head-in-For.head (least_in c.note-in-For.new.self) c.in-For.is (rw c.in_ok-enter-in-For.ensures.view at c.in_ok-head-in-For.ensures.broken) c.note-in-For.ensures)
+    c.in_ok-head-in-For.head (least_in c.note-in-For.new.self) (sym c.get.ensures ∙ c.in-For.is) (rw c.in_ok-enter-in-For.ensures.view at c.in_ok-head-in-For.ensures.broken) c.note-in-For.ensures)
 
 pub statement-returns-in_ok-block-in-For-clause-view : goal.statement-returns-in_ok-block-in-For-clause-view
 statement-returns-in_ok-block-in-For-clause-view t c =
     let around_is = c.in_ok-block-in-For.ensures.around ∙ c.in_ok-head-in-For.ensures.around ∙ c.in_ok-enter-in-For.ensures.around in
-    rw (behind-is-for c.args.statement.now c.in-For.start c.in-For.condition c.in-For.step c.in-For.body c.in-For.is)
+    rw (behind-is-for c.args.statement.now c.in-For.start c.in-For.condition c.in-For.step c.in-For.body (sym c.get.ensures ∙ c.in-For.is))
     (left-seen c.args.scope.now c.leave.new.self (c.leave.ensures.around (around c.args.scope.now) c.args.scope.now.locals around_is)
     (c.leave.ensures.locals (around c.args.scope.now) c.args.scope.now.locals around_is))
 
