@@ -68,7 +68,7 @@ module _ {C L S : Type 0} (g : Graph C L) (cmp : L → L → Ordering) (eq : C �
     -- no run ends with the mark that no state has
     no-mark : {mark : ℕ} {run : Run L} → IsUnmarked g (drop e.from e.visited.states.keys) stops.at_mark → stops.at_mark ≡ Some mark → HasMark g e.steps mark run → ⊥
     no-mark {mark} {run} unmarked wanted has =
-        best-is g cmp eq F lawful j r laws e.steps e.visited.states.keys e.visited.steps.items e.from e.summary is.found mark None
+        best-is g cmp eq F lawful j r laws e.steps e.visited.states.keys e.visited.steps e.from e.summary is.found mark None
         (unmarked-both g e.visited.states.keys e.from stops.at_mark is.unmarked unmarked mark wanted) run has
 
     stopped-for : (why : Ending) → IsReason g stops e quiet why → HasStopped g j r eq plan stops e.visited.states.keys e.from e.steps why
@@ -77,7 +77,7 @@ module _ {C L S : Type 0} (g : Graph C L) (cmp : L → L → Ordering) (eq : C �
     stopped-for why (kept unmarked not) = is.stopped
 
     may-for : (why : Ending) → IsReason g stops e quiet why → MayEnd g plan stops e.steps why
-    may-for why reason = may-end e.steps e.visited.states.keys e.visited.steps.items e.from e.summary is.found why (stopped-for why reason)
+    may-for why reason = may-end e.steps e.visited.states.keys e.visited.steps e.from e.summary is.found why (stopped-for why reason)
 
     comes-first : (why : Ending) → IsReason g stops e quiet why → (other : Ending) → MayEnd g plan stops e.steps other → rank why ≤ rank other
     comes-first why (marked m) other may = omega arith
@@ -88,14 +88,14 @@ module _ {C L S : Type 0} (g : Graph C L) (cmp : L → L → Ordering) (eq : C �
     comes-first why (kept unmarked not) other (told.all_done done) = at-most-last e.ending
     comes-first why (kept unmarked not) other (told.at_limit also early counts many) = none-is-left e.steps e.ending (may-for e.ending (kept unmarked not)) early
     comes-first why (kept unmarked not) other (told.complete also all) =
-        let all_quiet : quiet ≡ true = exact.1 ((complete-is g cmp eq F lawful j r laws e.steps e.visited.states.keys e.visited.steps.items e.from e.summary is.found).1 all) in
+        let all_quiet : quiet ≡ true = exact.1 ((complete-is g cmp eq F lawful j r laws e.steps e.visited.states.keys e.visited.steps e.from e.summary is.found).1 all) in
         absurd (true≢false ((λ i. sym also i && sym all_quiet i) ∙ not))
     comes-first why (kept unmarked not) other (told.at_mark wanted has) = absurd (no-mark unmarked wanted has)
 
     pub ends : (why : Ending) → IsReason g stops e quiet why → HasEnded g plan stops e.steps why
     ends why reason = record {
       may = may-for why reason;
-      least = no-sooner e.steps e.visited.states.keys e.visited.steps.items e.from e.summary is.found is.within is.steps is.led_on is.unmarked;
+      least = no-sooner e.steps e.visited.states.keys e.visited.steps e.from e.summary is.found is.within is.steps is.led_on is.unmarked;
       first = comes-first why reason;
     }
 

@@ -1,8 +1,8 @@
 -- The candidates that threads find of parts of a layer, joined in order, are the layer's, of which some that are late have no state.
-use Rattle.std.proofs.Common.{◌≡◌, ℕ, suc, ◌+◌, ◌<◌, List, [], ◌∷◌, ◌++◌, length, get_or, map, drop, ap, sym, refl, subst, ◌∙◌, arith}
+use Rattle.std.proofs.Common.{◌≡◌, ℕ, suc, ◌+◌, ◌<◌, List, [], ◌∷◌, ◌++◌, length, map, drop, ap, sym, refl, subst, ◌∙◌, arith}
 use Rattle.std.specs.Prelude.{Ok, Err, Option, None, Some, Result, IfOk, IfSome, MatchResult, Contains, All, slice_get, slice_index_or}
 use Rattle.std.specs.List.{AllZip, range_with_len}
-use Rattle.std.proofs.lemmas.List.{get_or-drop, get_or_default}
+use Rattle.std.proofs.lemmas.List.{get_or-drop}
 use Rattle.std.proofs.lemmas.List.Elements.{All-get_or}
 use Rattle.std.proofs.lemmas.Option.{get_or_from_slice_get, slice_get_within}
 use Rattle.std.specs.declared.alloc.AllocError.{AllocError}
@@ -32,10 +32,6 @@ module _ {A B : Type 0} (R : A → B → Type 0) where
 module _ {C L : Type 0} (g : Graph C L) (cmp : L → L → Ordering) (states : List C) (steps : List (Option (Step L))) where
   abbrev Given : ℕ → L × Option C → Type 0
   Given at p = IsUnlessLate g states steps cmp at (g.after (slice_index_or states at g.first) p.0) p.1
-
-  -- the last step of a kept state
-  pub last-step : (at : ℕ) (o : Option (Step L)) (step : Step L) → at < length steps → o ≡ get_or steps at o → o ≡ Some step → step_at steps at ≡ Some step
-  last-step at o step low there is = get_or_default steps at None o low ∙ sym there ∙ is
 
   module _ (at : ℕ) (here : C) (is : slice_get states at ≡ Some here) where
     standing : slice_index_or states at g.first ≡ here

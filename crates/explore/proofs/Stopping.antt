@@ -190,7 +190,7 @@ module _ {C L : Type 0} (g : Graph C L) where
     module _ (F : C → Type 0) (plan : Plan) (stops : Stops) where
       -- the search ends with what it found, for a reason
       pub ended-here : (e d : Explored C L S) (layer : ℕ) (why : Ending) → d ≡ record e { ending = why }
-          → as_found e.visited.states.keys e.visited.steps.items e.from e.summary ≡ found_after g j r eq layer
+          → as_found e.visited.states.keys e.visited.steps e.from e.summary ≡ found_after g j r eq layer
           → All F e.visited.states.keys → length e.visited.states.keys ≤ plan.limit → e.from ≤ length e.visited.states.keys → e.steps ≡ layer → layer ≤ plan.steps
           → ((k : ℕ) → k < layer → ¬ IsQuiet g (found_after g j r eq k)) → IsUnmarked g (take e.from e.visited.states.keys) stops.at_mark
           → HasStopped g j r eq plan stops e.visited.states.keys e.from layer why → IsEnd g j r eq F plan stops d
@@ -207,7 +207,7 @@ module _ {C L : Type 0} (g : Graph C L) where
 
       -- behind a layer without candidates the search ends as it is to end
       pub finishes : (e : Explored C L S) (layer : ℕ) (cs : List (Candidate C L)) → layer < plan.steps
-          → as_found e.visited.states.keys e.visited.steps.items e.from e.summary ≡ found_after g j r eq layer
+          → as_found e.visited.states.keys e.visited.steps e.from e.summary ≡ found_after g j r eq layer
           → All F e.visited.states.keys → length e.visited.states.keys ≤ plan.limit → e.from ≤ length e.visited.states.keys → e.steps ≡ layer → e.ending ≡ ending.Steps
           → ((k : ℕ) → k < layer → ¬ IsQuiet g (found_after g j r eq k)) → IsUnmarked g (take e.from e.visited.states.keys) stops.at_mark → IsUnmarked g (drop e.from e.visited.states.keys) stops.at_mark
           → cs ≡ layer_candidates g e.from (drop e.from e.visited.states.keys) → cs ≡ [] → IsEnd g j r eq F plan stops (finished_by plan stops e)
@@ -226,7 +226,7 @@ module _ {C L : Type 0} (g : Graph C L) where
             unmarked = before;
           }
           by-case false go = record {
-            found = nothing-more layer plan.steps e.from e.visited.states.keys e.visited.steps.items e.summary cs below is cs_are none;
+            found = nothing-more layer plan.steps e.from e.visited.states.keys e.visited.steps e.summary cs below is cs_are none;
             fits = fits;
             within = within;
             from = omega arith;

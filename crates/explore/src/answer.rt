@@ -13,7 +13,7 @@ use crate::layers::{Explored, is_marked, search};
 use crate::runs::{first_marked, is_quiet, run_to};
 use crate::sightings::{Sighting, noted_states, noted_steps, runs_by, runs_to};
 use crate::watched::Watched;
-use search_layer::{ExploreError, Gate, Plan, Sparing, Step, Visited};
+use search_layer::{ExploreError, Gate, Lasts, Plan, Sparing, Visited};
 use std::alloc::{AllocError, Global};
 use std::thread::Threads;
 use summary::{Summary, System};
@@ -178,7 +178,7 @@ fn sighted_events<Y: Watched, U: Summary<Y>>(
 {
     let visited = &explored.visited;
     let noted = noted_steps(alloc, system, &visited.states, explored.from)?;
-    runs_by(alloc, system, visited.steps.as_slice(), noted)
+    runs_by(alloc, system, &visited.steps, noted)
 }
 
 /// What the states show that a search found, with the least runs that end in them.
@@ -192,7 +192,7 @@ fn sighted_stands<Y: Watched, U: Summary<Y>>(
 {
     let visited = &explored.visited;
     let noted = noted_states(alloc, system, &visited.states)?;
-    runs_to(alloc, system, visited.steps.as_slice(), noted)
+    runs_to(alloc, system, &visited.steps, noted)
 }
 
 /// What a search answers.
@@ -260,16 +260,16 @@ fn best_runs<Y: System>(
     visited: &Visited<Y::State, Y::Label>,
 ) -> Result<Vec<Option<Vec<Y::Label>>>, AllocError>
     requires fits { All (Y.fits system.now) visited.now.states.keys }
-    requires as_many { length visited.now.steps.items ≡ length visited.now.states.keys }
-    requires back { GoBack visited.now.steps.items }
+    requires as_many { length visited.now.steps ≡ length visited.now.states.keys }
+    requires back { GoBack visited.now.steps }
     ensures eight { IfOk result (λ best. length best.items ≡ 8) }
     ensures each { IfOk result (λ best. (mark : ℕ) → mark < 8
-        → IsKept (Y.graph system.now) visited.now.states.keys visited.now.steps.items mark (slice_index_or best.items mark None)) }
+        → IsKept (Y.graph system.now) visited.now.states.keys visited.now.steps mark (slice_index_or best.items mark None)) }
 {
     let places = first_marked(system, &visited.states);
     let mut best = Vec::new(alloc);
     for place in &places {
-        best.push(run_kept(alloc, system, visited.steps.as_slice(), *place)?)?;
+        best.push(run_kept(alloc, system, &visited.steps, *place)?)?;
     }
     Ok(best)
 }
@@ -278,7 +278,7 @@ fn best_runs<Y: System>(
 fn run_kept<Y: System>(
     alloc: Global,
     system: &Y,
-    steps: &[Option<Step<Y::Label>>],
+    steps: &Lasts<Y::Label>,
     place: Option<usize>,
 ) -> Result<Option<Vec<Y::Label>>, AllocError>
     requires place { IfSome place (λ place. place < length steps.now) }

@@ -4,7 +4,7 @@ ghost use Rattle.search_layer.specs.internal.Search.{layer_candidates};
 ghost use Rattle.explore.specs.internal.Expansion.{all_given, candidates_with, candidates_in, AreKept, AreThinOf, IsExpanded};
 
 use rayon::prelude::*;
-use search_layer::{Candidate, Sparing, Step};
+use search_layer::{Candidate, Lasts, Sparing};
 use search_shards::{ShardedSet, number_of};
 use std::alloc::{AllocError, Global};
 use std::thread::Threads;
@@ -86,7 +86,7 @@ pub fn expand_layer<Y: Sparing, R: Threads + Sync>(
     alloc: Global,
     system: &Y,
     states: &ShardedSet<Y::State>,
-    steps: &[Option<Step<Y::Label>>],
+    steps: &Lasts<Y::Label>,
     from: usize,
 ) -> Result<Vec<Candidate<Option<Y::State>, Y::Label>>, AllocError>
     requires fits { All (Y.fits system.now) states.now.keys }
@@ -104,7 +104,7 @@ pub fn expand_layer<Y: Sparing, R: Threads + Sync>(
             {
                 let number = number_of(place)?;
                 let state = &states[place];
-                let successors = match &steps[place] {
+                let successors = match steps.at(place) {
                     Some(step) => {
                         let before = &states[step.before as usize];
                         system.sparing_successors(alloc, state, before, &step.label)?

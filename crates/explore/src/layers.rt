@@ -7,7 +7,7 @@ ghost use Rattle.explore.specs.internal.Stopped.{HasNoRoom, IsEnd, IsMarked, IsU
 use crate::ending::{Ending, Stops};
 use crate::expand::expand_layer;
 use search_layer::{
-    Candidate, ExploreError, Firsts, Gate, Plan, Sparing, Visited, enter_layer, find_first,
+    Candidate, ExploreError, Firsts, Gate, Lasts, Plan, Sparing, Visited, enter_layer, find_first,
     show_states,
 };
 use search_shards::ShardedSet;
@@ -45,8 +45,8 @@ fn place_layer<Y: System, U: Summary<Y>, R: Threads + Sync>(
     requires candidates { (all : List (Candidate Y.State Y.Label)) × AreAll (Y.graph system.now) U.joins (U.observation system.now) Y.State.eq (Y.fits system.now)
         explored.visited.states.keys candidates.items firsts.positions.items firsts.shown all }
     ensures placed { IfOk result (λ e. (all : List (Candidate Y.State Y.Label)) → AreAll (Y.graph system.now) U.joins (U.observation system.now) Y.State.eq (Y.fits system.now)
-        explored.visited.states.keys candidates.items firsts.positions.items firsts.shown all → (from : ℕ) → as_found e.visited.states.keys e.visited.steps.items from e.summary
-        ≡ place_all U.joins (U.observation system.now) Y.State.eq (as_found explored.visited.states.keys explored.visited.steps.items from
+        explored.visited.states.keys candidates.items firsts.positions.items firsts.shown all → (from : ℕ) → as_found e.visited.states.keys e.visited.steps from e.summary
+        ≡ place_all U.joins (U.observation system.now) Y.State.eq (as_found explored.visited.states.keys explored.visited.steps from
         (with_steps U.joins (U.observation system.now) (Y.graph system.now) explored.visited.states.keys explored.summary all)) all) }
     ensures from { IfOk result (λ e. e.from ≡ length explored.visited.states.keys) }
     ensures steps { IfOk result (λ e. e.steps ≡ explored.steps + 1) }
@@ -196,7 +196,7 @@ pub fn search<Y: Sparing, U: Summary<Y>, G: Gate, R: Threads + Sync>(
             return Ok(ended(explored, Ending::Mark));
         }
         let states = &explored.visited.states;
-        let steps = explored.visited.steps.as_slice();
+        let steps = &explored.visited.steps;
         let candidates = expand_layer(rt, alloc, system, states, steps, explored.from)?;
         if are_none(&candidates) {
             return Ok(finished(explored, plan, stops));
@@ -232,7 +232,7 @@ fn begin_search<Y: System, U: Summary<Y>>(
 ) -> Result<Explored<Y::State, Y::Label, U>, AllocError>
     requires { 0 < workers }
     ensures states { IfOk result (λ s. s.visited.states.keys ≡ (Y.graph system.now).first ∷ []) }
-    ensures lasts { IfOk result (λ s. s.visited.steps.items ≡ None ∷ []) }
+    ensures lasts { IfOk result (λ s. s.visited.steps ≡ None ∷ []) }
     ensures from { IfOk result (λ s. s.from ≡ 0) }
     ensures summary { IfOk result (λ s. s.summary ≡ (U.observation system.now).at (Y.graph system.now).first) }
     ensures steps { IfOk result (λ s. s.steps ≡ 0) }
@@ -243,10 +243,11 @@ fn begin_search<Y: System, U: Summary<Y>>(
     let mut states = ShardedSet::new(alloc, workers as usize)?;
     let shard = states.shard_of(&first);
     states.push(shard, first)?;
-    let mut steps = Vec::new(alloc);
-    steps.push(None)?;
     Ok(Explored {
-        visited: Visited { states, steps },
+        visited: Visited {
+            states,
+            steps: Lasts::new(alloc),
+        },
         from: 0,
         summary,
         steps: 0,

@@ -2,7 +2,7 @@ ghost use Rattle.std.specs.Prelude.{◌≡◌, ◌↔◌, ◌<◌, ◌≤◌, []
 ghost use Rattle.summary.specs.Run.{Run, labels_of};
 ghost use Rattle.explore.specs.internal.Tied.{GoBack, AreLastSteps, run_at, AreFirstMarked};
 
-use search_layer::Step;
+use search_layer::Lasts;
 use search_shards::ShardedSet;
 use std::alloc::{AllocError, Global};
 use summary::System;
@@ -64,7 +64,7 @@ pub fn first_marked<Y: System>(system: &Y, states: &ShardedSet<Y::State>) -> [Op
 pub fn run_to<Y: System>(
     alloc: Global,
     system: &Y,
-    steps: &[Option<Step<Y::Label>>],
+    steps: &Lasts<Y::Label>,
     place: usize,
 ) -> Result<Vec<Y::Label>, AllocError>
     requires place { place < length steps.now }
@@ -73,7 +73,7 @@ pub fn run_to<Y: System>(
 {
     let mut labels = Vec::new(alloc);
     let mut at = place;
-    while let Some(step) = &steps[at] {
+    while let Some(step) = steps.at(at) {
         labels.push(system.copy(alloc, &step.label)?)?;
         at = step.before as usize;
     }

@@ -7,7 +7,7 @@ ghost use Rattle.summary.specs.Run.{Run};
 
 use crate::runs::run_to;
 use crate::watched::Watched;
-use search_layer::Step;
+use search_layer::{Lasts, Step};
 use search_shards::{ShardedSet, number_of};
 use std::alloc::{AllocError, Global};
 
@@ -104,7 +104,7 @@ pub(crate) fn noted_states<Y: Watched>(
 pub(crate) fn runs_by<Y: Watched>(
     alloc: Global,
     system: &Y,
-    steps: &[Option<Step<Y::Label>>],
+    steps: &Lasts<Y::Label>,
     noted: Vec<Noted<Y::Event, Step<Y::Label>>>,
 ) -> Result<Vec<Sighting<Y::Event, Y::Label>>, AllocError>
     requires within { All (λ m. m.at.before < length steps.now) noted.items }
@@ -126,7 +126,7 @@ pub(crate) fn runs_by<Y: Watched>(
 pub(crate) fn runs_to<Y: Watched>(
     alloc: Global,
     system: &Y,
-    steps: &[Option<Step<Y::Label>>],
+    steps: &Lasts<Y::Label>,
     noted: Vec<Noted<Y::Stand, usize>>,
 ) -> Result<Vec<Sighting<Y::Stand, Y::Label>>, AllocError>
     requires within { All (λ m. m.at < length steps.now) noted.items }

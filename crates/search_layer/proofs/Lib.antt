@@ -2,6 +2,7 @@ pub mod AllWorked
 pub mod Drawing
 pub mod Joining
 pub mod Known
+pub mod LastSteps
 pub mod Newly
 pub mod NotFirst
 pub mod Placing

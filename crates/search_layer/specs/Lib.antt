@@ -1,3 +1,4 @@
+pub mod Lasts
 pub mod Late
 pub mod Limits
 pub mod internal

@@ -49,7 +49,7 @@ pub fn enter_first<S: Eq + Hash + Send + Drop, L: Send + Drop>(
     ensures states { OnOk result ((all : List (Candidate S L)) → AreThinned S.eq visited.old.states.keys all candidates.items → AreFirst S.eq visited.old.states.keys all firsts.now
         → visited.new.states.keys ≡ visited.old.states.keys ++ map state_of (newly S.eq visited.old.states.keys all)) }
     ensures steps { OnOk result ((all : List (Candidate S L)) → AreThinned S.eq visited.old.states.keys all candidates.items → AreFirst S.eq visited.old.states.keys all firsts.now
-        → visited.new.steps.items ≡ visited.old.steps.items ++ map step_of (newly S.eq visited.old.states.keys all)) }
+        → visited.new.steps ≡ visited.old.steps ++ map step_of (newly S.eq visited.old.states.keys all)) }
 {
     let mut next = 0;
     let mut at: u64 = 0;
@@ -80,7 +80,7 @@ pub fn enter_layer<S: Eq + Hash + Send + Sync + Drop, L: Send + Sync + Drop, R: 
     ensures states { IfOk result (λ entered. (all : List (Candidate S L)) → AreThinned S.eq visited.states.keys all candidates.items → AreFirst S.eq visited.states.keys all firsts.now
         → entered.states.keys ≡ visited.states.keys ++ map state_of (newly S.eq visited.states.keys all)) }
     ensures steps { IfOk result (λ entered. (all : List (Candidate S L)) → AreThinned S.eq visited.states.keys all candidates.items → AreFirst S.eq visited.states.keys all firsts.now
-        → entered.steps.items ≡ visited.steps.items ++ map step_of (newly S.eq visited.states.keys all)) }
+        → entered.steps ≡ visited.steps ++ map step_of (newly S.eq visited.states.keys all)) }
     ensures within { IfOk result (λ entered. length entered.states.keys ≤ plan.now.limit) }
     ensures too_many { IsErrOf result ExploreError.TooMany → (all : List (Candidate S L)) → AreThinned S.eq visited.states.keys all candidates.items → AreFirst S.eq visited.states.keys all firsts.now
         → plan.now.limit < length (visited.states.keys ++ map state_of (newly S.eq visited.states.keys all)) }

@@ -2,6 +2,7 @@
 #![tactic(auto)]
 
 mod entering;
+mod lasts;
 mod plan;
 mod showing;
 mod sparing;
@@ -9,6 +10,7 @@ mod visited;
 mod workers;
 
 pub use entering::enter_layer;
+pub use lasts::Lasts;
 pub use plan::{ExploreError, Gate, NoGate, Plan};
 pub use showing::show_states;
 pub use sparing::Sparing;

@@ -2,6 +2,7 @@ ghost use Rattle.std.specs.Prelude.{◌≡◌, ◌∷◌, [], ◌++◌, None, So
 ghost use Rattle.std.specs.List.{list_any};
 ghost use Rattle.search_shards.specs.Sharded.{shard_of};
 
+use crate::lasts::Lasts;
 use search_shards::ShardedSet;
 use std::alloc::AllocError;
 use std::hash::{Hash, Hasher};
@@ -85,7 +86,7 @@ impl<S, L> Candidate<Option<S>, L> {
 #[derive(Drop)]
 pub struct Visited<S: Eq + Hash, L> {
     pub states: ShardedSet<S>,
-    pub steps: Vec<Option<Step<L>>>,
+    pub steps: Lasts<L>,
 }
 
 impl<S: Eq + Hash + Send + Drop, L: Send + Drop> Visited<S, L> {
@@ -94,7 +95,7 @@ impl<S: Eq + Hash + Send + Drop, L: Send + Drop> Visited<S, L> {
         requires shard { shard ≡ shard_of S.hash_input self.old.states.shards candidate.state }
         requires new { list_any (S.eq candidate.state) self.old.states.keys ≡ false }
         ensures states { OnOk result (self.new.states.keys ≡ self.old.states.keys ++ candidate.state ∷ []) }
-        ensures steps { OnOk result (self.new.steps.items ≡ self.old.steps.items ++ Some (record { before = candidate.before; label = candidate.label }) ∷ []) }
+        ensures steps { OnOk result (self.new.steps ≡ self.old.steps ++ Some (record { before = candidate.before; label = candidate.label }) ∷ []) }
         ensures shards { self.new.states.shards ≡ self.old.states.shards }
     {
         let Candidate {
@@ -103,7 +104,7 @@ impl<S: Eq + Hash + Send + Drop, L: Send + Drop> Visited<S, L> {
             state,
         } = candidate;
         self.states.push(shard, state)?;
-        self.steps.push(Some(Step { before, label }))?;
+        self.steps.push(Step { before, label })?;
         Ok(())
     }
 

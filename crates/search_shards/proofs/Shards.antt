@@ -1,41 +1,18 @@
 -- The values that shards keep.
-use Rattle.std.proofs.Common.{◌≡◌, ◌≢◌, ℕ, zero, suc, ◌<◌, Bool, true, false, ◌||◌, cond, List, [], ◌∷◌, ◌++◌, All, filter, map, length, get_or, Result, Ok, IfOk, set, nat_eq, refl, sym, ap, subst, ◌∙◌, append-nil, append_assoc, if◌then◌else◌, length-append, length-set, eqb-true, eq-eqb, arith}
+use Rattle.std.proofs.Common.{◌≡◌, ◌≢◌, ℕ, zero, suc, ◌<◌, Bool, true, false, ◌||◌, cond, List, [], ◌∷◌, ◌++◌, All, filter, map, length, get_or, Result, Ok, IfOk, set, nat_eq, refl, sym, ap, subst, ◌∙◌, append-nil, append_assoc, length-append, length-set, eqb-true, eq-eqb, arith}
 use Rattle.std.proofs.Math.Nat.{mod-lt}
 use Rattle.std.proofs.lemmas.Bool.{eqb-false, ne_eqb}
 use Rattle.std.proofs.lemmas.Grind.{flat_map-append}
 use Rattle.std.proofs.lemmas.List.{length-map, get_or-set_same, get_or-set_other}
-use Rattle.std.proofs.lemmas.List.Elements.{All-get_or, All-from_get_or, All-from_recursion, recursion_from_All, All-weaker, All-filter, All-push, All-nil, filter-append}
-use Rattle.std.proofs.lemmas.Map.Keys.{IsDistinct-head, IsDistinct-tail, IsDistinct-cons, IsDistinct-push}
-use Rattle.std.proofs.Math.Seq.{get_or-append_seam}
+use Rattle.std.proofs.lemmas.List.Elements.{All-weaker, All-push, All-nil, filter-append}
+use Rattle.std.proofs.lemmas.Map.Keys.{IsDistinct-push}
 use Rattle.std.specs.Cmp.{IsEquivalence}
-use Rattle.std.specs.List.{list_any, IsDistinct, AllByRecursion}
-use Rattle.indexmap.specs.IndexSet.{insert_key}
+use Rattle.std.specs.List.{list_any, IsDistinct}
 use Rattle.search_shards.specs.Sharded.{shard_of}
 use Rattle.search_shards.specs.internal.Places.{Position, one_at, value_at, values_in, IsHeld, IsSharded}
 use Rattle.search_shards.proofs.Values.{one_at-append, one_at-end, values_in-same}
 
 module _ {T : Type 0} where
-  -- a filter keeps values apart
-  pub IsDistinct-filter : (eq : T → T → Bool) (p : T → Bool) (xs : List T) → IsDistinct eq xs → IsDistinct eq (filter p xs)
-  IsDistinct-filter eq p [] apart = apart
-  IsDistinct-filter eq p (x ∷ xs) apart = by (IsDistinct-filter eq p xs (IsDistinct-tail eq x xs apart)) (p x) refl
-    where
-      by : IsDistinct eq (filter p xs) → (b : Bool) → p x ≡ b → IsDistinct eq (cond (p x) (x ∷ filter p xs) (filter p xs))
-      by rest true e = subst (λ (b : Bool). IsDistinct eq (cond b (x ∷ filter p xs) (filter p xs))) (sym e)
-          (IsDistinct-cons eq x (filter p xs) (recursion_from_All _ (filter p xs) (All-filter p (λ y. eq x y ≡ false) xs (All-from_recursion _ xs (IsDistinct-head eq x xs apart)))) rest)
-      by rest false e = subst (λ (b : Bool). IsDistinct eq (cond b (x ∷ filter p xs) (filter p xs))) (sym e) rest
-
-  -- a value is not equal to one before it
-  pub none-before : (eq : T → T → Bool) → IsEquivalence eq → (xs ys : List T) (x : T) → IsDistinct eq (xs ++ x ∷ ys) → list_any (eq x) xs ≡ false
-  none-before eq laws [] ys x apart = refl
-  none-before eq laws (z ∷ zs) ys x apart =
-      let here : eq x z ≡ false = laws.symm x z ∙ at zs (IsDistinct-head eq z (zs ++ x ∷ ys) apart) in
-      λ i. here i || none-before eq laws zs ys x (IsDistinct-tail eq z (zs ++ x ∷ ys) apart) i
-    where
-      at : (ws : List T) → AllByRecursion (λ y. eq z y ≡ false) (ws ++ x ∷ ys) → eq z x ≡ false
-      at [] h = h.0
-      at (w ∷ ws) h = at ws h.1
-
   -- a value is looked for among those of its class alone
   module _ (eq : T → T → Bool) (h : T → ℕ) (q : T) (alike : (x : T) → eq q x ≡ true → h x ≡ h q) where
     pub list_any-filter : (xs : List T) → list_any (eq q) (filter (λ x. nat_eq (h x) (h q)) xs) ≡ list_any (eq q) xs
@@ -73,11 +50,6 @@ module _ {T : Type 0} (eq : T → T → Bool) (input : T → List (List ℕ)) wh
         ap (λ (m : ℕ). list_any (eq q) (get_or shards m [])) is
         ∙ ap (list_any (eq q)) (kept.each (shard_of input (length shards) q) (mod-lt _ kept.some))
         ∙ list_any-filter eq (shard_of input (length shards)) q (λ x e. ap (λ (w : List (List ℕ)). shard_of (λ (z : List (List ℕ)). z) (length shards) w) (sym (respects q x e))) (values_in shards places)
-
-    -- no two values of a shard are equal
-    pub distinct-each : All (IsDistinct eq) shards
-    distinct-each = All-from_get_or (IsDistinct eq) shards [] (λ s low.
-        subst (IsDistinct eq) (sym (kept.each s low)) (IsDistinct-filter eq (λ x. nat_eq (shard_of input (length shards) x) s) (values_in shards places) kept.distinct))
 
 -- a value that is put behind those of a shard
 module _ {T : Type 0} (shards : List (List T)) (n : ℕ) (x : T) (low : n < length shards) where
@@ -159,7 +131,7 @@ module _ {T : Type 0} (shards : List (List T)) (n : ℕ) (x : T) (low : n < leng
           distinct = subst (IsDistinct eq) (sym values) (IsDistinct-push laws (values_in shards places) x kept.distinct fresh);
         }
 
--- a loop that moves values into a set, or shards into a list, one by one
+-- a loop that moves shards into a list, one by one
 module _ {T : Type 0} where
   pub all-moved : (all moved rest none : List T) → all ≡ moved ++ rest → length rest ≡ 0 → none ≡ [] → moved ++ none ≡ all
   all-moved all moved [] none split empty e = ap (λ (xs : List T). moved ++ xs) e ∙ sym split
@@ -168,18 +140,6 @@ module _ {T : Type 0} where
   pub one-moved : (all moved next items rest : List T) (x : T) → all ≡ moved ++ items → items ≡ x ∷ rest → next ≡ moved ++ x ∷ [] → all ≡ next ++ rest
   one-moved all moved next items rest x split e more =
       split ∙ ap (λ (xs : List T). moved ++ xs) e ∙ sym (append_assoc moved (x ∷ []) rest) ∙ ap (λ (xs : List T). xs ++ rest) (sym more)
-
-  pub one-inserted : (eq : T → T → Bool) → IsEquivalence eq → (all keys next items rest : List T) (x : T) → IsDistinct eq all
-      → all ≡ keys ++ items → items ≡ x ∷ rest → next ≡ insert_key eq keys x → all ≡ next ++ rest
-  one-inserted eq laws all keys next items rest x apart split e more =
-      let fresh = none-before eq laws keys rest x (subst (IsDistinct eq) (split ∙ ap (λ (xs : List T). keys ++ xs) e) apart) in
-      one-moved all keys next items rest x split e (more ∙ ap (λ (b : Bool). if b then keys else keys ++ x ∷ []) fresh)
-
-  pub moved-has : (P : T → Type 0) (all moved items rest : List T) (x : T) → All P all → all ≡ moved ++ items → items ≡ x ∷ rest → P x
-  moved-has P all moved items rest x each split e =
-      subst P (get_or-append_seam moved x rest x)
-      (All-get_or P (moved ++ x ∷ rest) (length moved) x (let both = length-append moved (x ∷ rest) in omega arith)
-      (subst (All P) (split ∙ ap (λ (xs : List T). moved ++ xs) e) each))
 
   -- none but lists with no values
   pub none-more : (lists : List (List T)) (one : List T) → ((s : ℕ) → get_or lists s [] ≡ []) → one ≡ [] → (s : ℕ) → get_or (lists ++ one ∷ []) s [] ≡ []

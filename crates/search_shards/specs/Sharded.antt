@@ -11,6 +11,10 @@ pub record Sharded (T : Type 0) : Type 0 where
 abbrev pub sharded_code : {T : Type 0} → Coded T → Coded (Sharded T)
 sharded_code {T} c = code_by (List T × ℕ) (coded× (coded_list c) coded_ℕ) (λ s. (s.keys, s.shards)) (λ p. record { keys = p.0; shards = p.1 }) (λ _. refl)
 
+-- what a value is hashed to
+abbrev pub hash_of : {T : Type 0} → (T → List (List ℕ)) → T → ℕ
+hash_of input x = folding.finish (fold folding.write folding.initial (input x))
+
 -- the number of the shard that a value belongs to, by the upper half of its hash
 abbrev pub shard_of : {T : Type 0} → (T → List (List ℕ)) → ℕ → T → ℕ
-shard_of input shards x = folding.finish (fold folding.write folding.initial (input x)) / 2 ^ 32 % shards
+shard_of input shards x = hash_of input x / 2 ^ 32 % shards

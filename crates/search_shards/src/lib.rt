@@ -1,6 +1,7 @@
 //! Sets in the order of insertion that several threads fill.
 #![tactic(auto)]
 
+mod cells;
 mod place;
 mod set;
 mod shard;

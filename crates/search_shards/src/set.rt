@@ -1,12 +1,13 @@
 //! A set whose values are kept in several sets, by their hashes.
 ghost use Rattle.std.specs.Prelude.{◌≡◌, ◌^◌, ◌<◌, [], ◌∷◌, ◌++◌, false, length, map, All, slice_get, Some, Ok, IfOk, OnOk, OnErr};
-ghost use Rattle.std.specs.List.{list_any, IsDistinct};
+ghost use Rattle.std.specs.List.{list_any};
 ghost use Rattle.search_shards.specs.Sharded.{shard_of};
 
+use crate::cells::hash_of;
 use crate::place::Place;
 use crate::shard::Shard;
 use std::alloc::{AllocError, Global};
-use std::hash::{FoldHasher, Hash, Hasher};
+use std::hash::Hash;
 use std::marker::Model;
 use std::ops::Index;
 use std::thread;
@@ -83,9 +84,7 @@ impl<T: Eq + Hash> ShardedSet<T> {
         if self.shards.len() == 1 {
             return 0;
         }
-        let mut hasher = FoldHasher::default();
-        value.hash(&mut hasher);
-        ((hasher.finish() >> 32) % self.shards.len() as u64) as usize
+        ((hash_of(value) >> 32) % self.shards.len() as u64) as usize
     }
 }
 
@@ -122,7 +121,6 @@ fn shards_of<T: Eq + Hash + Drop>(
 
 /// The shards with no value that waits, by this thread alone.
 fn settle_here<T: Eq + Hash + Drop>(shards: Vec<Shard<T>>) -> Result<Vec<Shard<T>>, AllocError>
-    requires { All (IsDistinct T.eq) shards.items }
     ensures { IfOk result (λ settled. settled.items ≡ shards.items) }
 {
     let mut settled = Vec::with_capacity(*shards.allocator(), shards.len())?;
@@ -137,14 +135,12 @@ fn settle_apart<T: Eq + Hash + Send + Drop, R: Threads + Sync>(
     rt: &R,
     shards: Vec<Shard<T>>,
 ) -> Result<Vec<Shard<T>>, AllocError>
-    requires { All (IsDistinct T.eq) shards.items }
     ensures { IfOk result (λ settled. settled.items ≡ shards.items) }
 {
     let answers = thread::map_vec(
         rt,
         shards,
         &|shard: Shard<T>| -> Result<Shard<T>, AllocError>
-            requires { IsDistinct T.eq shard }
             ensures { IfOk result (λ settled. settled ≡ shard) }
         { shard.settle() },
     )?;

@@ -38,7 +38,7 @@ finished_by plan stops e = if stops.when_complete then record e { ending = endin
 
 -- what a search answers where it ends
 pub record IsEnd {C L S : Type 0} (g : Graph C L) (j : Join S) (r : Observation C L S) (eq : C → C → Bool) (F : C → Type 0) (plan : Plan) (stops : Stops) (e : Explored C L S) : Type 0 where
-  pub found : as_found e.visited.states.keys e.visited.steps.items e.from e.summary ≡ found_after g j r eq e.steps
+  pub found : as_found e.visited.states.keys e.visited.steps e.from e.summary ≡ found_after g j r eq e.steps
   pub fits : All F e.visited.states.keys
   pub within : length e.visited.states.keys ≤ plan.limit
   pub from : e.from ≤ length e.visited.states.keys
@@ -57,7 +57,7 @@ pub data IsReason {C L S : Type 0} (g : Graph C L) (stops : Stops) (e : Explored
 
 -- what a search found, in so many layers
 pub record IsSearched {C L S : Type 0} (g : Graph C L) (j : Join S) (r : Observation C L S) (eq : C → C → Bool) (F : C → Type 0) (e : Explored C L S) : Type 0 where
-  pub found : as_found e.visited.states.keys e.visited.steps.items e.from e.summary ≡ found_after g j r eq e.steps
+  pub found : as_found e.visited.states.keys e.visited.steps e.from e.summary ≡ found_after g j r eq e.steps
   pub fits : All F e.visited.states.keys
   pub from : e.from ≤ length e.visited.states.keys
 

@@ -30,7 +30,7 @@ best_runs-requires-clause-as_many g c κs within =
     let found = c.args.explored in
     as_many (g.Y.System.graph system) g.Y.Label.Ord.cmp g.Y.State.PartialEq.eq (g.Y.System.fits system) (lawful g system)
     g.U.Summary.joins (g.U.Summary.observation system) (semilattice g) c.args.explored.steps
-    found.visited.states.keys found.visited.steps.items found.from found.summary c.requires.found
+    found.visited.states.keys found.visited.steps found.from found.summary c.requires.found
 
 pub best_runs-requires-clause-back : goal.best_runs-requires-clause-back
 best_runs-requires-clause-back g c κs within =
@@ -38,7 +38,7 @@ best_runs-requires-clause-back g c κs within =
     let found = c.args.explored in
     go-back (g.Y.System.graph system) g.Y.Label.Ord.cmp g.Y.State.PartialEq.eq (g.Y.System.fits system) (lawful g system)
     g.U.Summary.joins (g.U.Summary.observation system) (semilattice g) c.args.explored.steps
-    found.visited.states.keys found.visited.steps.items found.from found.summary c.requires.found
+    found.visited.states.keys found.visited.steps found.from found.summary c.requires.found
 
 pub returns-clause-count : goal.returns-clause-count
 returns-clause-count g c =
@@ -49,7 +49,7 @@ returns-clause-count g c =
     let found = c.args.explored in
     let counted = count-is graph g.Y.Label.Ord.cmp g.Y.State.PartialEq.eq (g.Y.System.fits system) (lawful g system)
     g.U.Summary.joins (g.U.Summary.observation system) (semilattice g) steps
-    found.visited.states.keys found.visited.steps.items found.from found.summary c.requires.found in
+    found.visited.states.keys found.visited.steps found.from found.summary c.requires.found in
     subst (λ n. Counts graph steps n × (n ≤ limit)) (sym c.len-count.ensures.len) (counted, c.requires.within)
 
 pub returns-clause-summary : goal.returns-clause-summary
@@ -58,7 +58,7 @@ returns-clause-summary g c =
     let found = c.args.explored in
     summary_is (g.Y.System.graph system) g.Y.Label.Ord.cmp g.Y.State.PartialEq.eq (g.Y.System.fits system) (lawful g system)
     g.U.Summary.joins (g.U.Summary.observation system) (semilattice g) c.args.explored.steps
-    found.visited.states.keys found.visited.steps.items found.from found.summary c.requires.found
+    found.visited.states.keys found.visited.steps found.from found.summary c.requires.found
 
 pub returns-clause-complete : goal.returns-clause-complete
 returns-clause-complete g c =
@@ -68,7 +68,7 @@ returns-clause-complete g c =
     let quiet = c.in_ok-complete.ensures in
     let exact = complete-is graph g.Y.Label.Ord.cmp g.Y.State.PartialEq.eq (g.Y.System.fits system) (lawful g system)
     g.U.Summary.joins (g.U.Summary.observation system) (semilattice g) c.args.explored.steps
-    found.visited.states.keys found.visited.steps.items found.from found.summary c.requires.found in (
+    found.visited.states.keys found.visited.steps found.from found.summary c.requires.found in (
       λ is. exact.0 (quiet.0 is),
       λ all. quiet.1 (exact.1 all),
     )
@@ -81,7 +81,7 @@ returns-clause-best g c =
       eight = c.in_ok-best.ensures.eight;
       each = λ mark below. best-is (g.Y.System.graph system) g.Y.Label.Ord.cmp g.Y.State.PartialEq.eq (g.Y.System.fits system) (lawful g system)
           g.U.Summary.joins (g.U.Summary.observation system) (semilattice g) c.args.explored.steps
-          found.visited.states.keys found.visited.steps.items found.from found.summary c.requires.found
+          found.visited.states.keys found.visited.steps found.from found.summary c.requires.found
           mark _ (c.in_ok-best.ensures.each mark below);
     }
 
@@ -92,7 +92,7 @@ returns-clause-every_bound g c complete bound le =
     let found = c.args.explored in
     let more = every_bound graph g.Y.Label.Ord.cmp g.Y.State.PartialEq.eq (g.Y.System.fits system) (lawful g system)
     g.U.Summary.joins (g.U.Summary.observation system) (semilattice g) c.args.explored.steps
-    found.visited.states.keys found.visited.steps.items found.from found.summary c.requires.found
+    found.visited.states.keys found.visited.steps found.from found.summary c.requires.found
     (c.in_ok-complete.ensures.0 complete) bound le in
     (more.0, subst (Counts graph bound) (sym c.len-count.ensures.len) more.1)
 

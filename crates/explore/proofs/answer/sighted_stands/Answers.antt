@@ -1,11 +1,8 @@
-use Rattle.std.proofs.Common.{◌<◌, length, sym, subst}
-use Rattle.std.specs.Prelude.{All}
 use Rattle.summary.specs.Sums.{IsSemilattice}
 use Rattle.explore.proofs.Outcome.{go-back}
 use Rattle.explore.proofs.Noting.{if-ok}
 use Rattle.explore.proofs.Sights.{stands-sighted, stands-within}
 use Rattle.explore.proofs.Visits.{IsLawful}
-use Rattle.explore.specs.internal.Tied.{AreLastSteps, GoBack}
 use Rattle.explore.proofs.answer.sighted_stands.Given.{Over}
 use Rattle.explore.proofs.answer.sighted_stands.Goals as goal
 
@@ -30,21 +27,19 @@ pub runs_to-requires-clause-within : goal.runs_to-requires-clause-within
 runs_to-requires-clause-within g c κs within =
     let system = c.args.system.now in
     let found = c.args.explored.now in
-    subst (λ (steps : _). All (λ (m : _). m.at < length steps) c.in_ok-noted.noted.items) (sym c.as_slice.ensures.value)
-    (stands-within (g.Y.System.graph system) g.Y.Label.Ord.cmp g.Y.State.PartialEq.eq (g.Y.System.fits system) (lawful g system)
+    stands-within (g.Y.System.graph system) g.Y.Label.Ord.cmp g.Y.State.PartialEq.eq (g.Y.System.fits system) (lawful g system)
     g.U.Summary.joins (g.U.Summary.observation system) (semilattice g) found.steps
-    found.visited.states.keys found.visited.steps.items found.from found.summary c.requires.found
+    found.visited.states.keys found.visited.steps found.from found.summary c.requires.found
     g.Y.Stand.PartialEq.eq (g.met.Y.Watched g.world.𝓛 g.world.𝓜 g.world.𝓡 ((λ s x. x), (λ x. x), (λ x. x), λ x. x)).one_stand (g.met.Y.Watched g.world.𝓛 g.world.𝓜 g.world.𝓡 ((λ s x. x), (λ x. x), (λ x. x), λ x. x)).same_stand
-    (g.Y.Watched.stand system) c.in_ok-noted.noted.items c.in_ok-noted.ensures)
+    (g.Y.Watched.stand system) c.in_ok-noted.noted.items c.in_ok-noted.ensures
 
 pub runs_to-requires-clause-back : goal.runs_to-requires-clause-back
 runs_to-requires-clause-back g c κs within =
     let system = c.args.system.now in
     let found = c.args.explored.now in
-    subst GoBack (sym c.as_slice.ensures.value)
-    (go-back (g.Y.System.graph system) g.Y.Label.Ord.cmp g.Y.State.PartialEq.eq (g.Y.System.fits system) (lawful g system)
+    go-back (g.Y.System.graph system) g.Y.Label.Ord.cmp g.Y.State.PartialEq.eq (g.Y.System.fits system) (lawful g system)
     g.U.Summary.joins (g.U.Summary.observation system) (semilattice g) found.steps
-    found.visited.states.keys found.visited.steps.items found.from found.summary c.requires.found)
+    found.visited.states.keys found.visited.steps found.from found.summary c.requires.found
 
 pub returns : goal.returns
 returns g c =
@@ -53,7 +48,7 @@ returns g c =
     if-ok c.runs_to.result _ _ c.runs_to.ensures (λ sightings made.
     stands-sighted (g.Y.System.graph system) g.Y.Label.Ord.cmp g.Y.State.PartialEq.eq (g.Y.System.fits system) (lawful g system)
     g.U.Summary.joins (g.U.Summary.observation system) (semilattice g) found.steps
-    found.visited.states.keys found.visited.steps.items found.from found.summary c.requires.found
+    found.visited.states.keys found.visited.steps found.from found.summary c.requires.found
     g.Y.Stand.PartialEq.eq (g.met.Y.Watched g.world.𝓛 g.world.𝓜 g.world.𝓡 ((λ s x. x), (λ x. x), (λ x. x), λ x. x)).one_stand (g.met.Y.Watched g.world.𝓛 g.world.𝓜 g.world.𝓡 ((λ s x. x), (λ x. x), (λ x. x), λ x. x)).same_stand
     (g.Y.Watched.stand system) c.in_ok-noted.noted.items c.in_ok-noted.ensures
-    sightings.items (λ runs last. made runs (subst (AreLastSteps runs) (sym c.as_slice.ensures.value) last)))
+    sightings.items (λ runs last. made runs last))

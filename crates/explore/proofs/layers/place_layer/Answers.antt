@@ -50,7 +50,7 @@ show_states-requires-clause-fits g c κs within =
     let all = c.requires.candidates.0 in
     let are = c.requires.candidates.1 in
     let first = subst (AreFirst eq keys all) (sym c.as_slice.ensures.value) are.first in
-    let found : Found _ _ _ = as_found keys c.args.explored.visited.steps.items 0 c.args.explored.summary in
+    let found : Found _ _ _ = as_found keys c.args.explored.visited.steps 0 c.args.explored.summary in
     subst (All fits) (sym (c.in_ok-visited.ensures.states all are.thin first))
     (subst (λ (x : Found _ _ _). All fits x.states) (all-placed joins observation eq found all) (place-all-fits joins observation eq fits found all c.requires.states are.fits))
 
@@ -70,7 +70,7 @@ returns-clause-placed g c all are from =
     ∙ sym (steps-join joins observation graph keys (semilattice g) c.args.explored.summary all) in
     let behind : drop c.len-from.result c.in_ok-visited.visited.states.keys ≡ news =
     (λ i. drop (c.len-from.ensures.len i) (states i)) ∙ drop-append_seam keys news in
-    entered joins observation eq keys c.in_ok-visited.visited.states.keys c.args.explored.visited.steps.items c.in_ok-visited.visited.steps.items from
+    entered joins observation eq keys c.in_ok-visited.visited.states.keys c.args.explored.visited.steps c.in_ok-visited.visited.steps from
     (with_steps joins observation graph keys c.args.explored.summary all) c.in_ok-shown.shown c.in_ok-summary-2.summary all (semilattice g)
     states (c.in_ok-visited.ensures.steps all are.thin first)
     (c.in_ok-shown.ensures ∙ ap (λ xs. join_all joins (map observation.at xs)) behind)

@@ -91,8 +91,7 @@ returns-then-is_marked-clause-end g c = ended-here (g.Y.System.graph c.args.syst
 pub expand_layer-requires-clause-kept : goal.expand_layer-requires-clause-kept
 expand_layer-requires-clause-kept g c κs within =
     let so_far = c.loop-layer.explored in
-    subst (AreKept (g.Y.System.graph c.args.system.now) so_far.visited.states.keys) (sym c.as_slice-steps.ensures.value)
-    (kept g c.args.system.now c.loop-layer.layer so_far.visited.states.keys so_far.visited.steps.items so_far.from so_far.summary c.loop-layer.invariant.found)
+    kept g c.args.system.now c.loop-layer.layer so_far.visited.states.keys so_far.visited.steps so_far.from so_far.summary c.loop-layer.invariant.found
 
 pub returns-then-are_none-clause-end : goal.returns-then-are_none-clause-end
 returns-then-are_none-clause-end g c =
@@ -102,8 +101,8 @@ returns-then-are_none-clause-end g c =
     let so_far = c.loop-layer.explored in
     let keys = so_far.visited.states.keys in
     let all = layer_candidates graph so_far.from (drop so_far.from keys) in
-    let thinned = thin g c.args.system.now c.loop-layer.layer keys so_far.visited.steps.items so_far.from so_far.summary c.loop-layer.invariant.found
-    c.as_slice-steps.result.now c.in_ok-candidates.candidates.items c.as_slice-steps.ensures.value c.in_ok-candidates.ensures in
+    let thinned = thin g c.args.system.now c.loop-layer.layer keys so_far.visited.steps so_far.from so_far.summary c.loop-layer.invariant.found
+    so_far.visited.steps c.in_ok-candidates.candidates.items refl c.in_ok-candidates.ensures in
     let none = none-all all c.in_ok-candidates.candidates.items (same-length eq keys all c.in_ok-candidates.candidates.items thinned) (c.are_none.ensures.0 c.if-are_none.true) in
     subst (IsEnd graph g.U.Summary.joins (g.U.Summary.observation c.args.system.now) eq
     (g.Y.System.fits c.args.system.now) c.args.plan.now c.args.stops.now) (sym c.finished.ensures)
@@ -120,8 +119,8 @@ find_first-requires-clause-steps g c κs within =
     let so_far = c.loop-layer.explored in
     let keys = so_far.visited.states.keys in
     let all = layer_candidates graph so_far.from (drop so_far.from keys) in
-    let thinned = thin g c.args.system.now c.loop-layer.layer keys so_far.visited.steps.items so_far.from so_far.summary c.loop-layer.invariant.found
-    c.as_slice-steps.result.now c.in_ok-candidates.candidates.items c.as_slice-steps.ensures.value c.in_ok-candidates.ensures in
+    let thinned = thin g c.args.system.now c.loop-layer.layer keys so_far.visited.steps so_far.from so_far.summary c.loop-layer.invariant.found
+    so_far.visited.steps c.in_ok-candidates.candidates.items refl c.in_ok-candidates.ensures in
     subst (All (IsStep graph keys)) (sym c.as_slice.ensures.value)
     (steps-thinned eq keys all c.in_ok-candidates.candidates.items thinned graph keys (are-steps graph keys so_far.from all c.loop-layer.invariant.from refl))
 
@@ -132,8 +131,8 @@ returns-then-stops-clause-end g c =
     let so_far = c.loop-layer.explored in
     let keys = so_far.visited.states.keys in
     let all = layer_candidates graph so_far.from (drop so_far.from keys) in
-    let thinned = thin g c.args.system.now c.loop-layer.layer keys so_far.visited.steps.items so_far.from so_far.summary c.loop-layer.invariant.found
-    c.as_slice-steps.result.now c.in_ok-candidates.candidates.items c.as_slice-steps.ensures.value c.in_ok-candidates.ensures in
+    let thinned = thin g c.args.system.now c.loop-layer.layer keys so_far.visited.steps so_far.from so_far.summary c.loop-layer.invariant.found
+    so_far.visited.steps c.in_ok-candidates.candidates.items refl c.in_ok-candidates.ensures in
     let first = c.in_ok-firsts.ensures.first all (subst (AreThinned eq keys all) (sym c.as_slice.ensures.value) thinned) in
     ended-here graph g.U.Summary.joins (g.U.Summary.observation c.args.system.now) eq
     (g.Y.System.fits c.args.system.now) c.args.plan.now c.args.stops.now so_far c.ended-then-stops.result c.loop-layer.layer ending.Limit c.ended-then-stops.ensures
@@ -141,7 +140,7 @@ returns-then-stops-clause-end g c =
     (let test = c.loop-layer-test.true in omega arith) c.loop-layer.invariant.led_on c.loop-layer.invariant.unmarked
     (at_limit c.if-stops.true c.loop-layer-test.true
     (beyond graph g.U.Summary.joins (g.U.Summary.observation c.args.system.now) eq (equivalence g)
-    c.loop-layer.layer (suc c.loop-layer.layer) c.args.plan.now.limit so_far.from keys so_far.visited.steps.items so_far.summary
+    c.loop-layer.layer (suc c.loop-layer.layer) c.args.plan.now.limit so_far.from keys so_far.visited.steps so_far.summary
     all c.in_ok-firsts.firsts.positions.items (omega arith) c.loop-layer.invariant.found refl first
     (let more = c.are_too_many.ensures.0 c.if-are_too_many.true in let states = c.len.ensures.len in let new = c.len-in-loop-layer.ensures in omega arith)))
 
@@ -155,17 +154,17 @@ returns-else-stops-clause-too_many g c is =
     let so_far = c.loop-layer.explored in
     let keys = so_far.visited.states.keys in
     let all = layer_candidates graph so_far.from (drop so_far.from keys) in
-    let thinned = thin g c.args.system.now c.loop-layer.layer keys so_far.visited.steps.items so_far.from so_far.summary c.loop-layer.invariant.found
-    c.as_slice-steps.result.now c.in_ok-candidates.candidates.items c.as_slice-steps.ensures.value c.in_ok-candidates.ensures in
+    let thinned = thin g c.args.system.now c.loop-layer.layer keys so_far.visited.steps so_far.from so_far.summary c.loop-layer.invariant.found
+    so_far.visited.steps c.in_ok-candidates.candidates.items refl c.in_ok-candidates.ensures in
     let first = c.in_ok-firsts.ensures.first all (subst (AreThinned eq keys all) (sym c.as_slice.ensures.value) thinned) in
     let some = λ (none : all ≡ []). absurd (true≢false (sym (c.are_none.ensures.1
     (none-all c.in_ok-candidates.candidates.items all (sym (same-length eq keys all c.in_ok-candidates.candidates.items thinned)) none)) ∙ c.if-are_none.false)) in
-    let led = leads-on graph joins observation eq layer so_far.from keys so_far.visited.steps.items so_far.summary all c.loop-layer.invariant.found refl some c.loop-layer.invariant.led_on in
+    let led = leads-on graph joins observation eq layer so_far.from keys so_far.visited.steps so_far.summary all c.loop-layer.invariant.found refl some c.loop-layer.invariant.led_on in
     record {
       layer = layer;
       below = c.loop-layer-test.true;
       many = beyond graph joins observation eq (equivalence g)
-          layer (suc layer) c.args.plan.now.limit so_far.from keys so_far.visited.steps.items so_far.summary
+          layer (suc layer) c.args.plan.now.limit so_far.from keys so_far.visited.steps so_far.summary
           all c.in_ok-firsts.firsts.positions.items (omega arith) c.loop-layer.invariant.found refl first
           (let more = c.are_too_many.ensures.0 c.if-are_too_many.true in let states = c.len.ensures.len in let new = c.len-in-loop-layer.ensures in omega arith);
       led_on = λ k low. led k (omega arith);
@@ -183,8 +182,8 @@ place_layer-requires-clause-candidates g c κs within =
     let so_far = c.loop-layer.explored in
     let keys = so_far.visited.states.keys in
     let all = layer_candidates graph so_far.from (drop so_far.from keys) in
-    let thinned = thin g c.args.system.now c.loop-layer.layer keys so_far.visited.steps.items so_far.from so_far.summary c.loop-layer.invariant.found
-    c.as_slice-steps.result.now c.in_ok-candidates.candidates.items c.as_slice-steps.ensures.value c.in_ok-candidates.ensures in
+    let thinned = thin g c.args.system.now c.loop-layer.layer keys so_far.visited.steps so_far.from so_far.summary c.loop-layer.invariant.found
+    so_far.visited.steps c.in_ok-candidates.candidates.items refl c.in_ok-candidates.ensures in
     let given = subst (AreThinned eq keys all) (sym c.as_slice.ensures.value) thinned in (
       all,
       record {
@@ -214,13 +213,13 @@ loop-layer-preserved g c =
     let new = c.in_ok-explored-2.explored in
     let keys = so_far.visited.states.keys in
     let all = layer_candidates graph so_far.from (drop so_far.from keys) in
-    let thinned = thin g c.args.system.now c.loop-layer.layer keys so_far.visited.steps.items so_far.from so_far.summary c.loop-layer.invariant.found
-    c.as_slice-steps.result.now c.in_ok-candidates.candidates.items c.as_slice-steps.ensures.value c.in_ok-candidates.ensures in
+    let thinned = thin g c.args.system.now c.loop-layer.layer keys so_far.visited.steps so_far.from so_far.summary c.loop-layer.invariant.found
+    so_far.visited.steps c.in_ok-candidates.candidates.items refl c.in_ok-candidates.ensures in
     let some = λ (none : all ≡ []). absurd (true≢false (sym (c.are_none.ensures.1
     (none-all c.in_ok-candidates.candidates.items all (sym (same-length eq keys all c.in_ok-candidates.candidates.items thinned)) none)) ∙ c.if-are_none.false)) in
     let shown = with_steps joins observation graph keys so_far.summary all in
     let shown_is = steps-shown graph keys joins observation so_far.from so_far.summary all refl in
-    let base = as_found keys so_far.visited.steps.items 0 shown in
+    let base = as_found keys so_far.visited.steps 0 shown in
     let given = subst (AreThinned eq keys all) (sym c.as_slice.ensures.value) thinned in
     let all_fit = layer-fits graph fits ((g.met.Y.System g.world.𝓛 g.world.𝓜 g.world.𝓡 ((λ s x. x), (λ x. x), (λ x. x), λ x. x)).after_fits c.args.system.now) so_far.from (drop so_far.from keys)
     (All-drop fits so_far.from keys c.loop-layer.invariant.fits) in
@@ -234,22 +233,22 @@ loop-layer-preserved g c =
     let new_states = ap (λ (f : Found _ _ _). f.states) (placed 0) in
     record {
       found = layer-done graph joins observation eq c.loop-layer.layer so_far.from new.from
-          keys new.visited.states.keys so_far.visited.steps.items new.visited.steps.items
+          keys new.visited.states.keys so_far.visited.steps new.visited.steps
           so_far.summary shown new.summary all
           c.loop-layer.invariant.found refl shown_is c.in_ok-explored-2.ensures.from placed;
       fits = subst (All fits) (sym new_states)
           (place-all-fits joins observation eq fits base all c.loop-layer.invariant.fits all_fit);
       within = c.in_ok-explored-2.ensures.within;
       from =
-          let grown = placed-grows joins observation eq keys new.visited.states.keys so_far.visited.steps.items
-          new.visited.steps.items 0 shown new.summary all (placed 0) in
+          let grown = placed-grows joins observation eq keys new.visited.states.keys so_far.visited.steps
+          new.visited.steps 0 shown new.summary all (placed 0) in
           subst (λ (k : ℕ). k ≤ length new.visited.states.keys) (sym c.in_ok-explored-2.ensures.from) grown;
       steps = let one = c.in_ok-explored-2.ensures.steps in let before = c.loop-layer.invariant.steps in omega arith;
       ending = c.in_ok-explored-2.ensures.ending ∙ c.loop-layer.invariant.ending;
-      led_on = leads-on graph joins observation eq c.loop-layer.layer so_far.from keys so_far.visited.steps.items so_far.summary all
+      led_on = leads-on graph joins observation eq c.loop-layer.layer so_far.from keys so_far.visited.steps so_far.summary all
           c.loop-layer.invariant.found refl some c.loop-layer.invariant.led_on;
       unmarked = still-unmarked graph joins observation eq c.args.stops.now.at_mark so_far.from new.from keys new.visited.states.keys shown new.summary
-          so_far.visited.steps.items new.visited.steps.items all
+          so_far.visited.steps new.visited.steps all
           c.loop-layer.invariant.unmarked (c.is_marked.ensures.none c.if-is_marked.false) c.in_ok-explored-2.ensures.from
           (placed 0);
     }

@@ -7,7 +7,7 @@ use Rattle.explore.proofs.layers.search.Given as goal
 
 abbrev pub invariant-loop-layer : goal.invariant-loop-layer
 invariant-loop-layer g l = record {
-  found : as_found l.explored.visited.states.keys l.explored.visited.steps.items l.explored.from l.explored.summary
+  found : as_found l.explored.visited.states.keys l.explored.visited.steps l.explored.from l.explored.summary
       ≡ found_after (g.Y.System.graph l.system) g.U.Summary.joins (g.U.Summary.observation l.system) g.Y.State.PartialEq.eq l.layer;
   fits : All (g.Y.System.fits l.system) l.explored.visited.states.keys;
   within : length l.explored.visited.states.keys ≤ l.plan.limit;

@@ -1,6 +1,6 @@
 use Rattle.std.proofs.Common.{◌++◌, ap, sym, ◌∙◌, arith}
-use Rattle.std.specs.Prelude.{None, reverse}
-use Rattle.std.proofs.lemmas.List.{get_or_read}
+use Rattle.std.specs.Option.{option_map}
+use Rattle.std.specs.Prelude.{reverse}
 use Rattle.summary.specs.Run.{labels_of}
 use Rattle.explore.specs.internal.Tied.{run_at}
 use Rattle.explore.proofs.RunLabels.{step-back, before-within}
@@ -10,11 +10,11 @@ pub loop-at-preserved : goal.loop-at-preserved
 loop-at-preserved g c =
     let steps = c.args.steps.now in
     let at = c.loop-at.at in
-    let is = sym (get_or_read steps at c.index-steps-at.result c.loop-at.invariant.0 c.index-steps-at.is None) ∙ c.in-Some.is in
-    let earlier = before-within steps at c.in-Some.step c.requires.back c.loop-at.invariant.0 is in (
+    let is = sym c.at.ensures ∙ ap (option_map (λ step. step.now)) c.in-Some.is in
+    let earlier = before-within steps at c.in-Some.step.now c.requires.back c.loop-at.invariant.0 is in (
       omega (arith, earlier, c.loop-at.invariant.0),
       λ runs h.
-          step-back runs steps at c.in-Some.step c.loop-at.labels.items c.in_ok-copy.field-0 (labels_of (run_at runs c.args.place)) h c.loop-at.invariant.0 is
+          step-back runs steps at c.in-Some.step.now c.loop-at.labels.items c.in_ok-copy.field-0 (labels_of (run_at runs c.args.place)) h c.loop-at.invariant.0 is
           c.in_ok-copy.ensures (c.loop-at.invariant.1 runs h)
-          ∙ ap (λ ls. labels_of (run_at runs c.in-Some.step.before) ++ reverse ls) (sym c.in_ok-push.ensures.items),
+          ∙ ap (λ ls. labels_of (run_at runs c.in-Some.step.now.before) ++ reverse ls) (sym c.in_ok-push.ensures.items),
     )

@@ -76,7 +76,7 @@ loop-candidate-preserved g c =
     let next = c.loop-candidate.next in
     let at = c.loop-candidate.at in
     let known = c.args.visited.now.states.keys in
-    let steps = c.args.visited.now.steps.items in
+    let steps = c.args.visited.now.steps in
     let items = c.args.candidates.items in
     let candidate = c.in-Some.candidate in
     let ascending = c.requires.first.2.ascending in
@@ -97,8 +97,8 @@ loop-candidate-preserved g c =
             steps = λ all thinned first.
                 let there = the-same eq known all items thinned firsts first at candidate r (taken g some) w.with_state.ensures has in
                 let new = first-is-new eq laws known all firsts r at first there has in
-                ap (λ (v : _). v.steps.items) w.visited-is
-                ∙ kept-new eq laws step_of known all r at there steps c.loop-candidate.visited.steps.items (inv.steps all thinned first) w.add.new.self.steps.items new w.in_ok-add.ensures.steps
+                ap (λ (v : _). v.steps) w.visited-is
+                ∙ kept-new eq laws step_of known all r at there steps c.loop-candidate.visited.steps (inv.steps all thinned first) w.add.new.self.steps new w.in_ok-add.ensures.steps
                 ∙ ap (λ n. steps ++ map step_of (newly eq known (take n all))) (sym more);
             shards = ap (λ (v : _). v.states.shards) w.visited-is ∙ w.add.ensures.shards ∙ inv.shards;
             at = count;
@@ -120,8 +120,8 @@ loop-candidate-preserved g c =
                 ∙ ap (λ n. known ++ map state_of (newly eq known (take n all))) (sym more);
             steps = λ all thinned first.
                 let full = all-at eq known all items thinned at candidate (taken g some) in
-                ap (λ (v : _). v.steps.items) w.visited-is
-                ∙ kept-known eq laws step_of known all full.0 at full.1 steps c.loop-candidate.visited.steps.items (inv.steps all thinned first)
+                ap (λ (v : _). v.steps) w.visited-is
+                ∙ kept-known eq laws step_of known all full.0 at full.1 steps c.loop-candidate.visited.steps (inv.steps all thinned first)
                 (other-is-known eq laws known all firsts full.0 at first full.1 missing)
                 ∙ ap (λ n. steps ++ map step_of (newly eq known (take n all))) (sym more);
             shards = ap (λ (v : _). v.states.shards) w.visited-is ∙ inv.shards;
@@ -150,4 +150,4 @@ returns-clause-states g c = λ all thinned first.
 
 pub returns-clause-steps : goal.returns-clause-steps
 returns-clause-steps g c = λ all thinned first.
-    c.loop-candidate.invariant.steps all thinned first ∙ ap (λ cs. c.args.visited.now.steps.items ++ map step_of (newly g.S.PartialEq.eq c.args.visited.now.states.keys cs)) (whole g c all thinned)
+    c.loop-candidate.invariant.steps all thinned first ∙ ap (λ cs. c.args.visited.now.steps ++ map step_of (newly g.S.PartialEq.eq c.args.visited.now.states.keys cs)) (whole g c all thinned)

@@ -1,18 +1,12 @@
 use Rattle.std.proofs.Common.{◌≡◌, [], ◌∷◌, ◌++◌, sym, ap, ◌∙◌, append-nil, arith}
-use Rattle.std.specs.List.{IsDistinct}
 use Rattle.std.specs.Vec.Iter.{into_iter_items}
-use Rattle.search_shards.proofs.Shards.{all-moved, one-moved, moved-has}
+use Rattle.search_shards.proofs.Shards.{all-moved, one-moved}
 use Rattle.search_shards.proofs.set.settle_here.Goals as goal
 
 pub loop-shard-init : goal.loop-shard-init
 loop-shard-init g c =
     sym c.into_iter-shard-iterator.ensures.into_iter_gives.0
     ∙ ap (λ shards. shards ++ into_iter_items c.into_iter-shard-iterator.result) (sym c.in_ok-settled.ensures.items)
-
-pub settle-requires : goal.settle-requires
-settle-requires g c =
-    moved-has (IsDistinct g.T.PartialEq.eq) c.args.shards.items c.loop-shard.settled.items (into_iter_items c.loop-shard.shard-iterator) (into_iter_items c.next.new.self) c.in-Some.shard
-    c.requires c.loop-shard.invariant c.in-Some.ensures.steps.0
 
 pub loop-shard-preserved : goal.loop-shard-preserved
 loop-shard-preserved g c =

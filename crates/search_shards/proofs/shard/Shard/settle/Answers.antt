@@ -1,17 +1,16 @@
-use Rattle.std.proofs.Common.{◌++◌, sym, ap, ◌∙◌, arith}
-use Rattle.std.specs.Vec.Iter.{into_iter_items}
-use Rattle.search_shards.proofs.Shards.{all-moved, one-inserted}
+use Rattle.std.proofs.Common.{◌<◌, Some, length, sym, ap, subst, ◌∙◌, arith}
+use Rattle.std.proofs.lemmas.Option.{slice_get-get_or}
+use Rattle.search_shards.specs.internal.Cells.{IsFound}
+use Rattle.search_shards.proofs.Finding.{one-found}
 use Rattle.search_shards.proofs.shard.Shard.settle.Goals as goal
 
-pub loop-value-init : goal.loop-value-init
-loop-value-init g c = sym c.self.view_is ∙ ap (λ xs. c.self.inside.set.keys ++ xs) (sym c.into_iter-value-iterator.ensures.into_iter_gives.0)
-
-pub loop-value-preserved : goal.loop-value-preserved
-loop-value-preserved g c =
-    one-inserted g.T.PartialEq.eq g.met.T.Eq.laws c.args.self c.loop-value.set.keys c.insert.new.self.keys (into_iter_items c.loop-value.value-iterator) (into_iter_items c.next.new.self) c.in-Some.value
-    c.requires c.loop-value.invariant c.in-Some.ensures.steps.0 c.in_ok-insert.ensures.keys
-
-pub returns : goal.returns
-returns g c =
-    all-moved c.args.self c.loop-value.set.keys (into_iter_items c.loop-value.value-iterator) c.new.result.items c.loop-value.invariant
-    (let none = c.in-None.ensures.steps.0 in let ok = c.loop-value.value-iterator.rest.ok in omega arith) c.new.ensures.items
+pub loop-index-preserved : goal.loop-index-preserved
+loop-index-preserved g c =
+    let values = c.self.inside.values.items in
+    let index = c.loop-index.index in
+    let value = c.index.result.now in
+    let low : index < length values = (let less = c.loop-index-test.true in let long = c.len-count.ensures in omega arith) in
+    one-found g.T.Hash.hash_input values c.loop-index.cells.items c.put.new.cells.items index value c.loop-index.invariant low
+    (slice_get-get_or values index value low ∙ ap Some (sym c.index.ensures))
+    (subst (λ hash. IsFound c.put.new.cells.items hash index) c.hash_of.ensures c.in_ok-put.ensures.found)
+    c.in_ok-put.ensures.others

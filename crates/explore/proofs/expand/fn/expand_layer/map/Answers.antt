@@ -1,6 +1,7 @@
-use Rattle.std.proofs.Common.{arith, sym, subst}
+use Rattle.std.proofs.Common.{ap, sym, subst, ◌∙◌}
+use Rattle.std.specs.Option.{option_map}
 use Rattle.explore.specs.internal.Expansion.{IsExpanded}
-use Rattle.explore.proofs.Expanding.{behind-step, last-step, leads-here, no-step, one_of}
+use Rattle.explore.proofs.Expanding.{behind-step, leads-here, no-step, one_of}
 use Rattle.explore.proofs.expand.fn.expand_layer.map.Goals.{in-Some+in_ok-successors-in-Some, in-None+in_ok-successors-in-None+in_ok-successors-in-None-2}
 use Rattle.explore.proofs.expand.fn.expand_layer.map.Goals as goal
 
@@ -12,12 +13,10 @@ sparing_successors-requires g c =
     let steps = c.captures.steps.now in
     let here = c.index-state.result.now in
     let there = c.index-before.result.now in
-    let many = c.requires.2.as_many in
-    let low = c.requires.0 in
-    let last = last-step graph g.Y.Label.Ord.cmp keys steps c.args.place c.index-steps-place.result c.in-Some.step (omega arith) c.index-steps-place.is c.in-Some.is in
-    let leads = leads-here graph g.Y.Label.Ord.cmp keys steps c.args.place here c.index-state.ensures c.in-Some.step there c.index-before.ensures last c.requires.2 c.requires.0 in
+    let last = sym c.at.ensures ∙ ap (option_map (λ step. step.now)) c.in-Some.is in
+    let leads = leads-here graph g.Y.Label.Ord.cmp keys steps c.args.place here c.index-state.ensures c.in-Some.step.now there c.index-before.ensures last c.requires.2 c.requires.0 in
     record {
-      fits = (one_of fits keys c.args.place here c.index-state.ensures c.requires.1, one_of fits keys c.in-Some.step.before there c.index-before.ensures c.requires.1);
+      fits = (one_of fits keys c.args.place here c.index-state.ensures c.requires.1, one_of fits keys c.in-Some.step.now.before there c.index-before.ensures c.requires.1);
       enabled = leads.0;
       behind = leads.1;
     }
@@ -32,15 +31,13 @@ returns g c =
     let cmp = g.Y.Label.Ord.cmp in
     let keys = c.captures.states.now.keys in
     let steps = c.captures.steps.now in
-    let many = c.requires.2.as_many in
-    let low = c.requires.0 in
     let number = c.in_ok-number.number in
     let same = c.in_ok-number.ensures in
-    elim c.match-steps-place.branch [
+    elim c.match-at.branch [
       | in-Some+in_ok-successors-in-Some w ↦
-          let last = last-step graph cmp keys steps c.args.place c.index-steps-place.result w.in-Some.step (omega arith) c.index-steps-place.is w.in-Some.is in
+          let last = sym c.at.ensures ∙ ap (option_map (λ step. step.now)) w.in-Some.is in
           subst (λ (found : _). IsExpanded graph keys steps cmp c.args.place number found.items) (sym w.successors-is)
-          (behind-step graph cmp keys steps c.args.place c.index-state.result.now c.index-state.ensures w.in-Some.step w.index-before.result.now w.index-before.ensures last
+          (behind-step graph cmp keys steps c.args.place c.index-state.result.now c.index-state.ensures w.in-Some.step.now w.index-before.result.now w.index-before.ensures last
           number w.in_ok-successors-in-Some.successors.items same w.in_ok-successors-in-Some.ensures.labels w.in_ok-successors-in-Some.ensures.states)
       | in-None+in_ok-successors-in-None+in_ok-successors-in-None-2 w ↦
           subst (λ (found : _). IsExpanded graph keys steps cmp c.args.place number found.items) (sym w.successors-is)
