@@ -121,10 +121,10 @@ span-sync : IsSync span.the_field.row
 span-sync = search in_statements depth 60 fits 20000
 
 branch-sync : IsSync branch.the_field.row
-branch-sync = statements.sync-Branch variables-sync constants-sync timers-sync assignment-sync call-sync event-sync seq-sync option-seq-sync expression-sync forStart-sync valueOption-sync logItems-sync verdict-sync portRef-sync mapping-sync send-sync componentRef-sync name-field-sync referenceOption-sync expressionOption-sync span-sync
+branch-sync = statements.sync-Branch variables-sync constants-sync timers-sync assignment-sync call-sync event-sync seq-sync option-seq-sync expression-sync forStart-sync valueOption-sync logItems-sync verdict-sync portRef-sync mapping-sync send-sync componentRef-sync name-field-sync referenceOption-sync expressionOption-sync span-sync boxed-sync
 
 pub statement-sync : IsSync statement.the_field.row
-statement-sync = statements.sync-Statement variables-sync constants-sync timers-sync assignment-sync call-sync event-sync seq-sync option-seq-sync expression-sync forStart-sync valueOption-sync logItems-sync verdict-sync portRef-sync mapping-sync send-sync componentRef-sync name-field-sync referenceOption-sync expressionOption-sync span-sync
+statement-sync = statements.sync-Statement variables-sync constants-sync timers-sync assignment-sync call-sync event-sync seq-sync option-seq-sync expression-sync forStart-sync valueOption-sync logItems-sync verdict-sync portRef-sync mapping-sync send-sync componentRef-sync name-field-sync referenceOption-sync expressionOption-sync span-sync boxed-sync
 
 -- what definitions hold
 ruleset in_definitions = (statement-sync, branch-sync, constants-sync, in_statements)
