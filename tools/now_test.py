@@ -58,7 +58,8 @@ def is_as_wanted(ran, status, out, error):
     notes = NOTES.match(said)
     more = said[notes.end():] if notes else ""
     is_written = ran.stdout.decode() == out if out is not None else ran.stdout
-    return notes and ran.returncode == status and is_written and (more.startswith(error) if error else not more)
+    is_said = more.startswith(error) if error else not more
+    return notes is not None and ran.returncode == status and is_written and is_said
 
 
 def main():
