@@ -45,6 +45,4 @@ mod statuses;
 #[cfg(test)]
 pub mod surface;
 #[cfg(test)]
-mod trees;
-#[cfg(test)]
 mod workers;
