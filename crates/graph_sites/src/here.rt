@@ -256,13 +256,6 @@ impl<'a> Here<'a> {
         self.scope.kind(at)
     }
 
-    /// What a name stands for in the whole module.
-    pub(crate) fn in_module(&self, name: &[u8]) -> Option<Meaning>
-        ensures { result ≡ module_names self.now.0 name.now }
-    {
-        self.scope.in_module(name)
-    }
-
     /// Whether a name is that of an altstep of the module.
     pub fn is_altstep(&self, name: &Name) -> bool
         ensures { result ≡ is_some (altstep_meant (module_names self.now.0 name.now)) }

@@ -6,8 +6,7 @@ ghost use Rattle.check_scope.specs.Names.{behind_members, members_of, module_nam
 ghost use Rattle.check_rules.specs.Messages.{port_meant};
 ghost use Rattle.graph_sites.specs.internal.MemberNames.{declares, member_meaning};
 
-use crate::here::Here;
-use check_rules::port_meant;
+use check_rules::{Definitions, port_meant};
 use check_scope::scope::port_type_meant;
 use ttcn_syntax::{Constant, DefinitionKind, Member, MemberVariable, Name, Timer};
 
@@ -66,22 +65,26 @@ fn any_declares(members: &[Member], name: &Name) -> bool
 
 /// The position of the port type that a name stands for behind declarations of a component type: none of them declares a
 /// type.
-fn port_type_behind(here: &Here<'_>, members: &[Member], name: &Name) -> Option<usize>
-    ensures { result ≡ port_type_meant (behind_members (module_names here.now.0) members.now name.now) }
+fn port_type_behind(definitions: &Definitions<'_>, members: &[Member], name: &Name) -> Option<usize>
+    ensures { result ≡ port_type_meant (behind_members (module_names definitions.now) members.now name.now) }
 {
     if any_declares(members, name) {
         None
     } else {
-        port_type_meant(here.in_module(name.as_bytes()))
+        port_type_meant(definitions.meaning(name.as_bytes()))
     }
 }
 
 /// What each name of a declaration stands for as a port, behind other declarations.
-fn port_declared(here: &Here<'_>, before: &[Member], member: &Member) -> Option<Option<usize>>
-    ensures { result ≡ port_meant (Some (member_meaning (behind_members (module_names here.now.0) before.now) member.now)) }
+fn port_declared(
+    definitions: &Definitions<'_>,
+    before: &[Member],
+    member: &Member,
+) -> Option<Option<usize>>
+    ensures { result ≡ port_meant (Some (member_meaning (behind_members (module_names definitions.now) before.now) member.now)) }
 {
     match member {
-        Member::Ports(port_type, _ports) => Some(port_type_behind(here, before, port_type)),
+        Member::Ports(port_type, _ports) => Some(port_type_behind(definitions, before, port_type)),
         Member::Constants(_declared) => None,
         Member::Variables(_type_name, _variables) => None,
         Member::Timers(_timers) => None,
@@ -89,21 +92,29 @@ fn port_declared(here: &Here<'_>, before: &[Member], member: &Member) -> Option<
 }
 
 /// What a name stands for as a port behind the declarations of a component type, of which the last one counts.
-fn port_behind(here: &Here<'_>, members: &[Member], name: &Name) -> Option<Option<usize>>
-    ensures { result ≡ port_meant (behind_members (module_names here.now.0) members.now name.now) }
+fn port_behind(
+    definitions: &Definitions<'_>,
+    members: &[Member],
+    name: &Name,
+) -> Option<Option<usize>>
+    ensures { result ≡ port_meant (behind_members (module_names definitions.now) members.now name.now) }
 {
     for at in (0..members.len()).rev() {
         let member = &members[at];
         if declares(member, name) {
-            return port_declared(here, &members[..at], member);
+            return port_declared(definitions, &members[..at], member);
         }
     }
-    port_meant(here.in_module(name.as_bytes()))
+    port_meant(definitions.meaning(name.as_bytes()))
 }
 
 /// The port of the component type at a position that a name stands for: the position of its type, if that is known.
-pub fn port_type(here: &Here<'_>, component: usize, name: &Name) -> Option<Option<usize>>
-    ensures { result ≡ port_meant (names_on here.now.0 component name.now) }
+pub fn port_type(
+    definitions: &Definitions<'_>,
+    component: usize,
+    name: &Name,
+) -> Option<Option<usize>>
+    ensures { result ≡ port_meant (names_on definitions.now component name.now) }
 {
-    port_behind(here, members_of(here.kind(component)), name)
+    port_behind(definitions, members_of(definitions.kind(component)), name)
 }

@@ -9,6 +9,7 @@ ghost use Rattle.step_snapshot.specs.Tests.{extent_of};
 use crate::port_types::suit_each_other;
 use crate::stand::Stand;
 use config_parts::{Act, End, Request};
+use graph_sites::port_type;
 use std::alloc::{AllocError, Global};
 use step_snapshot::TestCase;
 use ttcn_syntax::{Name, PortRef};
@@ -26,8 +27,8 @@ fn may_connect(
 ) -> Result<bool, AllocError>
     ensures { IfOk result (λ may. may ≡ said.may_connect test.now.definitions one.now port.now other.now other_port.now) }
 {
-    let first = test.graphs.port_type(one.component_type, port);
-    let second = test.graphs.port_type(other.component_type, other_port);
+    let first = port_type(&test.definitions, one.component_type, port);
+    let second = port_type(&test.definitions, other.component_type, other_port);
     let suited = suit_each_other(alloc, &test.definitions, first, second)?;
     Ok(suited && !(one.path == other.path && port == other_port))
 }

@@ -10,6 +10,7 @@ ghost use Rattle.ttcn_syntax.specs.declared.tree.statement.MapOperation.TheVaria
 use crate::port_types::is_mappable;
 use crate::stand::Stand;
 use config_parts::{Act, End, Request};
+use graph_sites::port_type;
 use std::alloc::{AllocError, Global};
 use step_snapshot::TestCase;
 use ttcn_syntax::{MapOperation, Mapping, Name};
@@ -25,8 +26,8 @@ fn may_map(
 ) -> Result<bool, AllocError>
     ensures { IfOk result (λ may. may ≡ said.may_map (test_by test.now) component.now port.now system_port.now) }
 {
-    let first = test.graphs.port_type(component.component_type, port);
-    let second = test.graphs.port_type(test.system_type, system_port);
+    let first = port_type(&test.definitions, component.component_type, port);
+    let second = port_type(&test.definitions, test.system_type, system_port);
     is_mappable(alloc, &test.definitions, first, second)
 }
 

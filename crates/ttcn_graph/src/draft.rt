@@ -1,23 +1,21 @@
 //! Graphs that are being drawn.
-ghost use Rattle.std.specs.Prelude.{◌≡◌, ◌<◌, ◌∷◌, [], length, map, get_or, is_some, nat_eq, slice_get, IfOk, IfNone, IfSome, OnOk};
+ghost use Rattle.std.specs.Prelude.{◌≡◌, ◌<◌, ◌∷◌, [], length, map, get_or, is_some, IfOk, OnOk};
 ghost use Rattle.check_rules.specs.Calls.{altstep_meant};
-ghost use Rattle.check_scope.specs.Names.{module_names, names_on, resolved};
-ghost use Rattle.check_rules.specs.Messages.{port_meant};
-ghost use Rattle.graph_numbers.specs.Lists.{AreDifferent};
+ghost use Rattle.check_scope.specs.Names.{module_names, resolved};
 ghost use Rattle.semantics.specs.Items as rules;
 ghost use Rattle.semantics.specs.Sites as sites;
-ghost use Rattle.graph_items.specs.Begun.{IsBegunBy};
 ghost use Rattle.graph_items.specs.Standing.{part_of, target_of};
-ghost use Rattle.graph_sites.specs.Facts.{branch_facts, event_by, facts_by, facts_of, target_in};
+ghost use Rattle.graph_sites.specs.Facts.{branch_facts, event_by, target_in};
 ghost use Rattle.graph_sites.specs.internal.OwnNames.{retracted};
-ghost use Rattle.ttcn_graph.specs.Drafts.{AreAt, AreDrawn, HasWays, IsBegun, IsDrawn, IsFinished, IsWay, at_site, empty_draft};
+ghost use Rattle.ttcn_graph.specs.Drafts.{AreAt, AreDrawn, IsBegun, IsDrawn, IsFinished, at_site, empty_draft};
 ghost use Rattle.ttcn_graph.specs.Ways.{ways_of, ways_of_assignment, ways_of_right};
 
 use crate::cells::Cells;
+use crate::drawn::Drawn;
 use check_scope::names::Meaning;
 use check_scope::types::DataType;
-use graph_items::{At, Declared, First, Item, Part, Site, Target, first_of};
-use graph_sites::{EventFacts, Facts, Here, facts_of_branches, facts_of_part, port_type};
+use graph_items::{At, Declared, Item, Part, Site, Target};
+use graph_sites::{EventFacts, Facts, Here, facts_of_branches, facts_of_part};
 use std::alloc::{AllocError, Global};
 use std::marker::Model;
 use ttcn_syntax::{Assignment, Branch, Definition, Name, Reference, Rhs, Seq, Statement, TypeName};
@@ -63,13 +61,6 @@ impl<'a> Model for Draft<'a> {
 
     ghost invariant = { λ d. (d.declared < length d.cells.0) × (get_or d.cells.0 d.declared [] ≡ d.here.1.declared)
         × (map facts_by d.cells.2 ≡ map (facts_of d.here.0) d.cells.1) };
-}
-
-/// The position at a place among positions.
-pub(crate) fn way_in(ways: &Seq<usize>, place: usize) -> Option<usize>
-    ensures { result ≡ slice_get ways.now place }
-{
-    ways.as_slice().get(place).copied()
 }
 
 impl<'a> Draft<'a> {
@@ -154,52 +145,7 @@ impl<'a> Draft<'a> {
         self.here.is_altstep(name)
     }
 
-    /// The port of the component type at a position that a name stands for: the position of its type, if that is known.
-    pub(crate) fn port_type(&self, component: usize, name: &Name) -> Option<Option<usize>>
-        ensures { result ≡ port_meant (names_on self.now.definitions component name.now) }
-    {
-        port_type(&self.here, component, name)
-    }
-
     // ---- positions
-
-    /// How many lists there are.
-    pub fn len(&self) -> usize
-        ensures { result ≡ length self.now.lists }
-    {
-        self.cells.len()
-    }
-
-    /// Whether there are none, which never is: the empty list always has a position.
-    pub fn is_empty(&self) -> bool
-        ensures { result ≡ nat_eq (length self.now.lists) 0 }
-    {
-        self.len() == 0
-    }
-
-    /// The position of one of the lists that may come of the list at a position, where those were said.
-    pub fn way(&self, at: usize, place: usize) -> Option<usize>
-        ensures found { IfSome result (λ way. HasWays self.now at → IsWay self.now at place way) }
-        ensures missing { IfNone result (HasWays self.now at → slice_get (ways_of self.now.definitions (get_or self.now.lists at [])) place ≡ None) }
-    {
-        match self.ways.get(at) {
-            Some(ways) => way_in(ways, place),
-            None => None,
-        }
-    }
-
-    /// What stands first in the list at a position, and the position of the list behind it, which is a lesser one.
-    pub fn first(&self, at: usize) -> Option<(First<'_, 'a>, usize)>
-        requires { at < length self.now.lists }
-        ensures missing { IfNone result (get_or self.now.lists at [] ≡ []) }
-        ensures found { IfSome result (λ found. IsBegunBy (get_or self.now.lists at []) found.0 (get_or self.now.lists found.1 [])) }
-        ensures before { IfSome result (λ found. found.1 < at) }
-    {
-        match self.cells.first(at) {
-            Some((item, rest)) => Some((first_of(item), rest)),
-            None => None,
-        }
-    }
 
     /// What is known here of the events of branches.
     pub(crate) fn facts_of_branches(
@@ -209,17 +155,6 @@ impl<'a> Draft<'a> {
         ensures { IfOk result (λ facts. map event_by facts ≡ map (branch_facts self.now.definitions self.now.site) branches.now) }
     {
         facts_of_branches(self.alloc, &self.here, branches)
-    }
-
-    /// What is known where the first item of the list at a position stands.
-    pub fn facts(&self, at: usize) -> &Facts<'a>
-        requires { at < length self.now.lists }
-        ensures { facts_by result.now ≡ facts_of self.now.definitions (get_or self.now.lists at []) }
-    {
-        match self.cells.facts(at) {
-            Some(facts) => facts,
-            None => unreachable!(),
-        }
     }
 
     /// The position of the empty list.
@@ -286,11 +221,23 @@ impl<'a> Draft<'a> {
         Ok(())
     }
 
-    /// No list has two positions.
-    pub fn lists_differ(&self)
-        ensures { AreDifferent self.now.lists }
+    /// What was drawn, of these definitions.
+    pub(crate) fn end(self, definitions: &'a [Definition]) -> Drawn<'a>
+        requires { self.definitions ≡ definitions.now }
+        ensures { result ≡ at_site (sites.beginning 0) self.entry }
     {
-        self.cells.lists_differ();
+        let Draft {
+            alloc: _alloc,
+            here: _here,
+            declared: _declared,
+            cells,
+            ways,
+        } = self;
+        Drawn {
+            definitions,
+            cells,
+            ways,
+        }
     }
 
     // ---- positions with their ways

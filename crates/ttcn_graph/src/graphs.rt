@@ -1,8 +1,7 @@
 //! The graphs of all behaviours of a module.
 ghost use Rattle.std.specs.Prelude.{◌≡◌, ℕ, ◌<◌, [], length, map, get_or, nat_eq, slice_get, IfOk, IfNone, IfSome, None};
 ghost use Rattle.std.specs.Option.{option_map};
-ghost use Rattle.check_scope.specs.Names.{kind_at, names_on};
-ghost use Rattle.check_rules.specs.Messages.{port_meant};
+ghost use Rattle.check_scope.specs.Names.{kind_at};
 ghost use Rattle.graph_numbers.specs.Lists.{AreDifferent};
 ghost use Rattle.ttcn_graph.specs.Drafts.{AreDrawn, at_site};
 ghost use Rattle.semantics.specs.Branches.{branches_of};
@@ -14,7 +13,8 @@ ghost use Rattle.ttcn_graph.specs.Graphs.{IsAt, beginnings, beginnings_at, body_
 ghost use Rattle.ttcn_graph.specs.Ways.{ways_of};
 
 use crate::block::{draw_block, draw_branches};
-use crate::draft::{Draft, way_in};
+use crate::draft::Draft;
+use crate::drawn::{Drawn, way_in};
 use crate::known::all_names;
 use check_rules::Program;
 use check_scope::scope::kind_at;
@@ -27,7 +27,7 @@ use ttcn_syntax::{Branch, Definition, DefinitionKind, Name, Seq, Statement};
 
 /// The graphs of a module. A contract sees the lists that positions stand for, and where they lead.
 pub struct Graphs<'a> {
-    draft: Draft<'a>,
+    drawn: Drawn<'a>,
     starts: Vec<Seq<usize>>,
     /// For each definition, and the position behind the last one, what is known of the events of its branches, if it is an
     /// altstep.
@@ -38,7 +38,7 @@ pub struct Graphs<'a> {
 impl<'a> Drop for Graphs<'a> {
     fn drop(self) {
         let Graphs {
-            draft: _draft,
+            drawn: _drawn,
             starts: _starts,
             altsteps: _altsteps,
             names: _names,
@@ -63,13 +63,13 @@ impl<'a> Model for Graphs<'a> {
 
     ghost coded = { Prim.hlevel (codes, action.the_row.coded, branch.the_row.coded, statement.the_row.coded, template.the_row.coded, value.the_row.coded) };
 
-    ghost view = { λ graphs. definition.graphs_of graphs.draft graphs.starts.items graphs.names };
+    ghost view = { λ graphs. definition.graphs_of graphs.drawn graphs.starts.items graphs.names };
 
-    ghost invariant = { λ graphs. definition.AllHaveWays graphs.draft
-        × ((at : ℕ) → AreAt graphs.draft.lists (get_or graphs.starts.items at []) (definition.beginnings_at graphs.draft.definitions at))
-        × ((at : ℕ) → map event_by (get_or graphs.altsteps.items at []) ≡ altstep_facts graphs.draft.definitions at)
-        × (graphs.names ≡ all_names graphs.draft.definitions graphs.draft.lists)
-        × (length graphs.draft.definitions < length graphs.altsteps.items) };
+    ghost invariant = { λ graphs. definition.AllHaveWays graphs.drawn
+        × ((at : ℕ) → AreAt graphs.drawn.lists (get_or graphs.starts.items at []) (definition.beginnings_at graphs.drawn.definitions at))
+        × ((at : ℕ) → map event_by (get_or graphs.altsteps.items at []) ≡ altstep_facts graphs.drawn.definitions at)
+        × (graphs.names ≡ all_names graphs.drawn.definitions graphs.drawn.lists)
+        × (length graphs.drawn.definitions < length graphs.altsteps.items) };
 }
 
 /// The position of the block of a function or a test case.
@@ -151,9 +151,10 @@ fn draw_all<'a>(alloc: Global, definitions: &'a [Definition]) -> Result<Graphs<'
         altsteps.push(facts)?;
     }
     altsteps.push(Seq::new(alloc))?;
-    let names = all_names(alloc, &draft, definitions)?;
+    let drawn = draft.end(definitions);
+    let names = all_names(alloc, &drawn, definitions)?;
     Ok(Graphs {
-        draft,
+        drawn,
         starts,
         altsteps,
         names,
@@ -172,7 +173,7 @@ impl<'a> Graphs<'a> {
     pub fn len(&self) -> usize
         ensures { result ≡ length self.now.lists }
     {
-        self.draft.len()
+        self.drawn.len()
     }
 
     /// Whether there are none, which never is: the empty list always has a position.
@@ -187,7 +188,7 @@ impl<'a> Graphs<'a> {
         ensures within { result < length self.now.lists }
         ensures empty { get_or self.now.lists result [] ≡ [] }
     {
-        self.draft.nothing()
+        self.drawn.nothing()
     }
 
     /// What stands first in the list at a position, and the position of the list behind it, which is a lesser one.
@@ -197,7 +198,7 @@ impl<'a> Graphs<'a> {
         ensures found { IfSome result (λ found. IsBegunBy (get_or self.now.lists at []) found.0 (get_or self.now.lists found.1 [])) }
         ensures before { IfSome result (λ found. found.1 < at) }
     {
-        self.draft.first(at)
+        self.drawn.first(at)
     }
 
     /// What is known where the first item of the list at a position stands.
@@ -205,7 +206,7 @@ impl<'a> Graphs<'a> {
         requires { at < length self.now.lists }
         ensures { facts_by result.now ≡ facts_of self.now.definitions (get_or self.now.lists at []) }
     {
-        self.draft.facts(at)
+        self.drawn.facts(at)
     }
 
     /// The position of one of the lists that may come of the list at a position.
@@ -214,7 +215,7 @@ impl<'a> Graphs<'a> {
         ensures found { IfSome result (λ way. IsAt self.now way place (ways_of self.now.definitions (get_or self.now.lists at []))) }
         ensures missing { IfNone result (slice_get (ways_of self.now.definitions (get_or self.now.lists at [])) place ≡ None) }
     {
-        self.draft.way(at, place)
+        self.drawn.way(at, place)
     }
 
     /// The position of one of the lists that the definition at a position begins with.
@@ -237,13 +238,6 @@ impl<'a> Graphs<'a> {
         self.altsteps[place].as_slice()
     }
 
-    /// The port of the component type at a position that a name stands for: the position of its type, if that is known.
-    pub fn port_type(&self, component: usize, port: &Name) -> Option<Option<usize>>
-        ensures { result ≡ port_meant (names_on self.now.definitions component port.now) }
-    {
-        self.draft.port_type(component, port)
-    }
-
     /// The names that steps change or declare, and those of ports that they name.
     pub fn names(&self) -> &[&'a Name]
         ensures { map (λ name. name.now) result.now ≡ self.now.names }
@@ -255,20 +249,20 @@ impl<'a> Graphs<'a> {
     pub fn knows_items(&self)
         ensures { (p : ℕ) → p < length self.now.lists → AreKnown self.now.names (names_of (get_or self.now.lists p [])) }
     {
-        let _ = self.draft.len();
+        let _ = self.drawn.len();
     }
 
     /// The names of each definition are among the names of the graphs.
     pub fn knows_definitions(&self)
         ensures { (at : ℕ) → AreKnown self.now.names (names_of_kind (kind_at self.now.definitions at)) }
     {
-        let _ = self.draft.len();
+        let _ = self.drawn.len();
     }
 
     /// No list has two positions.
     pub fn lists_differ(&self)
         ensures { AreDifferent self.now.lists }
     {
-        self.draft.lists_differ();
+        self.drawn.lists_differ();
     }
 }

@@ -4,6 +4,7 @@
 mod block;
 mod cells;
 mod draft;
+mod drawn;
 mod graphs;
 mod known;
 mod names;

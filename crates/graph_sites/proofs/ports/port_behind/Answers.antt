@@ -9,7 +9,7 @@ returns-then-declares c =
     let most = c.loop-at.auto.at in
     let at = c.loop-at.at - 1 in
     let one : c.loop-at.at ≡ at + 1 = omega (arith, some) in
-    port-found (module_names c.args.here.now.0) c.args.members.now at c.loop-at.at c.index-members-at.result c.args.name.now c.port_declared.result one (omega (arith, some, most))
+    port-found (module_names c.args.definitions.now) c.args.members.now at c.loop-at.at c.index-members-at.result c.args.name.now c.port_declared.result one (omega (arith, some, most))
     c.index-members-at.is (sym c.declares.ensures ∙ c.if-declares.true) c.loop-at.invariant c.port_declared.ensures
 
 pub loop-at-preserved : goal.loop-at-preserved
@@ -18,5 +18,5 @@ loop-at-preserved c =
     let most = c.loop-at.auto.at in
     let at = c.loop-at.at - 1 in
     let one : c.loop-at.at ≡ at + 1 = omega (arith, some) in
-    port-passed (module_names c.args.here.now.0) c.args.members.now at c.loop-at.at c.index-members-at.result c.args.name.now one (omega (arith, some, most))
+    port-passed (module_names c.args.definitions.now) c.args.members.now at c.loop-at.at c.index-members-at.result c.args.name.now one (omega (arith, some, most))
     c.index-members-at.is (sym c.declares.ensures ∙ c.if-declares.false) c.loop-at.invariant

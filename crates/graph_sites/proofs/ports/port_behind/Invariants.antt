@@ -3,4 +3,4 @@ use Rattle.graph_sites.proofs.MembersBehind.{IsBehind}
 use Rattle.graph_sites.proofs.ports.port_behind.Given as goal
 
 abbrev pub invariant-loop-at : goal.invariant-loop-at
-invariant-loop-at l = IsBehind (module_names l.here.0) l.members l.name l.at
+invariant-loop-at l = IsBehind (module_names l.definitions) l.members l.name l.at

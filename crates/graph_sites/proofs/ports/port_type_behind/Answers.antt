@@ -5,11 +5,11 @@ use Rattle.graph_sites.proofs.ports.port_type_behind.Goals as goal
 
 pub returns-then-any_declares : goal.returns-then-any_declares
 returns-then-any_declares c =
-    let names = module_names c.args.here.now.0 in
+    let names = module_names c.args.definitions.now in
     sym (type-behind names c.args.members.now c.args.name.now ∙ ap (λ b. if b then None else port_type_meant (names c.args.name.now)) (sym c.any_declares.ensures ∙ c.if-any_declares.true))
 
 pub returns-else-any_declares : goal.returns-else-any_declares
 returns-else-any_declares c =
-    let names = module_names c.args.here.now.0 in
-    c.port_type_meant.ensures ∙ ap port_type_meant (c.in_module.ensures ∙ ap names c.as_bytes.ensures)
+    let names = module_names c.args.definitions.now in
+    c.port_type_meant.ensures ∙ ap port_type_meant (c.meaning.ensures ∙ ap names c.as_bytes.ensures)
     ∙ sym (type-behind names c.args.members.now c.args.name.now ∙ ap (λ b. if b then None else port_type_meant (names c.args.name.now)) (sym c.any_declares.ensures ∙ c.if-any_declares.false))

@@ -1,4 +1,4 @@
-use Rattle.std.proofs.Common.{false, Option, Some, ℕ, ap, sym, ◌∙◌}
+use Rattle.std.proofs.Common.{false, Option, ℕ, ap, sym, ◌∙◌}
 use Rattle.check_scope.specs.Typings.{type_known}
 use Rattle.check_rules.specs.Messages.{passage_at, passing_at, port_meant, type_by_port}
 use Rattle.semantics.specs.Sites.{scope_at}

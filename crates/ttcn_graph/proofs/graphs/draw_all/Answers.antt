@@ -2,6 +2,8 @@ use Rattle.std.proofs.Common.{List, ap, arith, get_or, length, map, subst, sym, 
 use Rattle.ttcn_syntax.specs.declared.tree.definition.Definition.{Definition}
 use Rattle.graph_sites.specs.Facts.{altstep_facts, event_by}
 use Rattle.graph_names.specs.internal.Learning.{all_names}
+use Rattle.ttcn_graph.specs.Drafts.{AreAt, Draft}
+use Rattle.ttcn_graph.specs.Graphs.{AllHaveWays, beginnings_at}
 use Rattle.ttcn_graph.proofs.Graphed.{facts-end, facts-first, facts-more, facts-next, graphed-end, graphed-first, graphed-next, more-than}
 use Rattle.ttcn_graph.proofs.graphs.draw_all.Goals as goal
 
@@ -23,14 +25,18 @@ pub invariant_of-result : goal.invariant_of-result
 invariant_of-result c =
     let end = c.loop-at-test.false in
     let definitions = c.args.definitions.now in
-    let drawn = c.loop-at.invariant.drawn in
+    let graphed = c.loop-at.invariant.drawn in
+    let ended = c.end-drawn.ensures in
+    let is : c.end-drawn.result.definitions ≡ definitions = ap (λ (d : Draft). d.definitions) ended ∙ graphed.module_is in
+    let starts = c.loop-at.starts.items in
     let pushed = c.push-2.new.self.items in
     let known = facts-more definitions c.loop-at.altsteps.items pushed c.new-2.result c.new-2.ensures c.in_ok-push-3.ensures.items
     (facts-end definitions c.loop-at.altsteps.items c.loop-at.at c.loop-at.invariant.known (omega (arith, end))) in
     let more = more-than definitions c.loop-at.altsteps.items pushed c.new-2.result c.loop-at.at c.loop-at.invariant.known (omega (arith, end)) c.in_ok-push-3.ensures.items in (
-      drawn.whole,
-      graphed-end definitions c.loop-at.draft c.loop-at.starts.items c.loop-at.at drawn (omega (arith, end)),
-      subst (λ (definitions : List Definition). (at : ℕ) → map event_by (get_or pushed at []) ≡ altstep_facts definitions at) (sym drawn.module_is) known,
-      c.in_ok-names.ensures ∙ ap (λ (definitions : List Definition). all_names definitions c.loop-at.draft.lists) (sym drawn.module_is),
-      subst (λ (definitions : List Definition). length definitions < length pushed) (sym drawn.module_is) more,
+      subst AllHaveWays (sym ended) graphed.whole,
+      subst (λ (d : Draft). (at : ℕ) → AreAt d.lists (get_or starts at []) (beginnings_at d.definitions at)) (sym ended)
+          (graphed-end definitions c.loop-at.draft starts c.loop-at.at graphed (omega (arith, end))),
+      subst (λ (definitions : List Definition). (at : ℕ) → map event_by (get_or pushed at []) ≡ altstep_facts definitions at) (sym is) known,
+      c.in_ok-names.ensures ∙ ap (λ (definitions : List Definition). all_names definitions c.end-drawn.result.lists) (sym is),
+      subst (λ (definitions : List Definition). length definitions < length pushed) (sym is) more,
     )

@@ -5,7 +5,7 @@ use Rattle.ttcn_graph.proofs.known.add_lists.Goals as goal
 
 pub loop-at-preserved : goal.loop-at-preserved
 loop-at-preserved c =
-    let d = c.args.draft.now in
+    let d = c.args.drawn.now in
     let test = c.loop-at-test.true in
     let count = c.len-at-end.ensures in
     lists-next d.definitions d.lists c.loop-at.at c.loop-at.names c.add_at.new.names (omega (arith, test, count)) c.in_ok-add_at.ensures ∙ c.loop-at.invariant
@@ -14,4 +14,4 @@ pub returns : goal.returns
 returns c =
     let test = c.loop-at-test.false in
     let count = c.len-at-end.ensures in
-    all-end c.args.draft.now.lists c.loop-at.at names_of c.loop-at.names (omega (arith, test, count)) ∙ c.loop-at.invariant
+    all-end c.args.drawn.now.lists c.loop-at.at names_of c.loop-at.names (omega (arith, test, count)) ∙ c.loop-at.invariant

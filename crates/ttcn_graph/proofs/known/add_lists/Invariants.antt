@@ -5,4 +5,4 @@ use Rattle.graph_names.specs.internal.Learning.{with_names}
 use Rattle.ttcn_graph.proofs.known.add_lists.Given as goal
 
 abbrev pub invariant-loop-at : goal.invariant-loop-at
-invariant-loop-at l = with_names l.names (flat_map names_of (drop l.at l.draft.lists)) ≡ with_names l.fn.names (flat_map names_of l.fn.draft.lists)
+invariant-loop-at l = with_names l.names (flat_map names_of (drop l.at l.drawn.lists)) ≡ with_names l.fn.names (flat_map names_of l.fn.drawn.lists)

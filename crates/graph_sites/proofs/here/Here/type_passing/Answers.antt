@@ -1,4 +1,4 @@
-use Rattle.std.proofs.Common.{Bool, List, Option, Some, None, ap, ◌∙◌}
+use Rattle.std.proofs.Common.{Bool, List, Option, ap, ◌∙◌}
 use Rattle.check_scope.specs.Names.{kind_at, module_names}
 use Rattle.check_scope.specs.PortTypes.{only_type, types_of_port}
 use Rattle.check_scope.specs.declared.types.DataType.{DataType}

@@ -7,6 +7,6 @@ use Rattle.ttcn_graph.proofs.graphs.Graphs.knows_definitions.Goals as goal
 
 pub returns : goal.returns
 returns c =
-    let d = c.self.inside.draft in
+    let d = c.self.inside.drawn in
     subst (λ (graphs : Graphs). (at : ℕ) → AreKnown graphs.names (names_of_kind (kind_at graphs.definitions at))) c.self.view_is
     (λ at. subst (λ names. AreKnown names (names_of_kind (kind_at d.definitions at))) (sym c.self.invariant.3) (know-definitions d.definitions d.lists at))

@@ -6,7 +6,7 @@ use Rattle.ttcn_graph.proofs.graphs.Graphs.start.Goals as goal
 
 pub returns-in-Some-clause-found : goal.returns-in-Some-clause-found
 returns-in-Some-clause-found c =
-    let d = c.self.inside.draft in
+    let d = c.self.inside.drawn in
     let starts = c.self.inside.starts.items in
     let found = c.in-Some.ensures.lookup.4 (omega arith) [] ∙ ap (λ l. get_or l c.args.definition []) c.deref.ensures.value in
     subst (λ (graphs : Graphs). IfSome c.way_in.result (λ start. IsAt graphs start c.args.place (beginnings_at graphs.definitions c.args.definition))) c.self.view_is
@@ -15,7 +15,7 @@ returns-in-Some-clause-found c =
 
 pub returns-in-Some-clause-missing : goal.returns-in-Some-clause-missing
 returns-in-Some-clause-missing c =
-    let d = c.self.inside.draft in
+    let d = c.self.inside.drawn in
     let starts = c.self.inside.starts.items in
     let found = c.in-Some.ensures.lookup.4 (omega arith) [] ∙ ap (λ l. get_or l c.args.definition []) c.deref.ensures.value in
     subst (λ (graphs : Graphs). IfNone c.way_in.result (slice_get (beginnings_at graphs.definitions c.args.definition) c.args.place ≡ None)) c.self.view_is

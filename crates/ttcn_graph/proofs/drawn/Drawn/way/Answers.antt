@@ -1,7 +1,7 @@
 use Rattle.std.proofs.Common.{[], ap, arith, get_or, slice_get, ◌∙◌}
 use Rattle.ttcn_graph.specs.Drafts.{Draft}
 use Rattle.ttcn_graph.proofs.Drafted.{way-answer}
-use Rattle.ttcn_graph.proofs.draft.Draft.way.Goals as goal
+use Rattle.ttcn_graph.proofs.drawn.Drawn.way.Goals as goal
 
 pub returns-in-Some-clause-found : goal.returns-in-Some-clause-found
 returns-in-Some-clause-found c =

@@ -1,7 +1,7 @@
 use Rattle.std.proofs.Common.{[], get_or, subst, sym}
 use Rattle.graph_items.specs.Begun.{IsBegunBy}
 use Rattle.ttcn_graph.specs.Drafts.{Draft}
-use Rattle.ttcn_graph.proofs.draft.Draft.first.Goals as goal
+use Rattle.ttcn_graph.proofs.drawn.Drawn.first.Goals as goal
 
 pub returns-in-Some-clause-found : goal.returns-in-Some-clause-found
 returns-in-Some-clause-found c =
