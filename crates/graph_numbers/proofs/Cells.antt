@@ -9,7 +9,7 @@ use Rattle.std.proofs.lemmas.Option.{slice_get_within}
 use Rattle.indexmap.specs.IndexSet.{insert_key}
 use Rattle.graph_numbers.specs.Lists.{AreDifferent, Extends, HaveRests, IsPut, lists_of, with_cell}
 use Rattle.graph_numbers.specs.declared.lists.Cell.{Cell}
-use Rattle.graph_numbers.proofs.OneSlot.{one-slot}
+use Rattle.graph_numbers.proofs.OnePlace.{one-place}
 
 some-is : {X : Type 0} {a b : X} → ◌≡◌ {A = Option X} (Some a) (Some b) → a ≡ b
 some-is {a = a} h = ap (λ o. elim o as (λ _. _) [ None ↦ a | Some x ↦ x ]) h
@@ -192,7 +192,7 @@ module _ {I : Type 0} where
         let before = rests j d.0 d.1 in
         let rest = differ-below cells rests apart n c.0.rest d.0.rest (omega (arith, below, few)) (omega (arith, below, inside)) (omega (arith, before, there)) (tail-is lists) in
         let one : c.0 ≡ d.0 = λ k. record { item = head-is lists k; rest = rest k } in
-        ap suc (one-slot eq itself cells apart i j c.0 c.1 (d.1 ∙ ap Some (sym one)))
+        ap suc (one-place eq itself cells apart i j c.0 c.1 (d.1 ∙ ap Some (sym one)))
 
     pub differ : (cells : List (Cell I)) → HaveRests cells → IsDistinct eq cells → AreDifferent (lists_of cells)
     differ cells rests apart p q inside there same =

@@ -1,3 +1,3 @@
 pub mod Cells
-pub mod OneSlot
+pub mod OnePlace
 pub mod Ordered

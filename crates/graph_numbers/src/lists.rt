@@ -17,7 +17,7 @@ pub struct Cell<I> {
 /// Lists of items. Each has one position, and position 0 is that of the empty list.
 #[derive(Drop)]
 pub struct Lists<I: Exact + Hash> {
-    cells: IndexSet<Cell<I>>,
+    pub(crate) cells: IndexSet<Cell<I>>,
     ghost rests: { HaveRests cells.keys },
 }
 

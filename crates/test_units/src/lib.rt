@@ -39,8 +39,6 @@ mod pieces;
 #[cfg(test)]
 mod round;
 #[cfg(test)]
-mod slots;
-#[cfg(test)]
 mod statuses;
 #[cfg(test)]
 pub mod surface;

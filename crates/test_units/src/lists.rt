@@ -1,11 +1,11 @@
 //! Lists by positions.
 use crate::letter::Letter;
-use graph_numbers::Lists;
+use graph_numbers::{Fixed, Lists};
 use std::process::Abort;
 use std::test::Fail;
 
 /// The numbers of a list, each read as a digit.
-fn digits(rt: &impl Abort, lists: &Lists<Letter>, at: usize) -> u64 {
+fn digits(rt: &impl Abort, lists: &Fixed<Letter>, at: usize) -> u64 {
     let mut read = 0_u64;
     let mut left = at;
     for _ in 0..lists.len() {
@@ -43,9 +43,11 @@ fn equal_lists_have_one_position(rt: HostRuntime) -> Result<(), Fail> {
     let first = positions(&rt, &mut lists)?;
     assert_eq!(rt; first, positions(&rt, &mut lists)?);
     assert_eq!(rt; lists.len(), 5);
-    let read = first.map(|at| digits(&rt, &lists, at));
+    let fixed = lists.fix(rt.alloc())?;
+    assert_eq!(rt; fixed.len(), 5);
+    let read = first.map(|at| digits(&rt, &fixed, at));
     assert_eq!(rt; read, [3, 23, 123, 13]);
-    assert!(rt; lists.first(0).is_none());
+    assert!(rt; fixed.first(0).is_none());
     Ok(())
 }
 

@@ -11,7 +11,7 @@ ghost use Rattle.graph_sites.specs.internal.OwnNames.{without_first};
 ghost use Rattle.ttcn_graph.specs.internal.Within.{IsWithin};
 
 use graph_items::{Declared, Item};
-use graph_numbers::Lists;
+use graph_numbers::{Fixed, Lists};
 use graph_sites::Facts;
 use std::alloc::{AllocError, Global};
 use std::marker::Model;
@@ -70,13 +70,6 @@ impl<'a> Cells<'a> {
             items: Lists::new(alloc),
             facts,
         })
-    }
-
-    /// How many lists of items there are.
-    pub(crate) fn len(&self) -> usize
-        ensures { result ≡ length self.now.1 }
-    {
-        self.items.len()
     }
 
     /// The position of no declared names.
@@ -143,6 +136,80 @@ impl<'a> Cells<'a> {
         // A list that has its position already, or is refused, has nothing to add.
         self.facts.truncate(self.items.len());
         Ok(put?)
+    }
+
+    /// The lists as they are.
+    pub(crate) fn fix(self, alloc: Global) -> Result<FixedCells<'a>, AllocError>
+        ensures { IfOk result (λ fixed. fixed ≡ self.entry) }
+    {
+        let Cells {
+            sites,
+            items,
+            facts,
+        } = self;
+        Ok(FixedCells {
+            sites: sites.fix(alloc)?,
+            items: items.fix(alloc)?,
+            facts,
+        })
+    }
+}
+
+/// Lists of items by positions, to which none is added any more. A contract sees what it sees of those before.
+pub(crate) struct FixedCells<'a> {
+    sites: Fixed<Declared<'a>>,
+    items: Fixed<Item<'a>>,
+    facts: Vec<Facts<'a>>,
+}
+
+impl<'a> Drop for FixedCells<'a> {
+    fn drop(self) {
+        let FixedCells {
+            sites: _sites,
+            items: _items,
+            facts: _facts,
+        } = self;
+    }
+}
+
+impl<'a> Model for FixedCells<'a> {
+    ghost use Rattle.std.specs.Prelude.{List, map, length};
+    ghost use Rattle.std.specs.Coded.{codes};
+    ghost use Rattle.ttcn_syntax.specs.contracts.tree.statement.Action as action;
+    ghost use Rattle.ttcn_syntax.specs.contracts.tree.statement.Branch as branch;
+    ghost use Rattle.ttcn_syntax.specs.contracts.tree.statement.Statement as statement;
+    ghost use Rattle.ttcn_syntax.specs.contracts.tree.template.Template as template;
+    ghost use Rattle.ttcn_syntax.specs.contracts.tree.value.Value as value;
+    ghost use Rattle.check_scope.specs.Names.{Entry};
+    ghost use Rattle.graph_numbers.specs.Lists.{lists_of};
+    ghost use Rattle.semantics.specs.Items as rules;
+    ghost use Rattle.graph_items.specs.Standing.{remaining_of};
+    ghost use Rattle.graph_sites.specs.declared.facts.Facts.{Facts};
+    ghost use Rattle.ttcn_graph.specs.internal.Within.{AreAllWithin};
+
+    ghost Value = { List (List Entry) × List (List rules.Item) × List Facts };
+
+    ghost coded = { Prim.hlevel (codes, action.the_row.coded, branch.the_row.coded, statement.the_row.coded, template.the_row.coded, value.the_row.coded) };
+
+    ghost view = { λ cells. (lists_of cells.sites.cells.items, map (remaining_of (lists_of cells.sites.cells.items)) (lists_of cells.items.cells.items), cells.facts.items) };
+
+    ghost invariant = { λ cells. AreAllWithin (length (lists_of cells.sites.cells.items)) (lists_of cells.items.cells.items) };
+}
+
+impl<'a> FixedCells<'a> {
+    /// How many lists of items there are.
+    pub(crate) fn len(&self) -> usize
+        ensures { result ≡ length self.now.1 }
+    {
+        self.items.len()
+    }
+
+    /// The position of no items.
+    pub(crate) fn nothing(&self) -> usize
+        ensures within { result < length self.now.1 }
+        ensures empty { get_or self.now.1 result [] ≡ [] }
+    {
+        self.items.empty()
     }
 
     /// What is known at a list.

@@ -222,22 +222,22 @@ impl<'a> Draft<'a> {
     }
 
     /// What was drawn, of these definitions.
-    pub(crate) fn end(self, definitions: &'a [Definition]) -> Drawn<'a>
+    pub(crate) fn end(self, definitions: &'a [Definition]) -> Result<Drawn<'a>, AllocError>
         requires { self.definitions ≡ definitions.now }
-        ensures { result ≡ at_site (sites.beginning 0) self.entry }
+        ensures { IfOk result (λ drawn. drawn ≡ at_site (sites.beginning 0) self.entry) }
     {
         let Draft {
-            alloc: _alloc,
+            alloc,
             here: _here,
             declared: _declared,
             cells,
             ways,
         } = self;
-        Drawn {
+        Ok(Drawn {
             definitions,
-            cells,
+            cells: cells.fix(alloc)?,
             ways,
-        }
+        })
     }
 
     // ---- positions with their ways

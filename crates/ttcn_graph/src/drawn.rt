@@ -6,7 +6,7 @@ ghost use Rattle.graph_sites.specs.Facts.{facts_by, facts_of};
 ghost use Rattle.ttcn_graph.specs.Drafts.{HasWays, IsWay};
 ghost use Rattle.ttcn_graph.specs.Ways.{ways_of};
 
-use crate::cells::Cells;
+use crate::cells::FixedCells;
 use graph_items::{First, first_of};
 use graph_sites::Facts;
 use std::marker::Model;
@@ -15,7 +15,7 @@ use ttcn_syntax::{Definition, Seq};
 /// The lists of definitions by their positions, and where each leads. A contract sees a draft that went back to the beginning.
 pub(crate) struct Drawn<'a> {
     pub(crate) definitions: &'a [Definition],
-    pub(crate) cells: Cells<'a>,
+    pub(crate) cells: FixedCells<'a>,
     pub(crate) ways: Vec<Seq<usize>>,
 }
 

@@ -151,10 +151,10 @@ fn draw_all<'a>(alloc: Global, definitions: &'a [Definition]) -> Result<Graphs<'
         altsteps.push(facts)?;
     }
     altsteps.push(Seq::new(alloc))?;
-    let drawn = draft.end(definitions);
-    let names = all_names(alloc, &drawn, definitions)?;
+    let whole = draft.end(definitions)?;
+    let names = all_names(alloc, &whole, definitions)?;
     Ok(Graphs {
-        drawn,
+        drawn: whole,
         starts,
         altsteps,
         names,

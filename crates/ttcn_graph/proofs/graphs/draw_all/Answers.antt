@@ -26,8 +26,8 @@ invariant_of-result c =
     let end = c.loop-at-test.false in
     let definitions = c.args.definitions.now in
     let graphed = c.loop-at.invariant.drawn in
-    let ended = c.end-drawn.ensures in
-    let is : c.end-drawn.result.definitions ≡ definitions = ap (λ (d : Draft). d.definitions) ended ∙ graphed.module_is in
+    let ended = c.in_ok-whole.ensures in
+    let is : c.in_ok-whole.whole.definitions ≡ definitions = ap (λ (d : Draft). d.definitions) ended ∙ graphed.module_is in
     let starts = c.loop-at.starts.items in
     let pushed = c.push-2.new.self.items in
     let known = facts-more definitions c.loop-at.altsteps.items pushed c.new-2.result c.new-2.ensures c.in_ok-push-3.ensures.items
@@ -37,6 +37,6 @@ invariant_of-result c =
       subst (λ (d : Draft). (at : ℕ) → AreAt d.lists (get_or starts at []) (beginnings_at d.definitions at)) (sym ended)
           (graphed-end definitions c.loop-at.draft starts c.loop-at.at graphed (omega (arith, end))),
       subst (λ (definitions : List Definition). (at : ℕ) → map event_by (get_or pushed at []) ≡ altstep_facts definitions at) (sym is) known,
-      c.in_ok-names.ensures ∙ ap (λ (definitions : List Definition). all_names definitions c.end-drawn.result.lists) (sym is),
+      c.in_ok-names.ensures ∙ ap (λ (definitions : List Definition). all_names definitions c.in_ok-whole.whole.lists) (sym is),
       subst (λ (definitions : List Definition). length definitions < length pushed) (sym is) more,
     )
