@@ -3,20 +3,17 @@ use denote.Param.Send.{IsSync, sendable}
 use denote.Ref.{NamedLft}
 use Rattle.std.proofs.Crossing.{crosses}
 use Rattle.std.proofs.MapsCrossing as maps
-use Rattle.ttcnx_runs.proofs.crossing.Interned.{lists-sync}
-use Rattle.ttcnx_runs.proofs.crossing.Scopes.{names-sync, scope-sync}
-use Rattle.ttcnx_runs.proofs.crossing.Trees.{name-sync, seq-sync, statement-sync}
+use Rattle.ttcnx_runs.proofs.crossing.Interned.{fixed-sync}
+use Rattle.ttcnx_runs.proofs.crossing.Trees.{definition-sync, name-sync, seq-sync, statement-sync}
 use Rattle.graph_items.specs.contracts.declared.Declared as declared
 use Rattle.graph_items.specs.contracts.item.Item as item
 use Rattle.graph_items.specs.contracts.item.Target as target
 use Rattle.graph_items.specs.contracts.referred.Referred as referred
 use Rattle.graph_sites.specs.contracts.facts.EventFacts as event_facts
 use Rattle.graph_sites.specs.contracts.facts.Facts as facts
-use Rattle.graph_sites.specs.contracts.here.Here as here
-use Rattle.graph_sites.specs.contracts.own.Own as own
 use Rattle.graph_names.specs.contracts.known.Names as known
-use Rattle.ttcn_graph.specs.contracts.cells.Cells as cells
-use Rattle.ttcn_graph.specs.contracts.draft.Draft as draft
+use Rattle.ttcn_graph.specs.contracts.cells.FixedCells as cells
+use Rattle.ttcn_graph.specs.contracts.drawn.Drawn as drawn
 use Rattle.ttcn_graph.specs.contracts.graphs.Graphs as graphs
 
 referred-sync : (l : NamedLft) → IsSync (referred.the_field l).row
@@ -38,19 +35,13 @@ facts-sync : (l : NamedLft) → IsSync (facts.the_field l).row
 facts-sync l = search (event_facts-sync, target-sync, seq-sync, crosses, sendable) depth 60 fits 20000
 
 cells-sync : (l : NamedLft) → IsSync (cells.the_field l).row
-cells-sync l = search (facts-sync, lists-sync, item-sync, declared-sync, crosses, sendable) depth 60 fits 20000
+cells-sync l = search (facts-sync, fixed-sync, item-sync, declared-sync, crosses, sendable) depth 60 fits 20000
 
-own-sync : (l : NamedLft) → IsSync (own.the_field l).row
-own-sync l = search (name-sync, maps.crosses, crosses, sendable) depth 60 fits 20000
-
-here-sync : (l : NamedLft) → IsSync (here.the_field l).row
-here-sync l = search (scope-sync, names-sync, own-sync, crosses, sendable) depth 60 fits 20000
-
-draft-sync : (l : NamedLft) → IsSync (draft.the_field l).row
-draft-sync l = search (here-sync, cells-sync, seq-sync, crosses, sendable) depth 60 fits 20000
+drawn-sync : (l : NamedLft) → IsSync (drawn.the_field l).row
+drawn-sync l = search (definition-sync, cells-sync, seq-sync, crosses, sendable) depth 60 fits 20000
 
 known-sync : (l : NamedLft) → IsSync (known.the_field l).row
 known-sync l = search (name-sync, maps.crosses, crosses, sendable) depth 60 fits 20000
 
 pub graphs-sync : (l : NamedLft) → IsSync (graphs.the_field l).row
-graphs-sync l = search (draft-sync, known-sync, event_facts-sync, seq-sync, crosses, sendable) depth 60 fits 20000
+graphs-sync l = search (drawn-sync, known-sync, event_facts-sync, seq-sync, crosses, sendable) depth 60 fits 20000
