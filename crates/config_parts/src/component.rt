@@ -9,7 +9,7 @@ use ttcn_syntax::{Seq, Verdict};
 use value_types::{ComponentId, Slot, Value};
 
 /// How far a component has come (ES 201 873-1, 21.3).
-#[derive(Clone, Copy, Debug, PartialEq, Eq, Hash)]
+#[derive(Clone, Copy, Debug, PartialEq, Eq)]
 pub enum State {
     Created,
     Running,
@@ -37,7 +37,7 @@ impl State {
 }
 
 /// A message, and the component that sent it: none did where it came in at a system port.
-#[derive(PartialEq, Eq, Hash)]
+#[derive(PartialEq, Eq)]
 pub struct Message {
     pub value: Value,
     pub sender: Option<ComponentId>,
@@ -53,7 +53,7 @@ impl Drop for Message {
 }
 
 /// The messages that wait at a port, the one that came first in front (ES 201 873-1, 22.1).
-#[derive(PartialEq, Eq, Hash)]
+#[derive(PartialEq, Eq)]
 pub struct Queue {
     pub port: Slot,
     pub messages: Seq<Message>,
@@ -69,7 +69,7 @@ impl Drop for Queue {
 }
 
 /// A component. Configurations share what a step leaves as it was.
-#[derive(PartialEq, Eq, Hash)]
+#[derive(PartialEq, Eq)]
 pub struct Component {
     /// The component's path, with its type.
     pub itself: ComponentId,

@@ -5,7 +5,7 @@ use crate::shared::Shared;
 use ttcn_syntax::{Seq, Verdict};
 
 /// A test case that goes on.
-#[derive(Drop, PartialEq, Eq, Hash)]
+#[derive(Drop, PartialEq, Eq)]
 pub struct Going {
     /// The components by their paths, ascending.
     pub components: Seq<Component>,
@@ -15,7 +15,7 @@ pub struct Going {
 }
 
 /// A configuration of a test case.
-#[derive(Drop, PartialEq, Eq, Hash)]
+#[derive(Drop, PartialEq, Eq)]
 pub enum Config {
     /// The test case ended with a verdict.
     Ended(Verdict),

@@ -3,7 +3,7 @@ use ttcn_syntax::Seq;
 use value_types::{Path, Slot};
 
 /// A component's port.
-#[derive(PartialEq, Eq, Hash)]
+#[derive(PartialEq, Eq)]
 pub struct End {
     pub component: Path,
     pub port: Slot,
@@ -19,7 +19,7 @@ impl Drop for End {
 }
 
 /// Two ports that are connected, the lesser one first.
-#[derive(PartialEq, Eq, Hash)]
+#[derive(PartialEq, Eq)]
 pub struct Connection {
     pub one: End,
     pub other: End,
@@ -35,7 +35,7 @@ impl Drop for Connection {
 }
 
 /// How ports are linked: with each other, and with system ports; and what came in there.
-#[derive(PartialEq, Eq, Hash)]
+#[derive(PartialEq, Eq)]
 pub struct Links {
     /// Ascending.
     pub connections: Seq<Connection>,

@@ -5,14 +5,14 @@ use value_types::{Slot, TimerState, Value};
 
 /// The values of names and the states of timers, each in the order of the slots. A name without value has no entry among
 /// the values.
-#[derive(Drop, PartialEq, Eq, Hash)]
+#[derive(Drop, PartialEq, Eq)]
 pub struct Cells {
     pub values: Seq<(Slot, Value)>,
     pub timers: Seq<(Slot, TimerState)>,
 }
 
 /// The position of what remains to be done in a frame, and the frame's names. A copy shares the names.
-#[derive(PartialEq, Eq, Hash)]
+#[derive(PartialEq, Eq)]
 pub struct Frame {
     pub remaining: usize,
     pub cells: Shared<Cells>,
@@ -28,7 +28,7 @@ impl Drop for Frame {
 }
 
 /// An activated default: the number of the activation, the altstep, and its arguments (ES 201 873-1, 20.5).
-#[derive(PartialEq, Eq, Hash)]
+#[derive(PartialEq, Eq)]
 pub struct ActiveDefault {
     pub number: u32,
     pub altstep: usize,
@@ -46,7 +46,7 @@ impl Drop for ActiveDefault {
 }
 
 /// What the statements of a component read and change of its own, beside its state, its verdict and the messages that wait.
-#[derive(PartialEq, Eq, Hash)]
+#[derive(PartialEq, Eq)]
 pub struct Data {
     /// Frame 0: the variables, constants and timers of its type.
     pub members: Cells,

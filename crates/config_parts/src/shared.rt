@@ -2,7 +2,6 @@
 ghost use Rattle.std.specs.Prelude.{◌≡◌, IfOk};
 
 use std::alloc::{AllocError, Global};
-use std::hash::{Hash, Hasher};
 use std::marker::Model;
 use std::ops::Deref;
 use std::sync::Arc;
@@ -77,14 +76,4 @@ impl<T: PartialEq> PartialEq for Shared<T> {
 
 impl<T: Eq> Eq for Shared<T> {
     ghost laws = { T.Eq.laws };
-}
-
-impl<T: Hash> Hash for Shared<T> {
-    ghost hash_input = { T.hash_input };
-
-    ghost respects_eq = { T.respects_eq };
-
-    fn hash<H: Hasher>(&self, state: &mut H) {
-        self.get().hash(state);
-    }
 }

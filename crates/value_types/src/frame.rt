@@ -8,7 +8,7 @@ use check_rules::Definitions;
 use ttcn_syntax::Name;
 
 /// The state of a timer (ES 201 873-1, section 12).
-#[derive(Clone, Copy, Debug, PartialEq, Eq, Hash)]
+#[derive(Clone, Copy, Debug, PartialEq, Eq)]
 pub enum TimerState {
     Inactive,
     Running,

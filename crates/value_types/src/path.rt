@@ -6,7 +6,7 @@ use ttcn_syntax::Seq;
 
 /// A component's name: that of the MTC has no numbers, and that of the k-th component that another creates has the other's
 /// numbers and then k.
-#[derive(Debug, PartialEq, Eq, Hash)]
+#[derive(Debug, PartialEq, Eq)]
 pub struct Path {
     pub numbers: Seq<u32>,
 }

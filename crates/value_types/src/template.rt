@@ -9,7 +9,7 @@ use ttcn_syntax::Seq;
 
 /// A template: its pattern, and whether it matches an omitted field too.
 #[cycle(template)]
-#[derive(Debug, Drop, PartialEq, Eq, Hash)]
+#[derive(Debug, Drop, PartialEq, Eq)]
 pub struct Template {
     pub pattern: Pattern,
     pub ifpresent: bool,
@@ -17,7 +17,7 @@ pub struct Template {
 
 /// What a template matches.
 #[cycle(template)]
-#[derive(Debug, PartialEq, Eq, Hash)]
+#[derive(Debug, PartialEq, Eq)]
 pub enum Pattern {
     Value(Value),
     /// `?`

@@ -8,7 +8,7 @@ use std::alloc::{AllocError, Global};
 use ttcn_syntax::Seq;
 
 /// A component that a reference names, and the position of its type among the definitions.
-#[derive(Debug, Drop, PartialEq, Eq, Hash)]
+#[derive(Debug, Drop, PartialEq, Eq)]
 pub struct ComponentId {
     pub path: Path,
     pub component_type: usize,
@@ -16,7 +16,7 @@ pub struct ComponentId {
 
 /// A value, or what stands in its place at an optional field. Types are positions among the module's definitions, and
 /// fields and names of enumerations are positions in their types.
-#[derive(Debug, PartialEq, Eq, Hash)]
+#[derive(Debug, PartialEq, Eq)]
 pub enum Value {
     /// An integer of 64 bits.
     Integer(i64),
