@@ -27,17 +27,9 @@ mod lexer;
 #[cfg(test)]
 mod lists;
 #[cfg(test)]
-mod long;
-#[cfg(test)]
 mod matching;
 #[cfg(test)]
 mod order;
-#[cfg(test)]
-mod parts;
-#[cfg(test)]
-mod pieces;
-#[cfg(test)]
-mod round;
 #[cfg(test)]
 mod statuses;
 #[cfg(test)]
