@@ -2,6 +2,7 @@
 //! and 23).
 use crate::names::{write_name, write_path};
 use crate::outcome::given;
+use crate::reference::write_reference;
 use crate::scene::{Place, Scene};
 use crate::sight::Sight;
 use check_rules::DataType;
@@ -9,7 +10,8 @@ use config_parts::{Message, Queue, State};
 use std::alloc::{AllocError, Global};
 use std::fmt::Write;
 use ttcn_syntax::{
-    ComponentRef, Event, Expr, MessageTemplate, Name, Operator, PortSelector, Receive, TemplateBody,
+    ComponentRef, Event, Expr, MessageTemplate, Name, Operator, PortSelector, Receive, Reference,
+    TemplateBody,
 };
 use ttcn_values::{eval_component, eval_component_reference, eval_template, matches};
 use value_types::{ComponentId, TimerState, Value, timer_state};
@@ -279,6 +281,7 @@ impl<'a> Scene<'a> {
         &self,
         alloc: Global,
         sight: Sight<'_>,
+        behaviour: usize,
         receive: &Receive,
         queue: &Queue,
         message: &Message,
@@ -294,12 +297,49 @@ impl<'a> Scene<'a> {
             }
         }
         let view = self.matched(alloc, sight, receive, queue, message)?;
-        if view.seen == Seen::Taken && receive.sender.is_some() && message.sender.is_none() {
-            let mut text = self.front(alloc, queue, message)?;
+        match &receive.sender {
+            Some(target) if view.seen == Seen::Taken => {
+                self.stored(alloc, behaviour, target, queue, message)
+            }
+            _ => Ok(view),
+        }
+    }
+
+    /// A message that matches, whose sender is to be stored: it must have one, of the type of the target.
+    fn stored(
+        &self,
+        alloc: Global,
+        behaviour: usize,
+        target: &Reference,
+        queue: &Queue,
+        message: &Message,
+    ) -> Result<View, AllocError> {
+        let mut text = self.front(alloc, queue, message)?;
+        let Some(sender) = &message.sender else {
             text.push_str(" from outside, and has no sender to store")?;
             return View::failed(alloc, Some(text));
+        };
+        match self.type_of_reference(alloc, behaviour, target)? {
+            None => Ok(View {
+                seen: Seen::Unsure,
+                words: text,
+            }),
+            Some(wanted) if wanted == DataType::Component(sender.component_type) => {
+                View::taken(alloc)
+            }
+            Some(wanted) => {
+                text.push_str(" from ")?;
+                write_path(&mut text, &sender.path)?;
+                text.push_str(" of type ")?;
+                self.names
+                    .write_definition(&mut text, sender.component_type)?;
+                text.push_str(", and ")?;
+                write_reference(&mut text, target)?;
+                text.push_str(" is of type ")?;
+                self.write_type(&mut text, wanted)?;
+                View::failed(alloc, Some(text))
+            }
         }
-        Ok(view)
     }
 
     /// A receive against what stands first at a port.
@@ -307,6 +347,7 @@ impl<'a> Scene<'a> {
         &self,
         alloc: Global,
         sight: Sight<'_>,
+        behaviour: usize,
         receive: &Receive,
         queue: &Queue,
     ) -> Result<View, AllocError> {
@@ -328,7 +369,7 @@ impl<'a> Scene<'a> {
                 if wanted != found {
                     return self.of_other_type(alloc, queue, message, wanted);
                 }
-                self.addressed(alloc, sight, receive, queue, message)
+                self.addressed(alloc, sight, behaviour, receive, queue, message)
             }
             _ => Ok(View {
                 seen: Seen::Unsure,
@@ -342,12 +383,13 @@ impl<'a> Scene<'a> {
         &self,
         alloc: Global,
         sight: Sight<'_>,
+        behaviour: usize,
         receive: &Receive,
     ) -> Result<View, AllocError> {
         let mut words = String::new(alloc);
         let mut between = "";
         for queue in self.component.queues.get().as_slice() {
-            let view = self.at_port(alloc, sight, receive, queue)?;
+            let view = self.at_port(alloc, sight, behaviour, receive, queue)?;
             if view.seen != Seen::Left {
                 return Ok(view);
             }
@@ -363,12 +405,13 @@ impl<'a> Scene<'a> {
         &self,
         alloc: Global,
         sight: Sight<'_>,
+        behaviour: usize,
         receive: &Receive,
     ) -> Result<View, AllocError> {
         match &receive.port {
-            PortSelector::Any => self.at_any_port(alloc, sight, receive),
+            PortSelector::Any => self.at_any_port(alloc, sight, behaviour, receive),
             PortSelector::Named(name) => match self.queue(name) {
-                Some(queue) => self.at_port(alloc, sight, receive, queue),
+                Some(queue) => self.at_port(alloc, sight, behaviour, receive, queue),
                 None => View::failed(alloc, None),
             },
         }
@@ -454,7 +497,7 @@ impl<'a> Scene<'a> {
     ) -> Result<View, AllocError> {
         let sight = self.sight(place);
         match event {
-            Event::Receive(receive) => self.received(alloc, sight, receive),
+            Event::Receive(receive) => self.received(alloc, sight, place.behaviour, receive),
             Event::Timeout(name) => self.timed_out(alloc, sight, name),
             Event::Done(reference) => self.done(alloc, sight, reference),
             Event::AllDone => self.all_done(alloc),

@@ -4,6 +4,7 @@
 
 mod branches;
 mod choice;
+mod declared;
 mod event;
 mod expression;
 mod members;

@@ -5,12 +5,14 @@ use Rattle.ttcn_syntax.specs.declared.tree.statement.Verdict.{Verdict}
 use Rattle.chart_steps.specs.declared.story.Told.{Told}
 use Rattle.config_parts.specs.Acts.{request_by}
 use Rattle.config_parts.specs.declared.config.Config.{Config}
+use Rattle.graph_items.specs.Standing.{part_of}
 use Rattle.semantics.specs.Configurations as rules
 use Rattle.semantics.specs.Places.{branch_of}
 use Rattle.semantics.specs.Runs.{replay}
 use Rattle.semantics.specs.Steps.{Label, next}
 use Rattle.semantics.specs.Telling.{place_of_step, request_of, sent_of}
 use Rattle.ttcn_step.specs.Machines.{Machine, legend, said}
+use Rattle.ttcn_step.specs.Parts.{part_of_step}
 use Rattle.ttcn_step.specs.Telling.{sent_by}
 use Rattle.ttcn_step.specs.declared.error.ReplayError.{ReplayError}
 use Rattle.ttcn_step.specs.declared.error.ReplayError.TheVariants as replaying
@@ -18,8 +20,9 @@ use Rattle.value_types.specs.declared.path.Path.{Path}
 
 -- what is told of the step of a label from a configuration is what the rules say
 pub record IsTold (machine : Machine) (config : Config) (label : Label) (told : Told) : Type 0 where
-  -- the statement that it begins with, and the branch that it takes
+  -- the statement that it begins with, what of that, and the branch that it takes
   pub place : told.place ≡ place_of_step (said machine config) label
+  pub part : option_map part_of told.part ≡ part_of_step (said machine config) label
   pub branch : told.branch ≡ branch_of machine.test (said machine config) label
   -- what it asks for, and the message that it sends or brings, by the names that slots stand for
   pub request : option_map (request_by (legend machine)) told.request ≡ request_of machine.test (said machine config) label

@@ -8,7 +8,7 @@ ghost use Rattle.ttcn_step.specs.Machines.{Fits, said};
 use config_parts::{Config, Request};
 use std::alloc::{AllocError, Global};
 use step_labels::Label;
-use ttcn_step::{Machine, ReplayError, Sent, StepError};
+use ttcn_step::{Machine, Part, ReplayError, Sent, StepError};
 use ttcn_syntax::Span;
 
 /// What a step does.
@@ -16,6 +16,8 @@ use ttcn_syntax::Span;
 pub struct Told {
     /// The place of the statement that the step begins with, where it is that of a statement.
     pub place: Option<Span>,
+    /// What of that statement it begins with.
+    pub part: Option<Part>,
     /// The place of the branch that it takes, if it takes one.
     pub branch: Option<Span>,
     /// What it asks for, where it is that of a statement and does not fail.
@@ -74,6 +76,7 @@ fn tell_step(
     let sent = machine.sent(alloc, config, label)?;
     Ok(Told {
         place: machine.place(config, label),
+        part: machine.part(config, label),
         branch,
         request,
         sent,

@@ -2,6 +2,7 @@
 #![tactic(auto)]
 
 mod alt;
+mod begun;
 mod branches;
 mod coarsen;
 mod double;
@@ -29,4 +30,5 @@ pub use step_labels::{FineLabel, Label, Standing};
 pub use step_script::Script;
 pub use successor::Successor;
 pub use telling::Sent;
+pub use ttcn_graph::Part;
 pub use value_types::Path;

@@ -15,6 +15,8 @@ ghost use Rattle.ttcn_step.specs.FineAnswers.{Coarsens, Doubles, IsDoubling, Sta
 ghost use Rattle.ttcn_step.specs.Machines.{Fits, legend, said};
 ghost use Rattle.ttcn_step.specs.Standing.{standing_of};
 ghost use Rattle.ttcn_step.specs.Telling.{sent_by};
+ghost use Rattle.ttcn_step.specs.Parts.{part_of_step};
+ghost use Rattle.graph_items.specs.Standing.{part_of};
 ghost use Rattle.check_rules.specs.Rules.{AreWellTyped};
 
 use crate::error::{CoarsenError, ReplayError, StepError};
@@ -30,6 +32,7 @@ use std::marker::Model;
 use step_labels::{FineLabel, Label, Standing};
 use step_script::Script;
 use step_snapshot::TestCase;
+use ttcn_graph::Part;
 use ttcn_syntax::{Name, Span};
 
 /// What runs a test case of a module that breaks no rule. A contract sees the test case, the lists that positions stand for,
@@ -188,6 +191,13 @@ impl<'a> Machine<'a> {
         ensures { result ≡ place_of_step (said self.now config.now) label.now }
     {
         telling::place(&self.test, config, label)
+    }
+
+    /// What of this statement the step begins with.
+    pub fn part(&self, config: &Config, label: &Label) -> Option<Part>
+        ensures { option_map part_of result ≡ part_of_step (said self.now config.now) label.now }
+    {
+        telling::part(&self.test, config, label)
     }
 
     /// What the step of a label asks for, where it is that of a statement and nothing fails before it asks.

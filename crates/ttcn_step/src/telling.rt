@@ -10,7 +10,10 @@ ghost use Rattle.config_parts.specs.Views.{AreWithin, Extent, IsGoingWithin, IsW
 ghost use Rattle.config_parts.specs.declared.config.Config.TheVariants as config;
 ghost use Rattle.ttcn_step.specs.Machines.{Fits, machine_of, said};
 ghost use Rattle.ttcn_step.specs.Telling as spec;
+ghost use Rattle.ttcn_step.specs.Parts as parts;
+ghost use Rattle.graph_items.specs.Standing as items;
 
+use crate::begun::part_of;
 use crate::places::place_of;
 use crate::step::{asked, component_of, is_running};
 use config_parts::{Act, Component, Config, End, Going, Request, TryClone, Way};
@@ -18,6 +21,7 @@ use std::alloc::{AllocError, Global};
 use step_arrivals::{next_message, slots_are_ordered};
 use step_labels::Label;
 use step_snapshot::TestCase;
+use ttcn_graph::Part;
 use ttcn_syntax::{Name, Span};
 use value_types::{ComponentId, Fault, Slot, Value};
 
@@ -245,5 +249,25 @@ pub(crate) fn place(test: &TestCase<'_>, config: &Config, label: &Label) -> Opti
     match config {
         Config::Ended(_) => None,
         Config::Going(going) => place_going(test, going, label),
+    }
+}
+
+/// What of a statement the step of a label begins with, in a test case that goes on.
+fn part_going(test: &TestCase<'_>, going: &Going, label: &Label) -> Option<Part>
+    ensures { option_map items.part_of result ≡ parts.part_going (going_by (legend_by test.now) going.now) label.now }
+{
+    match maker(going, label) {
+        Some(component) => part_of(test, component),
+        None => None,
+    }
+}
+
+/// What of a statement the step of a label begins with, where it is that of a statement.
+pub(crate) fn part(test: &TestCase<'_>, config: &Config, label: &Label) -> Option<Part>
+    ensures { option_map items.part_of result ≡ parts.part_of_step (said (machine_of test.now) config.now) label.now }
+{
+    match config {
+        Config::Ended(_) => None,
+        Config::Going(going) => part_going(test, going, label),
     }
 }
