@@ -36,6 +36,8 @@ pub struct Row {
     pub column: Option<usize>,
     /// What happens, in words.
     pub text: String,
+    /// The words of each step.
+    pub steps: Vec<String>,
     /// Where a message goes.
     pub arrow: Option<Arrow>,
 }

@@ -30,11 +30,12 @@ fn belongs(rows: &Rows, column: Option<usize>, words: &Words) -> bool {
 }
 
 /// One step more in the last row.
-fn add_to_last(rows: &mut Rows, words: &Words, number: usize) -> Result<(), AllocError> {
+fn add_to_last(rows: &mut Rows, words: Words, number: usize) -> Result<(), AllocError> {
     if let Some(row) = rows.rows.last_mut() {
         row.last = number;
         row.text.push_str("; ")?;
         row.text.push_str(words.text.as_str())?;
+        row.steps.push(words.text)?;
     }
     Ok(())
 }
@@ -53,23 +54,22 @@ fn push_step(
         None => None,
     };
     if belongs(rows, column, &words) {
-        return add_to_last(rows, &words, number);
+        return add_to_last(rows, words, number);
     }
-    let place = match step.told.branch {
-        Some(place) => Some(place),
-        None => step.told.place,
-    };
-    let line = match place {
-        Some(place) => Some(place.line),
-        None => None,
-    };
-    let Words { text, computes } = words;
+    let Words {
+        text,
+        computes,
+        line,
+    } = words;
+    let mut steps = Vec::new(alloc);
+    steps.push(String::from_str(alloc, text.as_str())?)?;
     rows.rows.push(Row {
         first: number,
         last: number,
         line,
         column,
         text,
+        steps,
         arrow: speaker.arrow(step),
     })?;
     rows.computes = computes;

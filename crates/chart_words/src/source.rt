@@ -1,6 +1,7 @@
 //! What stands at a place of a module's text.
 use std::alloc::{AllocError, Global};
 use std::str;
+use ttcn_step::Part;
 use ttcn_syntax::Span;
 
 /// More characters of a statement, or of a reason, are not shown.
@@ -27,15 +28,99 @@ enum Within {
     Comment(usize),
 }
 
+impl Within {
+    /// What the byte stands in that is behind this one, with the bytes round this one.
+    fn behind(self, before: u8, byte: u8, next: u8) -> Within {
+        match (self, byte) {
+            (Within::Code, b'/') if next == b'/' => Within::Line,
+            (Within::Code, b'/') if next == b'*' => Within::Comment(1),
+            (Within::Code, b'"') => Within::Text,
+            (Within::Text, b'"') => Within::Code,
+            (Within::Line, _) if next == b'\n' || next == b'\r' => Within::Code,
+            (Within::Comment(read), b'/') if read > 2 && before == b'*' => Within::Code,
+            (Within::Comment(read), _) => Within::Comment(read.saturating_add(1)),
+            (within, _) => within,
+        }
+    }
+}
+
+/// Where a text is read: in what the next byte stands, the byte before it, and how many brackets are open.
+#[derive(Clone, Copy)]
+struct Reading {
+    within: Within,
+    before: u8,
+    depth: usize,
+}
+
+const BEGINNING: Reading = Reading {
+    within: Within::Code,
+    before: b' ',
+    depth: 0,
+};
+
+impl Reading {
+    /// Reads a byte, with the one behind it. Gives whether it is one of code: the one that begins a comment isn't.
+    fn read(&mut self, byte: u8, next: u8) -> bool {
+        let was = self.within;
+        self.within = was.behind(self.before, byte, next);
+        self.before = byte;
+        let is_code = was == Within::Code && matches!(self.within, Within::Code | Within::Text);
+        if is_code {
+            match byte {
+                b'(' | b'[' | b'{' => self.depth = self.depth.saturating_add(1),
+                b')' | b']' | b'}' => self.depth = self.depth.saturating_sub(1),
+                _ => {}
+            }
+        }
+        is_code
+    }
+}
+
+/// The byte behind a place of a text, or the end of a line.
+fn next_of(text: &[u8], at: usize) -> u8 {
+    text.get(at.saturating_add(1)).copied().unwrap_or(b'\n')
+}
+
+/// How many bytes of a text the first block takes, with all that stands before it.
+fn block_end(text: &[u8]) -> usize {
+    let mut reading = BEGINNING;
+    for (at, byte) in text.iter().enumerate() {
+        let is_code = reading.read(*byte, next_of(text, at));
+        if is_code && *byte == b'}' && reading.depth == 0 {
+            return at.saturating_add(1);
+        }
+    }
+    text.len()
+}
+
+/// How many bytes of a text are blanks and comments before its first word.
+fn blank_length(text: &[u8]) -> usize {
+    let mut reading = BEGINNING;
+    for (at, byte) in text.iter().enumerate() {
+        let is_code = reading.read(*byte, next_of(text, at));
+        if is_code && !byte.is_ascii_whitespace() && *byte != b'\x0b' {
+            return at;
+        }
+    }
+    text.len()
+}
+
+/// How many bytes of a text stand before the word behind its first so many blocks.
+fn blocks_length(text: &[u8], count: usize) -> usize {
+    let mut begin: usize = 0;
+    for _turn in 0..count {
+        let rest = text.get(begin..).unwrap_or(&[]);
+        begin = begin.saturating_add(block_end(rest));
+    }
+    let rest = text.get(begin..).unwrap_or(&[]);
+    begin.saturating_add(blank_length(rest))
+}
+
 /// A statement's text on one line, without comments: what was read of it so far.
 #[derive(Drop)]
 struct Statement {
     bytes: Vec<u8>,
-    within: Within,
-    /// How many brackets are open.
-    depth: usize,
-    /// The byte that was read last.
-    before: u8,
+    reading: Reading,
 }
 
 impl Statement {
@@ -60,79 +145,34 @@ impl Statement {
         }
     }
 
-    fn open(&mut self, byte: u8) -> Result<bool, AllocError> {
-        self.depth = self.depth.saturating_add(1);
-        self.push(byte)
-    }
-
-    fn close(&mut self, byte: u8) -> Result<bool, AllocError> {
-        self.depth = self.depth.saturating_sub(1);
-        self.push(byte)
-    }
-
-    /// Reads a byte of code, with the one behind it. Gives whether the statement goes on: it ends at a semicolon, at a brace
-    /// that isn't that of a value, and at a line's end, where no bracket is open.
-    fn read_code(&mut self, byte: u8, next: u8) -> Result<bool, AllocError> {
-        let is_outside = self.depth == 0;
+    /// Takes a byte of code, before which so many brackets are open. Gives whether the statement goes on: it ends at a
+    /// semicolon, at a brace that isn't that of a value, and at a line's end, where no bracket is open.
+    fn take_code(&mut self, byte: u8, depth: usize) -> Result<bool, AllocError> {
+        let is_outside = depth == 0;
         match byte {
-            b'/' if next == b'/' => {
-                self.within = Within::Line;
-                Ok(true)
-            }
-            b'/' if next == b'*' => {
-                self.within = Within::Comment(1);
-                Ok(true)
-            }
-            b'"' => {
-                self.within = Within::Text;
-                self.push(byte)
-            }
-            b'(' | b'[' => self.open(byte),
-            b')' | b']' => self.close(byte),
             b'{' if is_outside && !matches!(self.last(), b'=' | b':') => Ok(false),
-            b'{' => self.open(byte),
             b'}' | b';' if is_outside => Ok(false),
-            b'}' => self.close(byte),
             b'\n' | b'\r' if is_outside && self.last() != b'=' => Ok(false),
-            b'\n' | b'\r' | b' ' | b'\t' => self.push_blank(),
+            b'\n' | b'\r' | b' ' | b'\t' | b'\x0b' | b'\x0c' => self.push_blank(),
             _ => self.push(byte),
         }
     }
 
     /// Reads a byte, with the one behind it. Gives whether the statement goes on.
     fn read(&mut self, byte: u8, next: u8) -> Result<bool, AllocError> {
-        let before = self.before;
-        self.before = byte;
-        match self.within {
-            Within::Code => self.read_code(byte, next),
-            Within::Text => {
-                if byte == b'"' {
-                    self.within = Within::Code;
-                }
-                self.push(byte)
-            }
-            Within::Line => {
-                if next == b'\n' || next == b'\r' {
-                    self.within = Within::Code;
-                }
-                Ok(true)
-            }
-            Within::Comment(read) => {
-                self.within = if read > 2 && before == b'*' && byte == b'/' {
-                    Within::Code
-                } else {
-                    Within::Comment(read.saturating_add(1))
-                };
-                Ok(true)
-            }
+        let Reading { within, depth, .. } = self.reading;
+        let is_code = self.reading.read(byte, next);
+        match within {
+            Within::Code if is_code => self.take_code(byte, depth),
+            Within::Text => self.push(byte),
+            Within::Code | Within::Line | Within::Comment(_) => Ok(true),
         }
     }
 
     /// Reads bytes up to the statement's end.
     fn read_all(&mut self, text: &[u8]) -> Result<(), AllocError> {
         for (at, byte) in text.iter().enumerate() {
-            let next = text.get(at.saturating_add(1)).copied().unwrap_or(b'\n');
-            if !self.read(*byte, next)? {
+            if !self.read(*byte, next_of(text, at))? {
                 return Ok(());
             }
         }
@@ -144,16 +184,12 @@ impl Statement {
 fn statement_of(alloc: Global, text: &[u8]) -> Result<Vec<u8>, AllocError> {
     let mut statement = Statement {
         bytes: Vec::new(alloc),
-        within: Within::Code,
-        depth: 0,
-        before: b' ',
+        reading: BEGINNING,
     };
     statement.read_all(text.get(..SCANNED).unwrap_or(text))?;
     let Statement {
         bytes,
-        within: _within,
-        depth: _depth,
-        before: _before,
+        reading: _reading,
     } = statement;
     Ok(bytes)
 }
@@ -250,21 +286,62 @@ impl<'a> Source<'a> {
         Ok(Source { text, lines })
     }
 
-    /// The text from a place on.
-    fn from(&self, place: Span) -> &'a [u8] {
+    /// How many bytes stand before a place.
+    fn offset(&self, place: Span) -> usize {
         let line = (place.line as usize).saturating_sub(1);
         let column = (place.column as usize).saturating_sub(1);
-        let begin = match self.lines.get(line) {
+        match self.lines.get(line) {
             Some(begin) => begin.saturating_add(column),
-            None => return &[],
-        };
-        self.text.get(begin..).unwrap_or(&[])
+            None => self.text.len(),
+        }
+    }
+
+    /// The text from a place on.
+    fn from(&self, place: Span) -> &'a [u8] {
+        self.text.get(self.offset(place)..).unwrap_or(&[])
+    }
+
+    /// How many bytes of the statement at a place stand before a part of it: the `else if` of a condition, and the `while`
+    /// behind the block of a `do`.
+    fn part_offset(&self, place: Span, part: Option<Part>) -> usize {
+        match part {
+            Some(Part::From(count)) => blocks_length(self.from(place), count),
+            Some(Part::Loop) if self.from(place).starts_with(b"do") => {
+                blocks_length(self.from(place), 1)
+            }
+            _ => 0,
+        }
+    }
+
+    /// The line of a part of the statement at a place.
+    pub(crate) fn line(&self, place: Span, part: Option<Part>) -> u32 {
+        let length = self.part_offset(place, part);
+        let between = self.from(place).get(..length).unwrap_or(&[]);
+        let mut line = place.line;
+        for byte in between {
+            if *byte == b'\n' {
+                line = line.saturating_add(1);
+            }
+        }
+        line
+    }
+
+    /// A part of the statement at a place, or its head: without its block, on one line.
+    pub(crate) fn phrase_of(
+        &self,
+        alloc: Global,
+        place: Span,
+        part: Option<Part>,
+    ) -> Result<String, AllocError> {
+        let text = self.from(place);
+        let length = self.part_offset(place, part);
+        let statement = statement_of(alloc, text.get(length..).unwrap_or(&[]))?;
+        shown(alloc, statement.as_slice())
     }
 
     /// The statement, or the head of the statement, that stands at a place: without its block, on one line.
     pub(crate) fn phrase(&self, alloc: Global, place: Span) -> Result<String, AllocError> {
-        let statement = statement_of(alloc, self.from(place))?;
-        shown(alloc, statement.as_slice())
+        self.phrase_of(alloc, place, None)
     }
 
     /// What stands behind the first comma between the parentheses of the statement at a place: of `setverdict(fail, "late")`

@@ -3,7 +3,7 @@ use crate::cause::Failure;
 use crate::changes::{Changes, changes_of};
 use crate::columns::{column_of, component_in};
 use crate::source::Source;
-use chart_causes::{Names, write_name, write_path};
+use chart_causes::{Names, statement_at, write_name, write_path};
 use chart_formats::Arrow;
 use chart_steps::{Told, verdict_at};
 use check_rules::Definitions;
@@ -12,8 +12,8 @@ use report::word_of;
 use std::alloc::{AllocError, Global};
 use std::fmt::Write;
 use step_labels::Label;
-use ttcn_step::Sent;
-use ttcn_syntax::{Name, Span, Verdict};
+use ttcn_step::{Part, Sent};
+use ttcn_syntax::{Action, Name, Span, Verdict};
 use value_types::{ComponentId, Path, Slot};
 
 /// What gives words: names, the module's definitions and its text, the main component, and the components of the run in the
@@ -41,6 +41,8 @@ pub(crate) struct Words {
     pub(crate) text: String,
     /// Whether the component only computes.
     pub(crate) computes: bool,
+    /// The line in the module's text.
+    pub(crate) line: Option<u32>,
 }
 
 /// The component that a label names.
@@ -326,32 +328,82 @@ impl<'a> Speaker<'a> {
         Ok(text)
     }
 
+    /// Writes where a dynamic error is: `, in: x := 1 / n`, `, in lending: [1 / n == 2] t.timeout`.
+    fn write_scene(
+        self,
+        alloc: Global,
+        out: &mut String,
+        place: Span,
+        part: Option<Part>,
+    ) -> Result<(), AllocError> {
+        out.push_str(" in")?;
+        if let Some(at) = self.names.altstep_at(place) {
+            out.push(' ')?;
+            self.names.write_definition(out, at)?;
+        }
+        out.push_str(": ")?;
+        out.push_str(self.source.phrase_of(alloc, place, part)?.as_str())
+    }
+
     /// A dynamic error: `DYNAMIC ERROR: division by zero: 1 / 0, in: x := 1 / n`.
-    fn failing(self, alloc: Global, step: Step<'_>, path: &Path) -> Result<String, AllocError> {
+    fn failing(self, alloc: Global, step: Step<'_>, path: &Path) -> Result<Words, AllocError> {
         let mut text = String::from_str(alloc, "DYNAMIC ERROR")?;
         let Failure { place, words } = self.failure(alloc, step, path)?;
         if !words.is_empty() {
             write!(text, ": {words}")?;
         }
+        let part = if place == step.told.place {
+            step.told.part
+        } else {
+            None
+        };
+        let mut line = None;
         if let Some(place) = place {
-            text.push_str(if words.is_empty() { " in: " } else { ", in: " })?;
-            text.push_str(self.source.phrase(alloc, place)?.as_str())?;
+            line = Some(self.source.line(place, part));
+            if !words.is_empty() {
+                text.push_str(",")?;
+            }
+            self.write_scene(alloc, &mut text, place, part)?;
         }
-        Ok(text)
+        Ok(Words {
+            text,
+            computes: false,
+            line,
+        })
+    }
+
+    /// The line of a step: that of the branch that it takes, or else of the part of its statement.
+    fn line(self, step: Step<'_>) -> Option<u32> {
+        match (step.told.branch, step.told.place) {
+            (Some(place), _) => Some(place.line),
+            (None, Some(place)) => Some(self.source.line(place, step.told.part)),
+            (None, None) => None,
+        }
+    }
+
+    /// Whether a step is the declaration of a timer: one that was there is no longer the same.
+    fn declares_timer(self, step: Step<'_>) -> bool {
+        match step.told.place {
+            Some(place) => match statement_at(self.names.definitions, place) {
+                Some(statement) => matches!(statement.action.get(), Action::Timers(_)),
+                None => false,
+            },
+            None => false,
+        }
     }
 
     /// The step of a component's statement.
     fn statement(self, alloc: Global, step: Step<'_>, path: &Path) -> Result<Words, AllocError> {
         if step.fails() {
-            return Ok(Words {
-                text: self.failing(alloc, step, path)?,
-                computes: false,
-            });
+            return self.failing(alloc, step, path);
         }
         let Changes {
-            words: changed,
+            words: mut changed,
             only_values,
         } = changes_of(alloc, self.names, step.before(path), step.behind(path))?;
+        if !only_values && self.declares_timer(step) {
+            changed = Vec::new(alloc);
+        }
         let asked = match &step.told.request {
             Some(request) => self.request(alloc, step, path, request)?,
             None => None,
@@ -366,7 +418,12 @@ impl<'a> Speaker<'a> {
             Some(text) => words.push(text)?,
             None => {
                 if let Some(place) = self.phrase_place(step, changed.is_empty()) {
-                    words.push(self.source.phrase(alloc, place)?)?;
+                    let part = if step.told.branch.is_some() {
+                        None
+                    } else {
+                        step.told.part
+                    };
+                    words.push(self.source.phrase_of(alloc, place, part)?)?;
                 }
             }
         }
@@ -380,6 +437,7 @@ impl<'a> Speaker<'a> {
         Ok(Words {
             text: prefix,
             computes,
+            line: self.line(step),
         })
     }
 
@@ -429,11 +487,13 @@ impl<'a> Speaker<'a> {
                 Ok(Words {
                     text,
                     computes: false,
+                    line: None,
                 })
             }
             Label::Delivery(system_port) => Ok(Words {
                 text: self.coming_in(alloc, step, system_port)?,
                 computes: false,
+                line: None,
             }),
         }
     }

@@ -4,14 +4,29 @@ use crate::explained::{
     Case, Explained, Explanation, Sought, block_runs, common, loss_runs, nearest, seen_in,
     setting_runs,
 };
-use chart_formats::{Chart, Row};
+use chart_formats::Chart;
 use chart_words::{Course, Names, Passage, order_of};
 use report::{LabelText, PlaceText};
 use std::alloc::{AllocError, Global};
+use std::fmt;
 use std::fmt::Write;
 use step_labels::Label;
 use ttcn_syntax::Span;
 use ttcnx_command_line::Format;
+
+/// Words on one line: a point stands for each character that doesn't print.
+#[derive(Clone, Copy)]
+struct OneLine<'a>(&'a str);
+
+impl fmt::Display for OneLine<'_> {
+    fn fmt<W: fmt::Write>(&self, f: &mut fmt::Formatter<W>) -> fmt::Result {
+        for character in self.0.chars() {
+            let is_control = character.is_control();
+            f.write_char(if is_control { '.' } else { character })?;
+        }
+        Ok(())
+    }
+}
 
 /// What is told behind a report as text, a section behind the other.
 pub(crate) fn in_words(
@@ -128,7 +143,8 @@ fn write_untaken(out: &mut String, explanation: &Explanation<'_>) -> Result<(), 
 /// Writes what stands at a place.
 fn write_passage(out: &mut String, passage: &Passage) -> Result<(), AllocError> {
     let (place, behaviour) = (PlaceText(passage.place), &passage.behaviour);
-    write!(out, "  {place} in {behaviour}: {}", passage.text)
+    let text = OneLine(passage.text.as_str());
+    write!(out, "  {place} in {behaviour}: {text}")
 }
 
 /// Writes the statements that set a verdict in some run, each with the step of a run that is shown.
@@ -218,12 +234,14 @@ fn write_step_of(
     )
 }
 
-/// The row of a step.
-fn row_of(chart: &Chart, number: usize) -> Option<&Row> {
-    chart
+/// What happens in the step of a number, in words.
+fn words_of(chart: &Chart, number: usize) -> Option<&str> {
+    let row = chart
         .rows
         .iter()
-        .find(|row| row.first <= number && number <= row.last)
+        .find(|row| row.first <= number && number <= row.last)?;
+    let words = row.steps.get(number.saturating_sub(row.first))?;
+    Some(words.as_str())
 }
 
 /// A run as what comes to components is told of it.
@@ -238,9 +256,9 @@ fn course<'a>(run: &'a Explained<'_>) -> Course<'a> {
 /// Writes what a run does in a step.
 fn write_step(out: &mut String, one: &Explained<'_>, place: usize) -> Result<(), AllocError> {
     let number = place.saturating_add(1);
-    if let (Some(label), Some(row)) = (one.run.get(place), row_of(&one.chart, number)) {
-        let (name, label) = (&one.naming.name, LabelText(label));
-        writeln!(out, "  {name}: {label}: {}", row.text)?;
+    if let (Some(label), Some(words)) = (one.run.get(place), words_of(&one.chart, number)) {
+        let (name, label, words) = (&one.naming.name, LabelText(label), OneLine(words));
+        writeln!(out, "  {name}: {label}: {words}")?;
     }
     Ok(())
 }
