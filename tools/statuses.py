@@ -363,14 +363,14 @@ def crowd_rows(folder):
 
 def lint_rows():
     """Returns command lines whose modules are linted, in the folder of the modules, each with its status and what is printed."""
-    texts = ["mark.ttcn", "equals.ttcn", "name.ttcn", "semicolon.ttcn", "word.ttcn", "brace.ttcn", "end.ttcn"]
+    texts = ["mark", "equals", "name", "left_out", "number", "semicolon", "word", "stop", "behind", "brace", "end"]
     return [
         (["lint", X1, X2, Y1], 0, b""),
         (["lint", "lock.ttcn"], 1, (stored("lint/lock"), b"")),
         (["lint", "lock.ttcn", "--format", "json"], 1, (stored("lint/lock_json"), b"")),
         (["lint", "warnings.ttcn"], 0, stored("lint/warnings")),
         (["lint", "kinds.ttcn"], 1, (stored("lint/kinds"), b"")),
-        (["lint", *texts], 1, (stored("lint/unread"), b"")),
+        (["lint", *(f"{text}.ttcn" for text in texts)], 1, (stored("lint/unread"), b"")),
         (["lint", "lock.ttcn", "missing.ttcn"], 5, b"cannot read missing.ttcn\n"),
         (["list", X2], 0, b"T\n"),
         (["list", "lock.ttcn"], 1, "refused C2 UnknownName at 24:"),

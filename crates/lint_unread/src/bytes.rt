@@ -1,6 +1,27 @@
 //! Places in the bytes of a text.
 use ttcn_syntax::Span;
 
+/// The number with a point or an exponent that a text begins with.
+pub(crate) fn float_of(text: &[u8]) -> &[u8] {
+    let mut before = b' ';
+    let mut has_point = false;
+    for (at, byte) in text.iter().enumerate() {
+        let goes_on = match *byte {
+            b'0'..=b'9' => true,
+            b'.' => !has_point,
+            b'E' => before != b'E',
+            b'-' => before == b'E',
+            _ => false,
+        };
+        if !goes_on {
+            return text.get(..at).unwrap_or(text);
+        }
+        has_point = has_point || *byte == b'.';
+        before = *byte;
+    }
+    text
+}
+
 /// The bytes of a text from a place on.
 pub(crate) fn bytes_at(text: &[u8], place: Span) -> &[u8] {
     let mut line: u32 = 1;

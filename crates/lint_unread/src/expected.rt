@@ -58,6 +58,15 @@ impl Front {
         }
     }
 
+    /// Whether the tokens are a module.
+    pub(crate) fn is_module(&self) -> Result<bool, AllocError> {
+        match parse(self.alloc, self.tokens.as_slice()) {
+            Ok(_module) => Ok(true),
+            Err(ParseError::Memory) => Err(AllocError),
+            Err(_) => Ok(false),
+        }
+    }
+
     /// The symbols and words that may stand next, as they are spelled.
     fn spellings(&mut self) -> Result<Vec<&'static str>, AllocError> {
         let mut spellings = Vec::new(self.alloc);

@@ -1,5 +1,5 @@
 //! What is said of tokens that are no module.
-use crate::bytes::bytes_at;
+use crate::bytes::{bytes_at, float_of};
 use crate::expected::{Expected, Front};
 use crate::tables::word_spelled;
 use lint_names::{
@@ -37,7 +37,11 @@ impl<'a> Fault<'a> {
 
     /// The token that can't stand there, as it is spelled.
     fn found(&self) -> Shown<'a> {
-        Shown(word_of(bytes_at(self.text, self.place)))
+        let text = bytes_at(self.text, self.place);
+        match token_at(self.tokens, self.at) {
+            Some(Token::Float) => Shown(float_of(text)),
+            _ => Shown(word_of(text)),
+        }
     }
 
     fn remark(&self, message: String) -> Remark {
@@ -62,6 +66,28 @@ impl<'a> Fault<'a> {
             )
     }
 
+    /// Whether what follows the token may follow a name: another line, or a symbol behind names.
+    fn is_followed_as_name(&self) -> bool {
+        let next = self.at.saturating_add(1);
+        if token_at(self.tokens, next).is_none()
+            || place_at(self.tokens, next).line > self.place.line
+        {
+            return true;
+        }
+        match symbol_at(self.tokens, next) {
+            Some(Symbol::LeftBrace) => !is_behind_type(self.tokens, self.at),
+            Some(
+                Symbol::Semicolon
+                | Symbol::Assign
+                | Symbol::Comma
+                | Symbol::LeftParen
+                | Symbol::RightParen
+                | Symbol::RightBrace,
+            ) => true,
+            _ => false,
+        }
+    }
+
     // ---- words and characters that are left out
 
     /// What is said of a word of the standard, or a character, that this subset leaves out.
@@ -76,14 +102,27 @@ impl<'a> Fault<'a> {
                 Ok(remark)
             };
         }
-        if self.is_name_place() {
+        if self.is_name_place() && self.is_followed_as_name() {
             return self.reserved();
         }
+        self.unread(found)
+    }
+
+    /// What is said of what this subset leaves out.
+    fn unread(&self, what: Shown<'_>) -> Result<Remark, AllocError> {
         let message = format!(in self.alloc;
-            "`{found}` is left out of the language that ttcnx reads"
+            "`{what}` is left out of the language that ttcnx reads"
         )?;
         let help = "docs/language.md lists what is left out";
         self.remark(message).with_fixed_help(self.alloc, help)
+    }
+
+    /// Whether `testcase.stop` stands there.
+    fn is_testcase_stop(&self) -> bool {
+        let (dot, stop) = (self.at.saturating_add(1), self.at.saturating_add(2));
+        word_at(self.tokens, self.at) == Some(Word::Testcase)
+            && symbol_at(self.tokens, dot) == Some(Symbol::Dot)
+            && word_at(self.tokens, stop) == Some(Word::Stop)
     }
 
     /// What is said of a word where a name is wanted.
@@ -102,7 +141,15 @@ impl<'a> Fault<'a> {
         if self.ends_early()? {
             return self.early_end();
         }
+        if self.is_testcase_stop() {
+            return self.unread(Shown(b"testcase.stop".as_slice()));
+        }
         let mut front = Front::new(self.alloc, self.tokens, self.at)?;
+        if front.is_module()? {
+            let message = format!(in self.alloc; "`{}` can't stand here", self.found())?;
+            let help = "nothing can follow the module";
+            return self.remark(message).with_fixed_help(self.alloc, help);
+        }
         let expected = Expected::behind(&mut front)?;
         if let Some(meant) = self.word_meant(&expected)? {
             return self.misspelt(self.at, meant);
@@ -163,7 +210,7 @@ impl<'a> Fault<'a> {
     fn with_expected(&self, remark: Remark, expected: &Expected) -> Result<Remark, AllocError> {
         match expected.phrase(self.alloc)? {
             Some(phrase) => Ok(remark.with_help(phrase)),
-            None => remark.with_fixed_help(self.alloc, "nothing can follow the module"),
+            None => Ok(remark),
         }
     }
 
