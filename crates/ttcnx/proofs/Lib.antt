@@ -6,9 +6,13 @@ pub mod FewTold
 pub mod Following
 pub mod Listed
 pub mod OneAnswer
+pub mod OneBounded
 pub mod OneConversion
+pub mod OneEnding
+pub mod OneFew
 pub mod OneReplay
 pub mod OneReport
+pub mod OneSighted
 pub mod OneUntil
 pub mod Outcomes
 pub mod Stages

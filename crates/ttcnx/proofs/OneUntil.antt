@@ -1,12 +1,8 @@
 -- A module, a script, the name of a test case, a plan and stops have one answer, and one with an aim.
-use Rattle.std.proofs.Common.{◌≡◌, ◌≤◌, ℕ, suc, List, refl, subst, arith}
+use Rattle.std.proofs.Common.{◌≡◌, ◌≤◌, ℕ, List, refl, subst, arith}
 use Rattle.std.specs.Prelude.{Option, Ok}
-use mathlib.Core.Logic.{dite}
-use native.Mathlib.Decide.{dec_le}
-use Rattle.explore.specs.Endings.{rank}
 use Rattle.explore.specs.Sightings.{shown_at_end, shown_by_step}
 use Rattle.explore.specs.declared.ending.Ending.{Ending}
-use Rattle.explore.specs.declared.ending.Ending.TheVariants as ending
 use Rattle.explore.specs.declared.ending.Stops.{Stops}
 use Rattle.laws_live.proofs.PartCounts.{counts-once}
 use Rattle.laws_live.specs.Parts.{CountsParts}
@@ -19,50 +15,30 @@ use Rattle.semantics.specs.Snapshots.{Test}
 use Rattle.semantics.specs.Steps.{Label}
 use Rattle.step_labels.specs.Labels.{label_total}
 use Rattle.ttcnx.proofs.OneAnswer.{not_both, one-reason, one-test, one_answer}
+use Rattle.ttcnx.proofs.OneEnding as ending
 use Rattle.ttcnx.proofs.OneReport.{one-least}
 use Rattle.ttcnx.specs.Aims as aims
 use Rattle.ttcnx.specs.Aims.{HasOneAnswerTo, IsLeastToAim, labels_of_run}
 use Rattle.ttcnx.specs.Answer.{IsAnswer, named, told}
 use Rattle.ttcnx.specs.Fault.{SameFault}
 use Rattle.ttcnx.specs.Named.{IsTestOf, Source}
-use Rattle.ttcnx.specs.Until.{HasOneAnswerUntil, IsRefusedUntil, beyond, lacking, reached, refused, too_many, with_steps}
+use Rattle.ttcnx.specs.Until.{HasOneAnswerUntil, IsAnswerUntil, IsRefusedUntil, beyond, lacking, reached, refused, too_many, with_steps}
 use Rattle.ttcnx.specs.declared.aim.Aim.{Aim}
 use Rattle.ttcnx.specs.declared.aim.Aim.TheVariants as aim
 use Rattle.ttcnx.specs.declared.fault.Fault.{Fault}
+use Rattle.ttcnx.specs.declared.until.Until.{Until}
 use Rattle.ttcnx_runs.specs.Aims.{is_at, stands_at}
-use Rattle.ttcnx_runs.specs.Endings.{AreTooMany, HaveEnded}
+use Rattle.ttcnx_runs.specs.Endings.{AreTooMany, HaveEnded, MayEnd}
 use Rattle.ttcnx_runs.specs.Sights.{block_in, place_in_text}
 
 -- ---- one number of steps, and one reason
 
-same-rank : (one other : Ending) → rank one ≤ rank other → rank other ≤ rank one → one ≡ other
-same-rank ending.Mark ending.Mark low high = refl
-same-rank ending.Mark ending.Complete low high = absurd (omega arith)
-same-rank ending.Mark ending.Limit low high = absurd (omega arith)
-same-rank ending.Mark ending.Steps low high = absurd (omega arith)
-same-rank ending.Complete ending.Mark low high = absurd (omega arith)
-same-rank ending.Complete ending.Complete low high = refl
-same-rank ending.Complete ending.Limit low high = absurd (omega arith)
-same-rank ending.Complete ending.Steps low high = absurd (omega arith)
-same-rank ending.Limit ending.Mark low high = absurd (omega arith)
-same-rank ending.Limit ending.Complete low high = absurd (omega arith)
-same-rank ending.Limit ending.Limit low high = refl
-same-rank ending.Limit ending.Steps low high = absurd (omega arith)
-same-rank ending.Steps ending.Mark low high = absurd (omega arith)
-same-rank ending.Steps ending.Complete low high = absurd (omega arith)
-same-rank ending.Steps ending.Limit low high = absurd (omega arith)
-same-rank ending.Steps ending.Steps low high = refl
-
 module _ (test : Test) (plan : Plan) (stops : Stops) where
   steps-once : (m n : ℕ) (one other : Ending) → HaveEnded test plan stops m one → HaveEnded test plan stops n other → m ≡ n
-  steps-once m n one other h k = dite (dec_le (suc m) n)
-      (λ less. absurd (k.least m one less h.may))
-      (λ no. dite (dec_le (suc n) m)
-      (λ less. absurd (h.least n other less k.may))
-      (λ nor. omega arith))
+  steps-once m n one other h k = ending.steps-once (MayEnd test plan stops) m n one other h.may k.may h.least k.least
 
   reason-once : (n : ℕ) (one other : Ending) → HaveEnded test plan stops n one → HaveEnded test plan stops n other → one ≡ other
-  reason-once n one other h k = same-rank one other (h.first other k.may) (k.first one h.may)
+  reason-once n one other h k = ending.reason-once (MayEnd test plan stops) n one other h.may k.may h.first k.first
 
 one-aim : (test : Test) (n : ℕ) (a : Aim) (one other : Option (List Label)) → IsLeastToAim test n a one → IsLeastToAim test n a other → one ≡ other
 one-aim test n (aim.Step place) one other h k = one-least (graph_of test) label_cmp label_total n (shown_by_step (graph_of test) (place_in_text test)) (is_at place) one other h k
@@ -102,6 +78,12 @@ module _ (given : Source) (name : List ℕ) (plan : Plan) (stops : Stops) where
   refused-or-reached why test n count end fine (lacking also lacks) is counts within ended = not_both given name test why is lacks
   refused-or-reached why test n count end fine (too_many {test = other} also too limited many) is counts within ended =
       not-many test n count end counts within ended (subst (λ (t : Test). AreTooMany t plan stops) (one-test given name other test too is) many)
+
+  -- reports are of one number of steps
+  pub one_number : (until second : Until) → IsAnswerUntil given name plan stops (Ok until) → IsAnswerUntil given name plan stops (Ok second) → until.report.steps ≡ second.report.steps
+  one_number until second (reached {test = test} fine is low answered ended) (reached {test = too} also is_too low_too answered_too ended_too) =
+      let moved = subst (λ (t : Test). HaveEnded t plan stops until.report.steps until.ending) (one-test given name test too is is_too) ended in
+      steps-once too plan stops until.report.steps second.report.steps until.ending second.ending moved ended_too
 
   pub one_until : HasOneAnswerUntil given name plan stops
   one_until answer other (refused {why = why} h) (refused {why = second} k) = one-refusal why second h k

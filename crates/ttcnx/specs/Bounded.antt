@@ -13,6 +13,7 @@ use Rattle.step_labels.specs.declared.label.Label.{Label}
 use Rattle.ttcn_syntax.specs.declared.tree.statement.Verdict.{Verdict}
 use Rattle.ttcnx.specs.Named.{HasNoTest, IsTestOf, Source}
 use Rattle.ttcnx.specs.Tells.{labels_in, outcomes_of}
+use Rattle.ttcnx.specs.Until.{SameUntil}
 use Rattle.ttcnx.specs.declared.fault.Fault.{Fault}
 use Rattle.ttcnx.specs.declared.fault.Fault.TheVariants as fault
 use Rattle.ttcnx.specs.declared.until.Until.{Until}
@@ -59,3 +60,8 @@ pub data IsAnswerBounded (given : Source) (name : List ℕ) (bound : Bound) (pla
   -- there is one: the report on those of its runs that keep the bound, of the fewest steps with which the exploration may end
   told : {until : Until} {test : Test} → IsWithinLimits plan → IsTestOf given name test → TellsBounded test name bound plan until.report
       → HaveEndedBounded test bound plan stops until.report.steps until.ending → IsAnswerBounded given name bound plan stops (Ok until)
+
+-- a module, a script, a name, a bound, a plan and stops have one answer at most
+abbrev pub HasOneAnswerBounded : Source → List ℕ → Bound → Plan → Stops → Type 0
+HasOneAnswerBounded given name bound plan stops = (answer other : Result Until Fault) → IsAnswerBounded given name bound plan stops answer → IsAnswerBounded given name bound plan stops other
+    → SameUntil answer other

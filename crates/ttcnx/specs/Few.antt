@@ -1,11 +1,12 @@
 -- A report whose runs to verdicts have the fewest expiries of timers.
-use Rattle.std.specs.Prelude.{◌≡◌, ℕ, Bool, Contains, List, None, Result, Ok, Err}
+use Rattle.std.specs.Prelude.{◌≡◌, ◌⊎◌, ℕ, Bool, Contains, List, None, Result, Ok, Err}
 use Rattle.std.specs.List.{AllZip}
 use Rattle.report.specs.declared.report.Outcome.{Outcome}
 use Rattle.report.specs.declared.report.Report.{Report}
 use Rattle.search_layer.specs.Limits.{IsWithinLimits}
 use Rattle.search_layer.specs.declared.plan.Plan.{Plan}
 use Rattle.semantics.specs.Snapshots.{Test}
+use Rattle.ttcnx.specs.Answer.{Answer, SameAnswer}
 use Rattle.ttcnx.specs.Named.{HasNoTest, IsTestOf, Source}
 use Rattle.ttcnx.specs.declared.fault.Fault.{Fault}
 use Rattle.ttcnx.specs.declared.fault.Fault.TheVariants as fault
@@ -34,3 +35,9 @@ pub data IsAnswerFew (given : Source) (name : List ℕ) (patient : Bool) (plan :
       → IsUndecided test patient plan.steps plan.limit outcome.verdict → IsAnswerFew given name patient plan report (Err fault.TooMany)
   -- there is one: the report with these runs
   told : {test : Test} {told : Report} → IsWithinLimits plan → IsTestOf given name test → HasFewExpiries test patient plan.steps report told → IsAnswerFew given name patient plan report (Ok told)
+
+-- a module, a script, a name, a plan and a report have one answer at most, unless it is that too many pairs are reached: that may be
+-- told where a report could be
+abbrev pub HasOneAnswerFew : Source → List ℕ → Bool → Plan → Report → Type 0
+HasOneAnswerFew given name patient plan report = (answer other : Answer) → IsAnswerFew given name patient plan report answer → IsAnswerFew given name patient plan report other
+    → (answer ≡ Err fault.TooMany) ⊎ ((other ≡ Err fault.TooMany) ⊎ SameAnswer answer other)

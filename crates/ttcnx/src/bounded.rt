@@ -3,7 +3,7 @@ ghost use Rattle.std.specs.Prelude.{◌≡◌, ◌≤◌, ◌<◌, ◌⊎◌, �
 ghost use Rattle.search_layer.specs.Limits.{IsWithinLimits};
 ghost use Rattle.semantics.specs.Snapshots.{Test};
 ghost use Rattle.ttcn_syntax.specs.Limits.{longest_text};
-ghost use Rattle.ttcnx.specs.Bounded.{IsAnswerBounded, TellsOfBoundedRuns, bound_of};
+ghost use Rattle.ttcnx.specs.Bounded.{HasOneAnswerBounded, IsAnswerBounded, TellsOfBoundedRuns, bound_of};
 ghost use Rattle.ttcnx.specs.Fault.{lexical_fault};
 ghost use Rattle.ttcnx.specs.Named.{IsTestOf, source};
 
@@ -36,6 +36,7 @@ pub fn bound_of(wishes: &Wishes) -> Option<Bound>
 }
 
 /// Explores the runs of the test case of this name that keep a bound on expiries of timers, as `run_until` does with all runs.
+#[tactic(auto, using(crate::proofs::OneBounded::one_bounded))]
 pub fn run_bounded<G: Gate, R: Threads + Sync>(
     rt: &R,
     alloc: Global,
@@ -48,6 +49,9 @@ pub fn run_bounded<G: Gate, R: Threads + Sync>(
     gate: &G,
 ) -> Result<Until, Fault>
     ensures answer { (result ≡ Err Fault.Memory) ⊎ IsAnswerBounded (source text.now script.now) name.now bound plan.now stops.now result }
+
+    // What is given, a name, a bound, a plan and stops have one answer: so each answer is given exactly where it is said to be.
+    ensures one { HasOneAnswerBounded (source text.now script.now) name.now bound plan.now stops.now }
 
     // Where it is complete, the report is true of the runs of more steps that keep the bound.
     ensures every_bound { IfOk result (λ until. IsTrue until.report.complete → (test : Test) → IsTestOf (source text.now script.now) name.now test

@@ -3,7 +3,7 @@ ghost use Rattle.std.specs.Prelude.{◌≡◌, ◌≢◌, ◌↔◌, ◌⊎◌, 
 ghost use Rattle.std.specs.List.{AllZip};
 ghost use Rattle.report.specs.declared.report.Outcome.{Outcome};
 ghost use Rattle.search_layer.specs.Limits.{IsWithinLimits};
-ghost use Rattle.ttcnx.specs.Few.{IsAnswerFew, IsFewestOutcome};
+ghost use Rattle.ttcnx.specs.Few.{HasOneAnswerFew, IsAnswerFew, IsFewestOutcome};
 ghost use Rattle.ttcnx.specs.Named.{source};
 ghost use Rattle.ttcnx_bounds.specs.Fewest.{IsUndecided};
 
@@ -18,6 +18,7 @@ use ttcnx_bounds::fewest_expiries;
 
 /// The report with other runs to its verdicts: of the runs of at most the plan's steps that end with a verdict, all or those
 /// with patient timers, the least of the shortest of those in which the fewest timers expire.
+#[tactic(auto, using(crate::proofs::OneFew::one_few))]
 pub fn with_few_expiries<G: Gate, R: Threads + Sync>(
     rt: &R,
     alloc: Global,
@@ -30,6 +31,9 @@ pub fn with_few_expiries<G: Gate, R: Threads + Sync>(
     gate: &G,
 ) -> Result<Report, Fault>
     ensures answer { (result ≡ Err Fault.Memory) ⊎ IsAnswerFew (source text.now script.now) name.now patient plan.now report result }
+
+    // What is given, a name, a plan and a report have one answer, but for `TooMany`.
+    ensures one { HasOneAnswerFew (source text.now script.now) name.now patient plan.now report }
 
     // This is decided before memory is asked for.
     ensures bad_plan { IsErrOf result Fault.BadPlan ↔ (IsWithinLimits plan.now → ⊥) }

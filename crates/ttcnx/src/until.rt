@@ -4,7 +4,7 @@ ghost use Rattle.search_layer.specs.Limits.{IsWithinLimits};
 ghost use Rattle.ttcn_syntax.specs.Limits.{longest_text};
 ghost use Rattle.ttcnx.specs.Fault.{lexical_fault};
 ghost use Rattle.ttcnx.specs.Named.{source};
-ghost use Rattle.ttcnx.specs.Sighted.{IsAnswerSighted};
+ghost use Rattle.ttcnx.specs.Sighted.{HasOneAnswerSighted, IsAnswerSighted};
 ghost use Rattle.ttcnx.specs.Until.{HasOneAnswerUntil, IsAnswerUntil, stops_of};
 
 use crate::fault::Fault;
@@ -92,6 +92,7 @@ pub struct Sighted {
 
 /// Explores the runs of the test case of this name as `run_until` does, and finds the least of the shortest runs to each place
 /// in the text and to each block.
+#[tactic(auto, using(crate::proofs::OneSighted::one_sighted))]
 pub fn run_sighted<G: Gate, R: Threads + Sync>(
     rt: &R,
     alloc: Global,
@@ -103,6 +104,9 @@ pub fn run_sighted<G: Gate, R: Threads + Sync>(
     gate: &G,
 ) -> Result<Sighted, Fault>
     ensures answer { (result ≡ Err Fault.Memory) ⊎ IsAnswerSighted (source text.now script.now) name.now plan.now stops.now result }
+
+    // What is given, a name, a plan and stops have one answer: so each answer is given exactly where it is said to be.
+    ensures one { HasOneAnswerSighted (source text.now script.now) name.now plan.now stops.now }
 
     // These two are decided before memory is asked for.
     ensures bad_plan { IsErrOf result Fault.BadPlan ↔ (IsWithinLimits plan.now → ⊥) }
